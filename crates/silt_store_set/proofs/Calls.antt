@@ -12,7 +12,7 @@ use Rattle.silt_standing.specs.Standing.{Stands, base_map, full_image, waiting_c
 use Rattle.silt_standing.specs.State.{TiersState}
 use Rattle.silt_tiers.proofs.Meaning.{meaning}
 use Rattle.silt_event.specs.declared.event.Event.{Event}
-use Rattle.silt_event.specs.declared.event.Event.TheVariants.{Put, Delete, Flush, Get, Convert, Merge}
+use Rattle.silt_event.specs.declared.event.Event.TheVariants.{Put, Delete, Swap, Flush, Get, Convert, Merge}
 use Rattle.silt_event.specs.declared.refusal.Refusal.{Refusal}
 use Rattle.silt_event.specs.declared.refusal.Refusal.TheVariants.{Device, Failed}
 use Rattle.silt_event.specs.declared.reply.Reply.{Reply}
@@ -153,6 +153,7 @@ core_went adds old new stores after count next failed basis holds working same g
 pub step_refused : {F : Type 0} (m : Map) (event : Event) (refusal : Refusal F) → Step m event (Refused refusal) m
 step_refused m (Put key value) refusal = refl
 step_refused m (Delete key) refusal = refl
+step_refused m (Swap key old new) refusal = refl
 step_refused m Flush refusal = refl
 step_refused m (Get key) refusal = refl
 step_refused m Convert refusal = refl
@@ -161,6 +162,7 @@ step_refused m Merge refusal = refl
 pub none_refused : {F : Type 0} (event : Event) (refusal : Refusal F) → accepted_command event (Refused refusal) ≡ []
 none_refused (Put key value) refusal = refl
 none_refused (Delete key) refusal = refl
+none_refused (Swap key old new) refusal = refl
 none_refused Flush refusal = refl
 none_refused (Get key) refusal = refl
 none_refused Convert refusal = refl

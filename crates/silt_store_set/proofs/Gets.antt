@@ -19,7 +19,7 @@ use Rattle.silt_store_set.proofs.Calls.{seen, answered, refused}
 
 module _ {D F : Type 0} (facts : Ghosts D F) (disk : D) (stores : TiersState) (count : ℕ) (key : Key) (stands : Stands (facts.content disk) stores) where
   -- the map that lookups read is that of the full image
-  looked_up : (value : Option (List ℕ)) → (IsTrue (facts.content disk).honest → get (current_map (facts.content disk) stores) key.0 ≡ value) → IsTrue (facts.content disk).honest → get (image_map (full_image (facts.content disk) stores)) key.0 ≡ value
+  pub looked_up : (value : Option (List ℕ)) → (IsTrue (facts.content disk).honest → get (current_map (facts.content disk) stores) key.0 ≡ value) → IsTrue (facts.content disk).honest → get (image_map (full_image (facts.content disk) stores)) key.0 ≡ value
   looked_up value found h = ap (λ (m : Map). get m key.0) ((meaning (facts.content disk) stores stands).full h) ∙ found h
 
   pub get_found : (value : List ℕ) → (IsTrue (facts.content disk).honest → get (current_map (facts.content disk) stores) key.0 ≡ Some value)

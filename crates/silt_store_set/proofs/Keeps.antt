@@ -5,10 +5,10 @@ use Rattle.silt_disk.specs.Layout.{Shape}
 use Rattle.silt_disk.specs.declared.disk.Disk.{Ghosts}
 use Rattle.silt_image.specs.Meaning.{StandsFor}
 use Rattle.silt_event.specs.declared.event.Event.{Event}
-use Rattle.silt_event.specs.declared.event.Event.TheVariants.{Put, Delete, Flush, Get, Convert, Merge}
+use Rattle.silt_event.specs.declared.event.Event.TheVariants.{Put, Delete, Swap, Flush, Get, Convert, Merge}
 use Rattle.silt_event.specs.declared.refusal.Refusal.TheVariants.{Failed}
 use Rattle.silt_event.specs.declared.reply.Reply.{Reply}
-use Rattle.silt_event.specs.declared.reply.Reply.TheVariants.{Accepted, Acknowledged, Found, Absent, Progress, Refused, Unsettled, NotServed}
+use Rattle.silt_event.specs.declared.reply.Reply.TheVariants.{Accepted, Acknowledged, Found, Absent, Differs, Progress, Refused, Unsettled, NotServed}
 use Rattle.silt_event.specs.Commands.{Command, Map, map_after}
 use Rattle.silt_event.specs.Events.{Counts, accepted_command, accepted_commands, acknowledged_by, acknowledged_after, is_fault, is_failed, FailsAfterFault}
 use Rattle.silt_store_set.specs.CoreState.{CoreState, Cause, Does, Runs, Durable, StandsKept}
@@ -25,30 +25,42 @@ or_true false = refl
 pub own_counts : {D F : Type 0} (facts : Ghosts D F) (old new : CoreState D) (event : Event) (reply : Reply F) (c d : ℕ) → Cause facts old new event reply → Counts c reply d → d ≡ c + length (accepted_command event reply)
 own_counts facts old new (Put key value) (Accepted n) c d cause counts = counts.1
 own_counts facts old new (Delete key) (Accepted n) c d cause counts = counts.1
+own_counts facts old new (Swap key expected value) (Accepted n) c d cause counts = counts.1
 own_counts facts old new Flush (Accepted n) c d cause counts = absurd cause
 own_counts facts old new (Get key) (Accepted n) c d cause counts = absurd cause
 own_counts facts old new Convert (Accepted n) c d cause counts = absurd cause
 own_counts facts old new Merge (Accepted n) c d cause counts = absurd cause
 own_counts facts old new (Put key value) (Acknowledged n) c d cause counts = absurd cause
 own_counts facts old new (Delete key) (Acknowledged n) c d cause counts = absurd cause
+own_counts facts old new (Swap key expected value) (Acknowledged n) c d cause counts = absurd cause
 own_counts facts old new Flush (Acknowledged n) c d cause counts = omega (arith, counts.1)
 own_counts facts old new (Get key) (Acknowledged n) c d cause counts = absurd cause
 own_counts facts old new Convert (Acknowledged n) c d cause counts = absurd cause
 own_counts facts old new Merge (Acknowledged n) c d cause counts = absurd cause
 own_counts facts old new (Put key value) (Found v) c d cause counts = absurd cause
 own_counts facts old new (Delete key) (Found v) c d cause counts = absurd cause
+own_counts facts old new (Swap key expected value) (Found v) c d cause counts = absurd cause
 own_counts facts old new Flush (Found v) c d cause counts = absurd cause
 own_counts facts old new (Get key) (Found v) c d cause counts = omega (arith, counts)
 own_counts facts old new Convert (Found v) c d cause counts = absurd cause
 own_counts facts old new Merge (Found v) c d cause counts = absurd cause
 own_counts facts old new (Put key value) Absent c d cause counts = absurd cause
 own_counts facts old new (Delete key) Absent c d cause counts = absurd cause
+own_counts facts old new (Swap key expected value) Absent c d cause counts = absurd cause
 own_counts facts old new Flush Absent c d cause counts = absurd cause
 own_counts facts old new (Get key) Absent c d cause counts = omega (arith, counts)
 own_counts facts old new Convert Absent c d cause counts = absurd cause
 own_counts facts old new Merge Absent c d cause counts = absurd cause
+own_counts facts old new (Put key value) Differs c d cause counts = absurd cause
+own_counts facts old new (Delete key) Differs c d cause counts = absurd cause
+own_counts facts old new (Swap key expected value) Differs c d cause counts = omega (arith, counts)
+own_counts facts old new Flush Differs c d cause counts = absurd cause
+own_counts facts old new (Get key) Differs c d cause counts = absurd cause
+own_counts facts old new Convert Differs c d cause counts = absurd cause
+own_counts facts old new Merge Differs c d cause counts = absurd cause
 own_counts facts old new (Put key value) (Progress p) c d cause counts = absurd cause
 own_counts facts old new (Delete key) (Progress p) c d cause counts = absurd cause
+own_counts facts old new (Swap key expected value) (Progress p) c d cause counts = absurd cause
 own_counts facts old new Flush (Progress p) c d cause counts = absurd cause
 own_counts facts old new (Get key) (Progress p) c d cause counts = absurd cause
 own_counts facts old new Convert (Progress p) c d cause counts = omega (arith, counts)
@@ -57,7 +69,9 @@ own_counts facts old new event (Refused refusal) c d cause counts = omega (arith
 own_counts facts old new (Put key value) (Unsettled n) c d cause counts = absurd cause
 own_counts facts old new (Put key value) NotServed c d cause counts = absurd cause
 own_counts facts old new (Delete key) (Unsettled n) c d cause counts = absurd cause
+own_counts facts old new (Swap key expected value) (Unsettled n) c d cause counts = absurd cause
 own_counts facts old new (Delete key) NotServed c d cause counts = absurd cause
+own_counts facts old new (Swap key expected value) NotServed c d cause counts = absurd cause
 own_counts facts old new Flush (Unsettled n) c d cause counts = absurd cause
 own_counts facts old new Flush NotServed c d cause counts = absurd cause
 own_counts facts old new (Get key) (Unsettled n) c d cause counts = absurd cause
@@ -74,6 +88,7 @@ acknowledged_more a b (Accepted n ∷ replies) less = acknowledged_more a b repl
 acknowledged_more a b (Acknowledged n ∷ replies) less = acknowledged_more n n replies (omega arith)
 acknowledged_more a b (Found v ∷ replies) less = acknowledged_more a b replies less
 acknowledged_more a b (Absent ∷ replies) less = acknowledged_more a b replies less
+acknowledged_more a b (Differs ∷ replies) less = acknowledged_more a b replies less
 acknowledged_more a b (Progress p ∷ replies) less = acknowledged_more a b replies less
 acknowledged_more a b (Refused r ∷ replies) less = acknowledged_more a b replies less
 acknowledged_more a b (Unsettled n ∷ replies) less = acknowledged_more a b replies less
@@ -126,6 +141,7 @@ acknowledged_one old next (Accepted n) settled moved counts none sum = omega ari
 acknowledged_one old next (Acknowledged n) settled moved counts none sum = omega (arith, counts.0, counts.1, ap length none)
 acknowledged_one old next (Found v) settled moved counts none sum = omega arith
 acknowledged_one old next Absent settled moved counts none sum = omega arith
+acknowledged_one old next Differs settled moved counts none sum = omega arith
 acknowledged_one old next (Progress p) settled moved counts none sum = omega arith
 acknowledged_one old next (Refused r) settled moved counts none sum = omega arith
 acknowledged_one old next (Unsettled n) settled moved counts none sum = omega arith
@@ -137,6 +153,7 @@ fault_adds event (Accepted n) fault = absurd (cc)
 fault_adds event (Acknowledged n) fault = absurd (cc)
 fault_adds event (Found v) fault = absurd (cc)
 fault_adds event Absent fault = absurd (cc)
+fault_adds event Differs fault = absurd (cc)
 fault_adds event (Progress p) fault = absurd (cc)
 fault_adds event (Unsettled n) fault = absurd (cc)
 fault_adds event NotServed fault = absurd (cc)

@@ -9,6 +9,7 @@ pub mod Gatherings
 pub mod Merges
 pub mod Flushes
 pub mod Gets
+pub mod Swaps
 pub mod Rows
 pub mod Histories
 pub mod Livings

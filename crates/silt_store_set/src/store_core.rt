@@ -218,13 +218,14 @@ impl<D: Disk> Core<D> {
     fn holds(&self, key: &Key, value: &[u8]) -> Result<bool, Refusal<D::Fault>>
         requires working { self.now.failed ≡ false }
         requires value { length value.now ≡ self.now.shape.value_len }
-        ensures holds { IsTrue (D.content self.now.disk).honest → IfOk result (λ holds. IsTrue holds ↔ (get (map_of self.now) key.0.now ≡ Some value.now)) }
+        ensures holds { IsTrue (D.content self.now.disk).honest → IfOk result (λ holds. IsTrue holds ↔ (get (map_of self.now) key.now.0 ≡ Some value.now)) }
         ensures fault { IfErr result (λ refusal. IsRefusedRead D.Disk self.now refusal) }
     {
         let mut longest = [0; MOST_VALUE_LEN];
-        let out = &mut longest[..value.len()];
+        let out = &mut longest[..self.tiers.geometry().value_len() as usize];
         match self.tiers.get(&self.disk, key, out) {
-            Ok(found) => Ok(found && *out == *value),
+            Ok(true) => Ok(*out == *value),
+            Ok(false) => Ok(false),
             Err(fault) => Err(Refusal::Device(fault)),
         }
     }
