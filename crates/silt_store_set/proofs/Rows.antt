@@ -1,5 +1,6 @@
 -- What a put or a delete does, from what taking its row does.
-use Rattle.std.proofs.Common.{◌≡◌, ◌<◌, ℕ, ◌+◌, ◌%◌, ◌^◌, inl, inr, false, IsTrue, List, [], ◌∷◌, length, refl, ap, sym, ◌∙◌, subst, arith}
+use Rattle.std.proofs.Common.{◌≡◌, ◌≢◌, ◌<◌, ◌≤◌, ℕ, ◌*◌, ◌==◌, Bool, true, if◌then◌else◌, Option, Some, None, ◌+◌, ◌%◌, ◌^◌, inl, inr, false, IsTrue, List, [], ◌∷◌, length, refl, ap, sym, ◌∙◌, subst, arith}
+use Rattle.std.proofs.lemmas.Bool.{ne_eqb}
 use Rattle.std.proofs.lemmas.List.{length-map}
 use Rattle.silt_disk.specs.Disk.{GaveAny}
 use Rattle.silt_disk.specs.declared.disk.Disk.{Ghosts}
@@ -25,7 +26,11 @@ use Rattle.silt_event.specs.declared.refusal.Refusal.TheVariants.{Device, NoMemo
 use Rattle.silt_event.specs.declared.reply.Reply.TheVariants.{Accepted, Refused}
 use Rattle.silt_event.specs.Events.{is_failed}
 use Rattle.silt_store_set.specs.Basis.{basis_of}
-use Rattle.silt_store_set.specs.CoreState.{CoreState, AreAllInUse, Cause, Does, FailsBy, FailsRead, Freezes, HasFreeLog, IsStuck, MayWrite, Takes, row_event}
+use Rattle.silt_tiers.specs.Conversion.{progress_due}
+use Rattle.silt_event.specs.declared.progress.Progress.{Progress as ProgressOf}
+use Rattle.silt_event.specs.declared.progress.Progress.TheVariants.{Idle, Waiting, Moved, Finished}
+use Rattle.silt_disk.specs.Layout.{InLimits, Shape}
+use Rattle.silt_store_set.specs.CoreState.{CoreState, AreAllInUse, Cause, convert_due, convert_work, written_of, Does, FailsBy, FailsRead, Freezes, HasFreeLog, IsStuck, MayWrite, Takes, row_event}
 use Rattle.silt_store_set.proofs.Calls.{seen, seen_failed, advanced, broke, refused}
 
 -- a store that may write is not failed
@@ -43,6 +48,21 @@ freezes : (logs : ℕ) (old new : Body) (region : ℕ) → IsLowestFree logs old
 freezes logs old new region lowest is =
     let active : region ≡ new.active = sym (ap (λ (b : Body). b.active) is) in
     record { lowest = subst (IsLowestFree logs old) active lowest; is = is ∙ ap (next_body old) active }
+
+-- a step of conversion is not idle if neither case of it is
+neither_idle : (b : Bool) (first second : ProgressOf) → first ≢ Idle → second ≢ Idle → (if b then first else second) ≢ Idle
+neither_idle true first second works waits = works
+neither_idle false first second works waits = waits
+
+-- with a frozen log a step of conversion is due, or waits for a hash region
+not_idle : (frozen hashes regions slots : ℕ) (written : Option ℕ) → 1 ≤ frozen → progress_due frozen hashes regions slots written ≢ Idle
+not_idle frozen hashes regions slots (Some written) some = neither_idle (written == slots) Finished Moved (λ is. absurd (cc)) (λ is. absurd (cc))
+not_idle frozen hashes regions slots None some =
+    rw (ne_eqb frozen 0 (λ is. omega (arith, some, is))) (neither_idle (hashes == regions) Waiting Moved (λ is. absurd (cc)) (λ is. absurd (cc)))
+
+-- there are at least two logs
+pub least_logs : (shape : Shape) → InLimits shape → 2 ≤ shape.logs
+least_logs shape limits = limits.logs_least
 
 module _ {D F : Type 0} (facts : Ghosts D F) (disk : D) (stores : TiersState) (count : ℕ) (stands : Stands (facts.content disk) stores) where
   -- the store before
@@ -132,13 +152,18 @@ module _ {D F : Type 0} (facts : Ghosts D F) (disk : D) (stores : TiersState) (c
   row_unread new after k key value fault may same_stores same_disk given =
       kept new after k key value (Device fault) same_stores same_disk refl (read_cause before k key value fault may (record { given = given; working = refl; same = refl }))
 
-  no_room_cause : (k : Kind) (key : Key) (value : List ℕ) → MayWrite k before → NeedsNext (facts.content disk) stores key.0 → AllInUse stores → Cause facts before before (row_event k key value) (Refused NoRoom)
-  no_room_cause kind.Put key value may needs all = (may, (stopped before key.0 needs, all_in_use all))
-  no_room_cause kind.Delete key value may needs all = (may, (stopped before key.0 needs, all_in_use all))
+  -- if all logs are in use, there is a frozen one
+  frozen_due : 2 ≤ stores.manifest.shape.logs → AllInUse stores → convert_due before ≢ Idle
+  frozen_due least all = not_idle (length stores.manifest.ruling.frozen) (length stores.manifest.ruling.hashed) stores.manifest.shape.hashes (4 * stores.manifest.shape.buckets)
+      (written_of (convert_work stores.converting)) (omega (arith, all, least, frozen_count))
 
-  pub row_no_room : (new : D) (after : TiersState) (k : Kind) (key : Key) (value : List ℕ) → MayWrite k before → after ≡ stores → new ≡ disk → NeedsNext (facts.content disk) stores key.0 → AllInUse stores
+  no_room_cause : (k : Kind) (key : Key) (value : List ℕ) → 2 ≤ stores.manifest.shape.logs → MayWrite k before → NeedsNext (facts.content disk) stores key.0 → AllInUse stores → Cause facts before before (row_event k key value) (Refused NoRoom)
+  no_room_cause kind.Put key value least may needs all = (may, (stopped before key.0 needs, all_in_use all, frozen_due least all))
+  no_room_cause kind.Delete key value least may needs all = (may, (stopped before key.0 needs, all_in_use all, frozen_due least all))
+
+  pub row_no_room : (new : D) (after : TiersState) (k : Kind) (key : Key) (value : List ℕ) → 2 ≤ stores.manifest.shape.logs → MayWrite k before → after ≡ stores → new ≡ disk → NeedsNext (facts.content disk) stores key.0 → AllInUse stores
       → Does facts before (seen facts new after count) (row_event k key value) (Refused NoRoom)
-  row_no_room new after k key value may same_stores same_disk needs all = kept new after k key value NoRoom same_stores same_disk refl (no_room_cause k key value may needs all)
+  row_no_room new after k key value least may same_stores same_disk needs all = kept new after k key value NoRoom same_stores same_disk refl (no_room_cause k key value least may needs all)
 
   spent_cause : (k : Kind) (key : Key) (value : List ℕ) → MayWrite k before → NeedsNext (facts.content disk) stores key.0 → (AllInUse stores → ⊥) → IsLastGeneration stores → Cause facts before before (row_event k key value) (Refused Spent)
   spent_cause kind.Put key value may needs free last = (refl, inr (may, (stopped before key.0 needs, has_free free, last)))

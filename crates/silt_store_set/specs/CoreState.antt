@@ -252,9 +252,10 @@ module _ {D F : Type 0} (facts : Ghosts D F) (old new : CoreState D) where
   abbrev pub WritesRow : List ℕ → Command → Type 0
   WritesRow key command = Takes key command × (facts.failures new.disk ≡ facts.failures old.disk)
 
-  -- why a row is not written: a device fault, no free log, no further generation, or out of memory for a new log
+  -- why a row is not written: a device fault, no free log although a conversion would free one, no further generation, or out of memory
+  -- for a new log
   abbrev pub NoRowCause : List ℕ → Refusal F → Type 0
-  NoRowCause key NoRoom = IsStuck key × AreAllInUse old
+  NoRowCause key NoRoom = IsStuck key × AreAllInUse old × (convert_due old ≢ Idle)
   NoRowCause key Spent = IsStuck key × HasFreeLog old × (old.body.generation ≡ last_generation)
   NoRowCause key NoMemory = IsStuck key × HasFreeLog old × (old.body.generation ≢ last_generation)
   NoRowCause key (Device fault) = FailsRead facts old new fault ⊎ FailsBy facts old new fault
@@ -277,20 +278,20 @@ module _ {D F : Type 0} (facts : Ghosts D F) (old new : CoreState D) where
   DeleteCause key (Refused refusal) = MayCount old × NoRowCause key refusal
   DeleteCause key reply = ⊥
 
-  -- on an honest disk, the key has this value
-  abbrev pub HasValue : List ℕ → List ℕ → Type 0
-  HasValue key value = IsTrue (facts.content old.disk).honest → get (map_of old) key ≡ Some value
+  -- on an honest disk, the key has this value before the call
+  abbrev pub HasOldValue : List ℕ → List ℕ → Type 0
+  HasOldValue key value = IsTrue (facts.content old.disk).honest → get (map_of old) key ≡ Some value
 
   -- A swap of the expected value: as a put, but only where the key has that value. A read may fail before that is known.
   abbrev pub SwapCause : List ℕ → List ℕ → List ℕ → Reply F → Type 0
-  SwapCause key expected value (Accepted n) = HasValue key expected × MayPut old × WritesRow key (put key value)
+  SwapCause key expected value (Accepted n) = HasOldValue key expected × MayPut old × WritesRow key (put key value)
   SwapCause key expected value Differs = (old.failed ≡ false) × (new ≡ old)
   SwapCause key expected value (Refused Failed) = old.failed ≡ true
-  SwapCause key expected value (Refused StoreFull) = HasValue key expected × MayCount old × (old.charge ≡ old.shape.sorted_capacity)
+  SwapCause key expected value (Refused StoreFull) = HasOldValue key expected × MayCount old × (old.charge ≡ old.shape.sorted_capacity)
   SwapCause key expected value (Refused Spent) =
-      HasValue key expected × (old.failed ≡ false) × ((old.count ≡ most_commands) ⊎ (MayPut old × NoRowCause key Spent))
-  SwapCause key expected value (Refused (Device fault)) = FailsRead facts old new fault ⊎ (HasValue key expected × MayPut old × FailsBy facts old new fault)
-  SwapCause key expected value (Refused refusal) = HasValue key expected × MayPut old × NoRowCause key refusal
+      HasOldValue key expected × (old.failed ≡ false) × ((old.count ≡ most_commands) ⊎ (MayPut old × NoRowCause key Spent))
+  SwapCause key expected value (Refused (Device fault)) = FailsRead facts old new fault ⊎ (HasOldValue key expected × MayPut old × FailsBy facts old new fault)
+  SwapCause key expected value (Refused refusal) = HasOldValue key expected × MayPut old × NoRowCause key refusal
   SwapCause key expected value reply = ⊥
 
   -- if no command waits, a flush changes nothing

@@ -243,6 +243,7 @@ impl<D: Disk> Core<D> {
         requires zeros { IsValueOf kind value.now }
         ensures { Does D.Disk self.old self.new (row_event kind key.now value.now) (change_reply result) }
     {
+        let _logs = self.tiers.geometry().logs(); // at least two
         let basis = Basis::of(&self.disk, &self.tiers);
         match self.tiers.write(alloc, &mut self.disk, kind, key, value) {
             Ok(()) => {

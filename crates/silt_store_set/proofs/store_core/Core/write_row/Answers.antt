@@ -1,6 +1,6 @@
 use Rattle.std.proofs.Common.{◌+◌, [], ◌∷◌, arith}
 use Rattle.silt_store_set.proofs.Calls.{core_broke, core_stays, core_went, seen_core}
-use Rattle.silt_store_set.proofs.Rows.{may_count, may_working, row_taken, row_broke, row_unread, row_no_room, row_spent, row_no_memory}
+use Rattle.silt_store_set.proofs.Rows.{least_logs, may_count, may_working, row_taken, row_broke, row_unread, row_no_room, row_spent, row_no_memory}
 use Rattle.silt_store_set.proofs.store_core.Core.write_row.Goals as goal
 
 pub returns-in-Ok : goal.returns-in-Ok
@@ -32,7 +32,7 @@ returns-in-Err-NoRoom g c =
     let may = rw (← c.self.view_is) at c.requires.may in
     let working = may_working c.args.kind (seen_core g.D.Disk c.self.inside.disk c.self.inside.tiers c.self.inside.count c.self.inside.failed c.self.inside.basis) may in
     rw (← c.self.view_is, working) (row_no_room g.D.Disk c.self.inside.disk c.self.inside.tiers c.self.inside.count
-    (c.self.invariant.stands working) c.write.new.disk c.write.new.self c.args.kind c.args.key.now c.args.value.now (rw working at may) err.0.0 err.0.1 err.1 err.2)
+    (c.self.invariant.stands working) c.write.new.disk c.write.new.self c.args.kind c.args.key.now c.args.value.now (least_logs c.self.inside.tiers.manifest.shape (rw c.geometry.ensures.value at c.logs-logs.ensures.limits)) (rw working at may) err.0.0 err.0.1 err.1 err.2)
 
 pub returns-in-Err-Spent : goal.returns-in-Err-Spent
 returns-in-Err-Spent g c =
