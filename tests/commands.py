@@ -20,18 +20,34 @@ class Commands:
     def __init__(self, random, keys, length, burst=0):
         self.random, self.keys, self.length, self.burst = random, keys, length, burst
         self.number = random.randrange(1000)
+        # The last values that were put or swapped in.
+        self.latest = {}
+
+    def new_value(self, key):
+        self.number += 1
+        self.latest[key] = value_of(self.number, self.length)
+        return self.latest[key]
 
     def put(self):
-        self.number += 1
-        return f"put {self.random.choice(self.keys)} {value_of(self.number, self.length)}"
+        key = self.random.choice(self.keys)
+        return f"put {key} {self.new_value(key)}"
+
+    def swap(self):
+        """A swap, for the most part of the value that the key has if the commands before were accepted."""
+        key = self.random.choice(self.keys)
+        other = value_of(self.random.randrange(1 << 16), self.length)
+        old = self.latest.get(key, other) if self.random.random() < 0.8 else other
+        return f"swap {key} {old} {self.new_value(key)}"
 
     def lines(self, count):
         """At least this many lines."""
         made = []
         while len(made) < count:
             kind = self.random.random()
-            if kind < 0.45:
+            if kind < 0.30:
                 made.append(self.put())
+            elif kind < 0.45:
+                made.append(self.swap())
             elif kind < 0.55:
                 made.append(f"delete {self.random.choice(self.keys)}")
             elif kind < 0.70:
@@ -44,18 +60,30 @@ class Commands:
 
 
 def is_command(line):
-    return line.startswith(("put ", "delete "))
+    return line.startswith(("put ", "delete ", "swap "))
+
+
+def differs(values, line):
+    """Whether this is a swap, and its key has another value than the old one, or none."""
+    word, *words = line.split()
+    return word == "swap" and values.get(words[0]) != words[1]
 
 
 def done(values, command):
-    """The map after a command, as a new one."""
-    word, key, *value = command.split()
+    """The map after an accepted command, as a new one."""
+    assert not differs(values, command), f"{command} is accepted, and the map is {values}"
+    _, key, *words = command.split()
     rest = {its: it for its, it in values.items() if its != key}
-    return {**rest, key: value[0]} if word == "put" else rest
+    return {**rest, key: words[-1]} if words else rest
+
+
+def tried(values, command):
+    """The map after a command that is accepted if it does not differ."""
+    return values if differs(values, command) else done(values, command)
 
 
 def maps_after(values, commands):
-    """The maps after none of these commands, the first, the first two, and so on."""
+    """The maps after none of these accepted commands, the first, the first two, and so on."""
     return list(itertools.accumulate(commands, done, initial=values))
 
 

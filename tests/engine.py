@@ -75,10 +75,12 @@ class Engine:
         self.generation, self.active, self.frozen, self.hashes = 0, Log(0, layout.buckets), [], []
         self.region, self.entries, self.is_spare_closed = 0, [], True
         self.conversion = self.merge = None
+        self.is_absent = False
 
     def answer(self, line):
-        """The reply to a line. The device calls that it takes are then in `calls`."""
-        self.calls = []
+        """The reply to a line. The device calls that it takes are then in `calls`. If `is_absent`, it
+        looked up a key that has no row and no entry, and may have read one entry more."""
+        self.calls, self.is_absent = [], False
         word, *rest = line.split()
         return getattr(self, f"do_{word}")(*rest)
 
@@ -138,6 +140,12 @@ class Engine:
 
     def do_delete(self, key):
         return self.add(DELETE, key, None)
+
+    def do_swap(self, key, old, new):
+        """The look-up of a get, and then all of a put."""
+        if self.do_get(key) != f"value {old}":
+            return "differs"
+        return self.do_put(key, new)
 
     def add(self, kind, key, value):
         pair, path = self.layout.buckets_of(key), None
@@ -217,6 +225,7 @@ class Engine:
                 return self.found(row)
         place = next((n for n, (its, _) in enumerate(self.entries) if its == key), None)
         if place is None:
+            self.is_absent = True
             return "absent"
         self.calls.append(self.entry_reads()[place])
         return f"value {self.entries[place][1]}"

@@ -46,10 +46,12 @@ class Maker:
     def __init__(self, random, geometry, full_tables=False):
         self.random, self.geometry, self.full_tables = random, geometry, full_tables
         self.keys = make_keys(random, geometry, full_tables)
+        # The last values that were put or swapped in, by the keys' words.
+        self.latest = {}
         self.turn = 0
         # A list of the kinds of line with their weights: each script has its own.
-        self.kinds = ["put", "delete", "get", "flush", "convert", "merge", "round", "bad"]
-        some = [random.choice([2, 10, 25]), 15, 8, random.choice([0, 2, 6]), random.choice([0, 2, 6])]
+        self.kinds = ["put", "delete", "swap", "get", "flush", "convert", "merge", "round", "bad"]
+        some = [random.choice([2, 10, 25]), random.choice([0, 8, 30]), 15, 8, random.choice([0, 2, 6]), random.choice([0, 2, 6])]
         self.weights = [40, *some, random.choice([0, 2, 6]), 3]
 
     def lines(self, count):
@@ -62,8 +64,18 @@ class Maker:
 
     def make_put(self):
         self.turn += 1
-        key = self.cased(self.keys[self.turn % len(self.keys)]) if self.full_tables else self.cased_key()
-        return [b"put " + key + b" " + self.cased(make_value(self.random, self.geometry.v))]
+        key = self.keys[self.turn % len(self.keys)] if self.full_tables else self.random.choice(self.keys)
+        return [b"put " + self.cased(key) + b" " + self.new_value(key)]
+
+    def make_swap(self):
+        """A swap, for the most part of the value that the key has if the commands before were taken."""
+        key, other = self.random.choice(self.keys), make_value(self.random, self.geometry.v)
+        old = self.latest.get(key, other) if self.random.random() < 0.8 else other
+        return [b"swap " + self.cased(key) + b" " + self.cased(old) + b" " + self.new_value(key)]
+
+    def new_value(self, key):
+        self.latest[key] = make_value(self.random, self.geometry.v)
+        return self.cased(self.latest[key])
 
     def make_delete(self):
         return [b"delete " + self.cased_key()]
@@ -102,7 +114,7 @@ class Maker:
 def odd_lines(random, key, v):
     """Lines that are not good, and some good ones in an unusual form."""
     value = make_value(random, v)
-    word = random.choice([b"put", b"delete", b"get", b"flush", b"convert", b"merge", b"stop"])
+    word = random.choice([b"put", b"delete", b"swap", b"get", b"flush", b"convert", b"merge", b"stop"])
     noise = bytes(random.choice(b"abget 0=\r\t\x00\xff") for _ in range(random.randint(1, 12)))
     return [
         b"", b"\r", b" ", b"\r\r", noise,
@@ -113,7 +125,10 @@ def odd_lines(random, key, v):
         b"get =\x7f", b"get =a\xc3\xa4", b"get =" + b"a" * 8000, b"get =" + b"a" * 8001, b"delete 0x" + b"0" * 38,
         b"put " + key + b" " + value[1:], b"put " + key + b" " + value + b"0", b"put " + key + b" " + value + b"00",
         b"put " + key + b" ", b"put " + key + b" g" + value[1:], b"put 0 0", b"put =b -" + value[1:],
-        b"x" * 8300, b"x" * 8301, b"x" * 8300 + b"\r", b"x" * 20000, b"get =" + b"a" * 8296, b"stop 0 " + b"o" * 9000,
+        b"swap " + key + b" " + value, b"swap " + key + b" " + value + b" " + value + b" " + value,
+        b"swap " + key + b"  " + value, b"swap " + key + b" " + value + b" " + value + b"\r",
+        b"swap " + key + b" " + value + b" " + value[1:], b"swap " + key + b" " + value[1:] + b" " + value, b"swap 0 0 0",
+        b"x" * 16600, b"x" * 16601, b"x" * 16600 + b"\r", b"x" * 40000, b"get =" + b"a" * 16596, b"stop 0 " + b"o" * 17000,
         b"stop 0 olds", b"stop 0 OLD", b"stop -1 old", b"stop 4294967296 old", b"stop 00000000001 old",
         b"stop 1 old old", b"stop 1", b"stop  old", b"stop x new", b"stop +1 new",
     ]

@@ -24,7 +24,7 @@ VERSIONS = (1, 2)
 PUT, DELETE = 1, 2
 LAST_GENERATION = 2**63 - 1
 LAST_TURN = 127
-LONGEST_LINE = 8300
+LONGEST_LINE = 16600
 LONGEST_NAME = 8000
 FILLS = ("old", "new", "zero", "ones", "mix")
 
@@ -597,8 +597,9 @@ class Store:
         self.accepted = 0
         self.failed = False
         self.conversion = self.merging = None
-        # How often logs froze, and how often a key found no place: for tests that count cases.
-        self.freezes = self.crowded = 0
+        # How often logs froze, how often a key found no place, and how many swaps were accepted: for
+        # tests that count cases.
+        self.freezes = self.crowded = self.swaps = 0
 
     def answer(self, event, *words):
         if self.failed:
@@ -624,6 +625,15 @@ class Store:
 
     def delete(self, key):
         return self.take(DELETE, key, bytes(self.geometry.v))
+
+    def swap(self, key, old, new):
+        """A put, if the key has the old value."""
+        row = self.contents.first_row(key)
+        if not row or row[0] != PUT or row[2] != old:
+            return "differs"
+        reply = self.put(key, new)
+        self.swaps += 1
+        return reply
 
     def take(self, kind, key, value):
         if not self.active_takes(key):
@@ -777,7 +787,7 @@ class Store:
 
 
 # The events that lines may ask for, and how many words stand behind the first one.
-EVENTS = {b"put": 2, b"delete": 1, b"get": 1, b"flush": 0, b"convert": 0, b"merge": 0}
+EVENTS = {b"put": 2, b"delete": 1, b"swap": 3, b"get": 1, b"flush": 0, b"convert": 0, b"merge": 0}
 
 
 def split_lines(data):
@@ -793,11 +803,10 @@ def read_line(line, length, v):
     event, *words = line.split(b" ")
     if EVENTS.get(event) != len(words):
         raise Refused(20)
-    if words:
-        words[0] = read_key(words[0])
-    if len(words) == 2:
-        words[1] = read_value(words[1], v)
-    return event.decode(), *words
+    if not words:
+        return (event.decode(),)
+    key, *values = words
+    return event.decode(), read_key(key), *[read_value(it, v) for it in values]
 
 
 def read_key(word):

@@ -25,7 +25,7 @@ MOST_SESSIONS = 64
 # What a connection reads for which there is no place, without its line feed.
 BUSY = f"busy: {MOST_SESSIONS} connections are served already"
 # The longest line, without its line feed.
-LONGEST_LINE = 8300
+LONGEST_LINE = 16600
 
 
 class Client:

@@ -195,9 +195,23 @@ class Writes(CallCase):
         self.store(G)
         self.judge([(f"delete {A}", self.rules.row(0, 0, DELETE, A)), ("flush", self.rules.flush(0, 0, 1))])
 
+    def test_a_swap(self):
+        """The two writes of a put if it is accepted, and else none."""
+        self.store(G)
+        swap = f"swap {A} 0102 0304", self.rules.row(0, 1, PUT, A, "0304")
+        self.judge([self.put(0, A, "0102"), swap, ("flush", self.rules.flush(0, 0, 2)), (swap[0], []),
+                    (f"swap {B} 0000 0304", []), ("flush", [])])
+
+    def test_a_swap_that_freezes(self):
+        self.store(G)
+        due = self.freeze(manifest(1, 1, frozen=[0]), True) + self.rules.row(1, 0, PUT, D, "0005")
+        self.judge(self.fill() + [(f"swap {D} 0005 0004", []), (f"swap {D} 0004 0005", due),
+                                  ("flush", self.rules.flush(1, 0, 1))])
+
     def test_lines_that_write_nothing(self):
         self.store(G)
-        self.judge([("flush", []), (f"get {A}", []), ("convert", []), ("merge", []), ("pot", []), (f"put {A} 01", [])])
+        self.judge([("flush", []), (f"get {A}", []), ("convert", []), ("merge", []), ("pot", []), (f"put {A} 01", []),
+                    (f"swap {A} 0102 0304", []), (f"swap {A} 0102 03", [])])
 
     def test_a_freeze_with_rows_waiting(self):
         self.store(G)
@@ -216,7 +230,8 @@ class Writes(CallCase):
     def test_no_room_and_a_full_store(self):
         self.store(G)
         puts = [self.put(n, key, "0009", 1) for n, key in enumerate((A, B, C), 1)]
-        self.judge(self.frozen_log() + [*puts, (f"put {D} 0009", []), (f"delete {D}", [])])
+        self.judge(self.frozen_log() + [*puts, (f"put {D} 0009", []), (f"delete {D}", []), (f"swap {D} 0004 0009", []),
+                                        (f"swap {D} 0001 0009", [])])
 
     def test_a_conversion(self):
         self.store(G)
@@ -468,6 +483,32 @@ class Reads(CallCase):
         self.judge_reads([(f"get {first}", both[:1]), (f"get {second}", both), (f"get {absent}", both),
                           (f"put {absent} 0003", [self.row(0, 21), self.row(1, 21)])])
 
+    def test_swaps_of_the_active_log(self):
+        """A key of the active log costs two reads, its row and the head of a put. A buffered one costs
+        none, an absent one none either. A swap that differs reads the row alone."""
+        self.store(WIDE, self.puts(range(2)) + ["flush"])
+        row, head = self.row(1, 23), self.row(1, 21)
+        self.judge_reads([
+            (f"swap {key(1)} 0002 0003", [row]), (f"swap {key(1)} 0001 0003", [row, head]),
+            (f"swap {key(1)} 0001 0004", []), (f"swap {key(1)} 0003 0004", []), (f"swap {key(9)} 0000 0001", []),
+            ("flush", []), (f"swap {key(1)} 0003 0004", [self.row(3, 23)]),
+            (f"swap {key(1)} 0004 0005", [self.row(3, 23), self.row(3, 21)])])
+
+    def test_swaps_of_keys_that_share_buckets(self):
+        """A swap reads what a get reads, and then what a put reads."""
+        first, second, absent = key(3), key(3, 1), key(3, 2)
+        self.store(WIDE, [f"put {first} 0001", f"put {second} 0002", "flush"])
+        rows, heads = [self.row(0, 23), self.row(1, 23)], [self.row(0, 21), self.row(1, 21)]
+        self.judge_reads([(f"swap {absent} 0001 0003", rows), (f"swap {second} 0001 0003", rows),
+                          (f"swap {second} 0002 0003", rows + heads)])
+
+    def test_swaps_in_a_full_store(self):
+        """The charge comes behind the comparison, and before the reads of a put."""
+        self.store("2 64 8 4 4 2", [f"put {key(1)} 0001", f"put {key(2)} 0002", "flush"])
+        self.layout = Layout.of("2 64 8 4 4 2")
+        self.judge_reads([(f"put {key(1)} 0003", []), (f"swap {key(1)} 0001 0003", [self.row(0, 23)]),
+                          (f"swap {key(2)} 0001 0003", [self.row(1, 23)])])
+
     def frozen(self):
         """Keys 0 to 7 in log 0, which is frozen, and key 8 in log 1."""
         self.store(WIDE, self.puts(range(9)) + ["flush"])
@@ -476,7 +517,9 @@ class Reads(CallCase):
         """A put asks the active log alone."""
         self.frozen()
         self.judge_reads([(f"get {key(2)}", [self.row(2, 23)]), (f"get {key(8)}", [self.row(0, 23, log=1)]),
-                          (f"put {key(3)} 0009", []), (f"delete {key(4)}", []), (f"get {key(20)}", [])])
+                          (f"put {key(3)} 0009", []), (f"delete {key(4)}", []), (f"get {key(20)}", []),
+                          (f"swap {key(5)} 0006 0009", [self.row(5, 23)]), (f"swap {key(5)} 0005 0009", [self.row(5, 23)]),
+                          (f"swap {key(20)} 0014 0009", [])])
 
     def test_a_conversion(self):
         """One read for each slot with a row, none for the others, and none at its end."""
@@ -488,7 +531,9 @@ class Reads(CallCase):
         self.frozen()
         self.silt("run", "store", text="convert\n" * 257)
         self.judge_reads([(f"get {key(2)}", [self.slot(2, 23)]), (f"put {key(3)} 0009", []),
-                          (f"delete {key(4)}", []), (f"get {key(20)}", []), (f"get {key(4)}", [])])
+                          (f"delete {key(4)}", []), (f"get {key(20)}", []), (f"get {key(4)}", []),
+                          (f"swap {key(4)} 0004 0009", []), (f"swap {key(5)} 0006 0009", [self.slot(5, 23)]),
+                          (f"swap {key(5)} 0005 0009", [self.slot(5, 23)])])
 
     def merged(self):
         """And then keys 0 to 7 are entries, in sorted region 1."""
@@ -502,12 +547,14 @@ class Reads(CallCase):
         """One read, of the entry at the one place at which the key can be."""
         self.merged()
         gets = [(f"get {key(n)}", [self.entry(n)]) for n in range(8)]
-        self.judge_reads([*gets, (f"put {key(3)} 0009", []), (f"delete {key(4)}", []), (f"get {key(4)}", [])])
+        self.judge_reads([*gets, (f"put {key(3)} 0009", []), (f"delete {key(4)}", []), (f"get {key(4)}", []),
+                          (f"swap {key(5)} 0006 0009", [self.entry(5)]), (f"swap {key(5)} 0005 0009", [self.entry(5)])])
 
     def test_absent_keys_of_a_sorted_store(self):
         """At most one read."""
         self.merged()
-        lines = [f"get {key(n, n)}" for n in range(9, 30)] + [f"get {'ff' * 20}", f"get {'00' * 20}"]
+        keys = [key(n, n) for n in range(9, 30)] + ["ff" * 20, "00" * 20]
+        lines = [f"get {it}" for it in keys] + [f"swap {it} 0001 0002" for it in keys]
         for line, calls in zip(lines, self.calls_of(lines)[1:], strict=True):
             self.assertLessEqual(len(reads(calls)), 1, line)
 
@@ -553,8 +600,9 @@ class Reads(CallCase):
         words = "493 64 2 4 4 64"
         self.layout, value = Layout.of(words), "ab" * 493
         self.store(words, [f"put {key(1)} {value}", f"delete {key(2)}", "flush"])
-        self.judge_reads([(f"get {key(1)}", [self.row(0, 21), (self.row(0, 0)[0] + 21, 493)]),
-                          (f"get {key(2)}", [self.row(1, 21)])])
+        whole = [self.row(0, 21), (self.row(0, 0)[0] + 21, 493)]
+        self.judge_reads([(f"get {key(1)}", whole), (f"get {key(2)}", [self.row(1, 21)]),
+                          (f"swap {key(1)} {'cd' * 493} {value}", whole), (f"swap {key(2)} {value} {value}", [self.row(1, 21)])])
         self.silt("run", "store", text=f"put {key(3)} {value}\nflush\n" + "convert\n" * 257)
         at = self.slot(1, 0)[0]
         self.judge_reads([(f"get {key(1)}", [(at, 21), (at + 21, 493)]), (f"get {key(2)}", [self.slot(2, 21)])])
@@ -590,17 +638,17 @@ class Random(CallCase):
         return made.lines(1)
 
     def answered(self, engine, keys, count):
-        """Lines, each with its reply, its device calls, and the entries that a get of an absent
+        """Lines, each with its reply, its device calls, and the entries that a look-up of an absent
         key may read."""
         made, steps = Commands(self.random, keys, engine.layout.values), []
         while len(steps) < count:
             for line in self.some_lines(made, engine):
                 reply = engine.answer(line)
-                steps.append((line, reply, engine.calls, engine.entry_reads() if reply == "absent" else []))
+                steps.append((line, reply, engine.calls, engine.entry_reads() if engine.is_absent else []))
         return steps
 
     def try_lines(self, geometry, keys, count):
-        """Lines on a new store. A get of an absent key may read one entry, of which the rules do
+        """Lines on a new store. A look-up of an absent key may read one entry, of which the rules do
         not say which."""
         layout, buffer = Layout.of(geometry), Buffer()
         steps = self.answered(Engine(layout), self.keys(keys, layout.buckets), count)

@@ -9,7 +9,7 @@ import collections
 import socket
 import threading
 
-from commands import Commands, answer, done, is_command, maps_after, names
+from commands import Commands, answer, differs, done, is_command, maps_after, names
 from crashes import cuts, image
 from harness import PROVED, scaled
 from layout import Layout, as_version_1
@@ -50,13 +50,14 @@ class Lived:
 
 
 def lines_after(layout, keys, value):
-    """The lines that a file is tried with: gets, commands, all work in the background to its
+    """The lines that a file is tried with: gets, commands, swaps, all work in the background to its
     end, and commands."""
     gets = [f"get {key}" for key in keys]
     new = [f"put {keys[0]} {value}", "flush", f"delete {keys[1]}", "flush"]
+    swaps = [f"swap {key} {value} {'dd' * layout.values}" for key in (keys[0], *keys[:2])]
     steps = (layout.slots + 1) * layout.hashes
     work = ["convert"] * steps + ["merge"] * (steps + len(keys) + 1)
-    return gets + new + gets + work * (layout.logs // layout.hashes + 1) + new + gets
+    return gets + new + swaps + gets + work * (layout.logs // layout.hashes + 1) + new + gets
 
 
 class CutCase(WatchedCase):
@@ -96,7 +97,9 @@ class CutCase(WatchedCase):
         accepted = 0
         self.assertEqual(replies[0], "opened")
         for line, reply in zip(lines, replies[1:]):
-            if is_command(line) and not reply.startswith("refused"):
+            if differs(values, line):
+                self.assertEqual(reply, "differs", line)
+            elif is_command(line) and not reply.startswith("refused"):
                 accepted, values = accepted + 1, done(values, line)
                 self.assertEqual(reply, f"accepted {accepted}")
             elif is_command(line):

@@ -341,14 +341,16 @@ class Files(FaultCase):
     def test_a_limit_of_the_file(self):
         """Writes beyond a length fail: EFBIG, or a signal that ends the program."""
         job = Job(["run", "store"], LINES, self.store(GEOMETRY).read_bytes())
+        whole = self.plain(job)
+        commands = [line for line, reply in zip(LINES, whole.lines[1:]) if reply.startswith("accepted")]
         for limit in (4096, 12290, 16400, 20480, 24700, 28700, 40960 + 30):
             for is_ignored in (True, False):
                 self.put_back(job.before)
                 ended = self.limited(limit, job, is_ignored)
                 with self.subTest(limit=limit, is_ignored=is_ignored):
-                    self.judge_limited(job, ended, is_ignored)
+                    self.judge_limited(job, commands, ended, is_ignored)
 
-    def judge_limited(self, job, ended, is_ignored):
+    def judge_limited(self, job, commands, ended, is_ignored):
         if is_ignored or ended.status >= 0:
             self.assertEqual(ended.status, 0)
             lines = re.escape(told_of_lines(job.text.encode(), ended.out))
@@ -357,7 +359,6 @@ class Files(FaultCase):
             self.assertEqual({it for it in after if not it.startswith("refused 2")}, {"refused 9 Failed"})
         else:
             self.assertEqual(-ended.status, signal.SIGXFSZ)
-        commands = [line for line in job.lines if is_command(line) and line != "put =c"]
         self.judge_file(self.left(), commands, ended.lines)
 
     def test_a_limit_of_a_format(self):

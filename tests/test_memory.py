@@ -3,13 +3,14 @@
 A job is refused, ends early, or answers one line with a refusal; nothing that was acknowledged
 is lost.
 """
+import itertools
 import re
 import signal
 import socket
 import subprocess
 import unittest
 
-from commands import answer, done, is_command, maps_after
+from commands import answer, differs, is_command, tried
 from failing import DEVICE, GEOMETRY, KEYS, LINES, LIVES, NO_STORE, Job, JobCase
 from harness import PROVED, TOP
 from watch import read_counts, watching
@@ -153,7 +154,8 @@ class Jobs(MemoryCase):
 # Each put of this session freezes a log, and both workers have something to do. A put finds no room
 # if they have not freed a log yet.
 OF_SERVERS = "2 2 1 6 3 40"
-SESSION = [f"put {KEYS[n % 4]} {n:04x}" for n in range(1, 9)] + ["flush", "get =a", "delete =b", "get =b", "get =d"]
+SESSION = ([f"put {KEYS[n % 4]} {n:04x}" for n in range(1, 9)]
+           + ["flush", "get =a", "swap =a 0008 0009", "swap =a 0008 000a", "get =a", "delete =b", "get =b", "get =d"])
 
 
 class Servers(MemoryCase):
@@ -201,13 +203,24 @@ class Servers(MemoryCase):
             elif reply in (None, "refused 6 NoMemory", "refused 8 NoRoom"):
                 continue
             elif is_command(line):
-                self.assertRegex(reply, r"\Aaccepted \d+\Z")
-                values, unknown = done(values, line), []
+                values, unknown = self.judge_command(line, reply, self.maps(values, unknown)), []
             elif line == "flush":
                 self.assertRegex(reply, r"\Aacknowledged \d+\Z")
             elif not unknown:
                 self.assertEqual(reply, answer(values, line.split()[1]))
-        return maps_after(values, unknown)
+        return self.maps(values, unknown)
+
+    def maps(self, values, unknown):
+        """The maps that commands may leave whose replies did not come."""
+        return list(itertools.accumulate(unknown, tried, initial=values))
+
+    def judge_command(self, line, reply, maps):
+        """Judges the reply to a command of a store of one of these maps. The map after it."""
+        is_accepted = reply != "differs"
+        self.assertRegex(reply, r"\A(accepted \d+|differs)\Z")
+        before = [it for it in maps if differs(it, line) != is_accepted]
+        self.assertTrue(before, f"{line}: {reply}, and the map is one of {maps}")
+        return tried(before[0], line)
 
     def judge_server(self, status, out, err, replies):
         if not replies:

@@ -50,6 +50,16 @@ class Replies(ServedCase):
         self.report("generation 3", *OPENED_REPORT)
         self.assertEqual(self.found(*map(digits, range(1, 6))), [f"value {it:04}" for it in range(1, 6)])
 
+    def test_swaps(self):
+        lines = ["swap =abc 0102 0304", "put =abc 0102", "swap =abc 0102 0304", "swap =abc 0102 0506", "get =abc",
+                 "delete =abc", "swap =abc 0304 0506", "flush"]
+        replies, ended = self.answers("".join(line + "\n" for line in lines))
+        self.assertEqual(replies, ["differs", "accepted 1", "accepted 2", "differs", "value 0304", "accepted 3",
+                                   "differs", "acknowledged 3"])
+        # 6 commands, those that differ too, a flush behind each, and the flush.
+        self.check_calls(ended, 13)
+        self.assertEqual(self.found("=abc"), ["absent"])
+
     def test_other_lines(self):
         lines = [
             ("flush", "acknowledged 0"),
@@ -68,6 +78,12 @@ class Replies(ServedCase):
             ("get 0123", "refused 21 BadKey"),
             ("put =pear 01", "refused 22 BadValue"),
             ("put =pear 01zz", "refused 22 BadValue"),
+            ("swap =pear 0102", "refused 20 BadLine"),
+            ("swap =pear 0102 0304 0506", "refused 20 BadLine"),
+            ("swap = 01 02", "refused 21 BadKey"),
+            ("swap =pear 01 0304", "refused 22 BadValue"),
+            ("swap =pear 0102 03zz", "refused 22 BadValue"),
+            ("swap =pear 0102 0304", "differs"),
         ]
         replies, _ = self.answers("".join(line + "\r\n\n\r\n" for line, _ in lines))
         self.assertEqual(replies, [reply for _, reply in lines])
@@ -78,6 +94,8 @@ class Replies(ServedCase):
         replies = [client.ask(f"put {digits(it)} 0001")[0] for it in range(1, 9)]
         self.assertEqual(replies, [f"accepted {it}" for it in range(1, 9)])
         self.assertEqual(client.ask(f"put {digits(9)} 0001", f"put {digits(1)} 0002"), ["refused 7 StoreFull"] * 2)
+        swaps = [f"swap {digits(1)} {old} 0002" for old in ("0001", "0002")]
+        self.assertEqual(client.ask(*swaps), ["refused 7 StoreFull", "differs"])
         # A delete is taken as soon as a conversion has made room for its row.
         for _ in self.turns("room for a delete"):
             reply, found = client.ask(f"delete {digits(1)}", f"get {digits(1)}")
@@ -111,8 +129,9 @@ class Options(ServedCase):
         server = self.serve("--audit", 4, "--sessions", 1)
         client = self.client(server)
         self.assertEqual([client.ask(f"put {digits(it)} 0001")[0] for it in (1, 2)], ["accepted 1", "accepted 2"])
-        lines = [f"put {digits(3)} 0001", "flush", f"delete {digits(1)}", f"get {digits(1)}", f"get {digits(3)}"]
-        self.assertEqual(client.ask(*lines), ["refused 11 HistoryFull"] * 3 + ["value 0001", "absent"])
+        lines = [f"put {digits(3)} 0001", "flush", f"delete {digits(1)}", f"swap {digits(1)} 0001 0002",
+                 f"swap {digits(1)} 0003 0002", f"get {digits(1)}", f"get {digits(3)}"]
+        self.assertEqual(client.ask(*lines), ["refused 11 HistoryFull"] * 5 + ["value 0001", "absent"])
         client.close()
         self.check_calls(server.ended(), 4)
         self.assertEqual(self.check_whole()["charge"], 2)

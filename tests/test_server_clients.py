@@ -8,17 +8,25 @@ from harness import PROVED, scaled
 from served import BUSY, DESCRIPTORS, LONGEST_LINE, MOST_SESSIONS, ROOMY, SMALL, ServedCase
 from watch import read_record, watching
 
-# Values of this length make a put under a name of 8,000 bytes a line of 8,300.
-LONG_VALUE = 147
-LONG_NAMES = f"{LONG_VALUE} 16 64 8 16 4000"
-WORDS = (b"put", b"delete", b"get", b"flush")
-GOOD_LINES = (b"put =key 0304", b"get =key", b"delete =key", b"flush", b"get " + b"0a" * 20)
+# Values of this length make a swap under a name of 8,000 bytes a line of 16,600.
+LONG_VALUE = 2148
+LONG_NAMES = f"{LONG_VALUE} 16 64 4 4 400"
+WORDS = (b"put", b"delete", b"swap", b"get", b"flush")
+GOOD_LINES = (b"put =key 0304", b"swap =key 0304 0506", b"get =key", b"delete =key", b"flush", b"get " + b"0a" * 20)
 
 
-def longest_put(number):
-    """A put whose line is as long as a line may be."""
-    name = f"{number:03}".rjust(8000, "n")
-    line = f"put ={name} " + f"{number:02x}" * LONG_VALUE
+def long_name(number):
+    """A name of 8,000 bytes, as a line's word."""
+    return "=" + f"{number:03}".rjust(8000, "n")
+
+
+def long_value(number):
+    return f"{number:02x}" * LONG_VALUE
+
+
+def longest_swap(number):
+    """A swap whose line is as long as a line may be, of a value with this number for the one 100 later."""
+    line = f"swap {long_name(number)} {long_value(number)} {long_value(number + 100)}"
     assert len(line) == LONGEST_LINE
     return line
 
@@ -126,18 +134,18 @@ class SlowClients(ServedCase):
         self.store(LONG_NAMES)
         server = self.serve("--sessions", MOST_SESSIONS)
         *slow, client = self.clients(server, MOST_SESSIONS)
-        for number, it in enumerate(slow):
-            it.send_bytes(longest_put(number).encode())
-        value = "0f" * LONG_VALUE
+        for number, it in enumerate(slow, 1):
+            self.assertEqual(it.ask(f"put {long_name(number)} {long_value(number)}"), [f"accepted {number}"])
+            it.send_bytes(longest_swap(number).encode())
+        value, before = long_value(15), len(slow)
         lines = [f"put =abc {value}", "get =abc", "flush", "delete =abc", "get =abc"]
         for turn in range(5):
-            first = 2 * turn + 1
+            first = before + 2 * turn + 1
             replies = [f"accepted {first}", f"value {value}", f"acknowledged {first}"]
             self.assertEqual(client.ask(*lines), [*replies, f"accepted {first + 1}", "absent"])
-        for number, it in enumerate(slow):
-            self.assertEqual(it.ask(""), [f"accepted {11 + number}"])
-            get = longest_put(number).rsplit(" ", 1)[0].replace("put", "get")
-            self.assertEqual(it.ask(get), ["value " + f"{number:02x}" * LONG_VALUE])
+        for number, it in enumerate(slow, 1):
+            self.assertEqual(it.ask(""), [f"accepted {before + 10 + number}"])
+            self.assertEqual(it.ask(f"get {long_name(number)}"), [f"value {long_value(number + 100)}"])
             it.close()
         client.close()
         self.assertEqual(server.ended().status, 0)
@@ -191,14 +199,14 @@ class Lines(ServedCase):
     def test_the_longest_line(self):
         self.store(LONG_NAMES)
         client = self.client(self.serve())
-        self.assertEqual(client.ask(longest_put(1)), ["accepted 1"])
-        self.assertEqual(client.ask(longest_put(2) + "\r", "get =abc"), ["refused 23 LineTooLong", "absent"])
+        puts = [f"put {long_name(it)} {long_value(it)}" for it in (1, 2, 3)]
+        self.assertEqual(client.ask(*puts, longest_swap(1)), [f"accepted {it}" for it in (1, 2, 3, 4)])
+        self.assertEqual(client.ask(longest_swap(2) + "\r", "get =abc"), ["refused 23 LineTooLong", "absent"])
         self.assertEqual(client.ask("x" * LONGEST_LINE), ["refused 20 BadLine"])
         self.assertEqual(client.ask("x" * (LONGEST_LINE + 1)), ["refused 23 LineTooLong"])
-        self.assertEqual(client.ask("x" * 1_000_000, longest_put(3)), ["refused 23 LineTooLong", "accepted 2"])
-        gets = [longest_put(it).rsplit(" ", 1)[0].replace("put", "get") for it in (1, 2, 3)]
-        values = ["value " + f"{it:02x}" * LONG_VALUE for it in (1, 2, 3)]
-        self.assertEqual(client.ask(*gets), [values[0], "absent", values[2]])
+        self.assertEqual(client.ask("x" * 1_000_000, longest_swap(3)), ["refused 23 LineTooLong", "accepted 5"])
+        gets = [f"get {long_name(it)}" for it in (1, 2, 3)]
+        self.assertEqual(client.ask(*gets), [f"value {long_value(it)}" for it in (101, 2, 103)])
 
     def test_a_line_without_end(self):
         self.store(SMALL)
@@ -260,7 +268,7 @@ class BrokenClients(ServedCase):
             line = bytearray(self.random.choice(GOOD_LINES))
             line[self.random.randrange(len(line))] = self.random.choice([*range(10), *range(11, 256)])
             client.send_bytes(bytes(line) + b"\nget =marker\n")
-            self.assertRegex(client.reply(), "^(accepted|acknowledged|value|absent|refused 2[0-2])", line)
+            self.assertRegex(client.reply(), "^(accepted|acknowledged|value|absent|differs|refused 2[0-2])", line)
             self.assertEqual(client.reply(), "value 0102", line)
 
     def test_resets(self):

@@ -47,6 +47,19 @@ class Flushes(ServedCase):
         self.assertIn(self.found("=abc")[0], found)
         self.assertEqual(self.found("=pear"), ["absent"])
 
+    def test_the_flush_of_a_swap_fails(self):
+        """Sync 1 is the opening's, and the put has two. The reply to a swap that differs waits for no
+        sync of its own."""
+        server = self.serve("--sessions", 1, env=watching(self, fail="fdatasync:4:EIO"))
+        client = self.client(server)
+        lines = ["put =abc 0102", "swap =abc 0000 0304", "swap =abc 0102 0304"]
+        self.assertEqual([client.ask(it) for it in lines], [["accepted 1"], ["differs"], ["unsettled 2"]])
+        self.assertEqual(client.ask(*lines[1:], "flush"), ["refused 9 Failed"] * 3)
+        client.close()
+        self.assertEqual(server.ended().status, 0)
+        self.check_whole()
+        self.assertIn(self.found("=abc")[0], {"value 0102", "value 0304"})
+
     def test_the_sync_of_a_row_fails(self):
         self.check_failure("fdatasync:2:EIO", "a sync: Input/output error (os error 5)", {"absent", "value 0102"})
 

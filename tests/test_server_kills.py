@@ -26,18 +26,23 @@ class Writer:
         self.wrong = []
 
     def next_command(self):
-        """A put of a new value, or a delete now and then."""
+        """A line, the word that its reply begins with, and a key with its value after it: a put of a
+        new value, or now and then a delete, a swap that differs, or one that does not."""
         self.turn += 1
         key = self.random.choice(list(self.values))
-        if self.random.randrange(5) == 0:
-            return key, "absent", f"delete {key}"
-        value = f"{self.number:02x}{self.turn:06x}"
-        return key, f"value {value}", f"put {key} {value}"
+        now, new = self.values[key], f"{self.number:02x}{self.turn:06x}"
+        kind = self.random.randrange(6)
+        if kind == 0:
+            return f"delete {key}", "accepted", key, "absent"
+        if kind == 1:
+            return f"swap {key} ffffffff {new}", "differs", key, now
+        line = f"swap {key} {now.split()[1]} {new}" if kind == 2 and now != "absent" else f"put {key} {new}"
+        return line, "accepted", key, f"value {new}"
 
     def run(self, client, counted):
         """Sends one command after the other until the connection breaks."""
         while True:
-            key, value, line = self.next_command()
+            line, due, key, value = self.next_command()
             self.pending = (key, value)
             try:
                 client.send(line)
@@ -46,13 +51,13 @@ class Writer:
                 reply = None
             if reply is None:
                 return
-            self.take(key, value, reply)
+            self.take(due, key, value, reply)
             counted()
 
-    def take(self, key, value, reply):
+    def take(self, due, key, value, reply):
         """Notes the reply to the latest command."""
         self.pending = None
-        if reply.startswith("accepted "):
+        if reply.split()[0] == due:
             self.values[key] = value
         elif reply not in ("refused 7 StoreFull", "refused 8 NoRoom"):
             self.wrong.append(reply)

@@ -10,11 +10,13 @@ from served import SMALL, ServedCase
 from watch import read_counts, watching
 
 KEYS = [f"=key/{it}" for it in range(6)]
-# Seven rows freeze a log of four, which is then converted and merged.
+# Eight rows freeze a log of four, which is then converted and merged. The last swap differs.
 LINES = [
     *(f"put {key} {number:04x}" for number, key in enumerate(KEYS[:5])),
     f"put {KEYS[0]} 00ff",
     f"delete {KEYS[1]}",
+    f"swap {KEYS[2]} 0002 00aa",
+    f"swap {KEYS[3]} 0002 00bb",
     "flush",
     *(f"get {key}" for key in KEYS),
 ]
@@ -45,11 +47,24 @@ class Told:
         if reply.startswith("refused "):
             self.case.assertIn(reply, refusals, what)
             self.refusals.append(reply)
-        if word in ("put", "delete"):
+        if word == "swap":
+            self.take_swap(*rest, reply, what)
+        elif word in ("put", "delete"):
             self.take_command(rest[0], f"value {rest[1]}" if word == "put" else "absent", reply, what)
         elif not reply.startswith("refused "):
             due = {f"acknowledged {self.accepted}"} if word == "flush" else self.values[rest[0]]
             self.case.assertIn(reply, due, what)
+
+    def take_swap(self, key, old, new, reply, what):
+        """A swap is a put of a key that has the old value. If it differs, the key has another one, or none."""
+        old = {f"value {old}"}
+        if reply == "differs":
+            self.values[key] = self.values[key] - old
+        elif not reply.startswith("refused "):
+            self.values[key] = self.values[key] & old
+        self.case.assertTrue(self.values[key], what)
+        if reply != "differs" and old <= self.values[key]:
+            self.take_command(key, f"value {new}", reply, what)
 
     def take_command(self, key, value, reply, what):
         """A command that was accepted is done. One that a device refused may have been done."""
@@ -65,8 +80,8 @@ class Told:
 
 class Sweeps(ServedCase):
     lines = LINES
-    # 7 commands, a flush behind each, the flush, 9 steps of a conversion and 13 of a merge.
-    calls = 7 + 7 + 1 + 9 + 13
+    # 9 commands, a flush behind each, the flush, 9 steps of a conversion and 13 of a merge.
+    calls = 9 + 9 + 1 + 9 + 13
 
     def calls_made(self, name):
         """How many calls of this name a server makes for all lines."""
@@ -117,7 +132,7 @@ class Sweeps(ServedCase):
             reply = self.reply_to(client, line)
             if reply is None:
                 self.assertIn("refused 6 NoMemory", refusals, line)
-                if line.startswith(("put", "delete")):
+                if line.startswith(("put", "delete", "swap")):
                     told.take(line, "refused 5 Device", {"refused 5 Device"})
                 break
             told.take(line, reply, refusals)
