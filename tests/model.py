@@ -597,9 +597,8 @@ class Store:
         self.accepted = 0
         self.failed = False
         self.conversion = self.merging = None
-        # How often logs froze, how often a key found no place, and how many swaps were accepted: for
-        # tests that count cases.
-        self.freezes = self.crowded = self.swaps = 0
+        # How often logs froze, and how often a key found no place: for tests that count cases.
+        self.freezes = self.crowded = 0
 
     def answer(self, event, *words):
         if self.failed:
@@ -631,9 +630,7 @@ class Store:
         row = self.contents.first_row(key)
         if not row or row[0] != PUT or row[2] != old:
             return "differs"
-        reply = self.put(key, new)
-        self.swaps += 1
-        return reply
+        return self.put(key, new)
 
     def take(self, kind, key, value):
         if not self.active_takes(key):

@@ -7,7 +7,7 @@ from lines import Maker, join_lines, make_geometry, make_stop
 
 COUNT = scaled(3000 if PROVED else 300)
 # Replies that a batch of scripts must have seen, or its scripts are too tame.
-SEEN = ["accepted", "acknowledged", "value", "absent", "idle", "waiting", "moved", "finished", "opened", "stopped"]
+SEEN = ["accepted", "acknowledged", "value", "absent", "differs", "idle", "waiting", "moved", "finished", "opened", "stopped"]
 SEEN_REFUSALS = [5, 7, 8, 9, 20, 21, 22, 23]
 
 
@@ -35,6 +35,14 @@ def count_words(counts, printed):
         counts[" ".join(words[:2]) if words[0] == "refused" else words[0]] += 1
 
 
+def count_swaps(counts, text, printed):
+    """Counts the accepted swaps of a script of one life, in which each line has one reply."""
+    lines = [line for line, length in model.split_lines(text) if line or length > model.LONGEST_LINE]
+    if len(printed) == len(lines) + 1:
+        pairs = zip(lines, printed[1:])
+        counts["swapped"] += sum(line.startswith(b"swap") and reply.startswith("accepted") for line, reply in pairs)
+
+
 class Scripts(Case):
     def compare(self, count, lives, length, full_tables=False):
         """Runs so many scripts, and returns how often each reply came."""
@@ -46,6 +54,7 @@ class Scripts(Case):
             if ran.lines != expected or ran.status or ran.err:
                 self.tell_difference(number, geometry, text, expected, ran)
             count_words(counts, expected)
+            count_swaps(counts, text, expected)
         return counts
 
     def tell_difference(self, number, geometry, text, expected, ran):
@@ -67,7 +76,7 @@ class Scripts(Case):
 
     def test_scripts_of_one_long_life(self):
         counts = self.compare(COUNT // 4, [1], 120)
-        missing = [it for it in ("finished", "waiting", "refused 7", "refused 8") if not counts[it]]
+        missing = [it for it in ("finished", "waiting", "swapped", "refused 7", "refused 8") if not counts[it]]
         self.assertEqual(missing, [], "no script led to these")
 
     def test_scripts_of_many_lives(self):
