@@ -4,7 +4,7 @@
 use crate::tests::{Example, SMALL, answers_each};
 use std::test::Fail;
 
-const EXAMPLES: [Example; 5] = [
+const EXAMPLES: [Example; 6] = [
     // first.txt
     Example {
         call: SMALL,
@@ -26,6 +26,15 @@ const EXAMPLES: [Example; 5] = [
         output: "opened\naccepted 1\naccepted 2\naccepted 3\nacknowledged 3\nvalue 0a01\nabsent\naccepted 4\nvalue 0102\n\
             value 0102\nrefused 21 BadKey\nrefused 20 BadLine\naccepted 5\nvalue 0a03\naccepted 6\nabsent\n\
             acknowledged 6\n",
+    },
+    // counter.txt: two clients read 0000, and only one swap of it is accepted. A key without a value differs too.
+    Example {
+        call: SMALL,
+        text: "put =visits 0000\nget =visits\nswap =visits 0000 0001\nswap =visits 0000 0001\nget =visits\n\
+            swap =visits 0001 0002\nswap =visitors 0000 0001\nflush\nget =visits\n",
+        status: 0,
+        output: "opened\naccepted 1\nvalue 0000\naccepted 2\ndiffers\nvalue 0001\naccepted 3\ndiffers\n\
+            acknowledged 3\nvalue 0002\n",
     },
     // stops.txt
     Example {
