@@ -602,7 +602,7 @@ class Reads(CallCase):
         self.store(words, [f"put {key(1)} {value}", f"delete {key(2)}", "flush"])
         whole = [self.row(0, 21), (self.row(0, 0)[0] + 21, 493)]
         self.judge_reads([(f"get {key(1)}", whole), (f"get {key(2)}", [self.row(1, 21)]),
-                          (f"swap {key(1)} {'cd' * 493} {value}", whole), (f"swap {key(2)} {value} {value}", [self.row(1, 21)])])
+                          (f"swap {key(1)} {'ab' * 492}ac {value}", whole), (f"swap {key(2)} {value} {value}", [self.row(1, 21)])])
         self.silt("run", "store", text=f"put {key(3)} {value}\nflush\n" + "convert\n" * 257)
         at = self.slot(1, 0)[0]
         self.judge_reads([(f"get {key(1)}", [(at, 21), (at + 21, 493)]), (f"get {key(2)}", [self.slot(2, 21)])])

@@ -101,18 +101,33 @@ class Calls(Case):
             ran = self.silt("script", *numbers.numbers, text=data + f"stop {stop_at} mix\nget =a\n".encode())
             self.assertEqual(ran.lines.count("refused 5 Device"), failed, (stop_at, ran.lines))
 
+    def compare_with_swap(self, geometry, lines, calls, swap, more):
+        """Compares the lines alone, with a swap behind them that differs, and with one that is accepted
+        and makes so many calls more."""
+        key, old = swap
+        for behind, count in (([], 0), ([f"swap {key} ffff 0009"], 0), ([f"swap {key} {old} 0009"], more)):
+            self.compare(geometry, [*lines, *behind], calls + count)
+
+    def test_swaps_make_12_calls(self):
+        """A sync, a put's two, a swap's two, a flush's three, a swap's two, a delete's two."""
+        lines = ["put 01 0001", "swap 01 0001 0002", "flush", "swap 01 0001 0003", "swap 01 0002 0004", "delete 01"]
+        self.compare("2 2 4 2 2 8", [*lines, "swap 01 0004 0005"], 12)
+
     def test_converting_makes_40_calls(self):
         puts = [f"put 0{i} 000{i}" for i in range(1, 6)]
-        self.compare("2 2 4 2 2 8", [*puts, "flush", "get 01", "get 05", *["convert"] * 9], 40)
+        lines = [*puts, "flush", "get 01", "get 05", *["convert"] * 9]
+        self.compare_with_swap("2 2 4 2 2 8", lines, 40, ("02", "0002"), 2)
 
     def test_merging_twice_makes_106_calls(self):
         convert, merge = ["convert"] * 9, ["merge"]
         lines = ["put 01 0102", "put 02 0304", *convert, *merge * 10, "delete 01", *convert]
         lines += ["put 03 0506", *convert, *merge * 19, "get 01", "get 02", "get 03", "flush"]
-        self.compare("2 2 1 2 2 4", lines, 106)
+        # The swap freezes a log: two calls for the next one's gates, six for the manifest, two for the row.
+        self.compare_with_swap("2 2 1 2 2 4", lines, 106, ("02", "0304"), 10)
 
     def test_converting_while_merging_makes_95_calls(self):
         convert, merge = ["convert"] * 9, ["merge"]
         lines = ["put 01 0001", "put 02 0002", *convert, "put 01 0003", *merge * 3, *convert]
         lines += ["put 02 0004", *convert, *merge * 7, "get 01", "get 02"]
-        self.compare("2 2 1 3 3 8", lines, 95)
+        # The row of the log that the swap freezes waits, so it makes the three calls of a flush too.
+        self.compare_with_swap("2 2 1 3 3 8", lines, 95, ("01", "0003"), 13)
