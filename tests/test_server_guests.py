@@ -40,7 +40,8 @@ class Browsers(ServedCase):
         self.assertEqual(self.owner.ask("flush"), ["acknowledged 1"])
 
     def test_methods_and_targets_like_ours(self):
-        for first in ("flush / HTTP/1.1", "delete =abc HTTP/1.1", "get  HTTP/1.1", "put =abc 0506 HTTP/2.0"):
+        for first in ("flush / HTTP/1.1", "delete =abc HTTP/1.1", "get  HTTP/1.1", "put =abc 0506 HTTP/2.0",
+                      "swap =abc 0102 HTTP/1.1"):
             self.check_refused(request(first, "delete =abc"))
 
     def test_a_long_target(self):
