@@ -51,8 +51,8 @@ class Maker:
         self.turn = 0
         # A list of the kinds of line with their weights: each script has its own.
         self.kinds = ["put", "delete", "swap", "get", "flush", "convert", "merge", "round", "bad"]
-        some = [random.choice([2, 10, 25]), random.choice([0, 8, 30]), 15, 8, random.choice([0, 2, 6]), random.choice([0, 2, 6])]
-        self.weights = [40, *some, random.choice([0, 2, 6]), 3]
+        some = [random.choice([2, 10, 25]), random.choice([0, 8, 30]), 15, 8]
+        self.weights = [40, *some, *(random.choice([0, 2, 6]) for _ in range(3)), 3]
 
     def lines(self, count):
         """About so many lines, as bytes without line ends. Steps in the background come in bursts."""

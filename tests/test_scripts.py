@@ -7,7 +7,8 @@ from lines import Maker, join_lines, make_geometry, make_stop
 
 COUNT = scaled(3000 if PROVED else 300)
 # Replies that a batch of scripts must have seen, or its scripts are too tame.
-SEEN = ["accepted", "acknowledged", "value", "absent", "differs", "idle", "waiting", "moved", "finished", "opened", "stopped"]
+SEEN = ["accepted", "acknowledged", "value", "absent", "differs", "idle", "waiting", "moved", "finished", "opened",
+        "stopped"]
 SEEN_REFUSALS = [5, 7, 8, 9, 20, 21, 22, 23]
 
 
