@@ -219,9 +219,14 @@ class Plans(WatchedCase):
         self.assertLess(int(bound.split()[1]), int(free.split()[1]))
 
     def test_no_plan(self):
-        for words in ((16_777_217, 100), (1000, 4097), (1000, 0), (1_000_000, 100, "--memory", 1000)):
+        for words, reason in (
+            ((16_777_140, 100), "KEYS is 16777140, and may be 0 to 16777139"),
+            ((1000, 4097), "V is 4097, and may be 1 to 4096"),
+            ((1000, 0), "V is 0, and may be 1 to 4096"),
+            ((1_000_000, 100, "--memory", 1000), "1000000 keys need 21002086 bytes of memory or more"),
+        ):
             ended = self.silt("plan", *words)
-            self.assertEqual((ended.status, ended.out), (1, "no plan\n"), ended)
+            self.assertEqual((ended.status, ended.out, ended.err), (1, "no plan\n", f"silt: {reason}\n"), ended)
 
 
 class Reasons(ServedCase):

@@ -66,9 +66,10 @@ may_tell None old new same told = inr (told refl)
 pub ok_at : {E : Type 0} (P : ℕ → Type 0) (result : Result ℕ E) (status : ℕ) → result ≡ Ok status → IfOk result P → P status
 ok_at {E} P result status is holds = subst (λ (r : Result ℕ E). IfOk r P) is holds
 
--- a plan was written, or, with status 1, that there is none
-pub plan_told : {E : Type 0} (before after : Option (List ℕ)) (request : PlanRequest) (planned : Option ℕ) (result : Result ℕ E)
-    → IfOk result (λ status. TellsPlan request planned status before after) → IfOk result (IsStatus (TellsPlan request planned 1 before after))
-plan_told before after request (Some buckets) (Ok status) told = inl told.0
-plan_told before after request None (Ok status) told = inr (told.0, (refl, told.1))
-plan_told before after request planned (Err error) told = tt
+-- a plan was written, or, with status 1, that there is none, and a note says why
+pub plan_told : {E : Type 0} (before after : Option (List ℕ)) (Told : Type 0) (request : PlanRequest) (planned : Option ℕ) (result : Result ℕ E)
+    → IfOk result (λ status. TellsPlan request planned status before after) → (result ≡ Ok 1 → Told)
+    → IfOk result (IsStatus (TellsPlan request planned 1 before after × Told))
+plan_told before after Told request (Some buckets) (Ok status) plan note = inl plan.0
+plan_told before after Told request None (Ok status) plan note = inr (plan.0, ((refl, plan.1), note (ap Ok plan.0)))
+plan_told before after Told request planned (Err error) plan note = tt

@@ -63,7 +63,8 @@ module _ {N D F E : Type 0} (facts : Ghosts D F) (notes : NotesOf N) (told_refus
   TellsJob (Dump file) remaining left before after =
       (given : Option D)
       × TellsCheckFile facts (told_refusal old new file.now) (Shared file.now) (NotOpenedTold NotShared (told_error old new) file.now) given before after
-  TellsJob (Plan request) remaining left before after = TellsPlan request (first_planned request bucket_counts) 1 before after
+  TellsJob (Plan request) remaining left before after =
+      TellsPlan request (first_planned request bucket_counts) 1 before after × notes.told_no_plan old new request
   TellsJob (Serve service) remaining left before after =
       (given : Option D)
       × TellsServeFile facts (ToldUnserved notes.told_port told_refusal old new service.port service.file.now)

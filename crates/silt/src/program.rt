@@ -157,7 +157,7 @@ where
         Job::Tend { file } => tend_file(alloc, source, file, writer, notes).1,
         Job::Check { file } => check_file(alloc, source, file, writer, notes).1,
         Job::Dump { file } => dump_file(alloc, source, file, writer, notes).1,
-        Job::Plan(request) => write_plan(alloc, &request, writer),
+        Job::Plan(request) => write_plan(alloc, &request, writer, notes),
         Job::Serve(service) => serve_file(rt, alloc, source, &service, writer, notes).1,
     }
 }

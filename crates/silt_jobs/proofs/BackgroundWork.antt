@@ -1,19 +1,21 @@
 -- Steps of background work, one more at a time.
-use Rattle.std.proofs.Common.{◌≡◌, ◌+◌, ◌≤◌, ◌<◌, ◌||◌, ℕ, Bool, true, false, cond, IsTrue, List, [], ◌∷◌, ◌++◌, length, refl, sym, ap, ◌∙◌, subst, arith, inl, inr, Result, Ok, Err}
+use Rattle.std.proofs.Common.{◌≡◌, ◌≢◌, ◌+◌, ◌≤◌, ◌<◌, ◌||◌, ℕ, Bool, true, false, cond, IsTrue, List, [], ◌∷◌, ◌++◌, length, refl, sym, ap, ◌∙◌, subst, arith, inl, inr, Result, Ok, Err}
 use Rattle.std.specs.Prelude.{OnErr}
 use Rattle.std.specs.List.{list_any}
 use Rattle.std.proofs.lemmas.List.{length-append}
 use Rattle.std.proofs.lemmas.List.Elements.{All-nil, All-push}
 use Rattle.silt_disk.specs.declared.disk.Disk.{Ghosts}
 use Rattle.silt_disk.specs.Layout.{Shape}
-use Rattle.silt_event.specs.Events.{HasValueOf, PlainReply, plain}
+use Rattle.silt_event.specs.Events.{HasValueOf, PlainReply, plain, plain_refusal}
 use Rattle.silt_event.specs.declared.event.Event.{Event}
 use Rattle.silt_event.specs.declared.event.Event.TheVariants.{Convert, Delete, Flush, Get, Merge, Put, Swap}
 use Rattle.silt_event.specs.declared.progress.Progress.{Progress as ProgressOf}
 use Rattle.silt_event.specs.declared.progress.Progress.TheVariants.{Idle, Waiting, Moved, Finished}
 use Rattle.silt_event.specs.declared.reply.Reply.{Reply}
-use Rattle.silt_event.specs.declared.reply.Reply.TheVariants.{Progress, Refused}
-use Rattle.silt_store_set.specs.CoreState.{ConvertCause, ConvertsTo, CoreState, Does, DoesPlain, MergeCause, convert_due, is_convert, is_merge, is_refused, wants_convert, wants_merge}
+use Rattle.silt_event.specs.declared.refusal.Refusal.{Refusal}
+use Rattle.silt_event.specs.declared.refusal.Refusal.TheVariants.{NotFormatted, BadGeometry, Damaged, Crowded, Device, NoMemory, StoreFull, NoRoom, Failed, Spent, HistoryFull}
+use Rattle.silt_event.specs.declared.reply.Reply.TheVariants.{Accepted, Acknowledged, Found, Absent, Differs, Progress, Refused, Unsettled, NotServed}
+use Rattle.silt_store_set.specs.CoreState.{Cause, ConvertCause, ConvertsTo, CoreState, Does, DoesPlain, MergeCause, convert_due, is_convert, is_merge, is_refused, wants_convert, wants_merge}
 use Rattle.silt_store_set.proofs.Runs.{runs_more}
 use Rattle.silt_jobs.specs.BackgroundWork.{TakesSteps, TendedState, Tends, TendsAll, TendsThenDoes, count_of, is_idle, is_progress, is_step, most_steps}
 use Rattle.silt_jobs.specs.declared.background_work.Steps.{Steps}
@@ -160,10 +162,56 @@ module _ {D F : Type 0} (facts : Ghosts D F) where
     off = λ e. absurd (cc);
   }
 
+  -- a refusal for lack of room is one with its fault too
+  refusal_for_room : (refusal : Refusal F) → plain_refusal refusal ≡ NoRoom → refusal ≡ NoRoom
+  refusal_for_room NoRoom is = refl
+  refusal_for_room NotFormatted is = absurd (cc)
+  refusal_for_room BadGeometry is = absurd (cc)
+  refusal_for_room (Damaged place) is = absurd (cc)
+  refusal_for_room Crowded is = absurd (cc)
+  refusal_for_room (Device fault) is = absurd (cc)
+  refusal_for_room NoMemory is = absurd (cc)
+  refusal_for_room StoreFull is = absurd (cc)
+  refusal_for_room Failed is = absurd (cc)
+  refusal_for_room Spent is = absurd (cc)
+  refusal_for_room HistoryFull is = absurd (cc)
+
+  reply_for_room : (told : Reply F) → plain told ≡ Refused NoRoom → told ≡ Refused NoRoom
+  reply_for_room (Refused refusal) is = ap (λ (r : Refusal F). Refused r) (refusal_for_room refusal (cc))
+  reply_for_room (Accepted n) is = absurd (cc)
+  reply_for_room (Acknowledged n) is = absurd (cc)
+  reply_for_room (Found value) is = absurd (cc)
+  reply_for_room Absent is = absurd (cc)
+  reply_for_room Differs is = absurd (cc)
+  reply_for_room (Progress progress) is = absurd (cc)
+  reply_for_room (Unsettled n) is = absurd (cc)
+  reply_for_room NotServed is = absurd (cc)
+
+  -- an event is refused for lack of room only while a conversion is due or waits
+  room_cause : (mid new : CoreState D) (event : Event) → Cause facts mid new event (Refused NoRoom) → convert_due mid ≢ Idle
+  room_cause mid new (Put key value) cause = cause.1.1.1
+  room_cause mid new (Delete key) cause = cause.1.1.1
+  room_cause mid new (Swap key before after) cause = cause.1.1.1.1
+  room_cause mid new (Get key) cause = absurd cause
+  room_cause mid new Flush cause = absurd cause
+  room_cause mid new Convert cause = absurd cause
+  room_cause mid new Merge cause = absurd cause
+
+  has_room : (mid new : CoreState D) (event : Event) (reply : PlainReply) → DoesPlain facts mid new event reply → convert_due mid ≡ Idle → reply ≢ Refused NoRoom
+  has_room mid new event reply does idle is =
+      let told = reply_for_room does.0 (sym does.2 ∙ is) in
+      room_cause mid new event (subst (λ (r : Reply F). Cause facts mid new event r) told does.1.cause) idle
+
   -- and then the event is done
   pub tends_then : (old mid new : TendedState D) (event : Event) (reply : PlainReply) → Tends facts old mid → DoesPlain facts mid.core new.core event reply → new.tends ≡ mid.tends
       → TendsThenDoes facts old new event reply
-  tends_then old mid new event reply tends does same = record { mid = mid; tended = tends; does = does; tends = same }
+  tends_then old mid new event reply tends does same = record {
+    mid = mid;
+    tended = tends;
+    does = does;
+    tends = same;
+    room = λ on. has_room mid.core new.core event reply does (tends.done on);
+  }
 
   -- ---- all of it
 

@@ -1,13 +1,14 @@
 -- Background work between lines, and all of it at once.
-use Rattle.std.specs.Prelude.{◌≡◌, ◌⊎◌, ◌+◌, ◌<◌, ◌≤◌, ◌-◌, ◌^◌, ℕ, Bool, true, false, cond, IsTrue, All, List, [], ◌∷◌, length}
+use Rattle.std.specs.Prelude.{◌≡◌, ◌≢◌, ◌⊎◌, ◌+◌, ◌<◌, ◌≤◌, ◌-◌, ◌^◌, ℕ, Bool, true, false, cond, IsTrue, All, List, [], ◌∷◌, length}
 use Rattle.std.specs.List.{list_any}
 use Rattle.silt_disk.specs.declared.disk.Disk.{Ghosts}
 use Rattle.silt_event.specs.Events.{PlainReply}
 use Rattle.silt_event.specs.declared.event.Event.{Event}
 use Rattle.silt_event.specs.declared.event.Event.TheVariants.{Convert, Merge}
 use Rattle.silt_event.specs.declared.progress.Progress.TheVariants.{Idle, Waiting}
+use Rattle.silt_event.specs.declared.refusal.Refusal.TheVariants.{NoRoom}
 use Rattle.silt_event.specs.declared.reply.Reply.{Reply}
-use Rattle.silt_event.specs.declared.reply.Reply.TheVariants.{Progress}
+use Rattle.silt_event.specs.declared.reply.Reply.TheVariants.{Progress, Refused}
 use Rattle.silt_store_set.specs.CoreState.{CoreState, DoesPlain, Runs, convert_due, is_convert, is_merge, is_refused, wants_convert, wants_merge}
 use Rattle.silt_jobs.specs.declared.background_work.Steps.{Steps}
 
@@ -56,12 +57,13 @@ pub record Tends {D F : Type 0} (facts : Ghosts D F) (old new : TendedState D) :
   pub stops : old.tends ≡ true → new.tends ≡ false → (list_any is_refused steps.replies ≡ true) ⊎ (most_steps ≤ length steps.replies)
   pub off : old.tends ≡ false → new ≡ old
 
--- the background work that is due is done, and then the event
+-- The background work that is due is done, and then the event. If all of it was done, the store has room for the event.
 pub record TendsThenDoes {D F : Type 0} (facts : Ghosts D F) (old new : TendedState D) (event : Event) (reply : PlainReply) : Type 0 where
   pub mid : TendedState D
   pub tended : Tends facts old mid
   pub does : DoesPlain facts mid.core new.core event reply
   pub tends : new.tends ≡ mid.tends
+  pub room : mid.tends ≡ true → reply ≢ Refused NoRoom
 
 -- ---- all of it
 

@@ -6,12 +6,13 @@ use crate::geometry::{NumbersText, out_of_limits};
 use crate::held_data::HeldStore;
 use crate::input_lines::InputLines;
 use crate::notes::{FaultNotes, Notes, SourceNotes};
+use crate::plan::obstacle_of;
 use crate::streams::StreamError;
 use crate::tally::{KINDS, Refusals, Tally};
 use silt_disk::Geometry;
 use silt_store_set::Place;
 use silt_wire::SessionEnd;
-use silt_words::{FORMS, Numbers, VERSION, asks_version, complaint_of};
+use silt_words::{FORMS, Numbers, PlanRequest, VERSION, asks_version, complaint_of};
 use std::fmt::Display;
 use std::io::{self, ErrorKind, Write};
 
@@ -39,6 +40,8 @@ impl<W: Write> Notes for NoteLines<W> {
     ghost told_other = { λ _ _ _. ⊤ };
 
     ghost told_numbers = { λ _ _ _. ⊤ };
+
+    ghost told_no_plan = { λ _ _ _. ⊤ };
 
     ghost told_charge = { λ _ _ _ _ _. ⊤ };
 
@@ -76,6 +79,10 @@ impl<W: Write> Notes for NoteLines<W> {
         if let Some(number) = out_of_limits(numbers) {
             let _ = writeln!(self.writer, "silt: {number}");
         }
+    }
+
+    fn tell_no_plan(&mut self, request: &PlanRequest) {
+        let _ = writeln!(self.writer, "silt: {}", obstacle_of(request));
     }
 
     fn tell_charge(&mut self, file: &str, geometry: &Geometry, charge: u32) {

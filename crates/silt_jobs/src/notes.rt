@@ -5,6 +5,7 @@ ghost use Rattle.silt_wire.specs.declared.sessions.SessionEnd.{SessionEnd as Ses
 ghost use Rattle.silt_jobs.specs.Notes.{ToldCall, ToldEnd, ToldFailures, ToldRefusal};
 ghost use Rattle.silt_disk.specs.Layout.{Shape};
 ghost use Rattle.silt_words.specs.declared.job.Numbers.{Numbers as NumbersOf};
+ghost use Rattle.silt_words.specs.declared.job.PlanRequest.{PlanRequest as PlanRequestOf};
 ghost use Rattle.silt_jobs.specs.declared.failure.Failure.{Failure as FailureOf};
 ghost use Rattle.silt_jobs.specs.declared.input_lines.InputLines.{InputLines as InputLinesOf};
 ghost use Rattle.silt_jobs.specs.declared.held_data.HeldStore.{HeldStore as HeldStoreOf};
@@ -19,7 +20,7 @@ use crate::tally::Tally;
 use silt_disk::Geometry;
 use silt_store_set::{Place, Refusal};
 use silt_wire::SessionEnd;
-use silt_words::Numbers;
+use silt_words::{Numbers, PlanRequest};
 use std::io;
 
 /// Takes the notes that are not about one disk or its source. No output for programs depends on a note.
@@ -35,6 +36,9 @@ pub trait Notes {
 
     /// A note says which of these numbers is out of its limits.
     ghost told_numbers: { Self → Self → NumbersOf → Type 0 };
+
+    /// A note says why there is no store for what is planned.
+    ghost told_no_plan: { Self → Self → PlanRequestOf → Type 0 };
 
     /// A note has the six numbers of the store in the file of this name, and its charge: the number of live rows.
     ghost told_charge: { Self → Self → List ℕ → Shape → ℕ → Type 0 };
@@ -71,6 +75,10 @@ pub trait Notes {
     /// Reports which of these numbers is out of its limits.
     fn tell_numbers(&mut self, numbers: &Numbers)
         ensures { told_numbers self.old self.new numbers.now };
+    /// Reports why there is no store for what is planned.
+    fn tell_no_plan(&mut self, request: &PlanRequest)
+        ensures { told_no_plan self.old self.new request.now };
+
     /// Reports which six numbers the store in the file of this name has, and its charge.
     fn tell_charge(&mut self, file: &str, geometry: &Geometry, charge: u32)
         ensures { told_charge self.old self.new file.now geometry.now charge };

@@ -1,12 +1,14 @@
 // The six numbers of a planned store for a number of keys.
-ghost use Rattle.std.specs.Prelude.{◌≡◌, ◌≤◌, ◌+◌, ◌*◌, if◌then◌else◌, Some, None, IfOk, string_bytes};
+ghost use Rattle.std.specs.Prelude.{◌≡◌, ◌≤◌, ◌+◌, ◌*◌, if◌then◌else◌, Ok, Some, None, IfOk, string_bytes};
 ghost use Rattle.std.specs.Option.{option_map};
 ghost use Rattle.silt_jobs.specs.Plans.{TellsPlan, bucket_counts, first_planned, fits_memory, is_needed, is_possible, number_after, plan_text, shape_planned};
 
+use crate::notes::Notes;
 use crate::output::write_out;
 use silt_disk::Geometry;
 use silt_words::PlanRequest;
 use std::alloc::{AllocError, Global};
+use std::fmt;
 use std::io::{self, Write};
 
 // The bucket counts of a geometry, the greatest first.
@@ -14,15 +16,24 @@ const BUCKET_COUNTS: [u32; 15] = [
     32_768, 16_384, 8192, 4096, 2048, 1024, 512, 256, 128, 64, 32, 16, 8, 4, 2,
 ];
 
+// The most keys of a plan: with two buckets and eleven regions of seven rows, the sum is the greatest S.
+const MOST_KEYS: u32 = 16_777_216 - 77;
+
 /// Writes the six numbers of a store for this many keys, and what it costs on disk and in memory. It has as many
 /// buckets as four logs need for a ninth of the keys, or fewer if the numbers or the memory are limited. Returns the
-/// status: 1 if there is no such store.
+/// status: 1 if there is no such store. Then a note says why.
 ///
 /// # Errors
 ///
 /// The writer's, and out of memory for the text.
-pub fn write_plan<W: Write>(alloc: Global, request: &PlanRequest, writer: &mut W) -> io::Result<u8>
-    ensures { IfOk result (λ status. TellsPlan request.now (first_planned request.now bucket_counts) status (W.contents writer.old) (W.contents writer.new)) }
+pub fn write_plan<W: Write, N: Notes>(
+    alloc: Global,
+    request: &PlanRequest,
+    writer: &mut W,
+    notes: &mut N,
+) -> io::Result<u8>
+    ensures plan { IfOk result (λ status. TellsPlan request.now (first_planned request.now bucket_counts) status (W.contents writer.old) (W.contents writer.new)) }
+    ensures told { result ≡ Ok 1 → N.told_no_plan notes.old notes.new request.now }
 {
     match plan(request) {
         Some(geometry) => {
@@ -33,8 +44,43 @@ pub fn write_plan<W: Write>(alloc: Global, request: &PlanRequest, writer: &mut W
         }
         None => {
             write_out(b"no plan\n", writer)?;
+            notes.tell_no_plan(request);
             Ok(1)
         }
+    }
+}
+
+/// Why no store has room for what is planned.
+#[derive(Clone, Copy, Debug, PartialEq, Eq)]
+pub enum Obstacle {
+    /// A value has this many bytes.
+    ValueLen(u32),
+    /// There are this many keys.
+    Keys(u32),
+    /// The least store for this many keys needs this many bytes of memory.
+    Memory(u32, u64),
+}
+
+impl fmt::Display for Obstacle {
+    fn fmt<W: fmt::Write>(&self, f: &mut fmt::Formatter<W>) -> fmt::Result {
+        match *self {
+            Obstacle::ValueLen(len) => write!(f, "V is {len}, and may be 1 to 4096"),
+            Obstacle::Keys(keys) => write!(f, "KEYS is {keys}, and may be 0 to {MOST_KEYS}"),
+            Obstacle::Memory(keys, bytes) => {
+                write!(f, "{keys} keys need {bytes} bytes of memory or more")
+            }
+        }
+    }
+}
+
+/// What no store has room for, if there is no plan: the length of a value, else the number of keys, else the memory.
+pub(crate) fn obstacle_of(request: &PlanRequest) -> Obstacle {
+    if request.value_len < 1 || request.value_len > 4096 {
+        Obstacle::ValueLen(request.value_len)
+    } else if request.keys > MOST_KEYS {
+        Obstacle::Keys(request.keys)
+    } else {
+        Obstacle::Memory(request.keys, memory_planned(request.keys, 2))
     }
 }
 

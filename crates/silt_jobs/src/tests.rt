@@ -18,7 +18,7 @@ use crate::tally::Tally;
 use silt_device::{FaultDisk, Geometry, MemDisk};
 use silt_event::Place;
 use silt_wire::SessionEnd;
-use silt_words::Numbers;
+use silt_words::{Numbers, PlanRequest};
 use std::io::{self, Cursor, ErrorKind};
 use std::process::Abort;
 use std::test::Fail;
@@ -52,6 +52,8 @@ impl Notes for Counted {
 
     ghost told_numbers = { λ _ _ _. ⊤ };
 
+    ghost told_no_plan = { λ _ _ _. ⊤ };
+
     ghost told_charge = { λ _ _ _ _ _. ⊤ };
 
     ghost told_tally = { λ _ _ _ _. ⊤ };
@@ -79,6 +81,10 @@ impl Notes for Counted {
     }
 
     fn tell_numbers(&mut self, _numbers: &Numbers) {
+        self.others = self.others.wrapping_add(1);
+    }
+
+    fn tell_no_plan(&mut self, _request: &PlanRequest) {
         self.others = self.others.wrapping_add(1);
     }
 

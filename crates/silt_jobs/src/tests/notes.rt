@@ -5,7 +5,7 @@ use crate::input_lines::InputLines;
 use crate::note_lines::NoteLines;
 use crate::notes::Notes;
 use crate::tally::Tally;
-use silt_words::Numbers;
+use silt_words::{Numbers, PlanRequest};
 use std::process::Abort;
 use std::test::Fail;
 
@@ -48,6 +48,34 @@ silt: the last line has no line feed, and is not answered
         text.as_slice()
     );
     assert_eq!(rt; told(&rt, b"put =a 01\n", b"opened\naccepted 1\n").len(), 0);
+    Ok(())
+}
+
+// What no store has room for: the value first, then the keys, and then the memory.
+#[test]
+fn tells_why_there_is_no_plan(rt: HostRuntime) -> Result<(), Fail> {
+    for (keys, value_len, due) in [
+        (1, 0, b"silt: V is 0, and may be 1 to 4096\n".as_slice()),
+        (u32::MAX, 4097, b"silt: V is 4097, and may be 1 to 4096\n"),
+        (
+            16_777_140,
+            8,
+            b"silt: KEYS is 16777140, and may be 0 to 16777139\n",
+        ),
+        (
+            100_000,
+            8,
+            b"silt: 100000 keys need 2102086 bytes of memory or more\n",
+        ),
+    ] {
+        let mut text = Vec::new(rt.alloc());
+        NoteLines::new(&mut text).tell_no_plan(&PlanRequest {
+            keys,
+            value_len,
+            memory: Some(2_102_085),
+        });
+        assert_eq!(rt; text.as_slice(), due);
+    }
     Ok(())
 }
 

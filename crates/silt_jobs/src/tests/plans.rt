@@ -1,12 +1,12 @@
 // Plans, letter for letter.
 
 use crate::plan::write_plan;
-use crate::tests::compare;
+use crate::tests::{Counted, compare};
 use silt_words::PlanRequest;
 use std::process::Abort;
 use std::test::Fail;
 
-// Plans for this many keys, and compares the status and the output.
+// Plans for this many keys, and compares the status, the output and the number of notes.
 fn plans<S: AllocGlobal + Abort>(
     rt: &S,
     keys: u32,
@@ -21,8 +21,10 @@ fn plans<S: AllocGlobal + Abort>(
         memory,
     };
     let mut out = Vec::new(rt.alloc());
-    let code = write_plan(rt.alloc(), &request, &mut out);
+    let mut notes = Counted::new();
+    let code = write_plan(rt.alloc(), &request, &mut out, &mut notes);
     compare(rt, "plan", code.ok(), &out, status, output);
+    assert_eq!(rt; notes.others, u32::from(status), "notes for {keys} keys");
 }
 
 #[test]

@@ -39,10 +39,10 @@ pub returns-in-Dump-clause-done : goal.returns-in-Dump-clause-done
 returns-in-Dump-clause-done g c = rw c.in-Dump.is (λ is. (c.dump_file.result.0, c.dump_file.ensures.dumped is))
 
 pub returns-in-Plan-clause-told : goal.returns-in-Plan-clause-told
-returns-in-Plan-clause-told g c = rw c.in-Plan.is (plan_told _ _ c.in-Plan.request _ c.write_plan.result c.write_plan.ensures)
+returns-in-Plan-clause-told g c = rw c.in-Plan.is (plan_told _ _ _ c.in-Plan.request _ c.write_plan.result c.write_plan.ensures.plan c.write_plan.ensures.told)
 
 pub returns-in-Plan-clause-done : goal.returns-in-Plan-clause-done
-returns-in-Plan-clause-done g c = rw c.in-Plan.is (λ is. ok_at _ c.write_plan.result 0 is c.write_plan.ensures)
+returns-in-Plan-clause-done g c = rw c.in-Plan.is (λ is. ok_at _ c.write_plan.result 0 is c.write_plan.ensures.plan)
 
 pub returns-in-Serve-clause-told : goal.returns-in-Serve-clause-told
 returns-in-Serve-clause-told g c = rw c.in-Serve.is (told_weaker c.serve_file.result.1 (λ told. (c.serve_file.result.0, told)) c.serve_file.ensures.told)
