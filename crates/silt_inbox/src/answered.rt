@@ -13,6 +13,7 @@ use silt_event::{Event, Reply};
 pub enum EventKind {
     Put,
     Delete,
+    Swap,
     Flush,
     Get,
     Convert,
@@ -27,6 +28,7 @@ impl EventKind {
         match event {
             Event::Put(_, _) => EventKind::Put,
             Event::Delete(_) => EventKind::Delete,
+            Event::Swap(_, _, _) => EventKind::Swap,
             Event::Flush => EventKind::Flush,
             Event::Get(_) => EventKind::Get,
             Event::Convert => EventKind::Convert,

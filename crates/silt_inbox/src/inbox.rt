@@ -60,9 +60,11 @@ impl<J: Drop, P: InboxId> Inbox<J, P> {
     pub fn take_all<R: Wait>(&self, rt: &R, taker: &mut Taker<P>) -> Option<Vec<J>>
         ensures { MatchOption result (taker.new ≡ taker.old) (λ v. taker.new ≡ taker.old + vec_len v) }
     {
-        let mut job_queue = self
-            .arrived
-            .wait_while(rt, self.job_queue.lock(rt), |job_queue| job_queue.is_idle());
+        let mut job_queue = self.arrived.wait_while(
+            rt,
+            self.job_queue.lock(rt),
+            |job_queue| job_queue.is_idle(),
+        );
         job_queue.take_all(taker)
     }
 
