@@ -7,7 +7,7 @@ ghost use Rattle.silt_desk.specs.Notes.{noted_event, plain_answer, reply_of};
 
 use silt_event::{Event, Progress, Refusal, Reply};
 use silt_frame::{Key, Value};
-use silt_store_set::{accepted, progressed};
+use silt_store_set::{accepted, progressed, swapped};
 
 /// A recorded call: its seat, its event and its reply.
 #[derive(Debug, Drop)]
@@ -17,11 +17,12 @@ pub struct RecordedCall {
     pub reply: Reply<()>,
 }
 
-/// A call with its result, but without the bytes of a value.
+/// A call with its result, but without the bytes of its values.
 #[derive(Clone, Copy, Debug, Drop)]
 pub enum Note {
     Put(Key, Result<u64, Refusal<()>>),
     Delete(Key, Result<u64, Refusal<()>>),
+    Swap(Key, Result<Option<u64>, Refusal<()>>),
     Flush(Result<u64, Refusal<()>>),
     Get(Key, Result<bool, Refusal<()>>),
     Convert(Result<Progress, Refusal<()>>),
@@ -34,7 +35,7 @@ impl Note {
         ensures { (value : List ℕ) → result ≡ accepted_by (reply_of self.now value) }
     {
         match self {
-            Note::Put(_, Ok(_)) | Note::Delete(_, Ok(_)) => 1,
+            Note::Put(_, Ok(_)) | Note::Delete(_, Ok(_)) | Note::Swap(_, Ok(Some(_))) => 1,
             _ => 0,
         }
     }
@@ -45,20 +46,26 @@ impl Note {
     {
         match self {
             Note::Put(_, Err(refusal)) | Note::Delete(_, Err(refusal)) => is_record(refusal),
-            Note::Flush(Err(refusal)) | Note::Get(_, Err(refusal)) => is_record(refusal),
+            Note::Swap(_, Err(refusal)) | Note::Get(_, Err(refusal)) => is_record(refusal),
+            Note::Flush(Err(refusal)) => is_record(refusal),
             Note::Convert(Err(refusal)) | Note::Merge(Err(refusal)) => is_record(refusal),
             _ => true,
         }
     }
 
-    /// The event and the reply, if these are the bytes of the value.
-    pub fn with_value(self, bytes: Vec<u8>) -> (Event, Reply<()>)
-        ensures event { result.0 ≡ noted_event self bytes.items }
+    /// The event and the reply. `bytes` is the value of a put or of a get, and the old value of a swap; `second` is the
+    /// new value of a swap.
+    pub fn with_values(self, bytes: Vec<u8>, second: Vec<u8>) -> (Event, Reply<()>)
+        ensures event { result.0 ≡ noted_event self bytes.items second.items }
         ensures reply { result.1 ≡ reply_of self bytes.items }
     {
         match self {
             Note::Put(key, answer) => (Event::Put(key, Value::new(bytes)), accepted(answer)),
             Note::Delete(key, answer) => (Event::Delete(key), accepted(answer)),
+            Note::Swap(key, answer) => {
+                let event = Event::Swap(key, Value::new(bytes), Value::new(second));
+                (event, swapped(answer))
+            }
             Note::Flush(Ok(count)) => (Event::Flush, Reply::Acknowledged(count)),
             Note::Flush(Err(refusal)) => (Event::Flush, Reply::Refused(refusal)),
             Note::Get(key, answer) => (Event::Get(key), found(answer, bytes)),

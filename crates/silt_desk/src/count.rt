@@ -2,7 +2,7 @@
 ghost use Rattle.std.specs.Prelude.{◌≡◌};
 
 use crate::call::Note;
-use crate::trace::{NotPrepared, Trace};
+use crate::trace::{NotPrepared, Room, Trace};
 use std::alloc::Global;
 
 /// The numbers of the recorded calls and of the accepted commands among them, both modulo 2^64. It needs no memory.
@@ -46,11 +46,14 @@ impl Trace for Count {
     ghost counts_after = { λ a b c n m k l counts extends more accepted.
         (next_count a.calls b.calls n 1 k counts.0 extends.0 more, next_count a.accepted b.accepted m (accepted_by c.reply) l counts.1 extends.1 accepted) };
 
-    fn prepare(&self, alloc: Global, _len: usize) -> Result<Vec<u8>, NotPrepared> {
-        Ok(Vec::new(alloc))
+    fn prepare(&self, alloc: Global, _len: usize, _second: usize) -> Result<Room, NotPrepared> {
+        Ok(Room {
+            value: Vec::new(alloc),
+            second: Vec::new(alloc),
+        })
     }
 
-    fn record(&mut self, _seat: u64, note: Note, _value: &[u8], _room: Vec<u8>) {
+    fn record(&mut self, _seat: u64, note: Note, _value: &[u8], _second: &[u8], _room: Room) {
         self.calls = self.calls.wrapping_add(1);
         self.accepted = self.accepted.wrapping_add(note.acceptance());
     }

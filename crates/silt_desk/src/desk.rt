@@ -7,8 +7,8 @@ ghost use Rattle.silt_desk.specs.Preparing.{unprepared_refusal};
 ghost use Rattle.silt_desk.specs.Seats.{accepted_of, calls_of, fresh};
 
 use crate::call::{Note, plain};
-use crate::seat::{Ledgers, MissingSeats, DeskId, Seat};
-use crate::trace::{NotPrepared, Trace};
+use crate::seat::{DeskId, Ledgers, MissingSeats, Seat};
+use crate::trace::{NotPrepared, Room, Trace};
 use silt_disk::{Disk, Geometry};
 use silt_event::{Progress, Refusal};
 use silt_frame::Key;
@@ -52,16 +52,18 @@ fn note<T: Trace, N: DeskId>(
     trace: &mut T,
     ledgers: &mut Ledgers<N>,
     seat: &mut Seat<N>,
-    room: Vec<u8>,
+    room: Room,
     note: Note,
     value: &[u8],
+    second: &[u8],
 )
     requires room { T.is_full trace.old → ⊥ }
-    requires fits { T.fits (vec_capacity room) (length value.now) }
-    ensures { Notes T.extends trace.old trace.new ledgers.old ledgers.new seat.old seat.new (noted_event note value.now) (reply_of note value.now) }
+    requires fits { T.fits (vec_capacity room.value) (length value.now) }
+    requires fits_second { T.fits (vec_capacity room.second) (length second.now) }
+    ensures { Notes T.extends trace.old trace.new ledgers.old ledgers.new seat.old seat.new (noted_event note value.now second.now) (reply_of note value.now) }
 {
     if note.is_recorded() {
-        trace.record(seat.number(), note, value, room);
+        trace.record(seat.number(), note, value, second, room);
         ledgers.count(seat, note.acceptance());
     }
 }
@@ -84,8 +86,8 @@ impl<D: Disk, T: Trace, N: DeskId> Desk<D, T, N> {
     ghost use Rattle.silt_store_set.specs.CoreInvariant.{LeavesBegun};
     ghost use Rattle.silt_event.specs.Commands.{map_after};
     ghost use Rattle.silt_store_set.specs.CoreState.{Does, map_of, wants_convert, wants_merge};
-    ghost use Rattle.silt_store_set.specs.Replies.{change_reply, flush_reply, get_reply, progress_reply};
-    ghost use Rattle.silt_event.specs.declared.event.Event.TheVariants.{Put, Delete, Get, Flush, Convert, Merge};
+    ghost use Rattle.silt_store_set.specs.Replies.{change_reply, flush_reply, get_reply, progress_reply, swap_reply};
+    ghost use Rattle.silt_event.specs.declared.event.Event.TheVariants.{Put, Delete, Swap, Get, Flush, Convert, Merge};
     ghost use Rattle.silt_desk.specs.DeskState.{Serves, found_of};
     ghost use Rattle.silt_desk.specs.Seeing.{seen};
 
@@ -153,13 +155,21 @@ impl<D: Disk, T: Trace, N: DeskId> Desk<D, T, N> {
         requires { length value.now ≡ self.old.core.shape.value_len }
         ensures { Serves D.Disk T.Trace self.old self.new seat.old seat.new (Put key.now value.now) (change_reply result) }
     {
-        let room = match self.trace.prepare(alloc, value.len()) {
+        let room = match self.trace.prepare(alloc, value.len(), 0) {
             Ok(room) => room,
             Err(lack) => return Err(refusal(lack)),
         };
         let answer = self.core.put(alloc, key, value);
         let noted = Note::Put(*key, plain(&answer));
-        note(&mut self.trace, &mut self.ledgers, seat, room, noted, value);
+        note(
+            &mut self.trace,
+            &mut self.ledgers,
+            seat,
+            room,
+            noted,
+            value,
+            &[],
+        );
         answer
     }
 
@@ -172,13 +182,54 @@ impl<D: Disk, T: Trace, N: DeskId> Desk<D, T, N> {
     ) -> Result<u64, Refusal<D::Fault>>
         ensures { Serves D.Disk T.Trace self.old self.new seat.old seat.new (Delete key.now) (change_reply result) }
     {
-        let room = match self.trace.prepare(alloc, 0) {
+        let room = match self.trace.prepare(alloc, 0, 0) {
             Ok(room) => room,
             Err(lack) => return Err(refusal(lack)),
         };
         let answer = self.core.delete(alloc, key);
         let noted = Note::Delete(*key, plain(&answer));
-        note(&mut self.trace, &mut self.ledgers, seat, room, noted, &[]);
+        note(
+            &mut self.trace,
+            &mut self.ledgers,
+            seat,
+            room,
+            noted,
+            &[],
+            &[],
+        );
+        answer
+    }
+
+    /// Compare and swap: sets the value of a key to `new` if its value is `old`, as a recorded call, and returns how many
+    /// commands are accepted, this one included. If the key has another value or none, it returns `None` and changes
+    /// nothing.
+    pub fn swap(
+        &mut self,
+        alloc: Global,
+        seat: &mut Seat<N>,
+        key: &Key,
+        old: &[u8],
+        new: &[u8],
+    ) -> Result<Option<u64>, Refusal<D::Fault>>
+        requires old { length old.now ≡ self.old.core.shape.value_len }
+        requires new { length new.now ≡ self.old.core.shape.value_len }
+        ensures { Serves D.Disk T.Trace self.old self.new seat.old seat.new (Swap key.now old.now new.now) (swap_reply result) }
+    {
+        let room = match self.trace.prepare(alloc, old.len(), new.len()) {
+            Ok(room) => room,
+            Err(lack) => return Err(refusal(lack)),
+        };
+        let answer = self.core.swap(alloc, key, old, new);
+        let noted = Note::Swap(*key, plain(&answer));
+        note(
+            &mut self.trace,
+            &mut self.ledgers,
+            seat,
+            room,
+            noted,
+            old,
+            new,
+        );
         answer
     }
 
@@ -186,13 +237,21 @@ impl<D: Disk, T: Trace, N: DeskId> Desk<D, T, N> {
     pub fn flush(&mut self, alloc: Global, seat: &mut Seat<N>) -> Result<u64, Refusal<D::Fault>>
         ensures { Serves D.Disk T.Trace self.old self.new seat.old seat.new Flush (flush_reply result) }
     {
-        let room = match self.trace.prepare(alloc, 0) {
+        let room = match self.trace.prepare(alloc, 0, 0) {
             Ok(room) => room,
             Err(lack) => return Err(refusal(lack)),
         };
         let answer = self.core.flush();
         let noted = Note::Flush(plain(&answer));
-        note(&mut self.trace, &mut self.ledgers, seat, room, noted, &[]);
+        note(
+            &mut self.trace,
+            &mut self.ledgers,
+            seat,
+            room,
+            noted,
+            &[],
+            &[],
+        );
         answer
     }
 
@@ -210,13 +269,21 @@ impl<D: Disk, T: Trace, N: DeskId> Desk<D, T, N> {
         ensures absent { result ≡ Ok false → out.new ≡ out.old }
         ensures memory { IsErrOf result Refusal.NoMemory → T.takes_memory self.old.trace }
     {
-        let room = match self.trace.prepare(alloc, out.len()) {
+        let room = match self.trace.prepare(alloc, out.len(), 0) {
             Ok(room) => room,
             Err(lack) => return Err(refusal(lack)),
         };
         let answer = self.core.get(key, out);
         let noted = Note::Get(*key, plain(&answer));
-        note(&mut self.trace, &mut self.ledgers, seat, room, noted, out);
+        note(
+            &mut self.trace,
+            &mut self.ledgers,
+            seat,
+            room,
+            noted,
+            out,
+            &[],
+        );
         answer
     }
 
@@ -228,13 +295,21 @@ impl<D: Disk, T: Trace, N: DeskId> Desk<D, T, N> {
     ) -> Result<Progress, Refusal<D::Fault>>
         ensures { Serves D.Disk T.Trace self.old self.new seat.old seat.new Convert (progress_reply result) }
     {
-        let room = match self.trace.prepare(alloc, 0) {
+        let room = match self.trace.prepare(alloc, 0, 0) {
             Ok(room) => room,
             Err(lack) => return Err(refusal(lack)),
         };
         let answer = self.core.convert(alloc);
         let noted = Note::Convert(plain(&answer));
-        note(&mut self.trace, &mut self.ledgers, seat, room, noted, &[]);
+        note(
+            &mut self.trace,
+            &mut self.ledgers,
+            seat,
+            room,
+            noted,
+            &[],
+            &[],
+        );
         answer
     }
 
@@ -246,13 +321,21 @@ impl<D: Disk, T: Trace, N: DeskId> Desk<D, T, N> {
     ) -> Result<Progress, Refusal<D::Fault>>
         ensures { Serves D.Disk T.Trace self.old self.new seat.old seat.new Merge (progress_reply result) }
     {
-        let room = match self.trace.prepare(alloc, 0) {
+        let room = match self.trace.prepare(alloc, 0, 0) {
             Ok(room) => room,
             Err(lack) => return Err(refusal(lack)),
         };
         let answer = self.core.merge(alloc);
         let noted = Note::Merge(plain(&answer));
-        note(&mut self.trace, &mut self.ledgers, seat, room, noted, &[]);
+        note(
+            &mut self.trace,
+            &mut self.ledgers,
+            seat,
+            room,
+            noted,
+            &[],
+            &[],
+        );
         answer
     }
 

@@ -5,7 +5,7 @@ ghost use Rattle.silt_desk.specs.Seeing.{seen};
 ghost use Rattle.silt_desk.specs.Traces.{ListsMap, IsHistory};
 
 use crate::call::{Note, RecordedCall};
-use crate::trace::{NotPrepared, Trace};
+use crate::trace::{NotPrepared, Room, Trace};
 use silt_disk::Disk;
 use silt_event::Refusal;
 use silt_frame::{Key, Value};
@@ -53,7 +53,7 @@ impl Kept {
         ensures history { IfOk result (λ kept. IsHistory kept (seen D.Disk core.now)) }
     {
         let opening = core.entries(alloc)?;
-        core.standing(); // what a stop leaves of the store as it stands
+        core.standing(); // the possible crash images of the store as it is now
         let Ok(calls) = Vec::with_capacity(alloc, most as usize) else {
             return Err(Refusal::NoMemory);
         };
@@ -110,20 +110,24 @@ impl Trace for Kept {
 
     ghost counts_after = { λ a b c n m k l counts extends more accepted. (length_after a b c n k counts.0 extends more, accepted_after a b c m l counts.1 extends accepted) };
 
-    fn prepare(&self, alloc: Global, len: usize) -> Result<Vec<u8>, NotPrepared> {
+    fn prepare(&self, alloc: Global, len: usize, second: usize) -> Result<Room, NotPrepared> {
         if self.calls.len() as u64 >= self.most {
             return Err(NotPrepared::Full);
         }
-        match Vec::with_capacity(alloc, len) {
-            Ok(room) => Ok(room),
+        let Ok(value) = Vec::with_capacity(alloc, len) else {
+            return Err(NotPrepared::NoMemory);
+        };
+        match Vec::with_capacity(alloc, second) {
+            Ok(second) => Ok(Room { value, second }),
             Err(_) => Err(NotPrepared::NoMemory),
         }
     }
 
     #[tactic(auto, using(crate::specs::TraceLaws::accepted_laws))]
-    fn record(&mut self, seat: u64, note: Note, value: &[u8], room: Vec<u8>) {
+    fn record(&mut self, seat: u64, note: Note, value: &[u8], second: &[u8], room: Room) {
         let acceptance = note.acceptance();
-        let (event, reply) = note.with_value(filled(room, value));
+        let values = (filled(room.value, value), filled(room.second, second));
+        let (event, reply) = note.with_values(values.0, values.1);
         self.accepted += acceptance;
         self.calls
             .push_reserved(RecordedCall { seat, event, reply });

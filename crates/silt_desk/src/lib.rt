@@ -31,14 +31,14 @@ pub use count::Count;
 pub use desk::{Desk, NotMade};
 pub use kept::Kept;
 pub use laws::others_stay_law;
-pub use seat::{MissingSeats, DeskId, Seat};
+pub use seat::{DeskId, MissingSeats, Seat};
 pub use shared::{Shared, settle};
 pub use silt_inbox::{
-    Answered, EventKind, Feeder, Inbox, MissingFeeders, NotPushed, NotPut, NotPutReason, InboxId,
+    Answered, EventKind, Feeder, Inbox, InboxId, MissingFeeders, NotPushed, NotPut, NotPutReason,
     Queue, Taker, answered_law,
 };
 pub use threads::join_over;
-pub use trace::{NotPrepared, Trace};
+pub use trace::{NotPrepared, Room, Trace};
 pub use wakes::Wakes;
 pub use worker::{
     Gate, Hears, OpenGate, Spot, Turn, Wake, convert_once, converter, merge_once, merger,

@@ -3,7 +3,7 @@ ghost use Rattle.std.specs.Prelude.{◌≡◌, ◌≢◌, ◌%◌, ◌^◌, IfOk
 ghost use Rattle.silt_desk.specs.Seats.{accepted_of, calls_of};
 
 use crate::desk::Desk;
-use crate::seat::{MissingSeats, DeskId, Seat};
+use crate::seat::{DeskId, MissingSeats, Seat};
 use crate::trace::Trace;
 use silt_disk::Disk;
 use std::sync::{RwLock, Wait};

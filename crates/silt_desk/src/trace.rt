@@ -18,6 +18,13 @@ pub enum NotPrepared {
     NoMemory,
 }
 
+/// Buffers for the values of one call. Only a swap has a second value.
+#[derive(Drop)]
+pub struct Room {
+    pub value: Vec<u8>,
+    pub second: Vec<u8>,
+}
+
 /// A record of the calls at a desk.
 pub trait Trace: Drop {
     /// The recorded calls lead to this store.
@@ -38,15 +45,18 @@ pub trait Trace: Drop {
     /// A buffer of this capacity has room for a value of this length.
     ghost fits: { ℕ → ℕ → Type 0 };
 
-    /// Allocates the memory for the record of a call whose value has `len` bytes.
-    fn prepare(&self, alloc: Global, len: usize) -> Result<Vec<u8>, NotPrepared>
-        ensures { MatchResult result (λ room. (is_full self.now → ⊥) × fits (vec_capacity room) len) (NotPreparedCause (is_full self.now) (takes_memory self.now)) };
+    /// Allocates the memory for the record of a call whose values have `len` and `second` bytes. A value of 0 bytes
+    /// needs none.
+    fn prepare(&self, alloc: Global, len: usize, second: usize) -> Result<Room, NotPrepared>
+        ensures { MatchResult result (λ room. (is_full self.now → ⊥) × fits (vec_capacity room.value) len × fits (vec_capacity room.second) second)
+            (NotPreparedCause (is_full self.now) (takes_memory self.now)) };
 
-    /// Records a call of a seat, with these bytes of its value.
-    fn record(&mut self, seat: u64, note: Note, value: &[u8], room: Vec<u8>)
+    /// Records a call of a seat, with the bytes of its value and, for a swap, of its new value.
+    fn record(&mut self, seat: u64, note: Note, value: &[u8], second: &[u8], room: Room)
         requires room { is_full self.old → ⊥ }
-        requires fits { fits (vec_capacity room) (length value.now) }
-        ensures { extends self.old (call seat (noted_event note value.now) (reply_of note value.now)) self.new };
+        requires fits { fits (vec_capacity room.value) (length value.now) }
+        requires fits_second { fits (vec_capacity room.second) (length second.now) }
+        ensures { extends self.old (call seat (noted_event note value.now second.now) (reply_of note value.now)) self.new };
 
     /// How many calls are recorded, and how many of them are accepted commands, both modulo 2^64.
     fn numbers(&self) -> (u64, u64)

@@ -12,7 +12,7 @@ mod sessions;
 mod steps;
 mod wakes;
 
-use silt_desk::{Desk, Kept, DeskId, Seat, Shared, Trace, settle};
+use silt_desk::{Desk, DeskId, Kept, Seat, Shared, Trace, settle};
 use silt_device::Disk;
 use silt_event::Refusal;
 use silt_fixtures::key;

@@ -6,7 +6,7 @@ ghost use Rattle.silt_inbox.specs.declared.answered.EventKind.TheVariants as kin
 use crossbeam_channel::{Receiver, Sender};
 use silt_event::{Event, Reply};
 use silt_frame::Key;
-use silt_inbox::{Answered, EventKind, Feeder, Inbox, NotPutReason, InboxId, Queue, Taker};
+use silt_inbox::{Answered, EventKind, Feeder, Inbox, InboxId, NotPutReason, Queue, Taker};
 use std::alloc::Global;
 use std::marker::Brand;
 use std::process::Abort;

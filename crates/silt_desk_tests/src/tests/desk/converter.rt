@@ -3,7 +3,7 @@ ghost use Rattle.std.specs.Prelude.{◌≡◌};
 
 use crate::tests::desk::{get, put, put_five, two_seats};
 use crossbeam_channel::{Receiver, Sender};
-use silt_desk::{Gate, Kept, DeskId, Seat, Shared, Spot, Wake, converter, join_over};
+use silt_desk::{DeskId, Gate, Kept, Seat, Shared, Spot, Wake, converter, join_over};
 use silt_device::Disk;
 use silt_event::Progress;
 use silt_fixtures::{formatted, key, opened_on, reaches};

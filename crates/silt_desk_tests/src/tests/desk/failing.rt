@@ -2,7 +2,7 @@
 ghost use Rattle.std.specs.Prelude.{◌≡◌};
 
 use crate::tests::desk::{get, put_five, settle_two, two_seats};
-use silt_desk::{Desk, Kept, DeskId, OpenGate, Seat, Shared, Wake, converter};
+use silt_desk::{Desk, DeskId, Kept, OpenGate, Seat, Shared, Wake, converter};
 use silt_device::{Call, Disk, FaultDisk};
 use silt_event::Refusal;
 use silt_fixtures::{formatted, key, opened_on};

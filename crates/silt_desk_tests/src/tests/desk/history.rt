@@ -2,7 +2,7 @@
 ghost use Rattle.std.specs.Prelude.{◌≡◌};
 
 use crate::tests::desk::{get, look, put, two_seats};
-use silt_desk::{Desk, Kept, DeskId, Seat, Shared, settle};
+use silt_desk::{Desk, DeskId, Kept, Seat, Shared, settle};
 use silt_device::Disk;
 use silt_event::Refusal;
 use silt_fixtures::{formatted, key, opened_on};

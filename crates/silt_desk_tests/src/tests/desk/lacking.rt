@@ -2,7 +2,7 @@
 ghost use Rattle.std.specs.Prelude.{◌≡◌};
 
 use crate::tests::desk::{get, look, put};
-use silt_desk::{Count, Desk, Kept, DeskId, NotPrepared, Note, Seat, Trace};
+use silt_desk::{Count, Desk, DeskId, Kept, NotPrepared, Note, Room, Seat, Trace};
 use silt_device::Disk;
 use silt_event::Refusal;
 use silt_fixtures::{formatted, key, opened_on};
@@ -36,12 +36,12 @@ impl<T: Trace> Trace for Lacking<T> {
 
     ghost counts_after = { λ a b c n m k l counts extends more accepted. T.counts_after a.trace b.trace c n m k l counts extends more accepted };
 
-    fn prepare(&self, _alloc: Global, _len: usize) -> Result<Vec<u8>, NotPrepared> {
+    fn prepare(&self, _alloc: Global, _len: usize, _second: usize) -> Result<Room, NotPrepared> {
         Err(NotPrepared::NoMemory)
     }
 
-    fn record(&mut self, seat: u64, note: Note, value: &[u8], room: Vec<u8>) {
-        self.trace.record(seat, note, value, room);
+    fn record(&mut self, seat: u64, note: Note, value: &[u8], second: &[u8], room: Room) {
+        self.trace.record(seat, note, value, second, room);
     }
 
     fn numbers(&self) -> (u64, u64) {

@@ -2,7 +2,7 @@
 ghost use Rattle.std.specs.Prelude.{◌≡◌};
 
 use crate::tests::desk::{look, put, two_seats};
-use silt_desk::{Kept, DeskId, Seat, Shared, join_over};
+use silt_desk::{DeskId, Kept, Seat, Shared, join_over};
 use silt_device::Disk;
 use silt_fixtures::{formatted, key, opened_on};
 use silt_store_set::Core;

@@ -6,7 +6,7 @@ ghost use Rattle.silt_desk.specs.Seeing.{seen};
 ghost use Rattle.silt_desk.specs.Traces.{IsHistory};
 
 use crate::tests::desk::{get, look, put};
-use silt_desk::{Desk, Kept, DeskId, NotMade, Seat};
+use silt_desk::{Desk, DeskId, Kept, NotMade, Seat};
 use silt_device::Disk;
 use silt_event::{Progress, Refusal};
 use silt_fixtures::{formatted, key, opened_on};

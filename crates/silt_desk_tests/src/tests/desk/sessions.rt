@@ -4,7 +4,7 @@ ghost use Rattle.std.specs.Prelude.{◌≡◌};
 use crate::tests::desk::{get, pop_two, put, seated};
 use crossbeam_channel::{Receiver, Sender};
 use silt_desk::{
-    Desk, Kept, DeskId, OpenGate, RecordedCall, Seat, Shared, Wake, converter, join_over, merger,
+    Desk, DeskId, Kept, OpenGate, RecordedCall, Seat, Shared, Wake, converter, join_over, merger,
     settle,
 };
 use silt_device::{Disk, Geometry};

@@ -2,7 +2,7 @@
 ghost use Rattle.std.specs.Prelude.{◌≡◌};
 
 use crate::tests::desk::{put_five, settle_two, two_seats};
-use silt_desk::{Kept, DeskId, OpenGate, Seat, Shared, Wake, converter, merger};
+use silt_desk::{DeskId, Kept, OpenGate, Seat, Shared, Wake, converter, merger};
 use silt_device::Disk;
 use silt_fixtures::{formatted, opened_on};
 use silt_store_set::Core;
