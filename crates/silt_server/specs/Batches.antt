@@ -1,33 +1,38 @@
 -- What is done for a batch of jobs.
-use Rattle.std.specs.Prelude.{◌≡◌, ◌≢◌, ℕ, ◌+◌, List, [], ◌∷◌, length, Option, Some, None, Result}
+use Rattle.std.specs.Prelude.{◌≡◌, ◌≢◌, ◌⊎◌, ℕ, ◌+◌, List, [], ◌∷◌, length, Option, Some, None, Result}
 use Rattle.silt_disk.specs.declared.disk.Disk.{Ghosts}
 use Rattle.silt_event.specs.declared.event.Event.TheVariants as event
 use Rattle.silt_event.specs.declared.refusal.Refusal.{Refusal}
-use Rattle.silt_store_set.specs.Replies.{change_reply, flush_reply}
+use Rattle.silt_store_set.specs.Replies.{change_reply, flush_reply, swap_reply}
 use Rattle.silt_desk.specs.DeskState.{DeskState, Serves}
 use Rattle.silt_desk.specs.Notes.{plain_answer}
 use Rattle.silt_desk.specs.Seats.{SeatState}
 use Rattle.silt_desk.specs.declared.trace.Trace.{Ghosts as TraceOf}
-use Rattle.silt_server.specs.Requests.{Answer, reply_due, reply_in}
+use Rattle.silt_server.specs.Requests.{Answer, Flushed, compared, reply_due, reply_in}
 use Rattle.silt_server.specs.declared.job.Job.{Job}
 use Rattle.silt_server.specs.declared.job.Request.{Request}
-use Rattle.silt_server.specs.declared.job.Request.TheVariants.{Put, Delete, Flush}
+use Rattle.silt_server.specs.declared.job.Request.TheVariants.{Put, Delete, Swap, Flush}
 
 module _ {D F T : Type 0} (facts : Ghosts D F) (trace : TraceOf T) where
   -- the desk does a request with this result
   abbrev pub Performs : DeskState D T → DeskState D T → SeatState → SeatState → Request → Option Answer → Type 0
   Performs old new seat after (Put key value) (Some answer) =
-      (told : Result ℕ (Refusal F)) × (answer ≡ plain_answer told)
+      (told : Result ℕ (Refusal F)) × (answer ≡ compared (plain_answer told))
       × Serves facts trace old new seat after (event.Put key value) (change_reply told)
   Performs old new seat after (Delete key) (Some answer) =
-      (told : Result ℕ (Refusal F)) × (answer ≡ plain_answer told)
+      (told : Result ℕ (Refusal F)) × (answer ≡ compared (plain_answer told))
       × Serves facts trace old new seat after (event.Delete key) (change_reply told)
+  Performs old new seat after (Swap key expected value) (Some answer) =
+      (told : Result (Option ℕ) (Refusal F)) × (answer ≡ plain_answer told)
+      × Serves facts trace old new seat after (event.Swap key expected value) (swap_reply told)
   Performs old new seat after (Put key value) None = (length value ≢ old.core.shape.value_len) × (new ≡ old) × (after ≡ seat)
+  Performs old new seat after (Swap key expected value) None =
+      ((length expected ≢ old.core.shape.value_len) ⊎ (length value ≢ old.core.shape.value_len)) × (new ≡ old) × (after ≡ seat)
   Performs old new seat after Flush None = (new ≡ old) × (after ≡ seat)
   Performs old new seat after request answer = ⊥
 
   -- the desk does a flush from this seat with this result
-  abbrev pub Flushes : DeskState D T → DeskState D T → SeatState → SeatState → Answer → Type 0
+  abbrev pub Flushes : DeskState D T → DeskState D T → SeatState → SeatState → Flushed → Type 0
   Flushes old new seat after answer =
       (told : Result ℕ (Refusal F)) × (answer ≡ plain_answer told)
       × Serves facts trace old new seat after event.Flush (flush_reply told)
@@ -45,12 +50,12 @@ module _ {D F T : Type 0} (facts : Ghosts D F) (trace : TraceOf T) where
   PerformsAll seat xs ys after = ⊥
 
 -- a job has its reply after this flush, and is otherwise as it was
-abbrev pub RepliesTo : Answer → Job → Job → Type 0
+abbrev pub RepliesTo : Flushed → Job → Job → Type 0
 RepliesTo flushed old new =
     (reply_in new.reply ≡ reply_due old.request old.answer flushed) × (new.request ≡ old.request) × (new.answer ≡ old.answer) × (new.replies ≡ old.replies)
 
 -- the same of each job
-abbrev pub RepliesToAll : Answer → List Job → List Job → Type 0
+abbrev pub RepliesToAll : Flushed → List Job → List Job → Type 0
 RepliesToAll flushed [] [] = Unit {0}
 RepliesToAll flushed (x ∷ xs) (y ∷ ys) = RepliesTo flushed x y × RepliesToAll flushed xs ys
 RepliesToAll flushed xs ys = ⊥
@@ -59,7 +64,7 @@ module _ {D F T : Type 0} (facts : Ghosts D F) (trace : TraceOf T) where
   -- the desk does each job in order, then one flush from the same seat, and then each job has its reply
   abbrev pub ServesBatch : SeatState → List Job → List Job → SeatState → Type 0
   ServesBatch seat old new after =
-      (done : List Job) × (mid : SeatState) × (flushed : Answer) × (before : DeskState D T) × (then : DeskState D T)
+      (done : List Job) × (mid : SeatState) × (flushed : Flushed) × (before : DeskState D T) × (then : DeskState D T)
       × PerformsAll facts trace seat old done mid
       × Flushes facts trace before then mid after flushed
       × RepliesToAll flushed done new

@@ -4,37 +4,52 @@ use Rattle.silt_event.specs.Events.{PlainReply}
 use Rattle.silt_event.specs.declared.event.Event.{Event}
 use Rattle.silt_event.specs.declared.event.Event.TheVariants as event
 use Rattle.silt_event.specs.declared.refusal.Refusal.{Refusal}
-use Rattle.silt_event.specs.declared.reply.Reply.TheVariants.{Accepted, Acknowledged, Refused, Unsettled}
+use Rattle.silt_event.specs.declared.reply.Reply.TheVariants.{Accepted, Acknowledged, Differs, Refused, Unsettled}
 use Rattle.silt_inbox.specs.declared.answered.Answered.{Answered}
 use Rattle.silt_server.specs.declared.job.Request.{Request}
-use Rattle.silt_server.specs.declared.job.Request.TheVariants.{Put, Delete, Flush}
+use Rattle.silt_server.specs.declared.job.Request.TheVariants.{Put, Delete, Swap, Flush}
 
--- the result of a command or a flush at the desk, without its fault
+-- the result of a flush at the desk, without its fault
+abbrev pub Flushed : Type 0
+Flushed = Result ℕ (Refusal (Unit {0}))
+
+-- the result of a command at the desk, without its fault: the number of an accepted one, or none if a swap's old value differs
 abbrev pub Answer : Type 0
-Answer = Result ℕ (Refusal (Unit {0}))
+Answer = Result (Option ℕ) (Refusal (Unit {0}))
+
+-- a put and a delete compare nothing
+abbrev pub compared : Flushed → Answer
+compared (Ok n) = Ok (Some n)
+compared (Err refusal) = Err refusal
 
 -- the event of a request
 abbrev pub asked_event : Request → Event
 asked_event (Put key value) = event.Put key value
 asked_event (Delete key) = event.Delete key
+asked_event (Swap key old new) = event.Swap key old new
 asked_event Flush = event.Flush
 
 -- the reply to a flush with this result
-abbrev pub acknowledged : Answer → PlainReply
+abbrev pub acknowledged : Flushed → PlainReply
 acknowledged (Ok n) = Acknowledged n
 acknowledged (Err refusal) = Refused refusal
 
--- the reply to a command with this result, after a flush with that one: an accepted command that was not flushed is unsettled
-abbrev pub changed : Answer → Answer → PlainReply
+-- the reply to a command with this result, after a flush with that one: an accepted command that was not flushed is unsettled, and a
+-- swap that differs has that reply whether or not the flush is refused
+abbrev pub changed : Answer → Flushed → PlainReply
 changed (Err refusal) flushed = Refused refusal
-changed (Ok n) (Ok m) = Accepted n
-changed (Ok n) (Err refusal) = Unsettled n
+changed (Ok None) flushed = Differs
+changed (Ok (Some n)) (Ok m) = Accepted n
+changed (Ok (Some n)) (Err refusal) = Unsettled n
 
 -- the reply to a request, by its own result and that of its batch's flush: no reply to a command that was not done
-abbrev pub reply_due : Request → Option Answer → Answer → Option PlainReply
+abbrev pub reply_due : Request → Option Answer → Flushed → Option PlainReply
 reply_due Flush answer flushed = Some (acknowledged flushed)
+reply_due (Put key value) (Some (Ok None)) flushed = None
 reply_due (Put key value) (Some answer) flushed = Some (changed answer flushed)
+reply_due (Delete key) (Some (Ok None)) flushed = None
 reply_due (Delete key) (Some answer) flushed = Some (changed answer flushed)
+reply_due (Swap key old new) (Some answer) flushed = Some (changed answer flushed)
 reply_due request None flushed = None
 
 -- the reply in a message

@@ -37,7 +37,11 @@ fn turn_connection_away(stream: &TcpStream) {
 
 // Gives a connection to a free slot, and returns its number. If there is none, the client gets a line that says so,
 // and the connection is closed.
-fn admit<P: InboxId, R: Wait>(rt: &R, slots: &[Mutex<SessionSlot<P>>], stream: TcpStream) -> Option<usize>
+fn admit<P: InboxId, R: Wait>(
+    rt: &R,
+    slots: &[Mutex<SessionSlot<P>>],
+    stream: TcpStream,
+) -> Option<usize>
     ensures { IfSome result (λ number. number < length slots.now) }
 {
     match free_slot(rt, slots) {

@@ -12,7 +12,7 @@ use silt_desk::{Desk, DeskId, Shared, Trace};
 use silt_disk::Disk;
 use silt_event::{Event, Refusal, Reply};
 use silt_frame::{Key, Value};
-use silt_inbox::{Answered, EventKind, Feeder, Inbox, NotPutReason, InboxId};
+use silt_inbox::{Answered, EventKind, Feeder, Inbox, InboxId, NotPutReason};
 use std::alloc::Global;
 use std::sync::{Mutex, Wait};
 
@@ -103,8 +103,8 @@ fn find<D: Disk, T: Trace, N: DeskId, R: Wait>(
     look_up(&*desk, key, out)
 }
 
-/// The reply to an event. Gets are looked up; puts, deletes and flushes go to the writer; steps are not served. None if
-/// no reply comes, or one that does not fit the event.
+/// The reply to an event. Gets are looked up; puts, deletes, swaps and flushes go to the writer; steps are not served.
+/// None if no reply comes, or one that does not fit the event.
 pub fn answer<D: Disk, T: Trace, N: DeskId, P: InboxId, R: Wait>(
     rt: &R,
     alloc: Global,
@@ -119,6 +119,7 @@ pub fn answer<D: Disk, T: Trace, N: DeskId, P: InboxId, R: Wait>(
     match event {
         Event::Put(key, value) => ask(rt, alloc, inbox, slot, Request::Put(key, value)),
         Event::Delete(key) => ask(rt, alloc, inbox, slot, Request::Delete(key)),
+        Event::Swap(key, old, new) => ask(rt, alloc, inbox, slot, Request::Swap(key, old, new)),
         Event::Flush => ask(rt, alloc, inbox, slot, Request::Flush),
         Event::Get(key) => find(rt, alloc, shared, value_len, &key),
         Event::Convert | Event::Merge => Some(Reply::NotServed),

@@ -1,22 +1,33 @@
 // A batch of jobs: each is done, then all is flushed once, and then each has its reply.
 ghost use Rattle.std.specs.Prelude.{◌≡◌};
 ghost use Rattle.silt_server.specs.Batches.{Flushes, Performs, PerformsAll, RepliesToAll, ServesBatch};
+ghost use Rattle.silt_server.specs.Requests.{compared};
 
-use crate::job::{Job, Request, reply_after};
-use silt_desk::{Desk, Gate, DeskId, Seat, Shared, Spot, Trace, plain};
+use crate::job::{Answer, Job, Request, reply_after};
+use silt_desk::{Desk, DeskId, Gate, Seat, Shared, Spot, Trace, plain};
 use silt_disk::Disk;
 use silt_event::Refusal;
 use std::alloc::Global;
 use std::sync::Wait;
 
+// The result of a command that compares nothing.
+fn compared(answer: Result<u64, Refusal<()>>) -> Answer
+    ensures { result ≡ compared answer }
+{
+    match answer {
+        Ok(count) => Ok(Some(count)),
+        Err(refusal) => Err(refusal),
+    }
+}
+
 // Does a request at the desk, and returns the result. There is none for a flush, because the batch does one for all of
-// them, and none for a put whose value has another length than the store's.
+// them, and none for a put or a swap if a value of it has another length than the store's.
 fn perform<D: Disk, T: Trace, N: DeskId>(
     desk: &mut Desk<D, T, N>,
     alloc: Global,
     seat: &mut Seat<N>,
     request: &Request,
-) -> Option<Result<u64, Refusal<()>>>
+) -> Option<Answer>
     ensures { Performs D.Disk T.Trace desk.old desk.new seat.old seat.new request.now result }
 {
     match request {
@@ -25,9 +36,17 @@ fn perform<D: Disk, T: Trace, N: DeskId>(
             if desk.geometry().value_len() as usize != bytes.len() {
                 return None;
             }
-            Some(plain(&desk.put(alloc, seat, key, bytes)))
+            Some(compared(plain(&desk.put(alloc, seat, key, bytes))))
         }
-        Request::Delete(key) => Some(plain(&desk.delete(alloc, seat, key))),
+        Request::Delete(key) => Some(compared(plain(&desk.delete(alloc, seat, key)))),
+        Request::Swap(key, old, new) => {
+            let (old, new) = (old.as_slice(), new.as_slice());
+            let len = desk.geometry().value_len() as usize;
+            if old.len() != len || new.len() != len {
+                return None;
+            }
+            Some(plain(&desk.swap(alloc, seat, key, old, new)))
+        }
         Request::Flush => None,
     }
 }

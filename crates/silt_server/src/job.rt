@@ -14,6 +14,8 @@ use std::sync::Wait;
 pub enum Request {
     Put(Key, Value),
     Delete(Key),
+    /// The old value and the new one.
+    Swap(Key, Value, Value),
     Flush,
 }
 
@@ -25,16 +27,20 @@ impl Request {
         match self {
             Request::Put(_, _) => EventKind::Put,
             Request::Delete(_) => EventKind::Delete,
+            Request::Swap(_, _, _) => EventKind::Swap,
             Request::Flush => EventKind::Flush,
         }
     }
 }
 
+/// The result of a command at the desk: the number of an accepted one, or `None` if a swap's old value differs.
+pub(crate) type Answer = Result<Option<u64>, Refusal<()>>;
+
 /// A request in progress: its result at the desk, its reply, and where the reply goes.
 #[derive(Drop)]
 pub struct Job {
     pub request: Request,
-    pub answer: Option<Result<u64, Refusal<()>>>,
+    pub answer: Option<Result<Option<u64>, Refusal<()>>>,
     pub reply: Option<Answered>,
     pub replies: Sender<Answered>,
 }
@@ -70,25 +76,30 @@ impl Job {
 /// The reply to a request with this result at the desk, after a flush of its batch with that result.
 pub(crate) fn reply_after(
     request: &Request,
-    answer: &Option<Result<u64, Refusal<()>>>,
+    answer: &Option<Answer>,
     flushed: &Result<u64, Refusal<()>>,
 ) -> Option<Answered>
     ensures { reply_in result ≡ reply_due request.now answer.now flushed.now }
 {
     let reply = match request {
         Request::Flush => acknowledged(flushed),
-        Request::Put(_, _) | Request::Delete(_) => changed(answer.as_ref()?, flushed),
+        Request::Swap(_, _, _) => changed(answer.as_ref()?, flushed),
+        Request::Put(_, _) | Request::Delete(_) => match answer {
+            None | Some(Ok(None)) => return None,
+            Some(answer) => changed(answer, flushed),
+        },
     };
     Some(Answered::new(request.kind(), reply))
 }
 
 // The reply to a command, by its result and that of the flush after it.
-fn changed(answer: &Result<u64, Refusal<()>>, flushed: &Result<u64, Refusal<()>>) -> Reply<()>
+fn changed(answer: &Answer, flushed: &Result<u64, Refusal<()>>) -> Reply<()>
     ensures { result ≡ changed answer.now flushed.now }
 {
     match (answer, flushed) {
-        (Ok(count), Ok(_)) => Reply::Accepted(*count),
-        (Ok(count), Err(_)) => Reply::Unsettled(*count),
+        (Ok(Some(count)), Ok(_)) => Reply::Accepted(*count),
+        (Ok(Some(count)), Err(_)) => Reply::Unsettled(*count),
+        (Ok(None), _) => Reply::Differs,
         (Err(refusal), _) => Reply::Refused(*refusal),
     }
 }

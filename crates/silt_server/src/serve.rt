@@ -11,15 +11,15 @@ ghost use Rattle.silt_server.specs.Serving.{TellsServed, head_text, network_text
 
 use crate::admission::accept_clients;
 use crate::answers::answer;
-use crate::workers::Workers;
 use crate::counting_listener::Listens;
 use crate::job::Job;
 use crate::limits::Limits;
 use crate::session_slots::{SessionSlot, slots_of};
 use crate::threads::run_beside;
 use crate::work::writer;
+use crate::workers::Workers;
 use crate::written::{refuse, write_calls, write_listening, write_network_fault, write_opened};
-use silt_desk::{Count, Desk, Gate, Kept, DeskId, Seat, Shared, Trace, converter, merger};
+use silt_desk::{Count, Desk, DeskId, Gate, Kept, Seat, Shared, Trace, converter, merger};
 use silt_disk::Disk;
 use silt_event::{Event, Refusal, Reply};
 use silt_inbox::{Inbox, InboxId, Taker};
@@ -228,7 +228,12 @@ pub struct ServerState<N: DeskId, P: InboxId> {
 
 impl<N: DeskId, P: InboxId> ServerState<N, P> {
     /// The writer and the workers on these seats, and the inbox with ledgers of these blanks. None if out of memory.
-    pub fn new(alloc: Global, seats: Vec<Seat<N>>, put: Blank, taken: Blank) -> Option<ServerState<N, P>>
+    pub fn new(
+        alloc: Global,
+        seats: Vec<Seat<N>>,
+        put: Blank,
+        taken: Blank,
+    ) -> Option<ServerState<N, P>>
         requires put { (put.name ≡ P.put_name) × (put.parts ≡ P.feeders) × (P.feeders ≡ 64) }
         requires taken { (taken.name ≡ P.taken_name) × (taken.parts ≡ 1) }
     {

@@ -5,7 +5,7 @@ ghost use Rattle.silt_server.specs.declared.job.Job.{Job as JobOf};
 
 use crate::batch::serve_batch;
 use crate::job::Job;
-use silt_desk::{Gate, DeskId, Seat, Shared, Trace, Wakes};
+use silt_desk::{DeskId, Gate, Seat, Shared, Trace, Wakes};
 use silt_disk::Disk;
 use silt_inbox::{Inbox, InboxId, Taker};
 use std::alloc::Global;
