@@ -10,6 +10,7 @@ mod looks;
 mod memory;
 mod sessions;
 mod steps;
+mod swaps;
 mod wakes;
 
 use silt_desk::{Desk, DeskId, Kept, Seat, Shared, Trace, settle};
@@ -35,6 +36,22 @@ fn put<D: Disk, T: Trace, N: DeskId>(
         return None;
     }
     Some(desk.put(alloc, seat, key, value))
+}
+
+// A swap, if the store has values of these lengths.
+fn swap<D: Disk, T: Trace, N: DeskId>(
+    desk: &mut Desk<D, T, N>,
+    alloc: Global,
+    seat: &mut Seat<N>,
+    key: &Key,
+    old: &[u8],
+    new: &[u8],
+) -> Option<Result<Option<u64>, Refusal<D::Fault>>> {
+    let len = desk.geometry().value_len() as usize;
+    if old.len() != len || new.len() != len {
+        return None;
+    }
+    Some(desk.swap(alloc, seat, key, old, new))
 }
 
 // A get, where the store has values of this length.

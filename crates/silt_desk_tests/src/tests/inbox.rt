@@ -5,7 +5,7 @@ ghost use Rattle.silt_inbox.specs.declared.answered.EventKind.TheVariants as kin
 
 use crossbeam_channel::{Receiver, Sender};
 use silt_event::{Event, Reply};
-use silt_frame::Key;
+use silt_frame::{Key, Value};
 use silt_inbox::{Answered, EventKind, Feeder, Inbox, InboxId, NotPutReason, Queue, Taker};
 use std::alloc::Global;
 use std::marker::Brand;
@@ -252,5 +252,14 @@ fn names_the_kinds(rt: HostRuntime) -> Result<(), Fail> {
     assert_eq!(rt; EventKind::of(&Event::Get(key)), EventKind::Get);
     assert_eq!(rt; EventKind::of(&Event::Delete(key)), EventKind::Delete);
     assert_eq!(rt; EventKind::of(&Event::Merge), EventKind::Merge);
+    Ok(())
+}
+
+#[test]
+fn names_the_kind_of_a_swap(rt: HostRuntime) -> Result<(), Fail> {
+    let alloc = rt.alloc();
+    let (old, new) = (Value::new(Vec::new(alloc)), Value::new(Vec::new(alloc)));
+    let event = Event::Swap(Key([1; 20]), old, new);
+    assert_eq!(rt; EventKind::of(&event), EventKind::Swap);
     Ok(())
 }

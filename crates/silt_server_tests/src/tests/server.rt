@@ -8,6 +8,7 @@ mod looks;
 mod lost;
 mod network;
 mod record;
+mod swaps;
 
 use crate::tests::Open;
 use silt_desk::Gate;

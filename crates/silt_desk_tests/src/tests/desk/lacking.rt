@@ -1,7 +1,7 @@
 // Each call at a desk, where no memory is found for its record.
 ghost use Rattle.std.specs.Prelude.{◌≡◌};
 
-use crate::tests::desk::{get, look, put};
+use crate::tests::desk::{get, look, put, swap};
 use silt_desk::{Count, Desk, DeskId, Kept, NotPrepared, Note, Room, Seat, Trace};
 use silt_device::Disk;
 use silt_event::Refusal;
@@ -54,17 +54,19 @@ fn lacks<A: Drop, F: Drop>(answer: Result<A, Refusal<F>>) -> bool {
     matches!(answer, Err(Refusal::NoMemory))
 }
 
-// How many of the six calls were refused for want of memory.
-fn six_calls<D: Disk, T: Trace, N: DeskId>(
+// Which of the seven calls are out of memory.
+fn seven_calls<D: Disk, T: Trace, N: DeskId>(
     desk: &mut Desk<D, T, N>,
     alloc: Global,
     seat: &mut Seat<N>,
-) -> [bool; 6] {
+) -> [bool; 7] {
     let mut out = [0; 2];
     let put = put(desk, alloc, seat, &key(1), &[1, 2]);
     let get = get(desk, alloc, seat, &key(1), &mut out);
+    let swap = swap(desk, alloc, seat, &key(1), &[1, 2], &[1, 3]);
     [
         matches!(put, Some(Err(Refusal::NoMemory))),
+        matches!(swap, Some(Err(Refusal::NoMemory))),
         matches!(get, Some(Err(Refusal::NoMemory))),
         lacks(desk.delete(alloc, seat, &key(1))),
         lacks(desk.flush(alloc, seat)),
@@ -73,15 +75,15 @@ fn six_calls<D: Disk, T: Trace, N: DeskId>(
     ]
 }
 
-// All six calls are refused, and a look finds nothing done.
-fn refuses_six<D: Disk, N: DeskId, R: Abort>(
+// All seven calls are refused, and a look finds nothing done.
+fn refuses_seven<D: Disk, N: DeskId, R: Abort>(
     rt: &R,
     alloc: Global,
     desk: &mut Desk<D, Lacking<Count>, N>,
     mut seats: Vec<Seat<N>>,
 ) -> Result<(), Fail> {
     let mut seat = seats.pop().ok_or("a seat")?;
-    assert_eq!(rt; six_calls(desk, alloc, &mut seat), [true; 6]);
+    assert_eq!(rt; seven_calls(desk, alloc, &mut seat), [true; 7]);
     let mut out = [0; 2];
     assert_eq!(rt; look(desk, &key(1), &mut out), Some((0, false)));
     seats.push(seat)?;
@@ -108,7 +110,7 @@ fn refuses_all<D: Disk, N: DeskId, R: Abort>(
     let Ok((mut desk, seats)) = made else {
         return Err("a desk".into());
     };
-    refuses_six(rt, alloc, &mut desk, seats)
+    refuses_seven(rt, alloc, &mut desk, seats)
 }
 
 #[test]

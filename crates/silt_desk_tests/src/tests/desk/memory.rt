@@ -5,11 +5,11 @@ ghost use Rattle.std.specs.Prelude.{◌≡◌, [], IfSome};
 ghost use Rattle.silt_desk.specs.Seeing.{seen};
 ghost use Rattle.silt_desk.specs.Traces.{IsHistory};
 
-use crate::tests::desk::{get, look, put};
-use silt_desk::{Desk, DeskId, Kept, NotMade, Seat};
+use crate::tests::desk::{get, look, put, swap};
+use silt_desk::{Desk, DeskId, Kept, NotMade, RecordedCall, Seat};
 use silt_device::Disk;
-use silt_event::{Progress, Refusal};
-use silt_fixtures::{formatted, key, opened_on};
+use silt_event::{Event, Progress, Refusal, Reply};
+use silt_fixtures::{formatted, key, opened_on, two_bytes};
 use silt_store_set::Core;
 use std::alloc::Global;
 use std::marker::Brand;
@@ -17,10 +17,12 @@ use std::process::Abort;
 use std::sync::ledger::Blank;
 use std::test::Fail;
 
-/// A call at a desk. Its key and its value are told by a number.
+/// A call at a desk. A number says which key and which value it has. A swap puts the value of its second number in the
+/// place of the key's first value.
 #[derive(Clone, Copy)]
 enum Call {
     Put(u8),
+    Swap(u8, u8),
     Get(u8),
     Flush,
     Convert,
@@ -32,6 +34,7 @@ enum Call {
 enum Told {
     Count(u64),
     Found([u8; 2]),
+    Differs,
     Step(Progress),
     NoMemory,
     Other,
@@ -82,6 +85,28 @@ fn ask_put<D: Disk, N: DeskId>(
     }
 }
 
+// The reply to a swap.
+fn swapped<F: Drop>(answer: Result<Option<u64>, Refusal<F>>) -> Told {
+    match answer {
+        Ok(Some(count)) => Told::Count(count),
+        Ok(None) => Told::Differs,
+        Err(refusal) => refused(refusal),
+    }
+}
+
+fn ask_swap<D: Disk, N: DeskId>(
+    desk: &mut Desk<D, Kept, N>,
+    alloc: Global,
+    seat: &mut Seat<N>,
+    number: u8,
+    second: u8,
+) -> Told {
+    match swap(desk, alloc, seat, &key(number), &[0, number], &[1, second]) {
+        Some(answer) => swapped(answer),
+        None => Told::Other,
+    }
+}
+
 fn ask_get<D: Disk, N: DeskId>(
     desk: &mut Desk<D, Kept, N>,
     alloc: Global,
@@ -103,6 +128,7 @@ fn ask<D: Disk, N: DeskId>(
 ) -> Told {
     match call {
         Call::Put(number) => ask_put(desk, alloc, seat, number),
+        Call::Swap(number, second) => ask_swap(desk, alloc, seat, number, second),
         Call::Get(number) => ask_get(desk, alloc, seat, number),
         Call::Flush => counted(desk.flush(alloc, seat)),
         Call::Convert => stepped(desk.convert(alloc, seat)),
@@ -110,8 +136,8 @@ fn ask<D: Disk, N: DeskId>(
     }
 }
 
-// The call of this turn, and its answer: five puts, of which the last freezes the full log, a flush, a conversion of nine steps, a
-// merge of thirteen, and five gets.
+// The call of this turn, and its reply: five puts, of which the last freezes the full log, a flush, a conversion of nine
+// steps, a merge of thirteen, five gets, and two swaps of the fourth key, of which the second one differs.
 fn call_of(turn: u8) -> (Call, Told) {
     match turn {
         1..=5 => (Call::Put(turn), Told::Count(u64::from(turn))),
@@ -120,12 +146,29 @@ fn call_of(turn: u8) -> (Call, Told) {
         15 => (Call::Convert, Told::Step(Progress::Finished)),
         16..=27 => (Call::Merge, Told::Step(Progress::Moved)),
         28 => (Call::Merge, Told::Step(Progress::Finished)),
-        _ => (Call::Get(turn % 28), Told::Found([0, turn % 28])),
+        29..=33 => (Call::Get(turn % 28), Told::Found([0, turn % 28])),
+        34 => (Call::Swap(4, 9), Told::Count(6)),
+        _ => (Call::Swap(4, 8), Told::Differs),
     }
 }
 
-// Whether a look finds that the call of this turn did nothing: a key of this number is put in no earlier turn.
+// Whether a look finds this value of the fourth key, and this many accepted commands.
+fn has_fourth<D: Disk, N: DeskId>(desk: &Desk<D, Kept, N>, value: [u8; 2], count: u64) -> bool {
+    let mut out = [7; 2];
+    look(desk, &key(4), &mut out) == Some((count, true)) && out == value
+}
+
+// Whether a look finds that the call of this turn did nothing: no earlier turn puts a key of this number, and a swap leaves
+// its key's value.
 fn did_nothing<D: Disk, N: DeskId>(desk: &Desk<D, Kept, N>, turn: u8) -> bool {
+    match turn {
+        34 => has_fourth(desk, [0, 4], 5),
+        35 => has_fourth(desk, [1, 9], 6),
+        _ => lacks_key(desk, turn),
+    }
+}
+
+fn lacks_key<D: Disk, N: DeskId>(desk: &Desk<D, Kept, N>, turn: u8) -> bool {
     let mut out = [7; 2];
     look(desk, &key(turn), &mut out) == Some((u64::from(turn.saturating_sub(1).min(5)), false))
 }
@@ -152,7 +195,7 @@ fn ask_all<D: Disk, N: DeskId>(
     desk: &mut Desk<D, Kept, N>,
     seat: &mut Seat<N>,
 ) {
-    for turn in 1..34u8 {
+    for turn in 1..36u8 {
         let (call, due) = call_of(turn);
         assert!(rt; ask_again(desk, alloc, seat, turn, call) == due, "{turn}");
     }
@@ -191,8 +234,31 @@ fn records_each<D: Disk, N: DeskId>(
     let mut seat = seats.pop().ok_or("a seat")?;
     ask_all(rt, alloc, desk, &mut seat);
     seats.push(seat)?;
-    assert_eq!(rt; desk.settle(seats).ok(), Some((33, 5)));
+    assert_eq!(rt; desk.settle(seats).ok(), Some((35, 6)));
+    assert!(rt; has_swaps(desk.trace()));
     Ok(())
+}
+
+// Whether the last two recorded calls are the swaps, each with both values.
+fn has_swaps(trace: &Kept) -> bool {
+    let calls = trace.calls();
+    let (Some(first), Some(second)) = (calls.get(33), calls.get(34)) else {
+        return false;
+    };
+    is_swap(first, [1, 9])
+        && is_swap(second, [1, 8])
+        && matches!(first.reply, Reply::Accepted(6))
+        && matches!(second.reply, Reply::Differs)
+}
+
+// Whether a call is a swap of the fourth key, from its first value to this one.
+fn is_swap(call: &RecordedCall, new_value: [u8; 2]) -> bool {
+    match &call.event {
+        Event::Swap(at, old, new) => {
+            *at == key(4) && two_bytes(old) == [0, 4] && two_bytes(new) == new_value
+        }
+        _ => false,
+    }
 }
 
 // The same at a desk with its seat.

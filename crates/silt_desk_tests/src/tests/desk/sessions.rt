@@ -150,7 +150,7 @@ fn both_workers<D: Disk, N: DeskId + Send + Sync, R: Threads + Wait + Sync>(
     )
 }
 
-/// What the calls make of these entries, done one after the other; None where a get was answered otherwise.
+/// What the calls make of these entries, done one after the other; None if a get or a swap had another reply.
 fn replayed(
     alloc: Global,
     opening: &BTreeMap<Key, Value>,
@@ -168,7 +168,21 @@ fn replayed(
     Ok(Some(map))
 }
 
-/// Does one call again; false where it is a get that finds another value.
+/// Does an accepted swap again; false if the key has another value than the old one.
+fn swapped_again(
+    map: &mut BTreeMap<Key, [u8; 2]>,
+    key: &Key,
+    old: &Value,
+    new: &Value,
+) -> Result<bool, AllocError> {
+    if map.get(key) != Some(&two_bytes(old)) {
+        return Ok(false);
+    }
+    map.insert(*key, two_bytes(new))?;
+    Ok(true)
+}
+
+/// Does one call again; false if it is a get that finds another value, or a swap with another reply.
 fn done_again(map: &mut BTreeMap<Key, [u8; 2]>, call: &RecordedCall) -> Result<bool, AllocError> {
     match (&call.event, &call.reply) {
         (Event::Put(key, value), Reply::Accepted(_)) => {
@@ -179,6 +193,8 @@ fn done_again(map: &mut BTreeMap<Key, [u8; 2]>, call: &RecordedCall) -> Result<b
             map.remove(key);
             Ok(true)
         }
+        (Event::Swap(key, old, new), Reply::Accepted(_)) => swapped_again(map, key, old, new),
+        (Event::Swap(key, old, _), Reply::Differs) => Ok(map.get(key) != Some(&two_bytes(old))),
         (Event::Get(key), Reply::Found(value)) => Ok(map.get(key) == Some(&two_bytes(value))),
         (Event::Get(key), Reply::Absent) => Ok(map.get(key).is_none()),
         _ => Ok(true),
@@ -186,7 +202,7 @@ fn done_again(map: &mut BTreeMap<Key, [u8; 2]>, call: &RecordedCall) -> Result<b
 }
 
 /// Two seats come back.
-fn push_two<N: DeskId>(
+pub fn push_two<N: DeskId>(
     seats: &mut Vec<Seat<N>>,
     two: (Seat<N>, Seat<N>),
 ) -> Result<(), AllocError> {
@@ -196,7 +212,9 @@ fn push_two<N: DeskId>(
 }
 
 /// Four of them.
-fn pop_four<N: DeskId>(seats: &mut Vec<Seat<N>>) -> Option<(Seat<N>, Seat<N>, Seat<N>, Seat<N>)> {
+pub fn pop_four<N: DeskId>(
+    seats: &mut Vec<Seat<N>>,
+) -> Option<(Seat<N>, Seat<N>, Seat<N>, Seat<N>)> {
     let (a, b) = pop_two(seats)?;
     let (c, d) = pop_two(seats)?;
     Some((a, b, c, d))
@@ -320,7 +338,7 @@ fn ends_with<D: Disk, R: Abort>(
 }
 
 /// The entries at the end are those of the replay.
-fn ends_as_replayed<D: Disk, N: DeskId, R: Abort>(
+pub fn ends_as_replayed<D: Disk, N: DeskId, R: Abort>(
     rt: &R,
     alloc: Global,
     desk: Desk<D, Kept, N>,

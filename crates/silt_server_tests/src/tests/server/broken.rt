@@ -20,8 +20,8 @@ fn line_of(alloc: Global, byte: u8, len: usize) -> io::Result<Vec<u8>> {
 
 // Lines that are too long, bad, or of a bad key, and one that is well formed.
 fn broken_lines(alloc: Global) -> io::Result<Vec<u8>> {
-    let mut lines = line_of(alloc, b'x', 8_301)?;
-    lines.extend_from_slice(line_of(alloc, b'x', 8_300)?.as_slice())?;
+    let mut lines = line_of(alloc, b'x', 16_601)?;
+    lines.extend_from_slice(line_of(alloc, b'x', 16_600)?.as_slice())?;
     lines.extend_from_slice(line_of(alloc, 0xFF, 3)?.as_slice())?;
     lines.extend_from_slice(line_of(alloc, 0, 1)?.as_slice())?;
     lines.extend_from_slice(b"get =\x00\nget =\x7F\nget =\xC3\xA4\n\nflush\n")?;

@@ -45,6 +45,14 @@ impl Again {
                 self.map.remove(key);
                 Ok(self.is_next(*number))
             }
+            (Event::Swap(key, old, new), Reply::Accepted(number)) => {
+                let stood = self.map.get(key) == Some(&two_bytes(old));
+                self.map.insert(*key, two_bytes(new))?;
+                Ok(self.is_next(*number) && stood)
+            }
+            (Event::Swap(key, old, _), Reply::Differs) => {
+                Ok(self.map.get(key) != Some(&two_bytes(old)))
+            }
             (Event::Flush, Reply::Acknowledged(number)) => Ok(*number == self.accepted),
             (Event::Get(key), Reply::Found(value)) => {
                 Ok(self.map.get(key) == Some(&two_bytes(value)))
