@@ -1,5 +1,5 @@
 // A store with its trace, whose callers have seats.
-ghost use Rattle.std.specs.Prelude.{◌≡◌, ◌≢◌, ℕ, ◌+◌, ◌≤◌, ◌<◌, ◌%◌, ◌^◌, Some, Ok, false, IsTrue, length, IfOk, IfErr, OnOk, MatchResult, vec_len, vec_capacity, slice_get};
+ghost use Rattle.std.specs.Prelude.{◌≡◌, ◌≢◌, ℕ, ◌+◌, ◌≤◌, ◌<◌, ◌%◌, ◌^◌, [], Some, Ok, false, IsTrue, length, IfOk, IfErr, OnOk, MatchResult, vec_len, vec_capacity, slice_get};
 ghost use Rattle.silt_event.specs.Events.{plain};
 ghost use Rattle.silt_desk.specs.DeskState.{Notes};
 ghost use Rattle.silt_desk.specs.Notes.{noted_event, reply_of};
@@ -47,8 +47,8 @@ impl<D: Disk, T: Trace, N: DeskId> Model for Desk<D, T, N> {
     ghost invariant = { λ d. T.agrees d.trace (seen D.Disk d.core) × T.counts d.trace d.ledgers.calls d.ledgers.accepted };
 }
 
-// Notes a call in the trace, with the seat and in the ledgers, if it is to be recorded.
-fn note<T: Trace, N: DeskId>(
+// Notes a call in the trace, with the seat and in the ledgers, if it is to be recorded. Only a swap has a second value.
+fn note_both<T: Trace, N: DeskId>(
     trace: &mut T,
     ledgers: &mut Ledgers<N>,
     seat: &mut Seat<N>,
@@ -66,6 +66,23 @@ fn note<T: Trace, N: DeskId>(
         trace.record(seat.number(), note, value, second, room);
         ledgers.count(seat, note.acceptance());
     }
+}
+
+// The same for a call with at most one value.
+fn note<T: Trace, N: DeskId>(
+    trace: &mut T,
+    ledgers: &mut Ledgers<N>,
+    seat: &mut Seat<N>,
+    room: Room,
+    note: Note,
+    value: &[u8],
+)
+    requires room { T.is_full trace.old → ⊥ }
+    requires fits { T.fits (vec_capacity room.value) (length value.now) }
+    requires fits_second { T.fits (vec_capacity room.second) 0 }
+    ensures { Notes T.extends trace.old trace.new ledgers.old ledgers.new seat.old seat.new (noted_event note value.now []) (reply_of note value.now) }
+{
+    note_both(trace, ledgers, seat, room, note, value, &[]);
 }
 
 // The refusal of a call that cannot be recorded.
@@ -161,15 +178,7 @@ impl<D: Disk, T: Trace, N: DeskId> Desk<D, T, N> {
         };
         let answer = self.core.put(alloc, key, value);
         let noted = Note::Put(*key, plain(&answer));
-        note(
-            &mut self.trace,
-            &mut self.ledgers,
-            seat,
-            room,
-            noted,
-            value,
-            &[],
-        );
+        note(&mut self.trace, &mut self.ledgers, seat, room, noted, value);
         answer
     }
 
@@ -188,15 +197,7 @@ impl<D: Disk, T: Trace, N: DeskId> Desk<D, T, N> {
         };
         let answer = self.core.delete(alloc, key);
         let noted = Note::Delete(*key, plain(&answer));
-        note(
-            &mut self.trace,
-            &mut self.ledgers,
-            seat,
-            room,
-            noted,
-            &[],
-            &[],
-        );
+        note(&mut self.trace, &mut self.ledgers, seat, room, noted, &[]);
         answer
     }
 
@@ -221,7 +222,7 @@ impl<D: Disk, T: Trace, N: DeskId> Desk<D, T, N> {
         };
         let answer = self.core.swap(alloc, key, old, new);
         let noted = Note::Swap(*key, plain(&answer));
-        note(
+        note_both(
             &mut self.trace,
             &mut self.ledgers,
             seat,
@@ -243,15 +244,7 @@ impl<D: Disk, T: Trace, N: DeskId> Desk<D, T, N> {
         };
         let answer = self.core.flush();
         let noted = Note::Flush(plain(&answer));
-        note(
-            &mut self.trace,
-            &mut self.ledgers,
-            seat,
-            room,
-            noted,
-            &[],
-            &[],
-        );
+        note(&mut self.trace, &mut self.ledgers, seat, room, noted, &[]);
         answer
     }
 
@@ -275,15 +268,7 @@ impl<D: Disk, T: Trace, N: DeskId> Desk<D, T, N> {
         };
         let answer = self.core.get(key, out);
         let noted = Note::Get(*key, plain(&answer));
-        note(
-            &mut self.trace,
-            &mut self.ledgers,
-            seat,
-            room,
-            noted,
-            out,
-            &[],
-        );
+        note(&mut self.trace, &mut self.ledgers, seat, room, noted, out);
         answer
     }
 
@@ -301,15 +286,7 @@ impl<D: Disk, T: Trace, N: DeskId> Desk<D, T, N> {
         };
         let answer = self.core.convert(alloc);
         let noted = Note::Convert(plain(&answer));
-        note(
-            &mut self.trace,
-            &mut self.ledgers,
-            seat,
-            room,
-            noted,
-            &[],
-            &[],
-        );
+        note(&mut self.trace, &mut self.ledgers, seat, room, noted, &[]);
         answer
     }
 
@@ -327,15 +304,7 @@ impl<D: Disk, T: Trace, N: DeskId> Desk<D, T, N> {
         };
         let answer = self.core.merge(alloc);
         let noted = Note::Merge(plain(&answer));
-        note(
-            &mut self.trace,
-            &mut self.ledgers,
-            seat,
-            room,
-            noted,
-            &[],
-            &[],
-        );
+        note(&mut self.trace, &mut self.ledgers, seat, room, noted, &[]);
         answer
     }
 

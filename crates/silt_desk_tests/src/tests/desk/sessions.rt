@@ -202,7 +202,7 @@ fn done_again(map: &mut BTreeMap<Key, [u8; 2]>, call: &RecordedCall) -> Result<b
 }
 
 /// Two seats come back.
-pub fn push_two<N: DeskId>(
+pub(super) fn push_two<N: DeskId>(
     seats: &mut Vec<Seat<N>>,
     two: (Seat<N>, Seat<N>),
 ) -> Result<(), AllocError> {
@@ -212,7 +212,7 @@ pub fn push_two<N: DeskId>(
 }
 
 /// Four of them.
-pub fn pop_four<N: DeskId>(
+pub(super) fn pop_four<N: DeskId>(
     seats: &mut Vec<Seat<N>>,
 ) -> Option<(Seat<N>, Seat<N>, Seat<N>, Seat<N>)> {
     let (a, b) = pop_two(seats)?;
@@ -338,7 +338,7 @@ fn ends_with<D: Disk, R: Abort>(
 }
 
 /// The entries at the end are those of the replay.
-pub fn ends_as_replayed<D: Disk, N: DeskId, R: Abort>(
+pub(super) fn ends_as_replayed<D: Disk, N: DeskId, R: Abort>(
     rt: &R,
     alloc: Global,
     desk: Desk<D, Kept, N>,
