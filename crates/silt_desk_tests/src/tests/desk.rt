@@ -10,7 +10,6 @@ mod looks;
 mod memory;
 mod sessions;
 mod steps;
-mod swaps;
 mod wakes;
 
 use silt_desk::{Desk, DeskId, Kept, Seat, Shared, Trace, settle};

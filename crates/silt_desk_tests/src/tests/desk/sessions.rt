@@ -1,6 +1,8 @@
 // Four threads call at once beside both workers, and what they recorded is done again by a plain map.
 ghost use Rattle.std.specs.Prelude.{◌≡◌};
 
+mod swaps;
+
 use crate::tests::desk::{get, pop_two, put, seated};
 use crossbeam_channel::{Receiver, Sender};
 use silt_desk::{
@@ -202,7 +204,7 @@ fn done_again(map: &mut BTreeMap<Key, [u8; 2]>, call: &RecordedCall) -> Result<b
 }
 
 /// Two seats come back.
-pub(super) fn push_two<N: DeskId>(
+fn push_two<N: DeskId>(
     seats: &mut Vec<Seat<N>>,
     two: (Seat<N>, Seat<N>),
 ) -> Result<(), AllocError> {
@@ -212,9 +214,7 @@ pub(super) fn push_two<N: DeskId>(
 }
 
 /// Four of them.
-pub(super) fn pop_four<N: DeskId>(
-    seats: &mut Vec<Seat<N>>,
-) -> Option<(Seat<N>, Seat<N>, Seat<N>, Seat<N>)> {
+fn pop_four<N: DeskId>(seats: &mut Vec<Seat<N>>) -> Option<(Seat<N>, Seat<N>, Seat<N>, Seat<N>)> {
     let (a, b) = pop_two(seats)?;
     let (c, d) = pop_two(seats)?;
     Some((a, b, c, d))
@@ -338,7 +338,7 @@ fn ends_with<D: Disk, R: Abort>(
 }
 
 /// The entries at the end are those of the replay.
-pub(super) fn ends_as_replayed<D: Disk, N: DeskId, R: Abort>(
+fn ends_as_replayed<D: Disk, N: DeskId, R: Abort>(
     rt: &R,
     alloc: Global,
     desk: Desk<D, Kept, N>,
