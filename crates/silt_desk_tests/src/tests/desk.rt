@@ -1,5 +1,5 @@
-// What no contract says of a desk: that calls succeed where they may, what one thread does between the steps of another, and what is found
-// when many threads call at once.
+// What no contract says of a desk: that calls succeed if they may, what one thread does between the steps of another, and
+// what many threads find that call at once.
 ghost use Rattle.std.specs.Prelude.{◌≡◌};
 
 mod converter;
@@ -23,7 +23,7 @@ use std::sync::Wait;
 use std::sync::ledger::Blank;
 use std::test::Fail;
 
-// A put, where the store has values of this length.
+// A put, if the store has values of this length.
 fn put<D: Disk, T: Trace, N: DeskId>(
     desk: &mut Desk<D, T, N>,
     alloc: Global,
@@ -53,7 +53,7 @@ fn swap<D: Disk, T: Trace, N: DeskId>(
     Some(desk.swap(alloc, seat, key, old, new))
 }
 
-// A get, where the store has values of this length.
+// A get, if the store has values of this length.
 fn get<D: Disk, T: Trace, N: DeskId>(
     desk: &mut Desk<D, T, N>,
     alloc: Global,
@@ -67,7 +67,7 @@ fn get<D: Disk, T: Trace, N: DeskId>(
     Some(desk.get(alloc, seat, key, out))
 }
 
-// A look, where the store has values of this length.
+// A look, if the store has values of this length.
 fn look<D: Disk, T: Trace, N: DeskId>(
     desk: &Desk<D, T, N>,
     key: &Key,
@@ -79,7 +79,7 @@ fn look<D: Disk, T: Trace, N: DeskId>(
     desk.look(key, out).ok()
 }
 
-// A desk that keeps at most so many calls, with so many seats.
+// A desk that keeps at most this many calls, with this many seats.
 fn seated<D: Disk, N: DeskId>(
     alloc: Global,
     core: Core<D>,
@@ -108,7 +108,7 @@ fn pop_two<N: DeskId>(seats: &mut Vec<Seat<N>>) -> Option<(Seat<N>, Seat<N>)> {
     Some((first, second))
 }
 
-// A desk that keeps at most so many calls, and its two seats, the first one first.
+// A desk that keeps at most this many calls, and its two seats, the first one first.
 fn two_seats<D: Disk, N: DeskId>(
     alloc: Global,
     core: Core<D>,
@@ -127,7 +127,7 @@ fn two_seats<D: Disk, N: DeskId>(
     }
 }
 
-// How many calls and accepted commands a desk tells with both seats.
+// How many calls and accepted commands a desk reports once it has both seats.
 fn settle_two<D: Disk, N: DeskId, R: Wait>(
     rt: &R,
     alloc: Global,

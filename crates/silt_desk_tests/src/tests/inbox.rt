@@ -1,4 +1,5 @@
-// What no contract says of an inbox: that jobs and replies cross threads, and that each call that takes memory succeeds where there is enough.
+// What no contract says of an inbox: that jobs and replies cross threads, and that each call that takes memory succeeds if
+// there is enough.
 ghost use Rattle.std.specs.Prelude.{◌≡◌, IfSome, true};
 ghost use Rattle.silt_inbox.specs.Answers.{is_allowed};
 ghost use Rattle.silt_inbox.specs.declared.answered.EventKind.TheVariants as kind;
@@ -23,7 +24,7 @@ struct Job {
     replies: Sender<Answered>,
 }
 
-/// Pushes a job, once more where it is handed back for want of memory, and then the queue is as it was.
+/// Pushes a job. If it is handed back because memory ran out, the queue is as it was, and the job is pushed once more.
 fn push(rt: &impl Abort, queue: &mut Queue<u64>, job: u64) -> Result<(), Fail> {
     let len = queue.len();
     let Err(refused) = queue.push(job) else {
@@ -34,7 +35,7 @@ fn push(rt: &impl Abort, queue: &mut Queue<u64>, job: u64) -> Result<(), Fail> {
     Ok(())
 }
 
-// It passes whichever one request for memory is refused, and where none is.
+// It passes whichever one request for memory is refused, and also if none is.
 #[test]
 fn a_queue_keeps_the_order(rt: HostRuntime) -> Result<(), Fail> {
     let mut queue = Queue::new(rt.alloc());
@@ -78,7 +79,7 @@ fn acknowledged<R: Wait>(rt: &R, replies: &Receiver<Answered>) -> Option<u64> {
     }
 }
 
-/// The next reply, where it is one to a flush.
+/// The next reply, if it is one to a flush.
 fn flushed<R: Wait>(rt: &R, replies: &Receiver<Answered>) -> Option<Reply<()>>
     ensures { IfSome result (λ reply. is_allowed kind.Flush reply ≡ true) }
 {
@@ -90,7 +91,7 @@ fn flushed<R: Wait>(rt: &R, replies: &Receiver<Answered>) -> Option<Reply<()>>
     }
 }
 
-/// Asks for one flush, and says whether it was answered by its own number.
+/// Asks for one flush, and returns whether the reply has its own number.
 fn ask<P: InboxId, R: Wait>(
     rt: &R,
     alloc: Global,
@@ -111,7 +112,7 @@ fn ask<P: InboxId, R: Wait>(
     acknowledged(rt, &from) == Some(number)
 }
 
-/// Asks five times, and closes the inbox. Says how often it was answered.
+/// Asks five times, and closes the inbox. Returns how often a reply came.
 fn ask_five<P: InboxId, R: Wait>(
     rt: &R,
     alloc: Global,
@@ -186,7 +187,7 @@ fn answers_five_jobs(rt: HostRuntime) -> Result<(), Fail> {
     five_jobs::<Brand, _>(&rt, rt.alloc(), Blank::new(1), Blank::new(1))
 }
 
-/// Puts a job, once more where it is handed back for want of memory.
+/// Puts a job, once more if it is handed back because memory ran out.
 fn put_again<P: InboxId, R: Wait + Abort>(
     rt: &R,
     inbox: &Inbox<u64, P>,

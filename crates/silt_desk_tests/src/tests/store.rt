@@ -7,7 +7,7 @@ use std::alloc::Global;
 use std::test::Fail;
 use std::thread;
 
-// The store with one more key, which survives any stop. None where it is refused.
+// The store with one more key, which survives any crash. None if it is refused.
 fn with_key(alloc: Global, mut core: Core<MemDisk>) -> Option<Core<MemDisk>> {
     if core.geometry().value_len() != 2 {
         return None;

@@ -1,4 +1,4 @@
-// What no contract says of a server: what a client is answered over a socket, and what threads do side by side.
+// What no contract says of a server: the replies to a client over a socket, and what threads do at the same time.
 
 mod broken;
 mod crowd;
@@ -51,7 +51,7 @@ impl<R: Clock> Listens for Patient<'_, R> {
     }
 }
 
-// So many sessions and recorded calls, and no end of a silent connection.
+// This many sessions and recorded calls, and no end of a silent connection.
 fn limits_of(sessions: u32, audit: Option<u64>) -> Limits {
     Limits {
         sessions,
@@ -69,7 +69,7 @@ struct Ended<D: Disk, X: Drop> {
     pub got: X,
 }
 
-// A server of so many sessions in one thread, and its clients in another, until both are done.
+// A server of this many sessions in one thread, and its clients in another, until both are done.
 fn serve_beside<
     D: Disk,
     G: Gate + Sync,
@@ -114,7 +114,7 @@ fn serve_beside<
 /// What clients got, the server's status, and what it wrote.
 type Served<X> = (X, u8, Vec<u8>);
 
-// The same where the store is not looked at afterwards.
+// The same, if nobody looks at the store afterwards.
 fn served<
     D: Disk,
     G: Gate + Sync,
@@ -129,7 +129,7 @@ fn served<
     Ok((got, ended.status, ended.written))
 }
 
-// What one connection is answered to these lines.
+// The replies to these lines of one connection.
 fn asked<
     D: Disk,
     R: Net<Listener = TcpListener, Stream = TcpStream> + Clock + Threads + Wait + Sync,
@@ -139,7 +139,7 @@ fn asked<
     })
 }
 
-// A connection that waits for an answer, or until it has written, for at most half a minute.
+// A connection that waits for a reply, or until it has written, for at most half a minute.
 fn connected<R: Net<Stream = TcpStream>>(rt: &R, addr: SocketAddr) -> io::Result<TcpStream> {
     let stream = TcpStream::connect(rt, addr)?;
     stream.set_read_timeout(Some(Duration::from_secs(30)))?;
@@ -147,7 +147,7 @@ fn connected<R: Net<Stream = TcpStream>>(rt: &R, addr: SocketAddr) -> io::Result
     Ok(stream)
 }
 
-// All that one connection is answered to these lines, until the server closes it.
+// All replies to these lines of one connection, until the server closes it.
 fn ask<R: Net<Stream = TcpStream>>(
     rt: &R,
     alloc: Global,
@@ -162,7 +162,7 @@ fn ask<R: Net<Stream = TcpStream>>(
     Ok(got)
 }
 
-// The next line that is answered, with its line feed, or what there is of it where the connection ends.
+// The next line of the server, with its line feed, or what there is of it when the connection ends.
 fn read_line(alloc: Global, stream: &mut TcpStream) -> io::Result<Vec<u8>> {
     let mut line = Vec::new(alloc);
     let mut byte = [0u8; 1];
@@ -178,7 +178,7 @@ fn read_line(alloc: Global, stream: &mut TcpStream) -> io::Result<Vec<u8>> {
     Ok(line)
 }
 
-// Asks one line, and gives the line that is answered.
+// Sends one line, and returns the reply.
 fn ask_line(alloc: Global, stream: &mut TcpStream, line: &[u8]) -> io::Result<Vec<u8>> {
     stream.write_all(line)?;
     read_line(alloc, stream)

@@ -1,4 +1,4 @@
-// Commands are answered between two steps of a worker.
+// Commands get their replies between two steps of a worker.
 ghost use Rattle.std.specs.Prelude.{◌≡◌};
 
 use crate::tests::desk::{get, put, put_five, two_seats};
@@ -37,7 +37,7 @@ impl<R: Clock> Gate for Hold<'_, R> {
     }
 }
 
-/// What another thread was answered while the worker was held.
+/// The replies to another thread while the worker was held.
 #[derive(Clone, Copy, Debug, PartialEq, Eq)]
 struct Seen {
     held: bool,
@@ -93,7 +93,7 @@ fn run_both<D: Disk, N: DeskId + Send + Sync, R: Threads + Wait + Clock + Sync>(
     )
 }
 
-/// What another thread is answered while the worker is held, and whether the worker was freed in time and woke the other one.
+/// The replies to another thread while the worker is held, and whether the worker was freed in time and woke the other one.
 fn beside_held<D: Disk, N: DeskId + Send + Sync, R: Threads + Wait + Clock + Sync>(
     rt: &R,
     alloc: Global,
@@ -114,7 +114,7 @@ fn beside_held<D: Disk, N: DeskId + Send + Sync, R: Threads + Wait + Clock + Syn
     Ok((seen, in_time, matches!(others.try_recv(rt), Ok(Wake::Go))))
 }
 
-/// The worker is held before its second step until another thread's calls are answered.
+/// The worker is held before its second step until another thread's calls have their replies.
 fn held_between_steps<D: Disk, N: DeskId + Send + Sync, R: Threads + Wait + Clock + Abort + Sync>(
     rt: &R,
     alloc: Global,

@@ -1,4 +1,4 @@
-// The row of two seats and three calls.
+// Two seats and three calls.
 ghost use Rattle.std.specs.Prelude.{◌≡◌};
 
 use crate::tests::desk::{get, look, put, two_seats};
@@ -53,7 +53,7 @@ fn three_calls<D: Disk, N: DeskId, R: Wait + Abort>(
     settles(rt, alloc, &shared, first, second)
 }
 
-// With one seat the desk is not settled, with both it tells three calls and one accepted command.
+// With one seat the desk is not settled, with both it reports three calls and one accepted command.
 fn settles<D: Disk, N: DeskId, R: Wait + Abort>(
     rt: &R,
     alloc: Global,

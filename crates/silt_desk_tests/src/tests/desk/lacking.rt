@@ -1,4 +1,4 @@
-// Each call at a desk, where no memory is found for its record.
+// Each call at a desk that is out of memory for its record.
 ghost use Rattle.std.specs.Prelude.{◌≡◌};
 
 use crate::tests::desk::{get, look, put, swap};
@@ -49,7 +49,7 @@ impl<T: Trace> Trace for Lacking<T> {
     }
 }
 
-// Whether a call was refused for want of memory.
+// Whether a call is refused because memory ran out.
 fn lacks<A: Drop, F: Drop>(answer: Result<A, Refusal<F>>) -> bool {
     matches!(answer, Err(Refusal::NoMemory))
 }
@@ -120,18 +120,18 @@ fn each_call_lacks_memory(rt: HostRuntime) -> Result<(), Fail> {
     refuses_all::<_, Brand, _>(&rt, alloc, core, Blank::new(1), Blank::new(1))
 }
 
-// Whether a store has no memory for a trace with so many places.
+// Whether memory runs out for a trace with room for this many calls.
 fn lacks_room<D: Disk>(alloc: Global, core: &Core<D>, most: u64) -> bool {
     matches!(Kept::new(alloc, core, most), Err(Refusal::NoMemory))
 }
 
-// How many commands and calls a new trace with three places tells.
+// How many commands and calls a new trace with room for three calls reports.
 fn new_trace<D: Disk>(alloc: Global, core: &Core<D>) -> Option<(u64, usize)> {
     let trace = Kept::new(alloc, core, 3).ok()?;
     Some((trace.count(), trace.calls().len()))
 }
 
-// What a store comes to that has no memory for a trace: each is refused, the store stands as it was, and one with three places is made of it.
+// If memory runs out for a trace, the trace is refused and the store is as it was. Then one with room for three calls is made.
 fn lacks_places<D: Disk, R: Abort>(rt: &R, alloc: Global, core: &mut Core<D>) {
     assert_eq!(rt; core.delete(alloc, &key(1)).ok(), Some(1));
     for most in [u64::MAX, 1 << 62, 1 << 58] {
@@ -141,7 +141,7 @@ fn lacks_places<D: Disk, R: Abort>(rt: &R, alloc: Global, core: &mut Core<D>) {
     assert_eq!(rt; new_trace(alloc, core), Some((1, 0)));
 }
 
-// A trace with more places than any memory has is refused.
+// A trace that needs more memory than there can be is refused.
 #[test]
 fn a_trace_lacks_memory(rt: HostRuntime) -> Result<(), Fail> {
     let alloc = rt.alloc();

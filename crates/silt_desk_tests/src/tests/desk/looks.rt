@@ -1,4 +1,4 @@
-// Two looks are made side by side: with a lock that lets one in at a time they are not, and that is seen.
+// Two looks are made at the same time. With a lock that lets in one at a time they are not, and the test sees it.
 ghost use Rattle.std.specs.Prelude.{◌≡◌};
 
 use crate::tests::desk::{look, put, two_seats};
@@ -35,7 +35,7 @@ impl Reads {
         }
     }
 
-    /// Waits, once armed, until a second read has begun, for at most so many turns.
+    /// Waits, once armed, until a second read has begun, for at most this many turns.
     fn meet(&self) {
         if self.armed.load(Ordering::SeqCst) == 0 {
             return;
@@ -149,7 +149,7 @@ fn misses<D: Disk, N: DeskId + Send + Sync, R: Threads + Wait + Abort + Sync>(
     find_both(rt, alloc, &shared, &mut first, reads, alone)
 }
 
-/// The same of an empty store on a disk whose reads wait for so many turns.
+/// The same of an empty store on a disk whose reads wait for this many turns.
 fn misses_after<R: Threads + Wait + Abort + Sync>(
     rt: &R,
     alloc: Global,

@@ -1,6 +1,6 @@
-// Calls at a desk that are refused a request for memory: nothing is done and nothing recorded, and asked again each has its own answer.
-// The test passes whichever one request of the desk's calls is refused, and where none is; docs/contributing.md says how each is
-// refused in turn.
+// Calls at a desk that are refused a request for memory: nothing is done and nothing is recorded, and a second try has the
+// call's own reply. The test passes whichever one request of the desk's calls is refused, and also if none is;
+// docs/contributing.md says how each is refused in turn.
 ghost use Rattle.std.specs.Prelude.{◌≡◌, [], IfSome};
 ghost use Rattle.silt_desk.specs.Seeing.{seen};
 ghost use Rattle.silt_desk.specs.Traces.{IsHistory};
@@ -29,7 +29,7 @@ enum Call {
     Merge,
 }
 
-/// What a call is answered.
+/// The reply to a call.
 #[derive(Clone, Copy, PartialEq)]
 enum Told {
     Count(u64),
@@ -40,7 +40,7 @@ enum Told {
     Other,
 }
 
-// What a refused call is answered.
+// The reply to a refused call.
 fn refused<F: Drop>(refusal: Refusal<F>) -> Told {
     match refusal {
         Refusal::NoMemory => Told::NoMemory,
@@ -48,7 +48,7 @@ fn refused<F: Drop>(refusal: Refusal<F>) -> Told {
     }
 }
 
-// What a put or a flush is answered.
+// The reply to a put or a flush.
 fn counted<F: Drop>(answer: Result<u64, Refusal<F>>) -> Told {
     match answer {
         Ok(count) => Told::Count(count),
@@ -56,7 +56,7 @@ fn counted<F: Drop>(answer: Result<u64, Refusal<F>>) -> Told {
     }
 }
 
-// What a step in the background is answered.
+// The reply to a step in the background.
 fn stepped<F: Drop>(answer: Result<Progress, Refusal<F>>) -> Told {
     match answer {
         Ok(progress) => Told::Step(progress),
@@ -64,7 +64,7 @@ fn stepped<F: Drop>(answer: Result<Progress, Refusal<F>>) -> Told {
     }
 }
 
-// What a get is answered that left these bytes.
+// The reply to a get that left these bytes.
 fn found<F: Drop>(answer: Result<bool, Refusal<F>>, out: [u8; 2]) -> Told {
     match answer {
         Ok(true) => Told::Found(out),
@@ -173,7 +173,7 @@ fn lacks_key<D: Disk, N: DeskId>(desk: &Desk<D, Kept, N>, turn: u8) -> bool {
     look(desk, &key(turn), &mut out) == Some((u64::from(turn.saturating_sub(1).min(5)), false))
 }
 
-// What the call of this turn is answered, once more where it is refused memory and did nothing.
+// The reply to the call of this turn. If it is out of memory and did nothing, the call is made once more.
 fn ask_again<D: Disk, N: DeskId>(
     desk: &mut Desk<D, Kept, N>,
     alloc: Global,
@@ -212,7 +212,7 @@ fn kept_once<D: Disk>(alloc: Global, core: &Core<D>) -> Option<Kept>
     }
 }
 
-// The same, asked for once more where memory is refused.
+// The same, with a second try if memory is refused.
 fn kept_again<D: Disk>(alloc: Global, core: &Core<D>) -> Option<Kept>
     ensures history { IfSome result (λ kept. IsHistory kept (seen D.Disk core.now)) }
     ensures calls { IfSome result (λ kept. kept.calls ≡ []) }

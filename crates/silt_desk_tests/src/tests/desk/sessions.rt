@@ -1,4 +1,4 @@
-// Four threads call at once beside both workers, and what they recorded is done again by a plain map.
+// Four threads call at once beside both workers, and a plain map does again what they recorded.
 ghost use Rattle.std.specs.Prelude.{◌≡◌};
 
 mod swaps;

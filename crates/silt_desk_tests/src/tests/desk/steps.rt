@@ -38,7 +38,7 @@ fn works<D: Disk, N: DeskId, R: Wait>(
     Ok((seat, matches!(others.try_recv(rt), Ok(Wake::Go))))
 }
 
-// Each worker twice, the converter first: where there is something to do it wakes the other.
+// Each worker twice, the converter first: if there is something to do it wakes the other one.
 fn work_in_turn<D: Disk, N: DeskId, R: Wait + Abort>(
     rt: &R,
     alloc: Global,

@@ -1,4 +1,4 @@
-// Messages to the workers: both are told, and none is told twice of the same work.
+// Messages to the workers: both get one, and neither gets a second one for the same work.
 
 use crossbeam_channel::Receiver;
 use silt_desk::{Wake, Wakes};

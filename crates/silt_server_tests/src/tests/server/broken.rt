@@ -1,4 +1,4 @@
-// Clients that send what is no line, do not end what they begin, or reset their connection: the next one is served.
+// Clients that send no well-formed line, do not end what they begin, or reset their connection: the next one is served.
 
 use crate::tests::Open;
 use crate::tests::server::{ask_line, asked, connected, served};
@@ -8,7 +8,7 @@ use std::io::{self, Write};
 use std::net::{Net, SocketAddr, TcpStream};
 use std::test::Fail;
 
-// A line of so many of this byte.
+// A line with this byte this many times.
 fn line_of(alloc: Global, byte: u8, len: usize) -> io::Result<Vec<u8>> {
     let mut line = Vec::new(alloc);
     for _ in 0..len {
@@ -76,7 +76,7 @@ fn serves_the_next_client(rt: HostRuntime) -> Result<(), Fail> {
     Ok(())
 }
 
-// One client sends many lines and reads nothing, while another is answered. Then the first closes.
+// One client sends many lines and reads nothing, while another gets its replies. Then the first closes.
 fn never_reads<R: Net<Stream = TcpStream>>(
     rt: &R,
     alloc: Global,
@@ -112,7 +112,8 @@ fn serves_beside_one_who_never_reads(rt: HostRuntime) -> Result<(), Fail> {
     Ok(())
 }
 
-// One client asks twice, waits until an answer has come, and closes without reading it, which resets the connection. The next one is answered.
+// One client asks twice, waits until a reply has come, and closes without reading it, which resets the connection. The next
+// one gets its reply.
 fn resets<R: Net<Stream = TcpStream>>(
     rt: &R,
     alloc: Global,

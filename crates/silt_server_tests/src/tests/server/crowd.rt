@@ -1,4 +1,4 @@
-// As many sessions as there may be, and one more; and as many that say nothing.
+// As many sessions as there may be, and one more; and as many that send nothing.
 
 use crate::tests::Open;
 use crate::tests::server::{ask_line, connected, served};
@@ -12,7 +12,7 @@ use std::{io, thread};
 /// What the sixty-fifth reads.
 const BUSY: &[u8] = b"busy: 64 connections are served already\n";
 
-// Sixty-four connections that say nothing but one line each, so that each has its place.
+// Sixty-four connections that send one line each, so that each has its slot.
 fn sixty_four<R: Net<Stream = TcpStream>>(
     rt: &R,
     alloc: Global,
@@ -27,7 +27,7 @@ fn sixty_four<R: Net<Stream = TcpStream>>(
     Ok(streams)
 }
 
-// Whether a connection that asks something reads only that there is no place for it.
+// Whether a connection that asks something reads only that there is no slot for it.
 fn is_turned_away<R: Net<Stream = TcpStream>>(
     rt: &R,
     alloc: Global,
@@ -38,7 +38,8 @@ fn is_turned_away<R: Net<Stream = TcpStream>>(
     Ok(line.as_slice() == BUSY)
 }
 
-// A connection beyond the sixty-fourth is turned away; when one has ended a further one is answered, after at most so many turns.
+// A connection beyond the sixty-fourth is turned away. When one has ended, a further one gets its reply, after at most this
+// many turns.
 fn one_more<R: Net<Stream = TcpStream> + Clock>(
     rt: &R,
     alloc: Global,
@@ -73,7 +74,7 @@ fn turns_the_sixty_fifth_away(rt: HostRuntime) -> Result<(), Fail> {
     Ok(())
 }
 
-// Sixty-four connections that say nothing and are then closed.
+// Sixty-four connections that send nothing and are then closed.
 fn say_nothing<R: Net<Stream = TcpStream>>(
     rt: &R,
     alloc: Global,

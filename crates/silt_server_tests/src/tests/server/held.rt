@@ -1,4 +1,4 @@
-// Clients are answered between two steps of the converter.
+// Clients get replies between two steps of the converter.
 
 use crate::tests::reaches;
 use crate::tests::server::{ask_line, connected, served};

@@ -1,4 +1,4 @@
-// A client that asks line by line, and what it is answered.
+// A client that asks line by line, and the replies.
 
 use crate::tests::Open;
 use crate::tests::server::{Served, ask, asked, serve_beside};

@@ -1,4 +1,4 @@
-// Gets of two sessions are looked up side by side.
+// Gets of two sessions are looked up at the same time.
 
 use crate::tests::reaches;
 use crate::tests::server::{ask_line, connected, read_line, served};
@@ -12,7 +12,7 @@ use std::sync::atomic::{AtomicU64, Ordering};
 use std::test::Fail;
 use std::time::Clock;
 
-/// How many reads have begun since they were armed, whether the gets are answered, and whether anyone waited in vain.
+/// How many reads have begun since they were armed, whether the gets have replies, and whether anyone waited in vain.
 #[derive(Drop)]
 struct Reads {
     armed: AtomicU64,
@@ -21,7 +21,7 @@ struct Reads {
     missed: AtomicU64,
 }
 
-/// Holds the converter and the merger until both gets are answered.
+/// Holds the converter and the merger until both gets have replies.
 #[derive(Drop)]
 struct Hold<'a, R: Clock> {
     rt: &'a R,
@@ -76,7 +76,7 @@ impl<D: Disk, R: Clock + Send + Sync> Disk for Meeting<'_, D, R> {
     }
 }
 
-// A put by one session; then the key is asked for by two sessions at once.
+// A put by one session. Then two sessions ask for the key at once.
 fn ask_both<R: Net<Stream = TcpStream>>(
     rt: &R,
     alloc: Global,

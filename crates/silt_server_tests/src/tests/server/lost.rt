@@ -1,4 +1,4 @@
-// A session whose reply did not come: nothing of it is sent any more, as the command may have been done.
+// A session whose reply did not come: nothing more is sent to it, because the command may have been done.
 
 use silt_event::{Event, Reply};
 use silt_server::{AskBy, Asking, Client, Outlet};
@@ -19,7 +19,7 @@ fn both_ends<R: Net<Listener = TcpListener, Stream = TcpStream>>(
     Ok((near, far))
 }
 
-// A session on this end of a connection, whose events are asked so.
+// A session on this end of a connection, whose events go this way.
 fn end_of<A: Asking>(alloc: Global, stream: &TcpStream, asking: A, lines: &[u8]) -> SessionEnd
     requires { A.can_ask asking }
 {

@@ -1,4 +1,4 @@
-// A network that fails: before the port is known, when a connection is waited for, and where there is none.
+// A network that fails: before the port is known, while the server waits for a connection, and if there is no network.
 
 use crate::tests::server::limits_of;
 use crate::tests::{Open, opened};
@@ -13,7 +13,7 @@ use std::sync::Wait;
 use std::test::Fail;
 use std::thread::Threads;
 
-/// A listener at this port, where there is one, to which nobody can connect.
+/// A listener at this port, if there is one, to which nobody can connect.
 #[derive(Drop)]
 struct Deaf {
     port: Option<u16>,
@@ -80,7 +80,7 @@ fn tells_that_nobody_can_connect(rt: HostRuntime) -> Result<(), Fail> {
     Ok(())
 }
 
-// The same where there is no network.
+// The same if there is no network.
 fn refuse<D: Disk>(alloc: Global, disk: D) -> Result<(u8, Vec<u8>, Option<bool>), Fail> {
     let core = opened(alloc, disk)?;
     let mut written = Vec::new(alloc);

@@ -1,5 +1,5 @@
-// Sixty-four sessions at once: each is answered as by a plain map of its own, all calls are recorded, and what was acknowledged is
-// found again.
+// Sixty-four sessions at once: each gets the replies of a plain map of its own, all calls are recorded, and what was
+// acknowledged is found again.
 
 mod kept;
 
@@ -44,7 +44,7 @@ impl Session {
         self.stream.write_all(line.as_bytes())
     }
 
-    // Whether the round's command is answered as by a plain map. A refused command changes nothing.
+    // Whether the round's command has the reply of a plain map. A refused command changes nothing.
     fn is_answered(&mut self, alloc: Global, round: u32) -> io::Result<bool> {
         let line = read_line(alloc, &mut self.stream)?;
         let is_accepted = line.as_slice().starts_with(b"accepted ");
@@ -71,7 +71,7 @@ impl Session {
     }
 }
 
-// Whether a command is refused for want of room in the store.
+// Whether a command is refused because the store has no room.
 fn is_full(line: &[u8]) -> bool {
     line == b"refused 7 StoreFull\n".as_slice() || line == b"refused 8 NoRoom\n".as_slice()
 }
@@ -79,7 +79,7 @@ fn is_full(line: &[u8]) -> bool {
 /// What the sessions found.
 #[derive(Clone, Copy, Debug)]
 struct Found {
-    // How many commands were not answered as they should.
+    // How many commands had another reply than they should.
     pub wrong: u32,
     // How many keys have a value at the end.
     pub keys: u32,

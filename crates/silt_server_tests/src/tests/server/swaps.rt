@@ -40,9 +40,8 @@ fn six_jobs(alloc: Global) -> Result<Vec<Job>, AllocError> {
     let mut jobs = Vec::new(alloc);
     let put = Request::Put(key(1), value_of(alloc, &[0, 1])?);
     push_job(alloc, &mut jobs, put)?;
-    for (old, new) in [([0, 1], [0, 2]), ([0, 1], [0, 3])] {
-        push_job(alloc, &mut jobs, swap_of(alloc, &old, &new)?)?;
-    }
+    push_job(alloc, &mut jobs, swap_of(alloc, &[0, 1], &[0, 2])?)?;
+    push_job(alloc, &mut jobs, swap_of(alloc, &[0, 1], &[0, 3])?)?;
     push_job(alloc, &mut jobs, swap_of(alloc, &[2], &[0, 4])?)?;
     push_job(alloc, &mut jobs, swap_of(alloc, &[0, 2], &[0, 4, 0])?)?;
     push_job(alloc, &mut jobs, Request::Flush)?;
@@ -50,7 +49,7 @@ fn six_jobs(alloc: Global) -> Result<Vec<Job>, AllocError> {
 }
 
 /// What a job got.
-#[derive(Clone, Copy, Debug, PartialEq)]
+#[derive(Clone, Copy, PartialEq)]
 enum Got {
     Accepted(u64),
     Unsettled(u64),
@@ -72,24 +71,16 @@ fn got_of(reply: Reply<()>) -> Got {
     }
 }
 
-// What the last job got.
-fn pop_got(jobs: &mut Vec<Job>) -> Got {
-    let Some(job) = jobs.pop() else {
-        return Got::Other;
-    };
-    match job.reply {
-        Some(answered) => got_of(answered.into_reply()),
-        None => Got::Nothing,
+// What each job got, in order.
+fn all_got(alloc: Global, jobs: Vec<Job>) -> Result<Vec<Got>, AllocError> {
+    let mut all = Vec::new(alloc);
+    for job in jobs {
+        all.push(match job.reply {
+            Some(answered) => got_of(answered.into_reply()),
+            None => Got::Nothing,
+        })?;
     }
-}
-
-// What each of six jobs got.
-fn all_got(mut jobs: Vec<Job>) -> [Got; 6] {
-    let mut all = [Got::Other; 6];
-    for got in all.iter_mut().rev() {
-        *got = pop_got(&mut jobs);
-    }
-    all
+    Ok(all)
 }
 
 // What the six jobs get in one batch at a desk of this store.
@@ -99,7 +90,7 @@ fn serve_six<D: Disk, N: DeskId, R: Wait>(
     core: Core<D>,
     calls: Blank,
     accepted: Blank,
-) -> Result<[Got; 6], Fail>
+) -> Result<Vec<Got>, Fail>
     requires calls { (calls.name ≡ N.calls_name) × (calls.parts ≡ N.seats) }
     requires accepted { (accepted.name ≡ N.accepted_name) × (accepted.parts ≡ N.seats) }
     requires seats { N.seats ≡ 1 }
@@ -112,7 +103,7 @@ fn serve_six<D: Disk, N: DeskId, R: Wait>(
     let mut seat = seats.pop().ok_or("a seat")?;
     let mut jobs = six_jobs(alloc)?;
     serve_batch(rt, alloc, &shared, &mut seat, &Open, &mut jobs);
-    Ok(all_got(jobs))
+    Ok(all_got(alloc, jobs)?)
 }
 
 #[test]
@@ -128,7 +119,7 @@ fn settles_a_swap(rt: HostRuntime) -> Result<(), Fail> {
         Got::Nothing,
         Got::Acknowledged(2),
     ];
-    assert_eq!(rt; got, due);
+    assert!(rt; got.as_slice() == due.as_slice());
     Ok(())
 }
 
@@ -156,7 +147,7 @@ fn differs_where_the_flush_is_refused(rt: HostRuntime) -> Result<(), Fail> {
         Got::Nothing,
         Got::Refused(5),
     ];
-    assert_eq!(rt; got, due);
+    assert!(rt; got.as_slice() == due.as_slice());
     Ok(())
 }
 

@@ -108,9 +108,9 @@ fn count_all<D: Disk, N: DeskId + Send + Sync, R: Threads + Wait + Sync>(
     shared: &Shared<D, Kept, N>,
     mut seats: Vec<Seat<N>>,
 ) -> Result<Vec<Seat<N>>, Fail> {
-    let mut four = pop_four(&mut seats).ok_or("four seats")?;
-    let _ = put(&mut *shared.write(rt), alloc, &mut four.0, &key(1), &[0, 0]);
-    let (first, second) = four_count(rt, alloc, shared, four);
+    let (mut a, b, c, d) = pop_four(&mut seats).ok_or("four seats")?;
+    let _ = put(&mut *shared.write(rt), alloc, &mut a, &key(1), &[0, 0]);
+    let (first, second) = four_count(rt, alloc, shared, (a, b, c, d));
     push_two(&mut seats, first)?;
     push_two(&mut seats, second)?;
     Ok(seats)

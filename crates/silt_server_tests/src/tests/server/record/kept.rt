@@ -1,4 +1,4 @@
-// What the calls of many sessions were recorded as is done again by a plain map.
+// A plain map does again what the calls of many sessions were recorded as.
 ghost use Rattle.std.specs.Prelude.{◌≡◌, []};
 ghost use Rattle.silt_desk.specs.Seeing.{seen};
 ghost use Rattle.silt_desk.specs.Traces.{IsHistory};
@@ -25,7 +25,7 @@ use std::test::Fail;
 use std::thread::{self, Threads};
 use std::time::Clock;
 
-/// A map of one thread, how many commands it has taken, and how many of its calls were answered otherwise than it would.
+/// A map of one thread, how many commands it has accepted, and how many of its calls had another reply than its own.
 #[derive(Drop)]
 struct Again {
     map: BTreeMap<Key, [u8; 2]>,
@@ -34,7 +34,7 @@ struct Again {
 }
 
 impl Again {
-    // Does one call again, and answers whether it was answered as by a plain map. A refused call and a step change nothing.
+    // Does one call again, and returns whether it had the reply of a plain map. A refused call and a step change nothing.
     fn does(&mut self, call: &RecordedCall) -> Result<bool, AllocError> {
         match (&call.event, &call.reply) {
             (Event::Put(key, value), Reply::Accepted(number)) => {
@@ -86,12 +86,12 @@ fn replayed(alloc: Global, calls: &[RecordedCall]) -> Result<Again, AllocError> 
     Ok(again)
 }
 
-/// What a record tells.
+/// What a record shows.
 #[derive(Clone, Copy, Debug)]
 struct Told {
     // How many calls are recorded.
     calls: u64,
-    // How many of them a plain map would have answered otherwise.
+    // How many of them had another reply than a plain map's.
     wrong: u64,
     // How many commands were accepted.
     accepted: u64,
@@ -99,7 +99,7 @@ struct Told {
     ends_alike: bool,
 }
 
-/// What the record of a desk tells, of which so many calls are done again, and the store behind it.
+/// What the record of a desk shows, of which this many calls are done again, and the store behind it.
 fn tell_of<D: Disk>(alloc: Global, core: &Core<D>, again: &Again, calls: u64) -> Option<Told> {
     let entries = core.entries(alloc).ok()?;
     Some(Told {
@@ -110,14 +110,14 @@ fn tell_of<D: Disk>(alloc: Global, core: &Core<D>, again: &Again, calls: u64) ->
     })
 }
 
-/// What the record of a desk tells.
+/// What the record of a desk shows.
 fn tell<D: Disk, N: DeskId>(alloc: Global, desk: Desk<D, Kept, N>) -> Option<Told> {
     let calls = desk.trace().calls().len() as u64;
     let again = replayed(alloc, desk.trace().calls()).ok()?;
     tell_of(alloc, &desk.into_core(), &again, calls)
 }
 
-/// Serves a store whose calls are kept, and gives what its record tells, with the status. The blanks become the ledgers.
+/// Serves a store whose calls are kept, and returns what its record shows, with the status. The blanks become the ledgers.
 fn serve_recorded<
     L: Listens,
     D: Disk,
@@ -178,7 +178,7 @@ fn serve_kept<L: Listens, R: Threads + Wait + Sync>(
     )
 }
 
-/// A server of sixty-four sessions, which ask at once, and what its record tells.
+/// A server of sixty-four sessions, which ask at once, and what its record shows.
 fn serve_all<R: Net<Listener = TcpListener, Stream = TcpStream> + Clock + Threads + Wait + Sync>(
     rt: &R,
     alloc: Global,
