@@ -1,18 +1,18 @@
 -- A call at a desk, from what the store does and what is noted.
-use Rattle.std.proofs.Common.{◌≡◌, ℕ, ◌+◌, ◌++◌, Bool, true, false, IsTrue, List, length, Ok, Err, Result, refl, ap, sym, ◌∙◌, subst, inr}
+use Rattle.std.proofs.Common.{◌≡◌, ℕ, ◌+◌, ◌++◌, Bool, true, false, IsTrue, List, length, Option, Some, None, Ok, Err, Result, refl, ap, sym, ◌∙◌, subst, inr}
 use Rattle.silt_disk.specs.declared.disk.Disk.{Ghosts}
 use Rattle.silt_event.specs.Commands.{Command, Map}
 use Rattle.silt_event.specs.declared.progress.Progress.{Progress as ProgressOf}
 use Rattle.silt_store_set.proofs.Runs.{does_step}
 use Rattle.silt_store_set.specs.CoreState.{CoreState, Cause, Does, Durable, map_of}
 use Rattle.silt_event.specs.Events.{Counts, Step, accepted_command, is_fault, plain}
-use Rattle.silt_store_set.specs.Replies.{change_reply, flush_reply, get_reply, progress_reply}
+use Rattle.silt_store_set.specs.Replies.{change_reply, flush_reply, get_reply, progress_reply, swap_reply}
 use Rattle.silt_event.specs.declared.event.Event.{Event}
-use Rattle.silt_event.specs.declared.event.Event.TheVariants.{Put, Delete, Flush, Get, Convert, Merge}
+use Rattle.silt_event.specs.declared.event.Event.TheVariants.{Put, Delete, Swap, Flush, Get, Convert, Merge}
 use Rattle.silt_event.specs.declared.refusal.Refusal.{Refusal}
 use Rattle.silt_event.specs.declared.refusal.Refusal.TheVariants.{NotFormatted, BadGeometry, Damaged, Crowded, Device, NoMemory, StoreFull, NoRoom, Failed, Spent, HistoryFull}
 use Rattle.silt_event.specs.declared.reply.Reply.{Reply}
-use Rattle.silt_event.specs.declared.reply.Reply.TheVariants.{Accepted, Acknowledged, Found, Absent, Progress, Refused, Unsettled, NotServed}
+use Rattle.silt_event.specs.declared.reply.Reply.TheVariants.{Accepted, Acknowledged, Found, Absent, Differs, Progress, Refused, Unsettled, NotServed}
 use Rattle.silt_store_set.proofs.Keeps.{own_counts}
 use Rattle.silt_desk.specs.declared.call.RecordedCall.{RecordedCall}
 use Rattle.silt_desk.specs.declared.trace.Trace.{Ghosts as TraceOf}
@@ -27,6 +27,11 @@ use Rattle.silt_desk.specs.Seeing.{NoneWaits, SeenStep, SeenStore, seen}
 pub change_plain : {F : Type 0} (answer : Result ℕ (Refusal F)) → change_reply (plain_answer answer) ≡ plain (change_reply answer)
 change_plain (Ok n) = refl
 change_plain (Err refusal) = refl
+
+pub swap_plain : {F : Type 0} (answer : Result (Option ℕ) (Refusal F)) → swap_reply (plain_answer answer) ≡ plain (swap_reply answer)
+swap_plain (Ok (Some n)) = refl
+swap_plain (Ok None) = refl
+swap_plain (Err refusal) = refl
 
 pub flush_plain : {F : Type 0} (answer : Result ℕ (Refusal F)) → flush_reply (plain_answer answer) ≡ plain (flush_reply answer)
 flush_plain (Ok n) = refl
@@ -47,6 +52,7 @@ step_plain m (Put key value) (Accepted n) to step = step
 step_plain m (Put key value) (Acknowledged n) to step = absurd step
 step_plain m (Put key value) (Found v) to step = absurd step
 step_plain m (Put key value) Absent to step = absurd step
+step_plain m (Put key value) Differs to step = absurd step
 step_plain m (Put key value) (Progress progress) to step = absurd step
 step_plain m (Put key value) (Refused refusal) to step = step
 step_plain m (Put key value) (Unsettled n) to step = absurd step
@@ -55,14 +61,25 @@ step_plain m (Delete key) (Accepted n) to step = step
 step_plain m (Delete key) (Acknowledged n) to step = absurd step
 step_plain m (Delete key) (Found v) to step = absurd step
 step_plain m (Delete key) Absent to step = absurd step
+step_plain m (Delete key) Differs to step = absurd step
 step_plain m (Delete key) (Progress progress) to step = absurd step
 step_plain m (Delete key) (Refused refusal) to step = step
 step_plain m (Delete key) (Unsettled n) to step = absurd step
 step_plain m (Delete key) NotServed to step = absurd step
+step_plain m (Swap key old new) (Accepted n) to step = step
+step_plain m (Swap key old new) (Acknowledged n) to step = absurd step
+step_plain m (Swap key old new) (Found v) to step = absurd step
+step_plain m (Swap key old new) Absent to step = absurd step
+step_plain m (Swap key old new) Differs to step = step
+step_plain m (Swap key old new) (Progress progress) to step = absurd step
+step_plain m (Swap key old new) (Refused refusal) to step = step
+step_plain m (Swap key old new) (Unsettled n) to step = absurd step
+step_plain m (Swap key old new) NotServed to step = absurd step
 step_plain m Flush (Accepted n) to step = absurd step
 step_plain m Flush (Acknowledged n) to step = step
 step_plain m Flush (Found v) to step = absurd step
 step_plain m Flush Absent to step = absurd step
+step_plain m Flush Differs to step = absurd step
 step_plain m Flush (Progress progress) to step = absurd step
 step_plain m Flush (Refused refusal) to step = step
 step_plain m Flush (Unsettled n) to step = absurd step
@@ -71,6 +88,7 @@ step_plain m (Get key) (Accepted n) to step = absurd step
 step_plain m (Get key) (Acknowledged n) to step = absurd step
 step_plain m (Get key) (Found v) to step = step
 step_plain m (Get key) Absent to step = step
+step_plain m (Get key) Differs to step = absurd step
 step_plain m (Get key) (Progress progress) to step = absurd step
 step_plain m (Get key) (Refused refusal) to step = step
 step_plain m (Get key) (Unsettled n) to step = absurd step
@@ -79,6 +97,7 @@ step_plain m Convert (Accepted n) to step = absurd step
 step_plain m Convert (Acknowledged n) to step = absurd step
 step_plain m Convert (Found v) to step = absurd step
 step_plain m Convert Absent to step = absurd step
+step_plain m Convert Differs to step = absurd step
 step_plain m Convert (Progress progress) to step = step
 step_plain m Convert (Refused refusal) to step = step
 step_plain m Convert (Unsettled n) to step = absurd step
@@ -87,6 +106,7 @@ step_plain m Merge (Accepted n) to step = absurd step
 step_plain m Merge (Acknowledged n) to step = absurd step
 step_plain m Merge (Found v) to step = absurd step
 step_plain m Merge Absent to step = absurd step
+step_plain m Merge Differs to step = absurd step
 step_plain m Merge (Progress progress) to step = step
 step_plain m Merge (Refused refusal) to step = step
 step_plain m Merge (Unsettled n) to step = absurd step
@@ -97,6 +117,7 @@ counts_plain old new (Accepted n) counts = counts
 counts_plain old new (Acknowledged n) counts = counts
 counts_plain old new (Found v) counts = counts
 counts_plain old new Absent counts = counts
+counts_plain old new Differs counts = counts
 counts_plain old new (Progress progress) counts = counts
 counts_plain old new (Refused refusal) counts = counts
 counts_plain old new (Unsettled n) counts = counts
@@ -108,6 +129,7 @@ adds_plain (Put key value) (Accepted n) = refl
 adds_plain (Put key value) (Acknowledged n) = refl
 adds_plain (Put key value) (Found v) = refl
 adds_plain (Put key value) Absent = refl
+adds_plain (Put key value) Differs = refl
 adds_plain (Put key value) (Progress progress) = refl
 adds_plain (Put key value) (Refused refusal) = refl
 adds_plain (Put key value) (Unsettled n) = refl
@@ -116,10 +138,20 @@ adds_plain (Delete key) (Accepted n) = refl
 adds_plain (Delete key) (Acknowledged n) = refl
 adds_plain (Delete key) (Found v) = refl
 adds_plain (Delete key) Absent = refl
+adds_plain (Delete key) Differs = refl
 adds_plain (Delete key) (Progress progress) = refl
 adds_plain (Delete key) (Refused refusal) = refl
 adds_plain (Delete key) (Unsettled n) = refl
 adds_plain (Delete key) NotServed = refl
+adds_plain (Swap key old new) (Accepted n) = refl
+adds_plain (Swap key old new) (Acknowledged n) = refl
+adds_plain (Swap key old new) (Found v) = refl
+adds_plain (Swap key old new) Absent = refl
+adds_plain (Swap key old new) Differs = refl
+adds_plain (Swap key old new) (Progress progress) = refl
+adds_plain (Swap key old new) (Refused refusal) = refl
+adds_plain (Swap key old new) (Unsettled n) = refl
+adds_plain (Swap key old new) NotServed = refl
 adds_plain Flush reply = refl
 adds_plain (Get key) reply = refl
 adds_plain Convert reply = refl
@@ -131,6 +163,7 @@ fault_plain (Accepted n) fault = absurd (cc)
 fault_plain (Acknowledged n) fault = absurd (cc)
 fault_plain (Found v) fault = absurd (cc)
 fault_plain Absent fault = absurd (cc)
+fault_plain Differs fault = absurd (cc)
 fault_plain (Progress progress) fault = absurd (cc)
 fault_plain (Unsettled n) fault = absurd (cc)
 fault_plain NotServed fault = absurd (cc)
@@ -153,6 +186,7 @@ module _ {D F : Type 0} (facts : Ghosts D F) where
   none_plain core (Acknowledged n) none = none
   none_plain core (Found v) none = tt
   none_plain core Absent none = tt
+  none_plain core Differs none = tt
   none_plain core (Progress progress) none = tt
   none_plain core (Refused refusal) none = tt
   none_plain core (Unsettled n) none = tt
@@ -183,6 +217,7 @@ module _ {D F : Type 0} (facts : Ghosts D F) where
   never_full : (old new : CoreState D) (event : Event) → Cause facts old new event (Refused HistoryFull) → ⊥
   never_full old new (Put key value) cause = cause.1
   never_full old new (Delete key) cause = cause.1
+  never_full old new (Swap key expected value) cause = cause.2
   never_full old new Flush cause = cause
   never_full old new (Get key) cause = cause
   never_full old new Convert cause = cause
@@ -213,6 +248,7 @@ module _ {D F : Type 0} (facts : Ghosts D F) where
     serves_told (Acknowledged n) does notes = record { done = does; recorded = notes.0; seated = notes.1 }
     serves_told (Found v) does notes = record { done = does; recorded = notes.0; seated = notes.1 }
     serves_told Absent does notes = record { done = does; recorded = notes.0; seated = notes.1 }
+    serves_told Differs does notes = record { done = does; recorded = notes.0; seated = notes.1 }
     serves_told (Unsettled n) does notes = record { done = does; recorded = notes.0; seated = notes.1 }
     serves_told NotServed does notes = record { done = does; recorded = notes.0; seated = notes.1 }
     serves_told (Progress progress) does notes = record { done = does; recorded = notes.0; seated = notes.1 }
@@ -241,6 +277,7 @@ module _ {D F : Type 0} (facts : Ghosts D F) where
       keeps_told (Acknowledged n) does notes held = law held (call seat.number event (plain {F = F} (Acknowledged n))) notes.0 (seen_step c0 c1 event (Acknowledged n) does)
       keeps_told (Found v) does notes held = law held (call seat.number event (plain {F = F} (Found v))) notes.0 (seen_step c0 c1 event (Found v) does)
       keeps_told Absent does notes held = law held (call seat.number event (plain {F = F} Absent)) notes.0 (seen_step c0 c1 event Absent does)
+      keeps_told Differs does notes held = law held (call seat.number event (plain {F = F} Differs)) notes.0 (seen_step c0 c1 event Differs does)
       keeps_told (Unsettled n) does notes held = law held (call seat.number event (plain {F = F} (Unsettled n))) notes.0 (seen_step c0 c1 event (Unsettled n) does)
       keeps_told NotServed does notes held = law held (call seat.number event (plain {F = F} NotServed)) notes.0 (seen_step c0 c1 event NotServed does)
       keeps_told (Progress progress) does notes held = law held (call seat.number event (plain {F = F} (Progress progress))) notes.0 (seen_step c0 c1 event (Progress progress) does)
@@ -269,6 +306,7 @@ module _ {T : Type 0} (counts : T → ℕ → ℕ → Type 0) (extends : T → R
   keeps_counting (Acknowledged n) notes held = law (call seat.number event (Acknowledged n)) held notes.0 notes.2 notes.3
   keeps_counting (Found v) notes held = law (call seat.number event (Found v)) held notes.0 notes.2 notes.3
   keeps_counting Absent notes held = law (call seat.number event Absent) held notes.0 notes.2 notes.3
+  keeps_counting Differs notes held = law (call seat.number event Differs) held notes.0 notes.2 notes.3
   keeps_counting (Unsettled n) notes held = law (call seat.number event (Unsettled n)) held notes.0 notes.2 notes.3
   keeps_counting NotServed notes held = law (call seat.number event NotServed) held notes.0 notes.2 notes.3
   keeps_counting (Progress progress) notes held = law (call seat.number event (Progress progress)) held notes.0 notes.2 notes.3

@@ -7,7 +7,7 @@ use Rattle.silt_event.specs.Commands.{Command, Map, map_after}
 use Rattle.silt_event.specs.Events.{Counts, Legal, PlainReply, Step, accepted_command, acknowledged_after, acknowledged_by}
 use Rattle.silt_event.specs.declared.event.Event.{Event}
 use Rattle.silt_event.specs.declared.reply.Reply.{Reply}
-use Rattle.silt_event.specs.declared.reply.Reply.TheVariants.{Accepted, Acknowledged, Found, Absent, Progress, Refused, Unsettled, NotServed}
+use Rattle.silt_event.specs.declared.reply.Reply.TheVariants.{Accepted, Acknowledged, Found, Absent, Differs, Progress, Refused, Unsettled, NotServed}
 use Rattle.silt_event.specs.declared.refusal.Refusal.TheVariants.{Failed}
 use Rattle.silt_image.specs.Meaning.{StandsFor}
 use Rattle.silt_store_set.proofs.Calls.{none_refused}
@@ -59,6 +59,7 @@ accepted_by-le (Accepted n) = omega arith
 accepted_by-le (Acknowledged n) = omega arith
 accepted_by-le (Found value) = omega arith
 accepted_by-le Absent = omega arith
+accepted_by-le Differs = omega arith
 accepted_by-le (Progress progress) = omega arith
 accepted_by-le (Refused refusal) = omega arith
 accepted_by-le (Unsettled n) = omega arith
@@ -94,6 +95,7 @@ acknowledged_one (Accepted n) before count next total store counts none sum less
 acknowledged_one (Acknowledged n) before count next total store counts none sum less = omega (arith, counts.0, counts.1, ap length none, sum)
 acknowledged_one (Found v) before count next total store counts none sum less = less
 acknowledged_one Absent before count next total store counts none sum less = less
+acknowledged_one Differs before count next total store counts none sum less = less
 acknowledged_one (Progress p) before count next total store counts none sum less = less
 acknowledged_one (Refused r) before count next total store counts none sum less = less
 acknowledged_one (Unsettled n) before count next total store counts none sum less = less
