@@ -8,16 +8,16 @@ use Rattle.silt_disk.specs.declared.disk.Disk.{Ghosts}
 use Rattle.silt_event.specs.declared.event.Event.{Event}
 use Rattle.silt_event.specs.declared.event.Event.TheVariants as event
 use Rattle.silt_event.specs.declared.reply.Reply.{Reply}
-use Rattle.silt_store_set.specs.Replies.{change_reply, flush_reply}
+use Rattle.silt_store_set.specs.Replies.{change_reply, flush_reply, swap_reply}
 use Rattle.silt_desk.specs.DeskState.{DeskState, Records, Refuses, Serves}
 use Rattle.silt_desk.specs.History.{is_recorded}
 use Rattle.silt_desk.specs.Seats.{SeatState}
 use Rattle.silt_desk.specs.declared.trace.Trace.{Ghosts as TraceOf}
-use Rattle.silt_server.specs.Requests.{Answer}
+use Rattle.silt_server.specs.Requests.{Answer, Flushed}
 use Rattle.silt_server.specs.Batches.{Flushes, Performs, PerformsAll, PerformsJob, RepliesTo, RepliesToAll, ServesBatch, ServesBatches}
 use Rattle.silt_server.specs.declared.job.Job.{Job}
 use Rattle.silt_server.specs.declared.job.Request.{Request}
-use Rattle.silt_server.specs.declared.job.Request.TheVariants.{Put, Delete, Flush}
+use Rattle.silt_server.specs.declared.job.Request.TheVariants.{Put, Delete, Swap, Flush}
 
 module _ {D F T : Type 0} (facts : Ghosts D F) (trace : TraceOf T) where
   -- a job more is done behind the others
@@ -68,14 +68,14 @@ module _ {D F T : Type 0} (facts : Ghosts D F) (trace : TraceOf T) where
       (subst (λ (l : List Job). PerformsAll facts trace seat (take i xs) l after) (take_all i ys over_ys) all))
 
 -- a job more has its reply
-pub replies_more : (flushed : Answer) (xs ys : List Job) (x y : Job) → RepliesToAll flushed xs ys → RepliesTo flushed x y → RepliesToAll flushed (xs ++ x ∷ []) (ys ++ y ∷ [])
+pub replies_more : (flushed : Flushed) (xs ys : List Job) (x y : Job) → RepliesToAll flushed xs ys → RepliesTo flushed x y → RepliesToAll flushed (xs ++ x ∷ []) (ys ++ y ∷ [])
 replies_more flushed [] [] x y all one = (one, tt)
 replies_more flushed (a ∷ xs) (b ∷ ys) x y all one = (all.0, replies_more flushed xs ys x y all.1 one)
 replies_more flushed [] (b ∷ ys) x y all one = absurd all
 replies_more flushed (a ∷ xs) [] x y all one = absurd all
 
 -- the next job of the list has its reply
-pub replies_next : (flushed : Answer) (xs ys : List Job) (i : ℕ) (d new : Job) → i < length xs → length ys ≡ length xs → RepliesToAll flushed (take i xs) (take i ys) → drop i ys ≡ drop i xs
+pub replies_next : (flushed : Flushed) (xs ys : List Job) (i : ℕ) (d new : Job) → i < length xs → length ys ≡ length xs → RepliesToAll flushed (take i xs) (take i ys) → drop i ys ≡ drop i xs
     → RepliesTo flushed (get_or ys i d) new → RepliesToAll flushed (take (i + 1) xs) (take (i + 1) (set ys i new))
 replies_next flushed xs ys i d new in_xs len all same reply =
     let in_ys : i < length ys = omega (arith, len, in_xs) in
@@ -85,7 +85,7 @@ replies_next flushed xs ys i d new in_xs len all same reply =
     (replies_more flushed (take i xs) (take i ys) (get_or xs i d) new all one))
 
 -- all jobs have their replies
-pub replies_end : (flushed : Answer) (xs ys zs : List Job) (i n : ℕ) → length xs ≤ i → length ys ≡ length xs → xs ≡ zs → n ≡ length xs
+pub replies_end : (flushed : Flushed) (xs ys zs : List Job) (i n : ℕ) → length xs ≤ i → length ys ≡ length xs → xs ≡ zs → n ≡ length xs
     → RepliesToAll flushed (take i xs) (take i ys) → RepliesToAll flushed zs (take n (ys ++ drop (length ys) zs))
 replies_end flushed xs ys zs i n over len is count all =
     let over_ys : length ys ≤ i = omega (arith, over, len) in
@@ -108,9 +108,12 @@ module _ {D F T : Type 0} (facts : Ghosts D F) (trace : TraceOf T) where
       → Performs facts trace old new seat after request answer → after.number ≡ seat.number
   performs_number old new seat after (Put key value) (Some answer) does = serves_number old new seat after (event.Put key value) (change_reply does.0) does.2
   performs_number old new seat after (Delete key) (Some answer) does = serves_number old new seat after (event.Delete key) (change_reply does.0) does.2
+  performs_number old new seat after (Swap key expected value) (Some answer) does =
+      serves_number old new seat after (event.Swap key expected value) (swap_reply does.0) does.2
   performs_number old new seat after Flush (Some answer) does = absurd does
   performs_number old new seat after (Put key value) None does = ap (λ (s : SeatState). s.number) does.2
   performs_number old new seat after (Delete key) None does = absurd does
+  performs_number old new seat after (Swap key expected value) None does = ap (λ (s : SeatState). s.number) does.2
   performs_number old new seat after Flush None does = ap (λ (s : SeatState). s.number) does.1
 
   pub all_number : (seat after : SeatState) (xs ys : List Job) → PerformsAll facts trace seat xs ys after → after.number ≡ seat.number
@@ -120,7 +123,7 @@ module _ {D F T : Type 0} (facts : Ghosts D F) (trace : TraceOf T) where
   all_number seat after [] (y ∷ ys) all = absurd all
   all_number seat after (x ∷ xs) [] all = absurd all
 
-  pub flush_number : (old new : DeskState D T) (seat after : SeatState) (answer : Answer) → Flushes facts trace old new seat after answer → after.number ≡ seat.number
+  pub flush_number : (old new : DeskState D T) (seat after : SeatState) (answer : Flushed) → Flushes facts trace old new seat after answer → after.number ≡ seat.number
   flush_number old new seat after answer does = serves_number old new seat after event.Flush (flush_reply does.0) does.2
 
 -- ---- batch after batch
