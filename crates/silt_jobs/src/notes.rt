@@ -64,7 +64,6 @@ pub trait Notes {
     /// Reports why the server cannot listen on this port.
     fn tell_port(&mut self, port: u16, error: &io::Error)
         ensures { told_port self.old self.new port };
-
     /// Reports that the file of this name has this store, which will be overwritten.
     fn tell_store(&mut self, file: &str, store: &HeldStore)
         ensures { told_store self.old self.new file.now store.now };
@@ -78,11 +77,9 @@ pub trait Notes {
     /// Reports why there is no store for what is planned.
     fn tell_no_plan(&mut self, request: &PlanRequest)
         ensures { told_no_plan self.old self.new request.now };
-
     /// Reports which six numbers the store in the file of this name has, and its charge.
     fn tell_charge(&mut self, file: &str, geometry: &Geometry, charge: u32)
         ensures { told_charge self.old self.new file.now geometry.now charge };
-
     /// Reports which lines of this input were refused, by these replies. The first reply belongs to no line.
     fn tell_tally(&mut self, lines: &InputLines, tally: &Tally)
         ensures { told_tally self.old self.new lines.now tally.now };
@@ -100,7 +97,6 @@ pub trait Notes {
     /// Reports why the reader or the writer failed.
     fn tell_broken(&mut self, error: &io::Error)
         ensures { told_broken self.old self.new };
-
     /// Reports which words would name a job, and what is wrong with these words.
     fn tell_words(&mut self, words: &[String])
         ensures { told_words self.old self.new (map string_bytes words.now) };
