@@ -189,9 +189,9 @@ module _ {D F : Type 0} (facts : Ghosts D F) where
 
   -- an event is refused for lack of room only while a conversion is due or waits
   room_cause : (mid new : CoreState D) (event : Event) → Cause facts mid new event (Refused NoRoom) → convert_due mid ≢ Idle
-  room_cause mid new (Put key value) cause = cause.1.1.1
-  room_cause mid new (Delete key) cause = cause.1.1.1
-  room_cause mid new (Swap key before after) cause = cause.1.1.1.1
+  room_cause mid new (Put key value) cause = cause.1.2
+  room_cause mid new (Delete key) cause = cause.1.2
+  room_cause mid new (Swap key before after) cause = cause.2.2
   room_cause mid new (Get key) cause = absurd cause
   room_cause mid new Flush cause = absurd cause
   room_cause mid new Convert cause = absurd cause
