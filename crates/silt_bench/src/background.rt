@@ -40,16 +40,17 @@ pub enum Background {
 }
 
 impl Background {
-    /// The writer takes its turn, or wakes the workers, since there may be work.
+    /// The writer takes the steps that this many puts owe, or wakes the workers, since there may be work.
     pub fn go_on<D: Disk, T: Trace, N: DeskId, R: Wait>(
         &mut self,
         rt: &R,
         alloc: Global,
         shared: &Shared<D, T, N>,
         seat: &mut Seat<N>,
+        puts: u64,
     ) -> Result<(), BenchError> {
         match self {
-            Background::Turns(turns) => turns.take(alloc, &mut *shared.write(rt), seat),
+            Background::Turns(turns) => turns.take(alloc, &mut *shared.write(rt), seat, puts),
             Background::Workers(wakes) => {
                 wakes.go(rt);
                 Ok(())

@@ -110,7 +110,7 @@ fn grow_at<
     plan: &Plan,
     detail: Detail,
 ) -> Result<(), BenchError> {
-    let mut writer = Writer::new(seat, Background::Turns(Turns::new(plan.stores)));
+    let mut writer = Writer::new(seat, Background::Turns(Turns::new(plan.stores, plan.keys)));
     fill_all(rt, alloc, shared, &mut writer, plan)?;
     tell_names(rt, detail)?;
     let rows = u64::from(plan.geometry.log_capacity());

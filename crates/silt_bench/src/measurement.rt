@@ -137,7 +137,7 @@ fn fill_by_turns<D: Disk, T: Trace, N: DeskId, R: Wait + Clock>(
     plan: &Plan,
 ) -> Result<Filled, BenchError> {
     let (seat, _second, _third) = seats;
-    let mut writer = Writer::new(seat, Background::Turns(Turns::new(plan.stores)));
+    let mut writer = Writer::new(seat, Background::Turns(Turns::new(plan.stores, plan.keys)));
     fill_all(rt, alloc, shared, &mut writer, plan)
 }
 

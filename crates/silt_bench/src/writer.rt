@@ -18,6 +18,9 @@ use std::time::{Clock, Duration};
 /// How often a put is tried again if the store has no room for it.
 const MOST_TRIES: u32 = 2_000_000;
 
+/// How many puts' work is done before a put is tried again.
+const PUTS_IN_WAIT: u64 = 1000;
+
 /// What filling a store took: nanoseconds in all, and of single calls microseconds.
 #[derive(Clone, Copy)]
 pub struct Filled {
@@ -95,9 +98,7 @@ pub fn fill<D: Disk, T: Trace, N: DeskId, R: Wait + Clock>(
         put_group(rt, alloc, shared, writer, at, next, value, &mut lap)?;
         flush_once(&mut *shared.write(rt), alloc, &mut writer.seat)?;
         writer.flushes.note(lap.turn(rt)?);
-        writer
-            .background
-            .go_on(rt, alloc, shared, &mut writer.seat)?;
+        writer.background.go_on(rt, alloc, shared, &mut writer.seat, next.saturating_sub(at))?;
     }
     Ok(())
 }
@@ -136,7 +137,7 @@ fn put_patiently<D: Disk, T: Trace, N: DeskId, R: Wait + Clock>(
         }
         writer
             .background
-            .go_on(rt, alloc, shared, &mut writer.seat)?;
+            .go_on(rt, alloc, shared, &mut writer.seat, PUTS_IN_WAIT)?;
         thread::sleep(rt, Duration::from_micros(50));
     }
     Err(BenchError::Refused(Call::Put))
