@@ -97,19 +97,12 @@ fn swaps_the_last_byte(
 }
 
 // Of this length: one byte, the longest value that one read takes, the first that takes two, and the longest.
-fn swaps_values_of(rt: &impl Abort, alloc: Global, value_len: usize) -> Result<(), Fail> {
-    let mut bytes = [7; 4096];
-    let sevens = [7; 4096];
-    bytes[value_len.saturating_sub(1).min(4095)] = 8;
-    let value_len = value_len.min(4096);
-    let mut core = opened_on(alloc, of_values(alloc, value_len as u32)?)?;
-    swaps_the_last_byte(
-        rt,
-        alloc,
-        &mut core,
-        &bytes[..value_len],
-        &sevens[..value_len],
-    );
+fn swaps_values_of(rt: &impl Abort, alloc: Global, value_len: u32) -> Result<(), Fail> {
+    let sevens = vec![in alloc; 7u8; value_len as usize]?;
+    let mut last = vec![in alloc; 7u8; value_len.saturating_sub(1) as usize]?;
+    last.push(8)?;
+    let mut core = opened_on(alloc, of_values(alloc, value_len)?)?;
+    swaps_the_last_byte(rt, alloc, &mut core, last.as_slice(), sevens.as_slice());
     Ok(())
 }
 
