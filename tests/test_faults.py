@@ -265,7 +265,7 @@ class Others(FaultCase):
         if fault.call == "pread":
             # It cannot see the numbers of the store that is lost, or how many keys.
             self.assertEqual((ended.status, ended.out, self.report(left)), (0, whole.out, empty))
-            self.assertRegex(ended.err, rf"\Asilt: store holds a store( of at most 4 keys| \({NUMBERS}\) that is damaged or cannot be read); it is overwritten\n\Z")
+            self.assertRegex(ended.err, rf"\Asilt: store holds a store( of at most 5 keys| \({NUMBERS}\) that is damaged or cannot be read); it is overwritten\n\Z")
             return
         if call.file == "standard error":
             # It says in part that a store is lost.
