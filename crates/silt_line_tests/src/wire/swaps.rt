@@ -1,7 +1,7 @@
 // Lines of swaps, letter for letter. The store's values have two bytes.
 
 use silt_event::Event;
-use silt_frame::Value;
+use silt_frame::{Key, Value};
 use silt_wire::{LineFault, parse_line};
 use std::process::Abort;
 use std::test::Fail;
@@ -85,18 +85,14 @@ fn refuses_bad_values(rt: HostRuntime) -> Result<(), Fail> {
 // The key and the two values of a swap.
 #[derive(Drop)]
 struct Swapped {
-    key: [u8; 20],
+    key: Key,
     old: Value,
     new: Value,
 }
 
 fn swap_of(asked: Result<Event, LineFault>) -> Option<Swapped> {
     match asked {
-        Ok(Event::Swap(key, old, new)) => Some(Swapped {
-            key: key.0,
-            old,
-            new,
-        }),
+        Ok(Event::Swap(key, old, new)) => Some(Swapped { key, old, new }),
         _ => None,
     }
 }
@@ -119,7 +115,7 @@ fn reads_the_key_and_both_values(rt: HostRuntime) -> Result<(), Fail> {
         let Some(swap) = swap_of(parse_line(rt.alloc(), line.as_bytes(), 2)) else {
             return Err(Fail::new(line));
         };
-        assert_eq!(rt; swap.key.as_slice(), ABC.as_slice());
+        assert_eq!(rt; swap.key.0.as_slice(), ABC.as_slice());
         assert_eq!(rt; swap.old.as_slice(), [1u8, 2].as_slice());
         assert_eq!(rt; swap.new.as_slice(), [0xABu8, 0xFF].as_slice());
     }

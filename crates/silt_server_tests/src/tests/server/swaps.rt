@@ -71,14 +71,25 @@ fn got_of(reply: Reply<()>) -> Got {
     }
 }
 
+// What a job got.
+fn got_by(job: Job) -> Got {
+    let Job {
+        request: _,
+        answer: _,
+        reply,
+        replies: _,
+    } = job;
+    match reply {
+        Some(answered) => got_of(answered.into_reply()),
+        None => Got::Nothing,
+    }
+}
+
 // What each job got, in order.
 fn all_got(alloc: Global, jobs: Vec<Job>) -> Result<Vec<Got>, AllocError> {
     let mut all = Vec::new(alloc);
     for job in jobs {
-        all.push(match job.reply {
-            Some(answered) => got_of(answered.into_reply()),
-            None => Got::Nothing,
-        })?;
+        all.push(got_by(job))?;
     }
     Ok(all)
 }
