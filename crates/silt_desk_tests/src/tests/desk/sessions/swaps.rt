@@ -39,14 +39,8 @@ fn step<D: Disk, N: DeskId, R: Wait>(
     let Some(old) = counted(&*shared.read(rt)) else {
         return false;
     };
-    let swapped = swap(
-        &mut *shared.write(rt),
-        alloc,
-        seat,
-        &key(1),
-        &old,
-        &next(old),
-    );
+    let new = next(old);
+    let swapped = swap(&mut *shared.write(rt), alloc, seat, &key(1), &old, &new);
     matches!(swapped, Some(Ok(Some(_))))
 }
 
