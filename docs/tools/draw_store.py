@@ -117,7 +117,7 @@ def read_shape(data):
 
 
 def read_body(data, shape):
-    """The ruling body: of the open slots the one of greater generation."""
+    """The current body: of the open slots the one of greater generation."""
     places = {slot: SECTOR * (1 + slot) for slot in (0, 1)}
     bodies = [Body(data[at + 1:at + 1 + BODY_LEN], slot, shape) for slot, at in places.items() if data[at] == OPEN]
     if not bodies:

@@ -1,3 +1,4 @@
+pub mod Costs
 pub mod Images
 pub mod Laws
 pub mod Products

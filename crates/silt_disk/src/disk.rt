@@ -2,7 +2,7 @@
 ghost use Rattle.std.specs.Prelude.{◌≡◌, ◌+◌, ◌%◌, ◌^◌, ◌≤◌, ◌⊎◌, ℕ, length, slice_range, IfErr, OnOk, OnErr, MatchResult, IsTrue};
 ghost use Rattle.silt_disk.specs.declared.disk.Call.{Call};
 ghost use Rattle.silt_disk.specs.declared.disk.Call.TheVariants.{Read, Write, Sync};
-ghost use Rattle.silt_disk.specs.Disk.{Content, Tears, Writes, Settles, Stays, Rests, Restarts, ChangesWithin, size};
+ghost use Rattle.silt_disk.specs.Disk.{Content, Tears, Writes, Settles, Stays, Rests, Restarts, ChangesWithin, Makes, Costs, size};
 
 use std::fmt;
 
@@ -46,6 +46,12 @@ pub trait Disk: Send + Sync + Drop {
     /// How many writes and syncs have failed, modulo 2^64.
     ghost failures: { Self → ℕ };
 
+    /// How many writes it was asked for, modulo 2^64, whether each returned Ok or not.
+    ghost writes: { Self → ℕ };
+
+    /// The same of syncs.
+    ghost syncs: { Self → ℕ };
+
     /// The disk, in its present state, gave this fault for this call on this range (offset and length).
     ghost gave: { Self → Self.Fault → Call → ℕ → ℕ → Type 0 };
 
@@ -64,6 +70,7 @@ pub trait Disk: Send + Sync + Drop {
     fn write(&mut self, at: u64, buf: &[u8]) -> Result<(), Self::Fault>
         requires { at + length buf.now ≤ size (content self.old) }
         ensures size { size (content self.new) ≡ size (content self.old) }
+        ensures made { Makes writes syncs 1 0 self.old self.new }
         ensures torn { Tears at (length buf.now) (content self.old) (content self.new) }
         ensures written { OnOk result (Writes at buf.now (content self.old) (content self.new)) }
         ensures failures { MatchResult result (λ _. failures self.new ≡ failures self.old)
@@ -73,6 +80,7 @@ pub trait Disk: Send + Sync + Drop {
     /// Settles all that is shown. After a fault nothing has changed.
     fn sync(&mut self) -> Result<(), Self::Fault>
         ensures size { size (content self.new) ≡ size (content self.old) }
+        ensures made { Makes writes syncs 0 1 self.old self.new }
         ensures settled { OnOk result (Settles (content self.old) (content self.new)) }
         ensures unchanged { OnErr result (Stays (content self.old) (content self.new)) }
         ensures failures { MatchResult result (λ _. failures self.new ≡ failures self.old)
@@ -86,7 +94,8 @@ pub trait Stoppable: Disk {
     fn restart(self) -> Self
         ensures size { size (Self.content result) ≡ size (Self.content self) }
         ensures content { Restarts (Self.content self) (Self.content result) }
-        ensures failures { Self.failures result ≡ Self.failures self };
+        ensures failures { Self.failures result ≡ Self.failures self }
+        ensures made { Makes Self.writes Self.syncs 0 0 self result };
 }
 
 /// Writes bytes from `at` on and syncs. After Ok all that the disk shows is settled. After a fault of either call, each possible
@@ -97,6 +106,7 @@ pub fn write_synced<D: Disk>(disk: &mut D, at: u64, bytes: &[u8]) -> Result<(), 
     ensures changes { ChangesWithin at (length bytes.now) (D.content disk.old) (D.content disk.new) }
     ensures written { OnOk result (Writes at bytes.now (D.content disk.old) (D.content disk.new)) }
     ensures rests { OnOk result (Rests (D.content disk.new)) }
+    ensures made { Costs D.writes D.syncs 1 1 disk.old disk.new result }
     ensures failures { MatchResult result (λ _. D.failures disk.new ≡ D.failures disk.old)
         (λ fault. (D.failures disk.new ≡ (D.failures disk.old + 1) % 2 ^ 64)
         × (D.gave disk.new fault Write at (length bytes.now) ⊎ D.gave disk.new fault Sync 0 (size (D.content disk.new)))) }

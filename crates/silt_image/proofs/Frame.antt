@@ -14,7 +14,7 @@ use Rattle.silt_frame.specs.Rows.{row_of, StoredRow, entry_row, put_count}
 use Rattle.silt_log.proofs.Bodies.{map_range_same, body_before}
 use Rattle.silt_log.proofs.Counts.{count_most}
 use Rattle.silt_manifest.specs.Body.{all_below, is_well_formed}
-use Rattle.silt_manifest.specs.Ruling.{manifest_found, open_record, record_behind, record_found}
+use Rattle.silt_manifest.specs.Current.{manifest_found, open_record, record_behind, record_found}
 use Rattle.silt_manifest.specs.declared.body.Body.{Body}
 use Rattle.silt_manifest.specs.declared.digests.Digests.{Digests}
 use Rattle.silt_manifest.specs.declared.slot.SlotRecord.{SlotRecord}
@@ -29,7 +29,7 @@ use Rattle.silt_image.specs.Meaning.{image_charge, image_fits, image_map, image_
 use Rattle.silt_event.specs.Rows.{map_of_rows}
 use Rattle.silt_image.specs.Laws.{Agree, FrameLaw, FreeHashLaw, FreeSortedLaw, FreezeLaw, FreezesActive, HasStores, LogRegionLaw, ManifestLaw, MeaningLaw, SameRegions, SameWithin}
 use Rattle.silt_event.specs.declared.damage.Finding.{Finding}
-use Rattle.silt_image.proofs.Named.{record_with, stores_law, ruling_sound, shape_parts}
+use Rattle.silt_image.proofs.Named.{record_with, stores_law, current_sound, shape_parts}
 use Rattle.silt_image.proofs.Rows.{keeps_rows, takes_rows}
 
 -- ---- ranges
@@ -250,7 +250,7 @@ frame_ruled shape before after agree has_shape = go (manifest_found shape before
         let stores : image_stores before ≡ Ok (stores_named shape body before) = ap (stores_shaped before) has_shape ∙ ap (stores_ruled shape before) has in
         let shaped = shape_parts (length before) (header_of before) shape has_shape in
         let same : SameRegions shape body before after = frame_regions before after shape body agree stores in
-        ap Ok (stores_named_same shape body before after (names_regions shape (body.generation % 2) body (ruling_sound shape before found has)) agree.size (omega (arith, shaped.size)) same)
+        ap Ok (stores_named_same shape body before after (names_regions shape (body.generation % 2) body (current_sound shape before found has)) agree.size (omega (arith, shaped.size)) same)
 
 frame_shaped : (before after : List ℕ) → Agree before after → (r : Result Shape Finding) → shape_found (length before) (header_of before) ≡ r → stores_shaped after r ≡ stores_shaped before r
 frame_shaped before after agree (Err finding) has = refl
@@ -304,7 +304,7 @@ stores_after at count before after s other has low torn shape body named =
 
 -- the regions of an image with stores
 stores_regions : (image : List ℕ) (s : Stores) → HasStores s image → NamesRegions s.shape s.body
-stores_regions image s has = names_regions s.shape (s.body.generation % 2) s.body (ruling_sound s.shape image (record_with has.digests s.body) has.rules)
+stores_regions image s has = names_regions s.shape (s.body.generation % 2) s.body (current_sound s.shape image (record_with has.digests s.body) has.rules)
 
 -- one log, with the rows that it has now
 log_after : (s : Shape) (region id : ℕ) (before after : List ℕ) → Torn (gates_at s region) (log_size s) before after → device_size s ≤ length before → id < s.logs → with_part_rows region (log_rows s region after) (log_part s before id) ≡ log_part s after id
@@ -420,7 +420,7 @@ manifest_law before after s slot found e below torn rules =
     let sh = s.shape in
     let shaped = shape_parts (length before) (header_of before) sh has.shape in
     let header : header_of after ≡ header_of before = torn_slice_before (slot_at slot) 4096 before after torn 0 37 (omega arith) (omega (arith, shaped.size)) in
-    let there = names_regions sh (body.generation % 2) body (ruling_sound sh after found rules) in
+    let there = names_regions sh (body.generation % 2) body (current_sound sh after found rules) in
     let same : SameRegions sh body before after = record {
       logs = λ id named. torn_same (slot_at slot) 4096 (gates_at sh id) (log_size sh) before after torn (inr (omega arith));
       hashes = λ id named. torn_same (slot_at slot) 4096 (hash_at sh id) (hash_size sh) before after torn (inr (omega arith));

@@ -7,7 +7,7 @@ use Rattle.std.proofs.lemmas.List.Edits.{length-between}
 use Rattle.std.proofs.lemmas.Slice.Eq.{bytes_eq-Decides}
 use Rattle.silt_disk.specs.Layout.{Shape, InLimits, device_size, is_bucket_count}
 use Rattle.silt_manifest.specs.Body.{is_well_formed}
-use Rattle.silt_manifest.specs.Ruling.{manifest_found, record_found, greater_record, has_due_digests, is_sound_record, open_record}
+use Rattle.silt_manifest.specs.Current.{manifest_found, record_found, greater_record, has_due_digests, is_sound_record, open_record}
 use Rattle.silt_manifest.specs.declared.body.Body.{Body}
 use Rattle.silt_manifest.specs.declared.digests.Digests.{Digests}
 use Rattle.silt_manifest.specs.declared.slot.SlotRecord.{SlotRecord}
@@ -168,9 +168,9 @@ both_sound true false r found e = absurd (cc)
 both_sound true true r found e = (refl, refl, e)
 
 -- the current body is well formed
-pub ruling_sound : (s : Shape) (image : List ℕ) (found : SlotRecord) → manifest_found s image ≡ Ok found → is_well_formed s (found.body.generation % 2) found.body ≡ true
+pub current_sound : (s : Shape) (image : List ℕ) (found : SlotRecord) → manifest_found s image ≡ Ok found → is_well_formed s (found.body.generation % 2) found.body ≡ true
 unfolding record_found
-ruling_sound s image found e =
+current_sound s image found e =
     let version : Version = version_of (header_of image) in
     let tests = both_sound (is_sound_record s version 0 (open_record image 0)) (is_sound_record s version 1 (open_record image 1)) (greater_record (open_record image 0) (open_record image 1)) found e in
     let sound = greater_sound s version (open_record image 0) (open_record image 1) found tests.0 tests.1 tests.2 in
@@ -245,7 +245,7 @@ pub whole_law : WholeLaw
 whole_law image s e =
     let has = (stores_law image s).0 e in
     let shaped = shape_parts (length image) (header_of image) s.shape has.shape in
-    let sound = ruling_sound s.shape image (record_with has.digests s.body) has.rules in
+    let sound = current_sound s.shape image (record_with has.digests s.body) has.rules in
     let logs : s.logs ≡ map (log_part s.shape image) (s.body.active ∷ s.body.frozen) = ap (λ (t : Stores). t.logs) has.named ∙ logs_named s.shape s.body image in
     record {
       header = header_is (header_of image) (length-between image 0 37 shaped.long) shaped.formatted;

@@ -8,7 +8,7 @@ use Rattle.silt_log.specs.Rows.{log_rows}
 use Rattle.silt_frame.specs.Rows.{has_known_kind, StoredRow, keys_of, put_count}
 use Rattle.silt_manifest.specs.Body.{first_body}
 use Rattle.silt_manifest.specs.Digests.{long_record}
-use Rattle.silt_manifest.specs.Ruling.{manifest_found}
+use Rattle.silt_manifest.specs.Current.{manifest_found}
 use Rattle.silt_manifest.specs.declared.digests.Digests.{Digests}
 use Rattle.silt_log.specs.Parts.{Part}
 use Rattle.silt_image.specs.Stores.{Stores, image_digests, image_stores, stores_named, stores_ruled, stores_shaped}

@@ -8,7 +8,7 @@ use Rattle.silt_frame.specs.declared.digest.Digest.{Digest}
 use Rattle.silt_manifest.specs.Body.{first_body}
 use Rattle.silt_manifest.specs.Digests.{long_record, record_bytes}
 use Rattle.silt_manifest.specs.Numbers.{ids_bytes}
-use Rattle.silt_manifest.specs.Ruling.{open_record, record_behind, record_found}
+use Rattle.silt_manifest.specs.Current.{open_record, record_behind, record_found}
 use Rattle.silt_manifest.specs.declared.body.Body.{Body}
 use Rattle.silt_manifest.specs.declared.digests.Digests.{Digests}
 use Rattle.silt_cuckoo.specs.Index.{added, indexed}

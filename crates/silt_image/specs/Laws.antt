@@ -8,7 +8,7 @@ use Rattle.silt_log.specs.Rows.{log_rows}
 use Rattle.silt_frame.specs.Rows.{StoredRow, has_known_kind}
 use Rattle.silt_manifest.specs.Body.{first_body, is_well_formed}
 use Rattle.silt_manifest.specs.Digests.{long_record}
-use Rattle.silt_manifest.specs.Ruling.{manifest_found, open_record}
+use Rattle.silt_manifest.specs.Current.{manifest_found, open_record}
 use Rattle.silt_manifest.specs.declared.body.Body.{Body}
 use Rattle.silt_manifest.specs.declared.digests.Digests.{Digests}
 use Rattle.silt_manifest.specs.declared.slot.SlotRecord.{SlotRecord}

@@ -2,7 +2,7 @@
 use Rattle.std.specs.Prelude.{ℕ, ◌==◌, nat_le, ◌&&◌, not, if◌then◌else◌, List, ◌∷◌, length, map, Option, None, Result, Ok, Err}
 use Rattle.silt_disk.specs.Layout.{Shape, device_size}
 use Rattle.silt_frame.specs.Rows.{StoredRow}
-use Rattle.silt_manifest.specs.Ruling.{manifest_found}
+use Rattle.silt_manifest.specs.Current.{manifest_found}
 use Rattle.silt_manifest.specs.declared.body.Body.{Body}
 use Rattle.silt_manifest.specs.declared.digests.Digests.{Digests}
 use Rattle.silt_manifest.specs.declared.slot.SlotRecord.{SlotRecord}

@@ -93,7 +93,7 @@ fn sorted_on<D: Disk>(disk: &D, header: &Header) -> u32
     ensures { result < 2 }
 {
     match read_current(disk, header.geometry, header.version) {
-        Ok(manifest) if manifest.ruling().sorted < 2 => manifest.ruling().sorted,
+        Ok(manifest) if manifest.current().sorted < 2 => manifest.current().sorted,
         _ => 0,
     }
 }

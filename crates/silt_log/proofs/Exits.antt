@@ -35,7 +35,7 @@ abbrev pub StandsIn : Content → LogState → List StoredRow → List ℕ → T
 StandsIn content log rows = Stands (gates_at log.shape log.region) log.shape.log_capacity (bodies_at log.shape log.region) (row_len log.shape) (size content) log.settled rows
 
 -- a log matches the disk if each image has its settled rows
-pub log_from : (content : Content) (log : LogState) (rows : List StoredRow) → InBounds log → log.loose ≡ false → device_size log.shape ≤ size content → LeavesOnly content (StandsIn content log rows) → IsLog content log
+pub log_from : (content : Content) (log : LogState) (rows : List StoredRow) → InBounds log → log.stale ≡ false → device_size log.shape ≤ size content → LeavesOnly content (StandsIn content log rows) → IsLog content log
 unfolding log_rows rows_from row_at open_count
 log_from content log rows bounds sealed fits leaves =
     let place = region_lies log.shape log.region (size content) bounds.region fits in
@@ -118,7 +118,7 @@ module _ (old new : Content) (log : LogState) (is : IsLog old log) (fits : devic
   unfolding rows_from row_at
   append_done bytes long writes =
       let place = region_lies log.shape log.region (size old) is.bounds.region fits in
-      let bounds : InBounds (record log { used = log.used + 1 }) = record { region = is.bounds.region; order = omega (arith, is.bounds.order); room = omega arith; gap = λ loose. absurd (false≢true (sym is.sealed ∙ loose)) } in
+      let bounds : InBounds (record log { used = log.used + 1 }) = record { region = is.bounds.region; order = omega (arith, is.bounds.order); room = omega arith; gap = λ stale. absurd (false≢true (sym is.sealed ∙ stale)) } in
       let row : ℕ → StoredRow = body_row (bodies_at log.shape log.region) (row_len log.shape) new.shown in
       record {
         log = refl;

@@ -20,12 +20,12 @@ use Rattle.silt_log.proofs.Exits.{StandsIn, region_lies, log_from, log_standing,
 -- ---- prepare: zeros over all gates
 
 pub prepare_done : (old new : Content) (log : LogState) (bytes : ℕ) → log.region < log.shape.logs → device_size log.shape ≤ size old → size new ≡ size old → bytes ≡ log.shape.log_capacity
-    → Writes (gates_at log.shape log.region) (replicate bytes 0) old new → Rests new → Empties new log (record log { settled = 0; used = 0; loose = false })
+    → Writes (gates_at log.shape log.region) (replicate bytes 0) old new → Rests new → Empties new log (record log { settled = 0; used = 0; stale = false })
 unfolding rows_from
 prepare_done old new log bytes region fits same all writes rests =
-    let after : LogState = record log { settled = 0; used = 0; loose = false } in
+    let after : LogState = record log { settled = 0; used = 0; stale = false } in
     let place = region_lies log.shape log.region (size old) region fits in
-    let bounds : InBounds after = record { region = region; order = omega arith; room = omega arith; gap = λ loose. absurd (false≢true loose) } in
+    let bounds : InBounds after = record { region = region; order = omega arith; room = omega arith; gap = λ stale. absurd (false≢true stale) } in
     let here : device_size log.shape ≤ size old = fits in
     let fits_new : device_size log.shape ≤ size new = subst (λ n. device_size log.shape ≤ n) (sym same) here in
     let zeros : List ℕ = replicate bytes 0 in
@@ -125,7 +125,7 @@ module _ (old : Content) (log : LogState) (is : IsLog old log) (fits : device_si
       let both : log.settled + more ≡ log.used = omega (arith, is.bounds.order) in
       let here : device_size log.shape ≤ size old = fits in
       let fits_new : device_size log.shape ≤ size new = subst (λ n. device_size log.shape ≤ n) (sym same) here in
-      let bounds : InBounds after = record { region = is.bounds.region; order = omega arith; room = is.bounds.room; gap = λ loose. absurd (false≢true (sym is.sealed ∙ loose)) } in
+      let bounds : InBounds after = record { region = is.bounds.region; order = omega arith; room = is.bounds.room; gap = λ stale. absurd (false≢true (sym is.sealed ∙ stale)) } in
       let shown : IsTrue old.honest → new.shown ≡ opened_image old log = λ honest.
       writes.shown honest ∙ ap (λ n. splice (gates_at log.shape log.region + log.settled) (replicate n 167) old.shown) count in
       let stands : IsTrue old.honest → StandsIn new after (all_rows old log) new.shown = λ honest.

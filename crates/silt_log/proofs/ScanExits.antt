@@ -7,7 +7,7 @@ use Rattle.silt_disk.specs.Layout.{Shape, row_len, gates_at, bodies_at}
 use Rattle.silt_frame.specs.Gate.{is_open}
 use Rattle.silt_frame.specs.declared.key.Row.{Row}
 use Rattle.silt_log.specs.declared.scan.ScanError.{ScanError}
-use Rattle.silt_log.specs.Rows.{AreRows, FirstUnknown, gate_bytes, body_row, row_at, rows_from, log_rows, open_count, has_loose_gate}
+use Rattle.silt_log.specs.Rows.{AreRows, FirstUnknown, gate_bytes, body_row, row_at, rows_from, log_rows, open_count, has_stale_gate}
 use Rattle.silt_log.specs.Scans.{IsScanRefused}
 use Rattle.silt_log.proofs.Scanned.{refused_weaker}
 
@@ -26,9 +26,9 @@ module _ (shape : Shape) (region : ℕ) (shown : List ℕ) (at gates bodies len 
   scan_count = counted ∙ ap (prefix_len is_open) gates_same
 
   -- a gate past them was looked for
-  pub scan_loose : (loose : Bool) → loose ≡ list_any is_open (drop count (gate_bytes at gates shown)) → loose ≡ has_loose_gate shape region shown
-  unfolding has_loose_gate
-  scan_loose loose found = found ∙ ap (λ n. list_any is_open (drop n (gate_bytes at gates shown))) scan_count ∙ ap (λ (l : List ℕ). list_any is_open (drop (open_count shape region shown) l)) gates_same
+  pub scan_stale : (stale : Bool) → stale ≡ list_any is_open (drop count (gate_bytes at gates shown)) → stale ≡ has_stale_gate shape region shown
+  unfolding has_stale_gate
+  scan_stale stale found = found ∙ ap (λ n. list_any is_open (drop n (gate_bytes at gates shown))) scan_count ∙ ap (λ (l : List ℕ). list_any is_open (drop (open_count shape region shown) l)) gates_same
 
   -- and their rows were read
   pub scan_rows : (rows : List Row) → AreRows rows (map (body_row bodies len shown) (range_with_len 0 count)) → AreRows rows (log_rows shape region shown)

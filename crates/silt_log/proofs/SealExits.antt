@@ -7,7 +7,7 @@ use Rattle.silt_disk.specs.Disk.{Content, Torn, LeavesOnly, ChangesWithin, Write
 use Rattle.silt_disk.specs.Layout.{row_len, gates_at, bodies_at, device_size}
 use Rattle.silt_disk.proofs.Images.{rests_leaves, left_at_rest, torn_splice, splice_byte}
 use Rattle.silt_frame.specs.Gate.{is_open}
-use Rattle.silt_log.specs.Rows.{GatesAre, gate_bytes, body_row, rows_from, row_at, log_rows, open_count, has_loose_gate}
+use Rattle.silt_log.specs.Rows.{GatesAre, gate_bytes, body_row, rows_from, row_at, log_rows, open_count, has_stale_gate}
 use Rattle.silt_log.specs.State.{LogState, InBounds, IsScanned, settled_rows}
 use Rattle.silt_log.specs.Calls.{Seals}
 use Rattle.silt_log.proofs.Counts.{same_byte, count_between, counted_open, first_closed, gates_counted}
@@ -73,14 +73,14 @@ module _ (old new : Content) (log : LogState) (bounds : InBounds log) (fits : de
 
   -- at the exit with Ok, if a gate past the first closed one was open
   pub seal_done : (more : ℕ) → log.used < log.shape.log_capacity → more ≡ log.shape.log_capacity - (log.used + 1) → size new ≡ size old → Writes (gates_at log.shape log.region + log.used + 1) (replicate more 0) old new → Rests new
-      → Seals old new log (record log { loose = false })
+      → Seals old new log (record log { stale = false })
   unfolding rows_from row_at open_count
   seal_done more room rest same writes settled =
-      let after : LogState = record log { loose = false } in
+      let after : LogState = record log { stale = false } in
       let place = region_lies log.shape log.region (size old) bounds.region fits in
       let here : device_size log.shape ≤ size old = fits in
       let fits_new : device_size log.shape ≤ size new = subst (λ n. device_size log.shape ≤ n) (sym same) here in
-      let bounds_new : InBounds after = record { region = bounds.region; order = bounds.order; room = bounds.room; gap = λ loose. absurd (false≢true loose) } in
+      let bounds_new : InBounds after = record { region = bounds.region; order = bounds.order; room = bounds.room; gap = λ stale. absurd (false≢true stale) } in
       let zeros : List ℕ = replicate more 0 in
       let long : length zeros ≡ more = length-replicate more 0 in
       let low : gates_at log.shape log.region ≤ gates_at log.shape log.region + log.used + 1 = omega arith in
@@ -107,17 +107,17 @@ module _ (old : Content) (log : LogState) (bounds : InBounds log) (fits : device
   pub quiet_images : LeavesOnly old (λ image. log_rows log.shape log.region image ≡ log_rows log.shape log.region old.shown)
   quiet_images = record { each = λ honest image left. ap (log_rows log.shape log.region) (left_at_rest rests honest image left) }
 
-  pub quiet_done : log.loose ≡ false → Seals old old log log
-  unfolding has_loose_gate rows_from row_at open_count
+  pub quiet_done : log.stale ≡ false → Seals old old log log
+  unfolding has_stale_gate rows_from row_at open_count
   quiet_done tight =
       let within : gates_at log.shape log.region + log.shape.log_capacity ≤ length old.shown = gates_within _ _ _ _ _ (region_lies log.shape log.region (size old) bounds.region fits) old.shown refl in
       let stands : IsTrue old.honest → StandsIn old log (settled_rows old log) old.shown = λ honest. record {
         long = refl;
-        are = subst (λ n. GatesAre (gates_at log.shape log.region) log.shape.log_capacity n old.shown) (sym (scanned honest).settled) (gates_counted _ _ old.shown within (sym (scanned honest).loose ∙ tight));
+        are = subst (λ n. GatesAre (gates_at log.shape log.region) log.shape.log_capacity n old.shown) (sym (scanned honest).settled) (gates_counted _ _ old.shown within (sym (scanned honest).stale ∙ tight));
         hold = refl;
       } in
       record {
-        log = ap (λ loose. record log { loose = loose }) tight;
+        log = ap (λ stale. record log { stale = stale }) tight;
         stands = log_from old log (settled_rows old log) bounds tight fits (rests_leaves rests (record { holds = stands }));
         settled = λ honest. refl;
       }

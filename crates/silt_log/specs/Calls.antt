@@ -14,7 +14,7 @@ pub record SyncsAndTears (at count : ℕ) (old new : Content) : Type 0 where
 
 -- the log has no rows, and each possible crash image has none
 pub record Empties (new : Content) (before after : LogState) : Type 0 where
-  pub log : after ≡ record before { settled = 0; used = 0; loose = false }
+  pub log : after ≡ record before { settled = 0; used = 0; stale = false }
   pub stands : IsLog new after
   pub images : LeavesOnly new (λ image. log_rows before.shape before.region image ≡ [])
 
@@ -54,6 +54,6 @@ pub record OpensSome (old new : Content) (before after : LogState) : Type 0 wher
 
 -- all gates past the first closed one are closed, and the rows are the same
 pub record Seals (old new : Content) (before after : LogState) : Type 0 where
-  pub log : after ≡ record before { loose = false }
+  pub log : after ≡ record before { stale = false }
   pub stands : IsLog new after
   pub settled : IsTrue old.honest → settled_rows new after ≡ settled_rows old before

@@ -50,8 +50,8 @@ unfoldable pub open_count : Shape → ℕ → List ℕ → ℕ
 open_count shape region image = prefix_len is_open (gate_bytes (gates_at shape region) shape.log_capacity image)
 
 -- a gate past the first closed one is open
-unfoldable pub has_loose_gate : Shape → ℕ → List ℕ → Bool
-has_loose_gate shape region image =
+unfoldable pub has_stale_gate : Shape → ℕ → List ℕ → Bool
+has_stale_gate shape region image =
     list_any is_open (drop (open_count shape region image) (gate_bytes (gates_at shape region) shape.log_capacity image))
 
 -- this many rows from a place on, in order from the oldest

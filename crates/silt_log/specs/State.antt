@@ -3,7 +3,7 @@ use Rattle.std.specs.Prelude.{◌≡◌, ℕ, ◌+◌, ◌-◌, ◌≤◌, ◌<�
 use Rattle.silt_disk.specs.Disk.{Content, LeavesOnly, splice}
 use Rattle.silt_disk.specs.Layout.{Shape, gates_at}
 use Rattle.silt_frame.specs.Gate.{gate_open}
-use Rattle.silt_log.specs.Rows.{GatesAre, rows_from, first_rows, log_rows, open_count, has_loose_gate}
+use Rattle.silt_log.specs.Rows.{GatesAre, rows_from, first_rows, log_rows, open_count, has_stale_gate}
 use Rattle.silt_frame.specs.Rows.{StoredRow}
 
 -- A log: its region, how many of its rows have an open gate that is settled, how many rows it has with the waiting ones, and
@@ -13,14 +13,14 @@ pub record LogState : Type 0 where
   pub region : ℕ
   pub settled : ℕ
   pub used : ℕ
-  pub loose : Bool
+  pub stale : Bool
 
 -- the numbers of a log are within its region
 pub record InBounds (log : LogState) : Type 0 where
   pub region : log.region < log.shape.logs
   pub order : log.settled ≤ log.used
   pub room : log.used ≤ log.shape.log_capacity
-  pub gap : IsTrue log.loose → log.used < log.shape.log_capacity
+  pub gap : IsTrue log.stale → log.used < log.shape.log_capacity
 
 -- a log whose numbers are within its region, with a byte for each gate
 pub record IsHeld (log : LogState) (buffer_len : ℕ) : Type 0 where
@@ -47,7 +47,7 @@ opened_image content log = splice (gates_at log.shape log.region + log.settled) 
 -- waiting rows open, has all rows.
 pub record IsLog (content : Content) (log : LogState) : Type 0 where
   pub bounds : InBounds log
-  pub sealed : log.loose ≡ false
+  pub sealed : log.stale ≡ false
   pub images : LeavesOnly content (λ image. log_rows log.shape log.region image ≡ settled_rows content log)
   pub full : IsTrue content.honest → log_rows log.shape log.region (opened_image content log) ≡ all_rows content log
   pub gates : LeavesOnly content (GatesAre (gates_at log.shape log.region) log.shape.log_capacity log.settled)
@@ -56,4 +56,4 @@ pub record IsLog (content : Content) (log : LogState) : Type 0 where
 pub record IsScanned (content : Content) (log : LogState) : Type 0 where
   pub settled : log.settled ≡ open_count log.shape log.region content.shown
   pub used : log.used ≡ open_count log.shape log.region content.shown
-  pub loose : log.loose ≡ has_loose_gate log.shape log.region content.shown
+  pub stale : log.stale ≡ has_stale_gate log.shape log.region content.shown

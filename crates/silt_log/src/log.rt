@@ -24,7 +24,7 @@ pub struct Log {
     region: u32,
     settled: u32,
     used: u32,
-    loose: bool,
+    stale: bool,
     gates: Vec<u8>,
 }
 
@@ -34,9 +34,9 @@ impl Model for Log {
 
     ghost Value = { LogState };
 
-    ghost view = { λ a. record { shape = a.geometry; region = a.region; settled = a.settled; used = a.used; loose = a.loose } };
+    ghost view = { λ a. record { shape = a.geometry; region = a.region; settled = a.settled; used = a.used; stale = a.stale } };
 
-    ghost invariant = { λ a. IsHeld (record { shape = a.geometry; region = a.region; settled = a.settled; used = a.used; loose = a.loose }) (vec_len a.gates) };
+    ghost invariant = { λ a. IsHeld (record { shape = a.geometry; region = a.region; settled = a.settled; used = a.used; stale = a.stale }) (vec_len a.gates) };
 }
 
 impl Log {
@@ -52,7 +52,7 @@ impl Log {
     /// Out of memory: the bytes for the gates could not be allocated.
     pub fn new(alloc: Global, geometry: Geometry, region: u32) -> Result<Self, AllocError>
         requires { region < geometry.logs }
-        ensures { IfOk result (λ log. log ≡ record { shape = geometry; region = region; settled = 0; used = 0; loose = false }) }
+        ensures { IfOk result (λ log. log ≡ record { shape = geometry; region = region; settled = 0; used = 0; stale = false }) }
     {
         let capacity = geometry.log_capacity() as usize;
         Ok(Log {
@@ -60,7 +60,7 @@ impl Log {
             region,
             settled: 0,
             used: 0,
-            loose: false,
+            stale: false,
             gates: vec![in alloc; GATE_CLOSED; capacity]?,
         })
     }
@@ -146,7 +146,7 @@ impl Log {
         write_gates(disk, at, &mut self.gates, GATE_CLOSED)?;
         self.settled = 0;
         self.used = 0;
-        self.loose = false;
+        self.stale = false;
         Ok(())
     }
 
@@ -219,22 +219,22 @@ impl Log {
         ensures size { size (D.content disk.new) ≡ size (D.content disk.old) }
         ensures changes { ChangesWithin (gates_at self.old.shape self.old.region + self.old.used + 1) (self.old.shape.log_capacity - (self.old.used + 1)) (D.content disk.old) (D.content disk.new) }
         ensures images { LeavesOnly (D.content disk.new) (λ image. log_rows self.old.shape self.old.region image ≡ log_rows self.old.shape self.old.region (D.content disk.old).shown) }
-        ensures quiet { self.old.loose ≡ false → disk.new ≡ disk.old }
-        ensures written { IsTrue self.old.loose → OnOk result (Writes (gates_at self.old.shape self.old.region + self.old.used + 1)
+        ensures quiet { self.old.stale ≡ false → disk.new ≡ disk.old }
+        ensures written { IsTrue self.old.stale → OnOk result (Writes (gates_at self.old.shape self.old.region + self.old.used + 1)
             (replicate (self.old.shape.log_capacity - (self.old.used + 1)) 0) (D.content disk.old) (D.content disk.new)) }
         ensures rests { OnOk result (Rests (D.content disk.new)) }
         ensures ok { OnOk result (Seals (D.content disk.old) (D.content disk.new) self.old self.new) }
-        ensures err { OnErr result ((self.new ≡ self.old) × IsTrue self.old.loose) }
+        ensures err { OnErr result ((self.new ≡ self.old) × IsTrue self.old.stale) }
         ensures failures { MatchResult result (λ _. D.failures disk.new ≡ D.failures disk.old) (CountsFault D.failures D.gave disk.old disk.new) }
     {
-        if !self.loose {
+        if !self.stale {
             return Ok(());
         }
         let first = self.used + 1;
         let at = self.geometry.gates_at(self.region) + u64::from(first);
         let past = (self.geometry.log_capacity() - first) as usize;
         write_gates(disk, at, &mut self.gates[..past], GATE_CLOSED)?;
-        self.loose = false;
+        self.stale = false;
         Ok(())
     }
 
@@ -262,14 +262,14 @@ impl Log {
             (open_count self.old.shape self.old.region (D.content disk.now).shown) place) (GaveAny D.gave disk.now)) }
     {
         let at = self.geometry.gates_at(self.region);
-        let (count, loose) = read_gates(disk, at, &mut self.gates).map_err(ScanError::Device)?;
+        let (count, stale) = read_gates(disk, at, &mut self.gates).map_err(ScanError::Device)?;
         let count = count as u32;
         let bodies = self.geometry.bodies_at(self.region);
         let row_len = self.geometry.row_len() as u64;
         let rows = read_rows(alloc, disk, bodies, row_len, count)?;
         self.settled = count;
         self.used = count;
-        self.loose = loose;
+        self.stale = stale;
         Ok(rows)
     }
 
@@ -288,10 +288,10 @@ impl Log {
         ensures fault { IfErr result (GaveAny D.gave disk.now) }
     {
         let at = self.geometry.gates_at(self.region);
-        let (count, has_loose) = read_gates(disk, at, &mut self.gates)?;
+        let (count, has_stale) = read_gates(disk, at, &mut self.gates)?;
         self.settled = count as u32;
         self.used = count as u32;
-        self.loose = has_loose;
+        self.stale = has_stale;
         Ok(())
     }
 

@@ -75,7 +75,7 @@ impl LogStore {
     /// Out of memory: the bytes for the gates or the table could not be allocated.
     pub fn new(alloc: Global, geometry: Geometry, region: u32) -> Result<Self, AllocError>
         requires { region < geometry.logs }
-        ensures { IfOk result (λ store. store ≡ record { log = record { shape = geometry; region = region; settled = 0; used = 0; loose = false }; table = empty_slots geometry.buckets; puts = 0 }) }
+        ensures { IfOk result (λ store. store ≡ record { log = record { shape = geometry; region = region; settled = 0; used = 0; stale = false }; table = empty_slots geometry.buckets; puts = 0 }) }
     {
         let log = Log::new(alloc, geometry, region)?;
         let table = Table::new(alloc, geometry.buckets())?;
@@ -190,12 +190,12 @@ impl LogStore {
         ensures changes { ChangesWithin (gates_at self.old.log.shape self.old.log.region + self.old.log.used + 1)
             (self.old.log.shape.log_capacity - (self.old.log.used + 1)) (D.content disk.old) (D.content disk.new) }
         ensures images { LeavesOnly (D.content disk.new) (λ image. log_rows self.old.log.shape self.old.log.region image ≡ log_rows self.old.log.shape self.old.log.region (D.content disk.old).shown) }
-        ensures quiet { self.old.log.loose ≡ false → disk.new ≡ disk.old }
-        ensures written { IsTrue self.old.log.loose → OnOk result (Writes (gates_at self.old.log.shape self.old.log.region + self.old.log.used + 1)
+        ensures quiet { self.old.log.stale ≡ false → disk.new ≡ disk.old }
+        ensures written { IsTrue self.old.log.stale → OnOk result (Writes (gates_at self.old.log.shape self.old.log.region + self.old.log.used + 1)
             (replicate (self.old.log.shape.log_capacity - (self.old.log.used + 1)) 0) (D.content disk.old) (D.content disk.new)) }
         ensures rests { OnOk result (Rests (D.content disk.new)) }
         ensures ok { OnOk result (SealsStore (D.content disk.old) (D.content disk.new) self.old self.new) }
-        ensures err { OnErr result ((self.new ≡ self.old) × IsTrue self.old.log.loose) }
+        ensures err { OnErr result ((self.new ≡ self.old) × IsTrue self.old.log.stale) }
         ensures failures { MatchResult result (λ _. D.failures disk.new ≡ D.failures disk.old) (CountsFault D.failures D.gave disk.old disk.new) }
     {
         self.log.seal(disk)?;

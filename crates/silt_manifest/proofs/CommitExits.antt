@@ -8,15 +8,15 @@ use Rattle.silt_disk.proofs.Images.{within_leaves, write_shows, rests_leaves, le
 use Rattle.silt_frame.specs.Gate.{is_open}
 use Rattle.silt_manifest.specs.Body.{FitsSlot}
 use Rattle.silt_manifest.specs.Digests.{FitsDigests, long_record, record_bytes, record_of}
-use Rattle.silt_manifest.specs.Ruling.{slot_of, is_slot_open, record_behind, open_record, ruling_manifest}
-use Rattle.silt_manifest.specs.Standing.{ManifestState, IsNext, IsPrepared, IsRuled, IsReady, Rules, RulesOldOrNew, ruled_by, ruling_record, ruling_slot, spare_slot}
+use Rattle.silt_manifest.specs.Current.{slot_of, is_slot_open, record_behind, open_record, current_manifest}
+use Rattle.silt_manifest.specs.Standing.{ManifestState, IsNext, IsPrepared, IsRuled, IsReady, Rules, RulesOldOrNew, ruled_by, current_record, current_slot, spare_slot}
 use Rattle.silt_manifest.specs.declared.body.Body.{Body}
 use Rattle.silt_manifest.specs.declared.digests.Digests.{Digests}
 use Rattle.silt_manifest.specs.declared.slot.SlotRecord.{SlotRecord}
 use Rattle.silt_manifest.proofs.DigestTrip.{record_law}
 use Rattle.silt_manifest.proofs.SlotImages.{slot_parts, closed_record, opened_record, other_same, gate_written, version_stays}
 use Rattle.silt_manifest.proofs.SoundBodies.{long_sound}
-use Rattle.silt_manifest.proofs.RulingLemmas.{newer_rules, rules_sound, still_rules}
+use Rattle.silt_manifest.proofs.CurrentLemmas.{newer_rules, rules_sound, still_rules}
 use Rattle.silt_manifest.proofs.PrepareExits.{two_slots}
 
 -- an open slot with these bytes holds the record
@@ -36,17 +36,17 @@ holds_open bytes b holds =
 
 module _ (m : ManifestState) (next : Body) (digests : Digests) (n : ℕ) (fits : slot_at 1 + 4096 ≤ n) (follows : IsNext m next) (held : FitsSlot next) (held_digests : FitsDigests digests) where
   -- the current slot stays when the gate is written
-  ruling_stays : (before after : List ℕ) → (length before ≡ n) × IsReady m next digests before → Torn (slot_at (spare_slot m)) 1 before after → open_record after (ruling_slot m) ≡ open_record before (ruling_slot m)
-  ruling_stays before after (size, ready) torn =
+  current_stays : (before after : List ℕ) → (length before ≡ n) × IsReady m next digests before → Torn (slot_at (spare_slot m)) 1 before after → open_record after (current_slot m) ≡ open_record before (current_slot m)
+  current_stays before after (size, ready) torn =
       let slots = two_slots m in
-      ap record_behind (other_same (ruling_slot m) (spare_slot m) (slot_at (spare_slot m)) 1 before after slots (omega arith) (omega arith) (omega arith) torn)
+      ap record_behind (other_same (current_slot m) (spare_slot m) (slot_at (spare_slot m)) 1 before after slots (omega arith) (omega arith) (omega arith) torn)
 
   -- so does the version
   same_version : (before after : List ℕ) → (length before ≡ n) × IsReady m next digests before → Torn (slot_at (spare_slot m)) 1 before after → version_of (header_of after) ≡ version_of (header_of before)
   same_version before after (size, ready) torn = version_stays (slot_at (spare_slot m)) 1 before after (omega arith) (omega arith) torn
 
   -- with an open gate the next record is current
-  new_rules : (before after : List ℕ) → (length before ≡ n) × IsReady m next digests before → Torn (slot_at (spare_slot m)) 1 before after → is_slot_open after (spare_slot m) ≡ true → (open_record after (spare_slot m) ≡ Some (long_record next digests)) × (ruling_manifest m.shape after ≡ Some (long_record next digests))
+  new_rules : (before after : List ℕ) → (length before ≡ n) × IsReady m next digests before → Torn (slot_at (spare_slot m)) 1 before after → is_slot_open after (spare_slot m) ≡ true → (open_record after (spare_slot m) ≡ Some (long_record next digests)) × (current_manifest m.shape after ≡ Some (long_record next digests))
   new_rules before after was torn opened =
       let slots = two_slots m in
       let size = was.0 in
@@ -56,10 +56,10 @@ module _ (m : ManifestState) (next : Body) (digests : Digests) (n : ℕ) (fits :
       torn_slice_after (slot_at (spare_slot m)) 1 before after torn (slot_at (spare_slot m) + 1) (slot_at (spare_slot m) + 461) (omega arith) (omega arith) ∙ ready.bytes in
       let holds : open_record after (spare_slot m) ≡ Some (long_record next digests) = holds_record after (spare_slot m) next digests room held held_digests opened bytes in (
         holds,
-        newer_rules m.shape (version_of (header_of before)) (ruling_slot m) (spare_slot m) (ruling_record m) (long_record next digests) after (same_version before after was torn) slots
-            (rules_sound m.shape (ruling_slot m) (spare_slot m) (ruling_record m) before slots ready.stands ready.rules)
+        newer_rules m.shape (version_of (header_of before)) (current_slot m) (spare_slot m) (current_record m) (long_record next digests) after (same_version before after was torn) slots
+            (rules_sound m.shape (current_slot m) (spare_slot m) (current_record m) before slots ready.stands ready.rules)
             (long_sound m.shape (version_of (header_of before)) (spare_slot m) (long_record next digests) refl follows.sound)
-            follows.generation (ruling_stays before after was torn ∙ ready.stands) holds,
+            follows.generation (current_stays before after was torn ∙ ready.stands) holds,
       )
 
   -- the gate may be written or not
@@ -69,7 +69,7 @@ module _ (m : ManifestState) (next : Body) (digests : Digests) (n : ℕ) (fits :
       elim (cases_Bool (is_slot_open after (spare_slot m))) [
         | inl opened ↦ inr ((new_rules before after was torn opened).1 ∙ sym prepared)
         | inr closed ↦
-            inl (still_rules m.shape (ruling_slot m) (spare_slot m) (ruling_record m) before after (same_version before after was torn) slots was.1.stands was.1.rules (ruling_stays before after was torn)
+            inl (still_rules m.shape (current_slot m) (spare_slot m) (current_record m) before after (same_version before after was torn) slots was.1.stands was.1.rules (current_stays before after was torn)
             (inl (closed_record (slot_of after (spare_slot m)) closed)))
       ]
 
@@ -83,11 +83,11 @@ module _ (m : ManifestState) (next : Body) (digests : Digests) (n : ℕ) (fits :
       let opened : is_slot_open after (spare_slot m) ≡ true = ap is_open (gate_written 167 (spare_slot m) before (omega arith)) in
       let both = new_rules before after was torn opened in
       let own : next.generation % 2 ≡ spare_slot m = ap (λ (k : ℕ). k % 2) follows.generation in
-      let other : (next.generation + 1) % 2 ≡ ruling_slot m = omega (arith, follows.generation) in
+      let other : (next.generation + 1) % 2 ≡ current_slot m = omega (arith, follows.generation) in
       record {
         rules = both.1;
         stands = ap (open_record after) own ∙ both.0;
-        spare = ap (is_slot_open after) other ∙ holds_open (slot_of after (ruling_slot m)) (ruling_record m) (ruling_stays before after was torn ∙ was.1.stands);
+        spare = ap (is_slot_open after) other ∙ holds_open (slot_of after (current_slot m)) (current_record m) (current_stays before after was torn ∙ was.1.stands);
       }
 
 -- the write or the sync fails

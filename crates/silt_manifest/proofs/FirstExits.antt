@@ -8,12 +8,12 @@ use Rattle.silt_disk.proofs.Images.{write_shows, rests_leaves, leaves_shows, siz
 use Rattle.silt_frame.specs.Gate.{is_open}
 use Rattle.silt_manifest.specs.Body.{FitsSlot, first_body, is_well_formed}
 use Rattle.silt_manifest.specs.Digests.{FitsDigests, long_record, record_bytes}
-use Rattle.silt_manifest.specs.Ruling.{slot_of, is_slot_open}
+use Rattle.silt_manifest.specs.Current.{slot_of, is_slot_open}
 use Rattle.silt_manifest.specs.Standing.{FirstRulesLaw, IsFirst}
 use Rattle.silt_manifest.specs.declared.digests.Digests.{Digests}
 use Rattle.silt_manifest.proofs.DigestTrip.{length_record_bytes}
 use Rattle.silt_manifest.proofs.SlotImages.{slot_parts, gate_of, closed_record, other_same, gate_written}
-use Rattle.silt_manifest.proofs.RulingLemmas.{alone_found}
+use Rattle.silt_manifest.proofs.CurrentLemmas.{alone_found}
 use Rattle.silt_manifest.proofs.SoundBodies.{long_sound}
 use Rattle.silt_manifest.proofs.CommitExits.{holds_record}
 

@@ -5,12 +5,12 @@ use Rattle.silt_disk.specs.Disk.{ChangesWithin, Content, LeavesOnly, LiesOutside
 use Rattle.silt_disk.specs.Header.{header_of, version_of}
 use Rattle.silt_disk.specs.Layout.{Shape, slot_at}
 use Rattle.silt_disk.proofs.Images.{torn_slice_after, torn_slice_before, leaves_shows, restart_leaves, rests_leaves, sized_leaves, sized_shows, within_leaves, within_shows, write_shows}
-use Rattle.silt_manifest.specs.Ruling.{ClosedSlotLaw, OtherRecordsLaw, OtherRegionsLaw, record_behind, is_slot_open, manifest_found, open_record, ruling_manifest, slot_of, where_found}
+use Rattle.silt_manifest.specs.Current.{ClosedSlotLaw, OtherRecordsLaw, OtherRegionsLaw, record_behind, is_slot_open, manifest_found, open_record, current_manifest, slot_of, where_found}
 use Rattle.silt_manifest.specs.declared.digests.Digests.{Digests}
 use Rattle.silt_manifest.specs.declared.slot.SlotRecord.{SlotRecord}
-use Rattle.silt_manifest.specs.Standing.{IsFirst, IsRuled, ManifestState, Rules, ruling_slot, spare_slot}
+use Rattle.silt_manifest.specs.Standing.{IsFirst, IsRuled, ManifestState, Rules, current_slot, spare_slot}
 use Rattle.silt_manifest.proofs.SlotImages.{gate_written, other_same, slot_same, version_stays}
-use Rattle.silt_manifest.proofs.RulingLemmas.{found_at}
+use Rattle.silt_manifest.proofs.CurrentLemmas.{found_at}
 use Rattle.std.specs.Prelude.{slice_index}
 use Rattle.silt_frame.specs.Gate.{is_open}
 
@@ -72,7 +72,7 @@ ruled_elsewhere m n at count fits apart before after (size, ruled) torn =
     let apart_too = outside_slots at count apart in
     record {
       rules = ap where_found (found_elsewhere m.shape at count before after room apart torn) ∙ ruled.rules;
-      stands = other_records (ruling_slot m) at count before after (omega arith) room apart_too torn ∙ ruled.stands;
+      stands = other_records (current_slot m) at count before after (omega arith) room apart_too torn ∙ ruled.stands;
       spare = ap (λ bytes. is_open (slice_index bytes 0)) (slot_elsewhere at count (spare_slot m) before after (omega arith) room apart_too torn) ∙ ruled.spare;
     }
 
@@ -103,9 +103,9 @@ closed_elsewhere slot at count old new below fits apart changes shown =
     ap (λ bytes. is_open (slice_index bytes 0)) (slot_elsewhere at count slot before after below (let long = had.0 in omega arith) apart torn) ∙ had.1)
 
 -- so is the current record of each possible crash image, under changes outside the header and the slots
-pub ruling_elsewhere : (s : Shape) (held : Option SlotRecord) (at count : ℕ) (old new : Content) → slot_at 1 + 4096 ≤ size old → LiesOutside 0 12288 at count → ChangesWithin at count old new → LeavesOnly old (λ image. ruling_manifest s image ≡ held) → LeavesOnly new (λ image. ruling_manifest s image ≡ held)
-ruling_elsewhere s held at count old new fits apart changes leaves =
-    within_leaves changes (sized_leaves leaves) (λ before after (had : (length before ≡ size old) × (ruling_manifest s before ≡ held)) torn.
+pub current_elsewhere : (s : Shape) (held : Option SlotRecord) (at count : ℕ) (old new : Content) → slot_at 1 + 4096 ≤ size old → LiesOutside 0 12288 at count → ChangesWithin at count old new → LeavesOnly old (λ image. current_manifest s image ≡ held) → LeavesOnly new (λ image. current_manifest s image ≡ held)
+current_elsewhere s held at count old new fits apart changes leaves =
+    within_leaves changes (sized_leaves leaves) (λ before after (had : (length before ≡ size old) × (current_manifest s before ≡ held)) torn.
     ap where_found (found_elsewhere s at count before after (let long = had.0 in omega arith) apart torn) ∙ had.1)
 
 -- and the first record

@@ -7,6 +7,6 @@ pub mod Laws
 pub mod PrepareExits
 pub mod ReadExits
 pub mod RoundTrip
-pub mod RulingLemmas
+pub mod CurrentLemmas
 pub mod SlotImages
 pub mod SoundBodies

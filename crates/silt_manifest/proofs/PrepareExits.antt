@@ -7,15 +7,15 @@ use Rattle.silt_disk.proofs.Images.{within_leaves, write_shows, rests_leaves, we
 use Rattle.silt_frame.specs.Gate.{is_open}
 use Rattle.silt_manifest.specs.Body.{FitsSlot}
 use Rattle.silt_manifest.specs.Digests.{FitsDigests, long_record, record_bytes}
-use Rattle.silt_manifest.specs.Ruling.{slot_of, is_slot_open, record_behind, open_record}
-use Rattle.silt_manifest.specs.Standing.{ManifestState, IsNext, IsPrepared, IsRuled, IsReady, Rules, RulesAsHeld, WritesNext, closing_place, ruling_record, ruling_slot, spare_slot}
+use Rattle.silt_manifest.specs.Current.{slot_of, is_slot_open, record_behind, open_record}
+use Rattle.silt_manifest.specs.Standing.{ManifestState, IsNext, IsPrepared, IsRuled, IsReady, Rules, RulesAsHeld, WritesNext, closing_place, current_record, current_slot, spare_slot}
 use Rattle.silt_manifest.specs.declared.body.Body.{Body}
 use Rattle.silt_manifest.specs.declared.digests.Digests.{Digests}
 use Rattle.silt_manifest.proofs.SlotImages.{closed_record, slot_same, other_same, gate_torn, gate_stays, gate_written, version_stays}
-use Rattle.silt_manifest.proofs.RulingLemmas.{still_rules}
+use Rattle.silt_manifest.proofs.CurrentLemmas.{still_rules}
 
 -- the two slots are 0 and 1
-pub two_slots : (m : ManifestState) → ruling_slot m + spare_slot m ≡ 1
+pub two_slots : (m : ManifestState) → current_slot m + spare_slot m ≡ 1
 two_slots m = omega arith
 
 -- the place of the zero in a closed slot
@@ -30,7 +30,7 @@ place_open m opened = rw opened refl
 pub record IsShut (m : ManifestState) (n : ℕ) (image : List ℕ) : Type 0 where
   pub size : length image ≡ n
   pub rules : RulesAsHeld m image
-  pub stands : open_record image (ruling_slot m) ≡ Some (ruling_record m)
+  pub stands : open_record image (current_slot m) ≡ Some (current_record m)
   pub shut : is_slot_open image (spare_slot m) ≡ false
 
 module _ (m : ManifestState) (n : ℕ) (fits : slot_at 1 + 4096 ≤ n) where
@@ -41,13 +41,13 @@ module _ (m : ManifestState) (n : ℕ) (fits : slot_at 1 + 4096 ≤ n) where
       elim (cases_Bool m.spare_closed) [
         | inl closed ↦
             let at : place ≡ slot_at (spare_slot m) + 4095 = is ∙ place_closed m closed in
-            still_rules m.shape (ruling_slot m) (spare_slot m) (ruling_record m) before after (version_stays place 1 before after (omega arith) (omega arith) torn) slots ruled.stands ruled.rules
-            (ap record_behind (other_same (ruling_slot m) (spare_slot m) place 1 before after slots (omega arith) (omega arith) (omega arith) torn))
+            still_rules m.shape (current_slot m) (spare_slot m) (current_record m) before after (version_stays place 1 before after (omega arith) (omega arith) torn) slots ruled.stands ruled.rules
+            (ap record_behind (other_same (current_slot m) (spare_slot m) place 1 before after slots (omega arith) (omega arith) (omega arith) torn))
             (inr (ap record_behind (slot_same place 1 (spare_slot m) before after torn (omega arith) (inr (omega arith)))))
         | inr opened ↦
             let at : place ≡ slot_at (spare_slot m) = is ∙ place_open m opened in
-            still_rules m.shape (ruling_slot m) (spare_slot m) (ruling_record m) before after (version_stays place 1 before after (omega arith) (omega arith) torn) slots ruled.stands ruled.rules
-            (ap record_behind (other_same (ruling_slot m) (spare_slot m) place 1 before after slots (omega arith) (omega arith) (omega arith) torn))
+            still_rules m.shape (current_slot m) (spare_slot m) (current_record m) before after (version_stays place 1 before after (omega arith) (omega arith) torn) slots ruled.stands ruled.rules
+            (ap record_behind (other_same (current_slot m) (spare_slot m) place 1 before after slots (omega arith) (omega arith) (omega arith) torn))
             (gate_torn (spare_slot m) before after (omega arith) (subst (λ (p : ℕ). Torn p 1 before after) at torn) (ruled.spare ∙ ap not opened))
       ]
 
@@ -63,7 +63,7 @@ module _ (m : ManifestState) (n : ℕ) (fits : slot_at 1 + 4096 ≤ n) where
             record {
               size = torn.size ∙ size;
               rules = close_torn place is before after (size, ruled) torn;
-              stands = ap record_behind (other_same (ruling_slot m) (spare_slot m) place 1 before after slots (omega arith) (omega arith) (omega arith) torn) ∙ ruled.stands;
+              stands = ap record_behind (other_same (current_slot m) (spare_slot m) place 1 before after slots (omega arith) (omega arith) (omega arith) torn) ∙ ruled.stands;
               shut = ap (λ bytes. is_open (slice_index bytes 0)) (slot_same place 1 (spare_slot m) before after torn (omega arith) (inr (omega arith))) ∙ ruled.spare ∙ ap not closed;
             }
         | inr opened ↦
@@ -72,7 +72,7 @@ module _ (m : ManifestState) (n : ℕ) (fits : slot_at 1 + 4096 ≤ n) where
             record {
               size = torn.size ∙ size;
               rules = close_torn place is before after (size, ruled) torn;
-              stands = ap record_behind (other_same (ruling_slot m) (spare_slot m) place 1 before after slots (omega arith) (omega arith) (omega arith) torn) ∙ ruled.stands;
+              stands = ap record_behind (other_same (current_slot m) (spare_slot m) place 1 before after slots (omega arith) (omega arith) (omega arith) torn) ∙ ruled.stands;
               shut = ap is_open (ap (λ (p : ℕ). slice_index (slot_of (splice p (0 ∷ []) before) (spare_slot m)) 0) at ∙ gate_written 0 (spare_slot m) before (omega arith));
             }
       ]
@@ -82,12 +82,12 @@ module _ (m : ManifestState) (n : ℕ) (fits : slot_at 1 + 4096 ≤ n) where
   bytes_torn at count is long before after was torn =
       let slots = two_slots m in
       let size = was.size in
-      let same : open_record after (ruling_slot m) ≡ open_record before (ruling_slot m) = ap record_behind (other_same (ruling_slot m) (spare_slot m) at count before after slots (omega arith) (omega arith) (omega arith) torn) in
+      let same : open_record after (current_slot m) ≡ open_record before (current_slot m) = ap record_behind (other_same (current_slot m) (spare_slot m) at count before after slots (omega arith) (omega arith) (omega arith) torn) in
       let shut : is_slot_open after (spare_slot m) ≡ false = gate_stays at count (spare_slot m) before after (omega arith) (omega arith) torn ∙ was.shut in
       record {
         size = torn.size ∙ was.size;
         rules =
-            still_rules m.shape (ruling_slot m) (spare_slot m) (ruling_record m) before after (version_stays at count before after (omega arith) (omega arith) torn) slots was.stands was.rules same
+            still_rules m.shape (current_slot m) (spare_slot m) (current_record m) before after (version_stays at count before after (omega arith) (omega arith) torn) slots was.stands was.rules same
             (inl (closed_record (slot_of after (spare_slot m)) shut));
         stands = same ∙ was.stands;
         shut = shut;
@@ -140,12 +140,12 @@ next_written m place at bytes next digests old between new is is_at are first se
 }
 
 -- the manifest with the next record, of this shape and with this current record, is prepared
-pub prepared_state : (m : ManifestState) (shape : Shape) (ruling next : Body) (held : Option Digests) (digests : Digests) (content : Content) → m.shape ≡ shape → m.ruling ≡ ruling → m.digests ≡ held → IsNext m next → FitsSlot next → FitsDigests digests → LeavesOnly content (IsReady m next digests)
-    → IsPrepared (record { shape = shape; ruling = ruling; digests = held; spare_closed = true; prepared = Some (long_record next digests) }) next digests content
-prepared_state m shape ruling next held digests content same_shape same_ruling same_digests follows fits fits_digests leaves =
-    subst (λ s. IsPrepared (record { shape = s; ruling = ruling; digests = held; spare_closed = true; prepared = Some (long_record next digests) }) next digests content) same_shape
-    (subst (λ b. IsPrepared (record { shape = m.shape; ruling = b; digests = held; spare_closed = true; prepared = Some (long_record next digests) }) next digests content) same_ruling
-    (subst (λ d. IsPrepared (record { shape = m.shape; ruling = m.ruling; digests = d; spare_closed = true; prepared = Some (long_record next digests) }) next digests content) same_digests
+pub prepared_state : (m : ManifestState) (shape : Shape) (current next : Body) (held : Option Digests) (digests : Digests) (content : Content) → m.shape ≡ shape → m.current ≡ current → m.digests ≡ held → IsNext m next → FitsSlot next → FitsDigests digests → LeavesOnly content (IsReady m next digests)
+    → IsPrepared (record { shape = shape; current = current; digests = held; spare_closed = true; prepared = Some (long_record next digests) }) next digests content
+prepared_state m shape current next held digests content same_shape same_current same_digests follows fits fits_digests leaves =
+    subst (λ s. IsPrepared (record { shape = s; current = current; digests = held; spare_closed = true; prepared = Some (long_record next digests) }) next digests content) same_shape
+    (subst (λ b. IsPrepared (record { shape = m.shape; current = b; digests = held; spare_closed = true; prepared = Some (long_record next digests) }) next digests content) same_current
+    (subst (λ d. IsPrepared (record { shape = m.shape; current = m.current; digests = d; spare_closed = true; prepared = Some (long_record next digests) }) next digests content) same_digests
     (record {
       is = refl;
       closed = refl;

@@ -11,7 +11,7 @@ use Rattle.silt_disk.proofs.Images.{rests_leaves}
 use Rattle.silt_frame.specs.Gate.{is_open}
 use Rattle.silt_manifest.specs.Digests.{record_of}
 use Rattle.silt_manifest.specs.Faults.{IsDamaged, IsNotRead, IsSlotRefused, IsUnsound}
-use Rattle.silt_manifest.specs.Ruling.{HasSlot, record_behind, record_found, is_slot_open, is_sound_record, open_record, ruling_manifest, slot_of, where_found}
+use Rattle.silt_manifest.specs.Current.{HasSlot, record_behind, record_found, is_slot_open, is_sound_record, open_record, current_manifest, slot_of, where_found}
 use Rattle.silt_manifest.specs.Standing.{IsRuled, ManifestState, manifest_of, ruled_by}
 use Rattle.silt_manifest.specs.declared.slot.SlotRecord.{SlotRecord}
 use Rattle.silt_manifest.specs.declared.slot.Damage.{Damage}
@@ -20,7 +20,7 @@ use Rattle.silt_manifest.specs.declared.slot.ReadFault.{ReadFault}
 use Rattle.silt_manifest.specs.declared.slot.ReadFault.TheVariants.{Damaged, Device}
 use Rattle.silt_manifest.proofs.SlotImages.{opened_record}
 use Rattle.silt_manifest.proofs.SoundBodies.{sound_body, sound_parts}
-use Rattle.silt_manifest.proofs.RulingLemmas.{alone_found, found_at, newer_first, newer_second}
+use Rattle.silt_manifest.proofs.CurrentLemmas.{alone_found, found_at, newer_first, newer_second}
 use Rattle.silt_manifest.proofs.CommitExits.{holds_open}
 
 -- what was read are a slot's bytes
@@ -88,7 +88,7 @@ holds_closed bytes holds =
     ]
 
 -- the record of the one slot is current, if the gate of the other is as given
-ruled_so : (s : Shape) (v : Version) (r o : ℕ) (b : SlotRecord) (spare_closed : Bool) (image : List ℕ) → r + o ≡ 1 → HasSlot s v r (Some b) image → ruling_manifest s image ≡ Some b → is_slot_open image o ≡ not spare_closed → IsRuled (ruled_by s b spare_closed) image
+ruled_so : (s : Shape) (v : Version) (r o : ℕ) (b : SlotRecord) (spare_closed : Bool) (image : List ℕ) → r + o ≡ 1 → HasSlot s v r (Some b) image → current_manifest s image ≡ Some b → is_slot_open image o ≡ not spare_closed → IsRuled (ruled_by s b spare_closed) image
 ruled_so s v r o b spare_closed image slots has rules spare =
     let own : b.body.generation % 2 ≡ r = (sound_parts s r b.body (sound_body s v r b has.sound)).slot_is in
     let other : (b.body.generation + 1) % 2 ≡ o = omega arith in

@@ -9,7 +9,7 @@ use Rattle.silt_disk.specs.Layout.{slot_at}
 use Rattle.silt_disk.proofs.Images.{torn_slice_before, torn_slice_after, torn_splice, splice_byte}
 use Rattle.silt_frame.specs.Gate.{is_open}
 use Rattle.silt_manifest.specs.Digests.{record_of}
-use Rattle.silt_manifest.specs.Ruling.{slot_of, is_slot_open, record_behind, open_record}
+use Rattle.silt_manifest.specs.Current.{slot_of, is_slot_open, record_behind, open_record}
 
 -- a slot is its gate and the bytes behind it
 pub slot_parts : (image : List ℕ) (slot : ℕ) → slot_at slot + 461 ≤ length image → slot_of image slot ≡ get_or image (slot_at slot) 0 ∷ slice_range image (slot_at slot + 1) (slot_at slot + 461)

@@ -7,7 +7,7 @@ use Rattle.silt_disk.specs.Layout.{Shape, InLimits}
 use Rattle.silt_disk.specs.declared.header.Version.{Version}
 use Rattle.silt_disk.specs.declared.header.Version.TheVariants.{One, Two}
 use Rattle.silt_manifest.specs.Body.{FitsSlot, all_below, is_well_formed}
-use Rattle.silt_manifest.specs.Ruling.{has_due_digests, is_sound_record}
+use Rattle.silt_manifest.specs.Current.{has_due_digests, is_sound_record}
 use Rattle.silt_manifest.specs.declared.body.Body.{Body}
 use Rattle.silt_manifest.specs.declared.slot.SlotRecord.{SlotRecord}
 

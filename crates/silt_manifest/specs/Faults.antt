@@ -3,7 +3,7 @@ use Rattle.std.specs.Prelude.{◌≡◌, ℕ, false, List, Err}
 use Rattle.silt_disk.specs.Disk.{Content, Shows}
 use Rattle.silt_disk.specs.Layout.{Shape}
 use Rattle.silt_disk.specs.declared.header.Version.{Version}
-use Rattle.silt_manifest.specs.Ruling.{open_record, is_sound_record, manifest_found}
+use Rattle.silt_manifest.specs.Current.{open_record, is_sound_record, manifest_found}
 use Rattle.silt_manifest.specs.declared.slot.Damage.{Damage}
 use Rattle.silt_manifest.specs.declared.slot.Damage.TheVariants.{Slot}
 use Rattle.silt_manifest.specs.declared.slot.ReadFault.{ReadFault}

@@ -3,5 +3,5 @@ pub mod Digests
 pub mod Faults
 pub mod IdList
 pub mod Numbers
-pub mod Ruling
+pub mod Current
 pub mod Standing

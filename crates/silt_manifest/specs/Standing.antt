@@ -6,7 +6,7 @@ use Rattle.silt_disk.specs.Layout.{Shape, InLimits, slot_at}
 use Rattle.silt_frame.specs.Gate.{gate_open}
 use Rattle.silt_manifest.specs.Body.{FitsSlot, first_body, is_well_formed}
 use Rattle.silt_manifest.specs.Digests.{FitsDigests, long_record, record_bytes}
-use Rattle.silt_manifest.specs.Ruling.{is_slot_open, manifest_found, open_record, ruling_manifest, slot_of}
+use Rattle.silt_manifest.specs.Current.{is_slot_open, manifest_found, open_record, current_manifest, slot_of}
 use Rattle.silt_manifest.specs.declared.body.Body.{Body}
 use Rattle.silt_manifest.specs.declared.digests.Digests.{Digests}
 use Rattle.silt_manifest.specs.declared.slot.SlotRecord.{SlotRecord}
@@ -15,18 +15,18 @@ use Rattle.silt_manifest.specs.declared.slot.SlotRecord.{SlotRecord}
 -- closed, and the next record once it is written behind that gate.
 pub record ManifestState : Type 0 where
   pub shape : Shape
-  pub ruling : Body
+  pub current : Body
   pub digests : Option Digests
   pub spare_closed : Bool
   pub prepared : Option SlotRecord
 
 -- the record of the current slot
-abbrev pub ruling_record : ManifestState → SlotRecord
-ruling_record m = record { body = m.ruling; digests = m.digests }
+abbrev pub current_record : ManifestState → SlotRecord
+current_record m = record { body = m.current; digests = m.digests }
 
 -- the manifest with this current record
 abbrev pub ruled_by : Shape → SlotRecord → Bool → ManifestState
-ruled_by s found spare_closed = record { shape = s; ruling = found.body; digests = found.digests; spare_closed = spare_closed; prepared = None }
+ruled_by s found spare_closed = record { shape = s; current = found.body; digests = found.digests; spare_closed = spare_closed; prepared = None }
 
 -- the manifest of two slots, each with a sound record or none
 abbrev pub manifest_of : Shape → Option SlotRecord → Option SlotRecord → Option ManifestState
@@ -37,12 +37,12 @@ manifest_of s (Some first) (Some second) =
     Some (if nat_lt first.body.generation second.body.generation then ruled_by s second false else ruled_by s first false)
 
 -- the slot of the current body
-abbrev pub ruling_slot : ManifestState → ℕ
-ruling_slot m = m.ruling.generation % 2
+abbrev pub current_slot : ManifestState → ℕ
+current_slot m = m.current.generation % 2
 
 -- the other slot, the spare one
 abbrev pub spare_slot : ManifestState → ℕ
-spare_slot m = (m.ruling.generation + 1) % 2
+spare_slot m = (m.current.generation + 1) % 2
 
 -- The place of the zero that begins a write of the next body: the gate, or, if that is closed already, the last place of the slot,
 -- which nothing reads.
@@ -60,7 +60,7 @@ pub record WritesNext (m : ManifestState) (next : Body) (digests : Digests) (old
 
 -- a body may follow the current one: it has the next generation and is well formed
 pub record IsNext (m : ManifestState) (next : Body) : Type 0 where
-  pub generation : next.generation ≡ m.ruling.generation + 1
+  pub generation : next.generation ≡ m.current.generation + 1
   pub sound : is_well_formed m.shape (spare_slot m) next ≡ true
 
 -- a record may follow the current one: its body may, and it has digests
@@ -70,17 +70,17 @@ pub record IsNextRecord (m : ManifestState) (next : SlotRecord) : Type 0 where
 
 -- the bodies are well formed
 pub record HasSoundBodies (m : ManifestState) : Type 0 where
-  pub ruling : is_well_formed m.shape (ruling_slot m) m.ruling ≡ true
+  pub current : is_well_formed m.shape (current_slot m) m.current ≡ true
   pub prepared : ForSome m.prepared (IsNextRecord m)
 
 -- in an image the record of the manifest is current
 abbrev pub RulesAsHeld : ManifestState → List ℕ → Type 0
-RulesAsHeld m image = ruling_manifest m.shape image ≡ Some (ruling_record m)
+RulesAsHeld m image = current_manifest m.shape image ≡ Some (current_record m)
 
 -- in an image the record is current and lies in its slot, and the other slot's gate is as the manifest has it
 pub record IsRuled (m : ManifestState) (image : List ℕ) : Type 0 where
   pub rules : RulesAsHeld m image
-  pub stands : open_record image (ruling_slot m) ≡ Some (ruling_record m)
+  pub stands : open_record image (current_slot m) ≡ Some (current_record m)
   pub spare : is_slot_open image (spare_slot m) ≡ not m.spare_closed
 
 -- the same in each possible crash image
@@ -90,7 +90,7 @@ Rules m content = LeavesOnly content (IsRuled m)
 -- in an image the record is current as before, and the other slot has the next one's bytes after a closed gate
 pub record IsReady (m : ManifestState) (next : Body) (digests : Digests) (image : List ℕ) : Type 0 where
   pub rules : RulesAsHeld m image
-  pub stands : open_record image (ruling_slot m) ≡ Some (ruling_record m)
+  pub stands : open_record image (current_slot m) ≡ Some (current_record m)
   pub spare : is_slot_open image (spare_slot m) ≡ false
   pub bytes : slice_range image (slot_at (spare_slot m) + 1) (slot_at (spare_slot m) + 461) ≡ record_bytes next digests
 
@@ -111,7 +111,7 @@ pub record CanCommit (m : ManifestState) (content : Content) : Type 0 where
 
 -- in an image the old record or the prepared one is current
 abbrev pub RulesOldOrNew : ManifestState → List ℕ → Type 0
-RulesOldOrNew m image = RulesAsHeld m image ⊎ (ruling_manifest m.shape image ≡ m.prepared)
+RulesOldOrNew m image = RulesAsHeld m image ⊎ (current_manifest m.shape image ≡ m.prepared)
 
 -- in an image slot 0 has the body of generation 0 with these digests and an open gate, and slot 1 is closed
 pub record IsFirst (digests : Digests) (image : List ℕ) : Type 0 where

@@ -5,10 +5,10 @@ ghost use Rattle.silt_disk.specs.Header.{header_of, version_of};
 ghost use Rattle.silt_disk.specs.Layout.{slot_at, sector};
 ghost use Rattle.silt_manifest.specs.Body.{is_well_formed};
 ghost use Rattle.silt_manifest.specs.Digests.{long_record};
-ghost use Rattle.silt_manifest.specs.Ruling.{ClosedSlotLaw, OtherRecordsLaw, OtherRegionsLaw, is_slot_open, is_sound_record};
+ghost use Rattle.silt_manifest.specs.Current.{ClosedSlotLaw, OtherRecordsLaw, OtherRegionsLaw, is_slot_open, is_sound_record};
 ghost use Rattle.silt_manifest.specs.Faults.{IsNotRead};
 ghost use Rattle.silt_manifest.specs.Standing.{CanCommit, FirstRulesLaw, IsFirst, IsNext, IsRuled, Rules, RulesAsHeld};
-ghost use Rattle.silt_manifest.specs.Standing.{RulesOldOrNew, WritesNext, closing_place, manifest_of, ruled_by, ruling_record, ruling_slot, spare_slot};
+ghost use Rattle.silt_manifest.specs.Standing.{RulesOldOrNew, WritesNext, closing_place, manifest_of, ruled_by, current_record, current_slot, spare_slot};
 
 use crate::body::Body;
 use crate::digests::Digests;
@@ -26,7 +26,7 @@ const UNUSED_PLACE: u64 = 4095;
 #[derive(Clone, Copy)]
 pub struct Manifest {
     geometry: Geometry,
-    ruling: Body,
+    current: Body,
     // The digests after the current body, if there are any.
     digests: Option<Digests>,
     // Whether the gate of the spare slot is closed.
@@ -40,11 +40,11 @@ impl Model for Manifest {
 
     ghost Value = { ManifestState };
 
-    ghost view = { λ m. record { shape = m.geometry; ruling = m.ruling; digests = m.digests; spare_closed = m.spare_closed; prepared = m.prepared } };
+    ghost view = { λ m. record { shape = m.geometry; current = m.current; digests = m.digests; spare_closed = m.spare_closed; prepared = m.prepared } };
 
-    ghost inverse = { λ s. record { geometry = s.shape; ruling = s.ruling; digests = s.digests; spare_closed = s.spare_closed; prepared = s.prepared } };
+    ghost inverse = { λ s. record { geometry = s.shape; current = s.current; digests = s.digests; spare_closed = s.spare_closed; prepared = s.prepared } };
 
-    ghost invariant = { λ m. HasSoundBodies (record { shape = m.geometry; ruling = m.ruling; digests = m.digests; spare_closed = m.spare_closed; prepared = m.prepared }) };
+    ghost invariant = { λ m. HasSoundBodies (record { shape = m.geometry; current = m.current; digests = m.digests; spare_closed = m.spare_closed; prepared = m.prepared }) };
 }
 
 /// Reads the slots of a device of this version. A closed slot is skipped. An open one is damage if its body is not well formed, or
@@ -80,12 +80,12 @@ impl Manifest {
     }
 
     /// The current body.
-    pub fn ruling(&self) -> Body
-        ensures value { result ≡ self.now.ruling }
-        ensures sound { is_well_formed self.now.shape (ruling_slot self.now) self.now.ruling ≡ true }
+    pub fn current(&self) -> Body
+        ensures value { result ≡ self.now.current }
+        ensures sound { is_well_formed self.now.shape (current_slot self.now) self.now.current ≡ true }
     {
         let _ = &self.geometry; // the body is well formed for it
-        self.ruling
+        self.current
     }
 
     /// The digests after the current body, if there are any.
@@ -103,7 +103,7 @@ impl Manifest {
     {
         Manifest {
             geometry,
-            ruling: found.body,
+            current: found.body,
             digests: found.digests,
             spare_closed,
             prepared: None,
@@ -141,7 +141,7 @@ impl Manifest {
         ensures value { result ≡ spare_slot self.now }
         ensures below { result < 2 }
     {
-        ((self.ruling.generation + 1) % 2) as u32
+        ((self.current.generation + 1) % 2) as u32
     }
 
     // The place of the zero that begins a write of the next record.
@@ -210,7 +210,7 @@ impl Manifest {
         ensures each { LeavesOnly (D.content disk.new) (RulesOldOrNew self.old) }
         ensures rules { OnOk result (Rules self.new (D.content disk.new)) }
         ensures rests { OnOk result (Rests (D.content disk.new)) }
-        ensures new { OnOk result (Some (ruling_record self.new) ≡ self.old.prepared) }
+        ensures new { OnOk result (Some (current_record self.new) ≡ self.old.prepared) }
         ensures state { OnOk result ((self.new.shape ≡ self.old.shape) × (self.new.spare_closed ≡ false) × (self.new.prepared ≡ None)) }
         ensures unchanged { OnErr result (self.new ≡ self.old) }
         ensures failures { MatchResult result (λ _. D.failures disk.new ≡ D.failures disk.old) (CountsFault D.failures D.gave disk.old disk.new) }
@@ -219,7 +219,7 @@ impl Manifest {
             unreachable!()
         };
         write_gate(disk, self.spare_slot(), GATE_OPEN)?;
-        self.ruling = next.body;
+        self.current = next.body;
         self.digests = next.digests;
         self.spare_closed = false;
         self.prepared = None;

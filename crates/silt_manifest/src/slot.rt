@@ -4,7 +4,7 @@ ghost use Rattle.silt_disk.specs.Disk.{ChangesWithin, CountsFault, GaveAny, Rest
 ghost use Rattle.silt_disk.specs.Layout.{slot_at, sector};
 ghost use Rattle.silt_manifest.specs.Body.{FitsSlot};
 ghost use Rattle.silt_manifest.specs.Digests.{FitsDigests, record_bytes, record_of};
-ghost use Rattle.silt_manifest.specs.Ruling.{HasSlot, has_due_digests, is_sound_record, record_behind};
+ghost use Rattle.silt_manifest.specs.Current.{HasSlot, has_due_digests, is_sound_record, record_behind};
 ghost use Rattle.silt_manifest.specs.Faults.{IsSlotRefused};
 ghost use Rattle.silt_manifest.specs.declared.slot.Damage.TheVariants.{Slot};
 
@@ -87,7 +87,7 @@ impl SlotRecord {
 }
 
 // Decodes the bytes of a slot: nothing if it is closed, and else a sound record.
-#[tactic(auto, unfolding(crate::specs::Ruling::record_behind))]
+#[tactic(auto, unfolding(crate::specs::Current::record_behind))]
 fn slot_held(
     bytes: &[u8; SLOT_LEN],
     geometry: &Geometry,

@@ -39,10 +39,10 @@ use Rattle.silt_recovery.proofs.HashSearches.{charge_of_named, known_count, rows
 use Rattle.silt_recovery.proofs.Searches.{found_within, log_verdict, sound_both}
 
 -- the stores in the words of the six numbers and the body
-pub named_so : (content : Content) (manifest : ManifestState) (shape : Shape) (body : Body) → shape ≡ manifest.shape → body ≡ manifest.ruling
-    → (IsTrue content.honest → image_stores content.shown ≡ Ok (stores_named manifest.shape manifest.ruling content.shown)) → IsTrue content.honest → image_stores content.shown ≡ Ok (stores_named shape body content.shown)
+pub named_so : (content : Content) (manifest : ManifestState) (shape : Shape) (body : Body) → shape ≡ manifest.shape → body ≡ manifest.current
+    → (IsTrue content.honest → image_stores content.shown ≡ Ok (stores_named manifest.shape manifest.current content.shown)) → IsTrue content.honest → image_stores content.shown ≡ Ok (stores_named shape body content.shown)
 named_so content manifest shape body same_shape same_body named h =
-    named h ∙ ap (λ (s : Shape). Ok (stores_named s manifest.ruling content.shown)) (sym same_shape) ∙ ap (λ (b : Body). Ok (stores_named shape b content.shown)) (sym same_body)
+    named h ∙ ap (λ (s : Shape). Ok (stores_named s manifest.current content.shown)) (sym same_shape) ∙ ap (λ (b : Body). Ok (stores_named shape b content.shown)) (sym same_body)
 
 -- nothing is found in the stores, and the manifest's digests are theirs
 all_found : (said : Option Digests) (s : Stores) → flat_map (log_findings s.shape) s.logs ≡ [] → flat_map (said_hash_findings s.shape said) (enumerate_from 0 s.hashes) ≡ [] → said_entry_findings said s.entries ≡ []
@@ -61,7 +61,7 @@ says_so content manifest said same says h = says h ∙ sym same
 
 module _ (content : Content) (shape : Shape) (body : Body) (named : IsTrue content.honest → image_stores content.shown ≡ Ok (stores_named shape body content.shown)) where
   -- the stores in the words of the manifest
-  same_stores : (manifest : ManifestState) → shape ≡ manifest.shape → body ≡ manifest.ruling → stores_named shape body content.shown ≡ stores_named manifest.shape manifest.ruling content.shown
+  same_stores : (manifest : ManifestState) → shape ≡ manifest.shape → body ≡ manifest.current → stores_named shape body content.shown ≡ stores_named manifest.shape manifest.current content.shown
   same_stores manifest same_shape same_body = ap (λ (s : Shape). stores_named s body content.shown) same_shape ∙ ap (λ (b : Body). stores_named manifest.shape b content.shown) same_body
 
   -- the first finding is in the active log
@@ -106,7 +106,7 @@ module _ (content : Content) (shape : Shape) (body : Body) (named : IsTrue conte
             (subst (λ (d : Option Digests). HasFirstEntry shape d content.shown body.sorted body.sorted_count finding) (sym (says h)) (found h))
 
         -- the rows that were counted are all
-        pub rows_counted : (manifest : ManifestState) → shape ≡ manifest.shape → body ≡ manifest.ruling → IsTrue content.honest → hash_rows ≡ sum_by known_count (stores_named manifest.shape manifest.ruling content.shown).hashes
+        pub rows_counted : (manifest : ManifestState) → shape ≡ manifest.shape → body ≡ manifest.current → IsTrue content.honest → hash_rows ≡ sum_by known_count (stores_named manifest.shape manifest.current content.shown).hashes
         unfolding stores_named
         rows_counted manifest same_shape same_body h =
             hashed.counted h ∙ ap (sum_by (region_rows shape content.shown)) named_ids ∙ rows_of_hashes shape content.shown body.hashed
@@ -136,7 +136,7 @@ module _ (content : Content) (shape : Shape) (body : Body) (named : IsTrue conte
           unfolding stores_named
           nothing_found most h = all_found said (stores_named shape body content.shown) (all_sound h) (hashes_sound h) (entries_sound h) (subst (λ (n : ℕ). n ≤ shape.sorted_capacity) (charge_is h) most)
 
-          module _ (manifest : ManifestState) (same_shape : shape ≡ manifest.shape) (same_body : body ≡ manifest.ruling) (same_said : said ≡ manifest.digests) where
+          module _ (manifest : ManifestState) (same_shape : shape ≡ manifest.shape) (same_body : body ≡ manifest.current) (same_said : said ≡ manifest.digests) where
             -- what is held
             pub held : (active : LogStoreState) (index : MarkedCode) (digest : List ℕ) (charge : ℕ) → InLimits shape → size content ≡ device_size manifest.shape → manifest.prepared ≡ None → (Rests content → Rules manifest content)
                 → IsReadLog content shape active → active.log.region ≡ body.active → HasIndex content sorted index → HasDigest content sorted digest → charge ≡ newest + older + hash_puts + sorted.count → charge ≤ shape.sorted_capacity
@@ -170,7 +170,7 @@ module _ (content : Content) (shape : Shape) (body : Body) (named : IsTrue conte
               says = λ h. says h ∙ same_said;
               sound = λ h. subst IsSound (same_stores manifest same_shape same_body) (nothing_found (subst (λ (n : ℕ). n ≤ shape.sorted_capacity) total most) h).0;
               said = λ h.
-                  subst (λ (d : Option Digests). AreDigestsOf d (stores_named manifest.shape manifest.ruling content.shown)) same_said
+                  subst (λ (d : Option Digests). AreDigestsOf d (stores_named manifest.shape manifest.current content.shown)) same_said
                   (subst (AreDigestsOf said) (same_stores manifest same_shape same_body) (nothing_found (subst (λ (n : ℕ). n ≤ shape.sorted_capacity) total most) h).1);
               counted = λ h. total ∙ charge_is h ∙ ap charge_of (same_stores manifest same_shape same_body);
             }
@@ -206,7 +206,7 @@ named_regions shape slot body limits sound =
     }
 
 -- the same of a body and of numbers that are named in another way
-pub regions_so : (manifest : ManifestState) (slot : ℕ) (shape : Shape) (body : Body) → shape ≡ manifest.shape → body ≡ manifest.ruling → InLimits shape → is_well_formed manifest.shape slot manifest.ruling ≡ true → HasRegions shape body
+pub regions_so : (manifest : ManifestState) (slot : ℕ) (shape : Shape) (body : Body) → shape ≡ manifest.shape → body ≡ manifest.current → InLimits shape → is_well_formed manifest.shape slot manifest.current ≡ true → HasRegions shape body
 regions_so manifest slot shape body same_shape same_body limits sound =
     named_regions shape slot body limits
     (ap (λ (s : Shape). is_well_formed s slot body) same_shape ∙ ap (λ (b : Body). is_well_formed manifest.shape slot b) same_body ∙ sound)

@@ -12,7 +12,7 @@ use Rattle.silt_log.specs.Rows.{log_rows}
 use Rattle.silt_log.proofs.Elsewhere.{log_rows_elsewhere}
 use Rattle.silt_manifest.specs.Body.{first_body}
 use Rattle.silt_manifest.specs.Digests.{long_record}
-use Rattle.silt_manifest.specs.Ruling.{is_slot_open, manifest_found}
+use Rattle.silt_manifest.specs.Current.{is_slot_open, manifest_found}
 use Rattle.silt_manifest.specs.Standing.{IsFirst}
 use Rattle.silt_manifest.specs.declared.digests.Digests.{Digests}
 use Rattle.silt_manifest.proofs.Laws.{closed_shown, closed_elsewhere, first_elsewhere}

@@ -7,8 +7,8 @@ use Rattle.silt_image.proofs.Named.{digests_law, stores_law}
 use Rattle.silt_image.proofs.Verdict.{no_stores_law}
 use Rattle.silt_event.specs.declared.damage.Finding.{Finding}
 use Rattle.silt_manifest.specs.Faults.{IsDamaged}
-use Rattle.silt_manifest.specs.Ruling.{manifest_found, where_found}
-use Rattle.silt_manifest.specs.Standing.{IsRuled, ManifestState, ruling_record}
+use Rattle.silt_manifest.specs.Current.{manifest_found, where_found}
+use Rattle.silt_manifest.specs.Standing.{IsRuled, ManifestState, current_record}
 use Rattle.silt_manifest.specs.declared.slot.SlotRecord.{SlotRecord}
 use Rattle.silt_manifest.specs.declared.slot.Damage.{Damage}
 use Rattle.silt_recovery.specs.Refusals.{IsFound}
@@ -19,19 +19,19 @@ found_record (Ok other) held is = cc
 found_record (Err damage) held is = absurd (cc)
 
 -- the current record, in a shape of another name
-pub record_that_rules : (shape : Shape) (image : List ℕ) (m : ManifestState) → m.shape ≡ shape → IsRuled m image → manifest_found shape image ≡ Ok (ruling_record m)
-record_that_rules shape image m same ruled = ap (λ (s : Shape). manifest_found s image) (sym same) ∙ found_record (manifest_found m.shape image) (ruling_record m) ruled.rules
+pub record_that_rules : (shape : Shape) (image : List ℕ) (m : ManifestState) → m.shape ≡ shape → IsRuled m image → manifest_found shape image ≡ Ok (current_record m)
+record_that_rules shape image m same ruled = ap (λ (s : Shape). manifest_found s image) (sym same) ∙ found_record (manifest_found m.shape image) (current_record m) ruled.rules
 
 -- the stores of the current record
-pub ruled_stores : (shape : Shape) (image : List ℕ) (m : ManifestState) → shape_found (length image) (header_of image) ≡ Ok shape → m.shape ≡ shape → IsRuled m image → image_stores image ≡ Ok (stores_named shape m.ruling image)
+pub ruled_stores : (shape : Shape) (image : List ℕ) (m : ManifestState) → shape_found (length image) (header_of image) ≡ Ok shape → m.shape ≡ shape → IsRuled m image → image_stores image ≡ Ok (stores_named shape m.current image)
 unfolding stores_named
 ruled_stores shape image m header same ruled =
-    (stores_law image (stores_named shape m.ruling image)).1 (record { shape = header; digests = m.digests; rules = record_that_rules shape image m same ruled; named = refl })
+    (stores_law image (stores_named shape m.current image)).1 (record { shape = header; digests = m.digests; rules = record_that_rules shape image m same ruled; named = refl })
 
 -- the digests behind it
-pub ruled_digests : (shape : Shape) (image : List ℕ) (m : ManifestState) → image_stores image ≡ Ok (stores_named shape m.ruling image) → m.shape ≡ shape → IsRuled m image → image_digests image ≡ m.digests
+pub ruled_digests : (shape : Shape) (image : List ℕ) (m : ManifestState) → image_stores image ≡ Ok (stores_named shape m.current image) → m.shape ≡ shape → IsRuled m image → image_digests image ≡ m.digests
 unfolding stores_named
-ruled_digests shape image m stores same ruled = digests_law image (stores_named shape m.ruling image) (ruling_record m) stores (record_that_rules shape image m same ruled)
+ruled_digests shape image m stores same ruled = digests_law image (stores_named shape m.current image) (current_record m) stores (record_that_rules shape image m same ruled)
 
 -- a finding in the header is the verdict
 pub header_verdict : (image : List ℕ) (finding : Finding) → shape_found (length image) (header_of image) ≡ Err finding → IsFound image finding

@@ -49,7 +49,7 @@ counts_read content shape (store ∷ stores) h read =
     ∙ sym (sum_by-cons part_count (log_part shape content.shown store.log.region) (map (log_part shape content.shown) (map region_of stores)))
 
 -- the numbers of the stores that are held
-pub reported : (content : Content) (s : TiersState) (body : Body) (hash_rows : ℕ) → Holds content s → CountsHashRows content s hash_rows → body ≡ s.manifest.ruling → IsTrue content.honest → IsReported content.shown (record {
+pub reported : (content : Content) (s : TiersState) (body : Body) (hash_rows : ℕ) → Holds content s → CountsHashRows content s hash_rows → body ≡ s.manifest.current → IsTrue content.honest → IsReported content.shown (record {
   generation = body.generation;
   active = body.active;
   active_rows = s.active.log.used;
@@ -65,12 +65,12 @@ unfolding stores_named
 reported content s body hash_rows holds counts same h =
     let named : Stores = shown_stores content s in
     let own = count_read content s.manifest.shape s.active h holds.active in
-    let first : Part = log_part s.manifest.shape content.shown s.manifest.ruling.active in
+    let first : Part = log_part s.manifest.shape content.shown s.manifest.current.active in
     let active_rows : s.active.log.used ≡ sum_by part_count (first ∷ []) =
     own ∙ ap (λ (n : ℕ). length (log_rows s.manifest.shape n content.shown)) holds.whole.active_region
-    ∙ (let plus : length (log_rows s.manifest.shape s.manifest.ruling.active content.shown) ≡ length (log_rows s.manifest.shape s.manifest.ruling.active content.shown) + 0 = omega arith in plus)
+    ∙ (let plus : length (log_rows s.manifest.shape s.manifest.current.active content.shown) ≡ length (log_rows s.manifest.shape s.manifest.current.active content.shown) + 0 = omega arith in plus)
     ∙ sym (sum_by-cons part_count first []) in
-    let frozen_rows : sum_by used_rows s.frozen ≡ sum_by part_count (map (log_part s.manifest.shape content.shown) s.manifest.ruling.frozen) =
+    let frozen_rows : sum_by used_rows s.frozen ≡ sum_by part_count (map (log_part s.manifest.shape content.shown) s.manifest.current.frozen) =
     counts_read content s.manifest.shape s.frozen h holds.frozen ∙ ap (λ (ids : List ℕ). sum_by part_count (map (log_part s.manifest.shape content.shown) ids)) holds.whole.frozen_regions in
     let told : Option Digests → Body → ℕ → ℕ → ℕ → ℕ → Report = λ said b n older hashed charge. record {
       generation = b.generation;
@@ -91,13 +91,13 @@ reported content s body hash_rows holds counts same h =
       good = held_good content s holds h;
       numbers =
           ap (λ (b : Body). told said b s.active.log.used (sum_by used_rows s.frozen) hash_rows s.charge) same
-          ∙ ap (λ (n : ℕ). told said s.manifest.ruling n (sum_by used_rows s.frozen) hash_rows s.charge) active_rows
-          ∙ ap (λ (n : ℕ). told said s.manifest.ruling (sum_by part_count (first ∷ [])) n hash_rows s.charge) frozen_rows
-          ∙ ap (λ (n : ℕ). told said s.manifest.ruling (sum_by part_count (first ∷ [])) (sum_by part_count (map (log_part s.manifest.shape content.shown) s.manifest.ruling.frozen)) n s.charge) (counts h)
-          ∙ ap (λ (n : ℕ). told said s.manifest.ruling (sum_by part_count (first ∷ [])) (sum_by part_count (map (log_part s.manifest.shape content.shown) s.manifest.ruling.frozen))
-          (sum_by known_count (map (hash_part s.manifest.shape content.shown) s.manifest.ruling.hashed)) n) (holds.counted h)
-          ∙ ap (λ (d : Option Digests). told d s.manifest.ruling (sum_by part_count (first ∷ [])) (sum_by part_count (map (log_part s.manifest.shape content.shown) s.manifest.ruling.frozen))
-          (sum_by known_count (map (hash_part s.manifest.shape content.shown) s.manifest.ruling.hashed)) (charge_of (shown_stores content s))) (sym (holds.says h));
+          ∙ ap (λ (n : ℕ). told said s.manifest.current n (sum_by used_rows s.frozen) hash_rows s.charge) active_rows
+          ∙ ap (λ (n : ℕ). told said s.manifest.current (sum_by part_count (first ∷ [])) n hash_rows s.charge) frozen_rows
+          ∙ ap (λ (n : ℕ). told said s.manifest.current (sum_by part_count (first ∷ [])) (sum_by part_count (map (log_part s.manifest.shape content.shown) s.manifest.current.frozen)) n s.charge) (counts h)
+          ∙ ap (λ (n : ℕ). told said s.manifest.current (sum_by part_count (first ∷ [])) (sum_by part_count (map (log_part s.manifest.shape content.shown) s.manifest.current.frozen))
+          (sum_by known_count (map (hash_part s.manifest.shape content.shown) s.manifest.current.hashed)) n) (holds.counted h)
+          ∙ ap (λ (d : Option Digests). told d s.manifest.current (sum_by part_count (first ∷ [])) (sum_by part_count (map (log_part s.manifest.shape content.shown) s.manifest.current.frozen))
+          (sum_by known_count (map (hash_part s.manifest.shape content.shown) s.manifest.current.hashed)) (charge_of (shown_stores content s))) (sym (holds.says h));
     }
 
 -- no log has more rows than a table has room for
@@ -108,7 +108,7 @@ few_rows content shape stores limits read =
     omega (arith, room, limits.log_capacity_most, bucket_count_most shape.buckets limits.buckets)) stores read
 
 -- the same of numbers that are named in another way
-pub reported_so : (content : Content) (s : TiersState) (body : Body) (rows frozen older hashes hash_rows : ℕ) (layout : Layout) → Holds content s → CountsHashRows content s hash_rows → body ≡ s.manifest.ruling → rows ≡ s.active.log.used → frozen ≡ length body.frozen → older ≡ sum_by used_rows s.frozen → hashes ≡ length body.hashed → layout ≡ layout_of s.manifest.digests
+pub reported_so : (content : Content) (s : TiersState) (body : Body) (rows frozen older hashes hash_rows : ℕ) (layout : Layout) → Holds content s → CountsHashRows content s hash_rows → body ≡ s.manifest.current → rows ≡ s.active.log.used → frozen ≡ length body.frozen → older ≡ sum_by used_rows s.frozen → hashes ≡ length body.hashed → layout ≡ layout_of s.manifest.digests
     → IsTrue content.honest → IsReported content.shown (record {
       generation = body.generation;
       active = body.active;
@@ -141,7 +141,7 @@ reported_so content s body rows frozen older hashes hash_rows layout holds count
     (subst (λ (l : Layout). IsReported content.shown (told s.active.log.used (length body.frozen) (sum_by used_rows s.frozen) (length body.hashed) l)) (sym is_layout) (reported content s body hash_rows holds counts same h)))))
 
 -- no more logs are frozen than a device can have
-pub few_frozen : (content : Content) (s : TiersState) (slot : ℕ) → Holds content s → is_well_formed s.manifest.shape slot s.manifest.ruling ≡ true → length s.frozen ≤ 7
+pub few_frozen : (content : Content) (s : TiersState) (slot : ℕ) → Holds content s → is_well_formed s.manifest.shape slot s.manifest.current ≡ true → length s.frozen ≤ 7
 few_frozen content s slot holds sound =
-    let all : HasRegions s.manifest.shape s.manifest.ruling = named_regions s.manifest.shape slot s.manifest.ruling holds.limits sound in
+    let all : HasRegions s.manifest.shape s.manifest.current = named_regions s.manifest.shape slot s.manifest.current holds.limits sound in
     omega (arith, all.few, ap length holds.whole.frozen_regions, length-map s.frozen region_of)

@@ -31,7 +31,7 @@ use Rattle.silt_log.proofs.Waiting.{none_waiting}
 use Rattle.silt_log_store.specs.Calls.{SealsStore}
 use Rattle.silt_log_store.specs.State.{LogStoreState}
 use Rattle.silt_manifest.proofs.Laws.{rules_elsewhere}
-use Rattle.silt_manifest.specs.Standing.{IsRuled, Rules, ruling_record}
+use Rattle.silt_manifest.specs.Standing.{IsRuled, Rules, current_record}
 use Rattle.silt_manifest.specs.declared.digests.Digests.{Digests}
 use Rattle.silt_merge.specs.State.{MergeState}
 use Rattle.silt_standing.specs.Standing.{HasGathered, IsDigested, IsFrozen, IsLocated, Stands, base_map, shown_stores}
@@ -189,17 +189,17 @@ module _ (old between new : Content) (s : TiersState) (settles : Settles old bet
   here h = settles.honest ∙ h
 
   -- the change and the rows, in the manifest's words
-  changed : ChangesWithin (gates_at s.manifest.shape s.manifest.ruling.active) (log_size s.manifest.shape) between new
+  changed : ChangesWithin (gates_at s.manifest.shape s.manifest.current.active) (log_size s.manifest.shape) between new
   changed =
       subst (λ (n : ℕ). ChangesWithin (gates_at s.manifest.shape n) (log_size s.manifest.shape) between new) holds.whole.active_region
       (subst (λ (x : Shape). ChangesWithin (gates_at x s.active.log.region) (log_size x) between new) holds.whole.has_shape changes)
 
-  stays : LeavesOnly new (λ image. log_rows s.manifest.shape s.manifest.ruling.active image ≡ log_rows s.manifest.shape s.manifest.ruling.active between.shown)
+  stays : LeavesOnly new (λ image. log_rows s.manifest.shape s.manifest.current.active image ≡ log_rows s.manifest.shape s.manifest.current.active between.shown)
   stays =
       subst (λ (n : ℕ). LeavesOnly new (λ image. log_rows s.manifest.shape n image ≡ log_rows s.manifest.shape n between.shown)) holds.whole.active_region
       (subst (λ (x : Shape). LeavesOnly new (λ image. log_rows x s.active.log.region image ≡ log_rows x s.active.log.region between.shown)) holds.whole.has_shape images)
 
-  exists : s.manifest.ruling.active < s.manifest.shape.logs
+  exists : s.manifest.current.active < s.manifest.shape.logs
   exists =
       subst (λ (n : ℕ). n < s.manifest.shape.logs) holds.whole.active_region
       (subst (λ (x : Shape). s.active.log.region < x.logs) holds.whole.has_shape holds.active.bounds.region)
@@ -208,9 +208,9 @@ module _ (old between new : Content) (s : TiersState) (settles : Settles old bet
   whole h = whole_law between.shown (shown_stores between s) (holds.named h)
 
   -- the active log with its own rows
-  own_rows : IsTrue between.honest → with_log_rows s.manifest.ruling.active (log_rows s.manifest.shape s.manifest.ruling.active between.shown) (shown_stores between s) ≡ shown_stores between s
+  own_rows : IsTrue between.honest → with_log_rows s.manifest.current.active (log_rows s.manifest.shape s.manifest.current.active between.shown) (shown_stores between s) ≡ shown_stores between s
   unfolding stores_named
-  own_rows h = own_rows_law (shown_stores between s) (log_rows s.manifest.shape s.manifest.ruling.active between.shown) (whole h).active
+  own_rows h = own_rows_law (shown_stores between s) (log_rows s.manifest.shape s.manifest.current.active between.shown) (whole h).active
 
   -- each possible crash image has the stores that were shown
   same_stores : LeavesOnly new (λ image. image_stores image ≡ Ok (shown_stores between s))
@@ -220,10 +220,10 @@ module _ (old between new : Content) (s : TiersState) (settles : Settles old bet
         let h : IsTrue between.honest = was honest in
         let from = changed.left h image left in
         let is : from.0 ≡ between.shown = left_at_rest settles.rests h from.0 from.1 in
-        let torn : Torn (gates_at s.manifest.shape s.manifest.ruling.active) (log_size s.manifest.shape) between.shown image =
-        subst (λ (before : List ℕ). Torn (gates_at s.manifest.shape s.manifest.ruling.active) (log_size s.manifest.shape) before image) is from.2 in
-        log_region_law between.shown image (shown_stores between s) s.manifest.ruling.active (holds.named h) exists torn
-        ∙ ap (λ (rows : List StoredRow). Ok (with_log_rows s.manifest.ruling.active rows (shown_stores between s))) (stays.each honest image left)
+        let torn : Torn (gates_at s.manifest.shape s.manifest.current.active) (log_size s.manifest.shape) between.shown image =
+        subst (λ (before : List ℕ). Torn (gates_at s.manifest.shape s.manifest.current.active) (log_size s.manifest.shape) before image) is from.2 in
+        log_region_law between.shown image (shown_stores between s) s.manifest.current.active (holds.named h) exists torn
+        ∙ ap (λ (rows : List StoredRow). Ok (with_log_rows s.manifest.current.active rows (shown_stores between s))) (stays.each honest image left)
         ∙ ap Ok (own_rows h);
   }
 
@@ -236,12 +236,12 @@ module _ (old between new : Content) (s : TiersState) (settles : Settles old bet
   still_ruled : Rules s.manifest new
   still_ruled =
       let least : slot_at 1 + 4096 ≤ size between = omega (arith, holds.has_size) in
-      rules_elsewhere s.manifest (gates_at s.manifest.shape s.manifest.ruling.active) (log_size s.manifest.shape) between new least (inr (omega arith)) changed (holds.rules settles.rests)
+      rules_elsewhere s.manifest (gates_at s.manifest.shape s.manifest.current.active) (log_size s.manifest.shape) between new least (inr (omega arith)) changed (holds.rules settles.rests)
 
   -- so it has the same digests
   said_in : (image : List ℕ) → image_stores image ≡ Ok (shown_stores between s) → IsRuled s.manifest image → image_digests image ≡ s.manifest.digests
   unfolding stores_named
-  said_in image stores ruled = digests_law image (shown_stores between s) (ruling_record s.manifest) stores (record_that_rules s.manifest.shape image s.manifest refl ruled)
+  said_in image stores ruled = digests_law image (shown_stores between s) (current_record s.manifest) stores (record_that_rules s.manifest.shape image s.manifest refl ruled)
 
   same_said : LeavesOnly new (λ image. image_digests image ≡ s.manifest.digests)
   same_said = record { each = λ honest image left. said_in image (same_stores.each honest image left) (still_ruled.each honest image left) }
@@ -261,15 +261,15 @@ module _ (old between new : Content) (s : TiersState) (settles : Settles old bet
   sealed_images = record { each = λ honest image left. inr (stands_for (sym settles.honest ∙ was honest) image (same_stores.each honest image left) (same_said.each honest image left)) }
 
   module _ (after : LogStoreState) (sizes : size new ≡ size between) (long_as : size between ≡ size old) (seals : SealsStore between new s.active after) where
-    same_log : after.log ≡ record s.active.log { loose = false }
+    same_log : after.log ≡ record s.active.log { stale = false }
     same_log = seals.log.log
 
     frozen_rows : IsTrue between.honest → All (λ (store : LogStoreState). log_rows s.manifest.shape store.log.region new.shown ≡ log_rows s.manifest.shape store.log.region between.shown) s.frozen
     unfolding stores_named
     frozen_rows h =
-        let all : map (log_part s.manifest.shape new.shown) (s.manifest.ruling.active ∷ s.manifest.ruling.frozen) ≡ map (log_part s.manifest.shape between.shown) (s.manifest.ruling.active ∷ s.manifest.ruling.frozen) =
+        let all : map (log_part s.manifest.shape new.shown) (s.manifest.current.active ∷ s.manifest.current.frozen) ≡ map (log_part s.manifest.shape between.shown) (s.manifest.current.active ∷ s.manifest.current.frozen) =
         ap (λ (x : Stores). x.logs) (shown_same h) in
-        let frozen : map (log_part s.manifest.shape new.shown) s.manifest.ruling.frozen ≡ map (log_part s.manifest.shape between.shown) s.manifest.ruling.frozen = cc in
+        let frozen : map (log_part s.manifest.shape new.shown) s.manifest.current.frozen ≡ map (log_part s.manifest.shape between.shown) s.manifest.current.frozen = cc in
         same_rows s.manifest.shape new.shown between.shown s.frozen
         (subst (λ (ids : List ℕ). map (log_part s.manifest.shape new.shown) ids ≡ map (log_part s.manifest.shape between.shown) ids) (sym holds.whole.frozen_regions) frozen)
 
@@ -277,12 +277,12 @@ module _ (old between new : Content) (s : TiersState) (settles : Settles old bet
     settled = ap (λ (l : LogState). l.settled) same_log ∙ holds.active.settled ∙ sym (ap (λ (l : LogState). l.used) same_log)
 
     -- the rows of the active log
-    active_rows : IsTrue between.honest → all_rows new after.log ≡ log_rows s.manifest.shape s.manifest.ruling.active between.shown
+    active_rows : IsTrue between.honest → all_rows new after.log ≡ log_rows s.manifest.shape s.manifest.current.active between.shown
     active_rows h =
         seals.all h ∙ scanned_rows between s.active.log (holds.active.scanned h).used
         ∙ ap (λ (x : Shape). log_rows x s.active.log.region between.shown) holds.whole.has_shape ∙ ap (λ (n : ℕ). log_rows s.manifest.shape n between.shown) holds.whole.active_region
 
-    has_region : after.log.region ≡ s.manifest.ruling.active
+    has_region : after.log.region ≡ s.manifest.current.active
     has_region = ap (λ (l : LogState). l.region) same_log ∙ holds.whole.active_region
 
     -- nothing is found in the stores with all rows of the active log
@@ -291,7 +291,7 @@ module _ (old between new : Content) (s : TiersState) (settles : Settles old bet
         subst IsSound (sym (
         ap (λ (x : Stores). with_log_rows after.log.region (all_rows new after.log) x) (shown_same h)
         ∙ ap (λ (rows : List StoredRow). with_log_rows after.log.region rows (shown_stores between s)) (active_rows h)
-        ∙ ap (λ (n : ℕ). with_log_rows n (log_rows s.manifest.shape s.manifest.ruling.active between.shown) (shown_stores between s)) has_region
+        ∙ ap (λ (n : ℕ). with_log_rows n (log_rows s.manifest.shape s.manifest.current.active between.shown) (shown_stores between s)) has_region
         ∙ own_rows h
         )) (holds.sound h)
 
@@ -324,9 +324,9 @@ module _ (old between new : Content) (s : TiersState) (settles : Settles old bet
           active = sealed.log;
           indexed = sealed.index;
           frozen = λ k d inside. frozen_stands between new s.manifest.shape (slice_index_or s.frozen k d) changes.honest (holds.frozen k d inside) (λ h. frozen_rows h k d inside);
-          hashed = λ k d inside. hash_stands between new s.manifest.shape s.manifest.ruling.active (slice_index_or s.hashes k d) exists (omega (arith, holds.has_size)) changed (holds.whole.hashed k d inside) (holds.hashed k d inside);
-          located = index_stands between new s s.manifest.ruling.active exists (omega (arith, holds.has_size)) changed holds.whole holds.located;
-          digested = digest_stands between new s s.manifest.ruling.active exists (omega (arith, holds.has_size)) changed holds.whole holds.digested;
+          hashed = λ k d inside. hash_stands between new s.manifest.shape s.manifest.current.active (slice_index_or s.hashes k d) exists (omega (arith, holds.has_size)) changed (holds.whole.hashed k d inside) (holds.hashed k d inside);
+          located = index_stands between new s s.manifest.current.active exists (omega (arith, holds.has_size)) changed holds.whole holds.located;
+          digested = digest_stands between new s s.manifest.current.active exists (omega (arith, holds.has_size)) changed holds.whole holds.digested;
           written = none_written new (record s { active = after }) holds.none_converted;
           merged = none_gathered new (record s { active = after }) holds.none_merged;
           named = record { each = λ honest image left. same_stores.each honest image left ∙ ap Ok (sym (shown_same (was honest))) };

@@ -66,7 +66,7 @@ fn empty_digests() -> Digests
 fn write_store<D: Disk>(disk: &mut D, log: &mut Log, geometry: &Geometry) -> Result<(), D::Fault>
     requires size { size (D.content disk.old) ≡ device_size geometry.now }
     requires limits { InLimits geometry.now }
-    requires log { log.old ≡ record { shape = geometry.now; region = 0; settled = 0; used = 0; loose = false } }
+    requires log { log.old ≡ record { shape = geometry.now; region = 0; settled = 0; used = 0; stale = false } }
     ensures same { SameDisk (D.content disk.old) (D.content disk.new) }
     ensures images { OnOk result (LeavesOnly (D.content disk.new) (StandsFor geometry.now empty)) }
     ensures stopped { OnErr result (LeavesOnly (D.content disk.new) (IsHalfFormatted (D.content disk.old) geometry.now)) }

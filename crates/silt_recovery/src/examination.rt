@@ -47,7 +47,7 @@ fn read_manifest<D: Disk>(
     requires version { IsTrue (D.content disk.now).honest → version ≡ version_of (header_of (D.content disk.now).shown) }
     ensures shape { IfOk result (λ m. (m.shape ≡ geometry) × (m.prepared ≡ None)) }
     ensures rules { IfOk result (λ m. Rests (D.content disk.now) → Rules m (D.content disk.now)) }
-    ensures named { IsTrue (D.content disk.now).honest → IfOk result (λ m. image_stores (D.content disk.now).shown ≡ Ok (stores_named geometry m.ruling (D.content disk.now).shown)) }
+    ensures named { IsTrue (D.content disk.now).honest → IfOk result (λ m. image_stores (D.content disk.now).shown ≡ Ok (stores_named geometry m.current (D.content disk.now).shown)) }
     ensures says { IsTrue (D.content disk.now).honest → IfOk result (λ m. image_digests (D.content disk.now).shown ≡ m.digests) }
     ensures cause { IfErr result (IsRefusedLook
         (λ finding. IsTrue (D.content disk.now).honest → IsFound (D.content disk.now).shown finding)
@@ -69,7 +69,7 @@ fn read_stores<D: Disk>(
 ) -> Result<Holding, OpenError<D::Fault>>
     requires size { size (D.content disk.now) ≡ device_size manifest.shape }
     requires idle { manifest.prepared ≡ None }
-    requires named { IsTrue (D.content disk.now).honest → image_stores (D.content disk.now).shown ≡ Ok (stores_named manifest.shape manifest.ruling (D.content disk.now).shown) }
+    requires named { IsTrue (D.content disk.now).honest → image_stores (D.content disk.now).shown ≡ Ok (stores_named manifest.shape manifest.current (D.content disk.now).shown) }
     requires says { IsTrue (D.content disk.now).honest → image_digests (D.content disk.now).shown ≡ manifest.digests }
     requires rules { Rests (D.content disk.now) → Rules manifest (D.content disk.now) }
     ensures holds { IfOk result (λ held. Holds (D.content disk.now) (held_stores held)) }
@@ -80,7 +80,7 @@ fn read_stores<D: Disk>(
         (GaveAny D.gave disk.now)) }
 {
     let geometry = manifest.geometry();
-    let body = manifest.ruling();
+    let body = manifest.current();
     let said = manifest.digests();
     let most = u64::from(geometry.sorted_capacity());
     let active = read_log(alloc, disk, geometry, body.active)?;

@@ -35,7 +35,7 @@ fn report_of<D: Disk>(disk: &D, held: &Holding) -> Report
     requires hash_rows { CountsHashRows (D.content disk.now) (held_stores held.now) held.now.hash_rows }
     ensures { IsTrue (D.content disk.now).honest → IsReported (D.content disk.now).shown result }
 {
-    let body = held.manifest.ruling();
+    let body = held.manifest.current();
     let said = held.manifest.digests();
     Report {
         generation: body.generation,

@@ -31,7 +31,7 @@ pub record SameDisk (old new : Content) : Type 0 where
 
 -- the stores that the disk shows, as the manifest in memory names them
 abbrev pub shown_stores : Content → TiersState → Stores
-shown_stores content s = stores_named s.manifest.shape s.manifest.ruling content.shown
+shown_stores content s = stores_named s.manifest.shape s.manifest.current content.shown
 
 -- the map of the settled rows
 unfoldable pub base_map : Content → TiersState → Map

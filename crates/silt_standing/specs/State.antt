@@ -57,7 +57,7 @@ pub record IsUnderWay (s : TiersState) (conversion : ConversionState) : Type 0 w
   pub has_shape : conversion.shape ≡ s.manifest.shape
   pub some_frozen : 0 < length s.frozen
   pub there : conversion.region < s.manifest.shape.hashes
-  pub free : names_hash s.manifest.ruling conversion.region ≡ false
+  pub free : names_hash s.manifest.current conversion.region ≡ false
   pub most : conversion.next ≤ 4 * s.manifest.shape.buckets
 
 -- a merge of the oldest hash stores, at least one, and the sorted store into the other sorted region
@@ -76,12 +76,12 @@ sorted_named shape body = record { shape = shape; region = body.sorted; count = 
 -- than the store may hold
 pub record AreWhole (s : TiersState) : Type 0 where
   pub has_shape : s.active.log.shape ≡ s.manifest.shape
-  pub active_region : s.active.log.region ≡ s.manifest.ruling.active
-  pub frozen_regions : map region_of s.frozen ≡ s.manifest.ruling.frozen
+  pub active_region : s.active.log.region ≡ s.manifest.current.active
+  pub frozen_regions : map region_of s.frozen ≡ s.manifest.current.frozen
   pub settled : All (IsSettled s.manifest.shape) s.frozen
-  pub hash_regions : map hash_region_of s.hashes ≡ s.manifest.ruling.hashed
+  pub hash_regions : map hash_region_of s.hashes ≡ s.manifest.current.hashed
   pub hashed : All (IsHashOf s.manifest.shape) s.hashes
-  pub sorted : s.sorted ≡ sorted_named s.manifest.shape s.manifest.ruling
+  pub sorted : s.sorted ≡ sorted_named s.manifest.shape s.manifest.current
   pub held : IsHeldSorted s.sorted
   pub under_way : IfSome s.converting (IsUnderWay s)
   pub merging : IfSome s.merging (IsMerging s)

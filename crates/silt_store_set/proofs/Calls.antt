@@ -28,7 +28,7 @@ abbrev pub seen : {D F : Type 0} → Ghosts D F → D → TiersState → ℕ →
 seen facts disk stores count = record {
   disk = disk;
   shape = stores.manifest.shape;
-  body = stores.manifest.ruling;
+  body = stores.manifest.current;
   full = full_image (facts.content disk) stores;
   base = image_map (facts.content disk).shown;
   waiting = waiting_commands (facts.content disk) stores;
@@ -250,7 +250,7 @@ module _ {D F : Type 0} (facts : Ghosts D F) where
         → Counts count reply next → accepted_command event reply ≡ adds → is_refused reply ≡ false → is_failed reply ≡ false
         → Cause facts (seen facts disk stores count) (seen facts new after next) event reply
         → ((m to : Map) → to ≡ map_after m adds → Step m event reply to)
-        → (adds ≡ [] → is_finished reply ≡ false → after.manifest.ruling ≡ stores.manifest.ruling)
+        → (adds ≡ [] → is_finished reply ≡ false → after.manifest.current ≡ stores.manifest.current)
         → (is_convert event ≡ false → after.converting ≡ stores.converting) → (is_merge event ≡ false → after.merging ≡ stores.merging)
         → (IsTrue (facts.content disk).honest → Durable (seen facts new after next) reply) → facts.failures new ≡ facts.failures disk
         → Does facts (seen facts disk stores count) (seen facts new after next) event reply

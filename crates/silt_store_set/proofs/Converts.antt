@@ -25,7 +25,7 @@ written_same None = refl
 written_same (Some conversion) = refl
 
 -- the contracts' view of a step in memory
-goes_on : (s : TiersState) (before : Option ConversionState) (after : ConversionState) → IsNextStep s before after → ConvertGoesOn s.manifest.shape.hashes s.manifest.ruling (convert_work before) (convert_work (Some after))
+goes_on : (s : TiersState) (before : Option ConversionState) (after : ConversionState) → IsNextStep s before after → ConvertGoesOn s.manifest.shape.hashes s.manifest.current (convert_work before) (convert_work (Some after))
 goes_on s None after step = step
 goes_on s (Some before) after step = step
 
@@ -37,9 +37,9 @@ module _ {D F : Type 0} (facts : Ghosts D F) (disk : D) (stores : TiersState) (c
   -- the next step is the same in memory and by the manifest record
   pub due_same : convert_due before ≡ convert_turn stores
   due_same =
-      let frozen : length stores.manifest.ruling.frozen ≡ length stores.frozen = ap length (sym stands.whole.frozen_regions) ∙ length-map stores.frozen region_of in
-      let hashed : length stores.manifest.ruling.hashed ≡ length stores.hashes = ap length (sym stands.whole.hash_regions) ∙ length-map stores.hashes hash_region_of in
-      ap (λ (n : ℕ). progress_due n (length stores.manifest.ruling.hashed) stores.manifest.shape.hashes (4 * stores.manifest.shape.buckets) (written_of (convert_work stores.converting))) frozen
+      let frozen : length stores.manifest.current.frozen ≡ length stores.frozen = ap length (sym stands.whole.frozen_regions) ∙ length-map stores.frozen region_of in
+      let hashed : length stores.manifest.current.hashed ≡ length stores.hashes = ap length (sym stands.whole.hash_regions) ∙ length-map stores.hashes hash_region_of in
+      ap (λ (n : ℕ). progress_due n (length stores.manifest.current.hashed) stores.manifest.shape.hashes (4 * stores.manifest.shape.buckets) (written_of (convert_work stores.converting))) frozen
       ∙ ap (λ (n : ℕ). progress_due (length stores.frozen) n stores.manifest.shape.hashes (4 * stores.manifest.shape.buckets) (written_of (convert_work stores.converting))) hashed
       ∙ ap (progress_due (length stores.frozen) (length stores.hashes) stores.manifest.shape.hashes (4 * stores.manifest.shape.buckets)) (written_same stores.converting)
 
@@ -51,10 +51,10 @@ module _ {D F : Type 0} (facts : Ghosts D F) (disk : D) (stores : TiersState) (c
 
   -- what the slots have
   rows_are : (new : D) (after : TiersState) (conversion : ConversionState) → stores.converting ≡ Some conversion → HasConvertedRows (facts.content disk) (facts.content new) stores after
-      → AreConverted stores.manifest.shape (oldest_rows stores.manifest.shape stores.manifest.ruling (full_image (facts.content disk) stores)) (hash_rows stores.manifest.shape conversion.region (full_image (facts.content new) after))
+      → AreConverted stores.manifest.shape (oldest_rows stores.manifest.shape stores.manifest.current (full_image (facts.content disk) stores)) (hash_rows stores.manifest.shape conversion.region (full_image (facts.content new) after))
   rows_are new after conversion was has =
       subst (λ (o : Option ConversionState). IfSome o (λ c.
-      AreConverted stores.manifest.shape (oldest_rows stores.manifest.shape stores.manifest.ruling (full_image (facts.content disk) stores)) (hash_rows stores.manifest.shape c.region (full_image (facts.content new) after)))) was has
+      AreConverted stores.manifest.shape (oldest_rows stores.manifest.shape stores.manifest.current (full_image (facts.content disk) stores)) (hash_rows stores.manifest.shape c.region (full_image (facts.content new) after)))) was has
 
   -- a step succeeded
   pub stepped : (progress : ProgressOf) (new : D) (after : TiersState) → SameDisk (facts.content disk) (facts.content new) → Advances [] (facts.content disk) (facts.content new) stores after
@@ -64,11 +64,11 @@ module _ {D F : Type 0} (facts : Ghosts D F) (disk : D) (stores : TiersState) (c
   stepped Waiting new after same goes converts rows quiet counted = stood Waiting new after converts.due (quiet refl) converts.done counted refl refl
   stepped Moved new after same goes converts rows quiet counted =
       let moves : MovesOn stores after = converts.done in
-      let ruling : after.manifest.ruling ≡ stores.manifest.ruling = ap (λ (s : TiersState). s.manifest.ruling) moves.is in
+      let current : after.manifest.current ≡ stores.manifest.current = ap (λ (s : TiersState). s.manifest.current) moves.is in
       let work : after.converting ≡ Some moves.conversion = ap (λ (s : TiersState). s.converting) moves.is in
-      let on : ConvertGoesOn stores.manifest.shape.hashes stores.manifest.ruling (convert_work stores.converting) (convert_work after.converting) = rw work (goes_on stores stores.converting moves.conversion moves.step) in
+      let on : ConvertGoesOn stores.manifest.shape.hashes stores.manifest.current (convert_work stores.converting) (convert_work after.converting) = rw work (goes_on stores stores.converting moves.conversion moves.step) in
       advanced facts disk new stores after same stands [] count count Convert (Progress Moved) goes refl refl refl refl
-      (refl, converts.due ∙ sym due_same, (ruling, on), counted) (λ m to e. e) (λ _ _. ruling) (λ other. absurd (cc)) (λ _. ap (λ (s : TiersState). s.merging) moves.is) (λ _. tt) counted
+      (refl, converts.due ∙ sym due_same, (current, on), counted) (λ m to e. e) (λ _ _. current) (λ other. absurd (cc)) (λ _. ap (λ (s : TiersState). s.merging) moves.is) (λ _. tt) counted
   stepped Finished new after same goes converts rows quiet counted =
       let ends : Finishes stores after = converts.done in
       advanced facts disk new stores after same stands [] count count Convert (Progress Finished) goes refl refl refl refl (
@@ -78,7 +78,7 @@ module _ {D F : Type 0} (facts : Ghosts D F) (disk : D) (stores : TiersState) (c
           work = record { region = ends.conversion.region; written = ends.conversion.next };
           was = ap convert_work ends.was;
           none = ap convert_work ends.none;
-          body = ends.ruling;
+          body = ends.current;
           rows = λ h. rows_are new after ends.conversion ends.was (rows refl h);
         },
         counted,

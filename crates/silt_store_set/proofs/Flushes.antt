@@ -47,7 +47,7 @@ module _ {D F : Type 0} (facts : Ghosts D F) (disk : D) (stores : TiersState) (c
       let waits = tells_below stores.active.log.settled stores.active.log.used some in
       advanced facts disk new stores after same stands [] count count Flush (Acknowledged count) goes (refl, refl) refl refl refl
       (refl, counted, λ none. absurd (some_wait (facts.content disk) stores.active.log waits none)) (λ m to e. e)
-      (λ _ _. ap (λ m. m.ruling) manifest) (λ _. converting) (λ _. merging) (λ _. quiet.none_wait) counted
+      (λ _ _. ap (λ m. m.current) manifest) (λ _. converting) (λ _. merging) (λ _. quiet.none_wait) counted
 
   -- a sync or the write of the commit bytes failed
   pub flush_broke : (new : D) (after : TiersState) (fault : F) → SameDisk (facts.content disk) (facts.content new) → Breaks (facts.content disk) (facts.content new) stores → Remaps [] (facts.content disk) (facts.content new) stores after

@@ -154,11 +154,11 @@ module _ (content : Content) (s : TiersState) (stands : Stands content s) (hones
   -- the slots that it takes of the full image are those of its stores
   slots_taken : (count : ℕ) → flat_map part_rows (drop (length (full_stores content s).hashes - count) (full_stores content s).hashes) ≡ slots_in s.manifest.shape content.shown (regions_of (oldest_stores count s.hashes))
   slots_taken count =
-      let same : (full_stores content s).hashes ≡ map (hash_part s.manifest.shape content.shown) s.manifest.ruling.hashed =
+      let same : (full_stores content s).hashes ≡ map (hash_part s.manifest.shape content.shown) s.manifest.current.hashed =
       ap (λ (t : Stores). t.hashes) (full_is content s stands honest)
-      ∙ hashes_with s.manifest.ruling.active (all_rows content s.active.log) s.manifest.shape s.manifest.ruling content.shown in
+      ∙ hashes_with s.manifest.current.active (all_rows content s.active.log) s.manifest.shape s.manifest.current content.shown in
       ap (λ l. flat_map part_rows (drop (length l - count) l)) same
-      ∙ ap (flat_map part_rows) (taken_named s.manifest.shape content.shown s.manifest.ruling.hashed s.hashes count stands.whole.hash_regions)
+      ∙ ap (flat_map part_rows) (taken_named s.manifest.shape content.shown s.manifest.current.hashed s.hashes count stands.whole.hash_regions)
       ∙ parts_slots s.manifest.shape content.shown (regions_of (oldest_stores count s.hashes))
 
   module _ (merge : MergeState) (way : IsMerging s merge) (merged : HasGathered content s merge) (takes : TakesMemory content (oldest_stores merge.stores s.hashes) merge) where

@@ -46,8 +46,8 @@ slot_below : (store stores slot slots : ℕ) → store < stores → slot < slots
 slot_below store stores slot slots store_in slot_in = subst (λ (n : ℕ). store * slots + slot < n) (mul_comm slots stores) (mul-add-lt store slots slot stores store_in slot_in)
 
 -- the contracts' view of a step in memory
-goes_on : (s : TiersState) (before : Option MergeState) (after : MergeState) → length s.hashes ≡ length s.manifest.ruling.hashed → IsNextMerge s before after
-    → MergeGoesOn s.manifest.ruling (merge_work before) (merge_work (Some after))
+goes_on : (s : TiersState) (before : Option MergeState) (after : MergeState) → length s.hashes ≡ length s.manifest.current.hashed → IsNextMerge s before after
+    → MergeGoesOn s.manifest.current (merge_work before) (merge_work (Some after))
 goes_on s None after named step = (step.0 ∙ named, step.1)
 goes_on s (Some before) after named step = (step.0.stores, step.1)
 
@@ -57,7 +57,7 @@ module _ {D F : Type 0} (facts : Ghosts D F) (disk : D) (stores : TiersState) (c
   before = seen facts disk stores count
 
   -- memory has as many hash stores as the manifest record names
-  hash_count : length stores.hashes ≡ length stores.manifest.ruling.hashed
+  hash_count : length stores.hashes ≡ length stores.manifest.current.hashed
   hash_count = sym (length-map stores.hashes hash_region_of) ∙ ap length stands.whole.hash_regions
 
   -- ---- the next step
@@ -93,11 +93,11 @@ module _ {D F : Type 0} (facts : Ghosts D F) (disk : D) (stores : TiersState) (c
   -- ---- a step succeeded
 
   -- the merge in progress writes the sorted region that the manifest record does not name
-  other_region : (o : Option MergeState) → IfSome o (IsMerging stores) → (merge : MergeState) → o ≡ Some merge → merge.region ≡ 1 - stores.manifest.ruling.sorted
+  other_region : (o : Option MergeState) → IfSome o (IsMerging stores) → (merge : MergeState) → o ≡ Some merge → merge.region ≡ 1 - stores.manifest.current.sorted
   other_region None merging merge was = absurd (cc)
   other_region (Some same) merging merge was =
       let is : IsMerging stores merge = subst (λ (p : Option MergeState). IfSome p (IsMerging stores)) was merging in
-      let named : stores.sorted.region ≡ stores.manifest.ruling.sorted = ap (λ s. s.region) stands.whole.sorted in
+      let named : stores.sorted.region ≡ stores.manifest.current.sorted = ap (λ s. s.region) stands.whole.sorted in
       omega (arith, is.apart, is.held.there, stands.whole.held.region, named)
 
   entries_are : (new : D) (after : TiersState) (merge : MergeState) → stores.merging ≡ Some merge → HasMergedEntries (facts.content disk) (facts.content new) stores after
@@ -114,14 +114,14 @@ module _ {D F : Type 0} (facts : Ghosts D F) (disk : D) (stores : TiersState) (c
   stepped Waiting new after same goes merges entries quiet counted = absurd merges.done
   stepped Moved new after same goes merges entries quiet counted =
       let moves : MergesOn stores after = merges.done in
-      let ruling : after.manifest.ruling ≡ stores.manifest.ruling = ap (λ (s : TiersState). s.manifest.ruling) moves.is in
+      let current : after.manifest.current ≡ stores.manifest.current = ap (λ (s : TiersState). s.manifest.current) moves.is in
       let merging : after.merging ≡ Some moves.merge = ap (λ (s : TiersState). s.merging) moves.is in
-      let on : MergeGoesOn stores.manifest.ruling (merge_work stores.merging) (merge_work after.merging) = rw merging (goes_on stores stores.merging moves.merge hash_count moves.step) in
+      let on : MergeGoesOn stores.manifest.current (merge_work stores.merging) (merge_work after.merging) = rw merging (goes_on stores stores.merging moves.merge hash_count moves.step) in
       advanced facts disk new stores after same stands [] count count Merge (Progress Moved) goes refl refl refl refl
-      (refl, due Moved merges.due, (ruling, on), counted) (λ m to e. e) (λ _ _. ruling) (λ _. ap (λ (s : TiersState). s.converting) moves.is) (λ other. absurd (cc)) (λ _. tt) counted
+      (refl, due Moved merges.due, (current, on), counted) (λ m to e. e) (λ _ _. current) (λ _. ap (λ (s : TiersState). s.converting) moves.is) (λ other. absurd (cc)) (λ _. tt) counted
   stepped Finished new after same goes merges entries quiet counted =
       let ends : EndsMerged stores after = merges.done in
-      let region : ends.merge.region ≡ 1 - stores.manifest.ruling.sorted = other_region stores.merging stands.whole.merging ends.merge ends.was in
+      let region : ends.merge.region ≡ 1 - stores.manifest.current.sorted = other_region stores.merging stands.whole.merging ends.merge ends.was in
       advanced facts disk new stores after same stands [] count count Merge (Progress Finished) goes refl refl refl refl (
         refl,
         due Finished merges.due,
@@ -130,7 +130,7 @@ module _ {D F : Type 0} (facts : Ghosts D F) (disk : D) (stores : TiersState) (c
           was = ap merge_work ends.was;
           none = ap merge_work ends.none;
           written = ends.merge.written;
-          body = ends.ruling ∙ ap (λ (n : ℕ). merged_body stores.manifest.ruling ends.merge.stores n ends.merge.written) region;
+          body = ends.current ∙ ap (λ (n : ℕ). merged_body stores.manifest.current ends.merge.stores n ends.merge.written) region;
           entries = λ h. entries_are new after ends.merge ends.was (entries refl h);
         },
         counted,

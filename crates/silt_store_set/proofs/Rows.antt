@@ -70,14 +70,14 @@ module _ {D F : Type 0} (facts : Ghosts D F) (disk : D) (stores : TiersState) (c
   before = seen facts disk stores count
 
   -- the rows of the active log are the same in memory and in the full image
-  rows_are : IsTrue (facts.content disk).honest → all_rows (facts.content disk) stores.active.log ≡ log_rows stores.manifest.shape stores.manifest.ruling.active (full_image (facts.content disk) stores)
+  rows_are : IsTrue (facts.content disk).honest → all_rows (facts.content disk) stores.active.log ≡ log_rows stores.manifest.shape stores.manifest.current.active (full_image (facts.content disk) stores)
   rows_are h = sym ((meaning (facts.content disk) stores stands).rows h)
 
   stopped : (next : CoreState D) (key : List ℕ) → NeedsNext (facts.content disk) stores key → IsStuck facts before next key
   stopped next key needs = λ h. subst (λ (rows : List StoredRow). CannotTake stores.manifest.shape rows key) (rows_are h) (needs h)
 
   -- memory has as many frozen logs as the manifest record names
-  frozen_count : length stores.frozen ≡ length stores.manifest.ruling.frozen
+  frozen_count : length stores.frozen ≡ length stores.manifest.current.frozen
   frozen_count = sym (length-map stores.frozen region_of) ∙ ap length stands.whole.frozen_regions
 
   all_in_use : AllInUse stores → AreAllInUse before
@@ -89,7 +89,7 @@ module _ {D F : Type 0} (facts : Ghosts D F) (disk : D) (stores : TiersState) (c
   takes : (new : D) (after : TiersState) (next : ℕ) (key : List ℕ) (command : Command) → SameDisk (facts.content disk) (facts.content new) → Stands (facts.content new) after
       → WritesKey (facts.content disk) (facts.content new) stores after key command → Takes facts before (seen facts new after next) key command
   takes new after next key command same stood (inl stays) = inl (
-    (stays.ruling, λ h cannot. stays.has_place h (subst (λ (rows : List StoredRow). CannotTake stores.manifest.shape rows key) (sym (rows_are h)) cannot)),
+    (stays.current, λ h cannot. stays.has_place h (subst (λ (rows : List StoredRow). CannotTake stores.manifest.shape rows key) (sym (rows_are h)) cannot)),
     λ h. record {
       waiting = (stays.waits h).waiting;
       base = (meaning (facts.content new) after stood).shown (same.honest ∙ h) ∙ (stays.waits h).base ∙ sym ((meaning (facts.content disk) stores stands).shown h);
@@ -97,7 +97,7 @@ module _ {D F : Type 0} (facts : Ghosts D F) (disk : D) (stores : TiersState) (c
   )
   takes new after next key command same stood (inr turns) = inr (
     (
-      freezes stores.manifest.shape.logs stores.manifest.ruling after.manifest.ruling turns.region turns.lowest turns.ruling,
+      freezes stores.manifest.shape.logs stores.manifest.current after.manifest.current turns.region turns.lowest turns.current,
       stopped (seen facts new after next) key turns.needs,
     ),
     λ h. record {
@@ -154,7 +154,7 @@ module _ {D F : Type 0} (facts : Ghosts D F) (disk : D) (stores : TiersState) (c
 
   -- if all logs are in use, there is a frozen one
   frozen_due : 2 ≤ stores.manifest.shape.logs → AllInUse stores → convert_due before ≢ Idle
-  frozen_due least all = not_idle (length stores.manifest.ruling.frozen) (length stores.manifest.ruling.hashed) stores.manifest.shape.hashes (4 * stores.manifest.shape.buckets)
+  frozen_due least all = not_idle (length stores.manifest.current.frozen) (length stores.manifest.current.hashed) stores.manifest.shape.hashes (4 * stores.manifest.shape.buckets)
       (written_of (convert_work stores.converting)) (omega (arith, all, least, frozen_count))
 
   no_room_cause : (k : Kind) (key : Key) (value : List ℕ) → 2 ≤ stores.manifest.shape.logs → MayWrite k before → NeedsNext (facts.content disk) stores key.0 → AllInUse stores → Cause facts before before (row_event k key value) (Refused NoRoom)

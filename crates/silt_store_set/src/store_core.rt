@@ -53,7 +53,7 @@ impl<D: Disk> Model for Core<D> {
     ghost view = { λ a. record {
       disk = a.disk;
       shape = a.tiers.manifest.shape;
-      body = a.tiers.manifest.ruling;
+      body = a.tiers.manifest.current;
       full = full_image (D.content a.disk) a.tiers;
       base = (basis_kept a.failed a.basis (basis_of (D.content a.disk) a.tiers)).base;
       waiting = (basis_kept a.failed a.basis (basis_of (D.content a.disk) a.tiers)).waiting;

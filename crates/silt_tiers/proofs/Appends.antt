@@ -38,7 +38,7 @@ module _ (old new : Content) (s : TiersState) (after : LogStoreState) (more : Li
     (same_shape : after.log.shape ≡ s.active.log.shape) (same_region : after.log.region ≡ s.active.log.region) (is : IsLogStore new after)
     (images : LeavesOnly new (λ image. log_rows s.active.log.shape s.active.log.region image ≡ settled_rows old s.active.log))
     (settled : IsTrue old.honest → settled_rows new after.log ≡ settled_rows old s.active.log) (all : IsTrue old.honest → all_rows new after.log ≡ all_rows old s.active.log ++ more)
-    (sound : IsTrue old.honest → IsSound (with_log_rows s.manifest.ruling.active (all_rows old s.active.log ++ more) (shown_stores old s)))
+    (sound : IsTrue old.honest → IsSound (with_log_rows s.manifest.current.active (all_rows old s.active.log ++ more) (shown_stores old s)))
     (counted : charge ≡ s.charge + put_count more) (most : charge ≤ s.manifest.shape.sorted_capacity) where
   was : IsTrue new.honest → IsTrue old.honest
   was h = subst IsTrue changes.honest h
@@ -61,7 +61,7 @@ module _ (old new : Content) (s : TiersState) (after : LogStoreState) (more : Li
   named = record {
     each = λ h image left.
         (named_with old new s stands sizes changes (settled_rows old s.active.log) images).each h image left
-        ∙ ap Ok (own_rows (shown_stores old s) s.manifest.ruling.active (settled_rows old s.active.log) [] (active_is old s stands) (has_active old s stands (was h)));
+        ∙ ap Ok (own_rows (shown_stores old s) s.manifest.current.active (settled_rows old s.active.log) [] (active_is old s stands) (has_active old s stands (was h)));
   }
 
   whole : AreWhole (with_active s after charge)
@@ -80,10 +80,10 @@ module _ (old new : Content) (s : TiersState) (after : LogStoreState) (more : Li
     digested = digested_stays old new s stands sizes changes;
     written = written_with_active new s after charge stands.whole (written_stays old new s stands sizes changes);
     merged = merged_stays old new s stands sizes changes;
-    same_shape = named_shape s.manifest.shape s.manifest.ruling old.shown;
-    same_body = named_body s.manifest.shape s.manifest.ruling old.shown;
+    same_shape = named_shape s.manifest.shape s.manifest.current old.shown;
+    same_body = named_body s.manifest.shape s.manifest.current old.shown;
     named = named;
-    sound = λ h. subst (λ (rows : List StoredRow). IsSound (with_log_rows s.manifest.ruling.active rows (shown_stores old s))) (sym (all (was h))) (sound (was h));
+    sound = λ h. subst (λ (rows : List StoredRow). IsSound (with_log_rows s.manifest.current.active rows (shown_stores old s))) (sym (all (was h))) (sound (was h));
     said = λ h. stands.said (was h);
     counted = λ h.
         counted ∙ ap (λ (n : ℕ). n + put_count more) (stands.counted (was h))
@@ -101,7 +101,7 @@ module _ (old new : Content) (s : TiersState) (after : LogStoreState) (more : Li
       rest = ap (map command_of) (waits h) ∙ map-append command_of (waiting_rows old s.active.log) more;
       base =
           base_is new (with_active s after charge)
-          ∙ ap (λ (t : Stores). map_of_rows (rows_of t)) (shown_are new (with_active s after charge) (shown_stores old s) (named_shape s.manifest.shape s.manifest.ruling old.shown) (named_body s.manifest.shape s.manifest.ruling old.shown) named (there h))
+          ∙ ap (λ (t : Stores). map_of_rows (rows_of t)) (shown_are new (with_active s after charge) (shown_stores old s) (named_shape s.manifest.shape s.manifest.current old.shown) (named_body s.manifest.shape s.manifest.current old.shown) named (there h))
           ∙ sym (base_is old s);
     };
   }
@@ -145,23 +145,23 @@ module _ (old new : Content) (s : TiersState) (after : LogStoreState) (kind : Ki
     ready h = subst IsTrue (sym changes.honest) h
 
     -- nothing is found with the row
-    pub row_sound : IsTrue old.honest → IsSound (with_log_rows s.manifest.ruling.active (all_rows old s.active.log ++ stored_row kind key value ∷ []) (shown_stores old s))
+    pub row_sound : IsTrue old.honest → IsSound (with_log_rows s.manifest.current.active (all_rows old s.active.log ++ stored_row kind key value ∷ []) (shown_stores old s))
     row_sound h =
         let t : Stores = shown_stores old s in
         let rows : List StoredRow = all_rows old s.active.log in
         let one : List StoredRow = stored_row kind key value ∷ [] in
-        let is_shape : t.shape ≡ s.manifest.shape = named_shape s.manifest.shape s.manifest.ruling old.shown in
+        let is_shape : t.shape ≡ s.manifest.shape = named_shape s.manifest.shape s.manifest.current old.shown in
         let table : IsTrue (fits_table after.log.shape (rows ++ one)) = table_fits after.log.shape (rows ++ one) after.table (ap (λ (r : List StoredRow). index_of_keys after.log.shape.buckets (keys_of r)) (sym (takes.log.all h)) ∙ takes.stands.index.indexed (ready h)) in
         let fits : IsTrue (fits_table t.shape (rows ++ one)) = subst (λ (sh : Shape). IsTrue (fits_table sh (rows ++ one))) (shape_same ∙ stands.whole.has_shape ∙ sym is_shape) table in
-        let sound : IsSound (with_log_rows s.manifest.ruling.active rows t) = subst (λ (n : ℕ). IsSound (with_log_rows n rows t)) stands.whole.active_region (stands.sound h) in
-        let all_of : rows_of (with_log_rows s.manifest.ruling.active (rows ++ one) t) ≡ (rows_of t ++ waiting_rows old s.active.log) ++ one =
-        ap (λ (r : List StoredRow). rows_of (with_log_rows s.manifest.ruling.active r t)) (ap (λ (r : List StoredRow). r ++ one) (rows_split old s stands) ∙ append_assoc (settled_rows old s.active.log) (waiting_rows old s.active.log) one)
-        ∙ rows_with_more t s.manifest.ruling.active (settled_rows old s.active.log) [] (active_is old s stands) (has_active old s stands h) (waiting_rows old s.active.log ++ one)
+        let sound : IsSound (with_log_rows s.manifest.current.active rows t) = subst (λ (n : ℕ). IsSound (with_log_rows n rows t)) stands.whole.active_region (stands.sound h) in
+        let all_of : rows_of (with_log_rows s.manifest.current.active (rows ++ one) t) ≡ (rows_of t ++ waiting_rows old s.active.log) ++ one =
+        ap (λ (r : List StoredRow). rows_of (with_log_rows s.manifest.current.active r t)) (ap (λ (r : List StoredRow). r ++ one) (rows_split old s stands) ∙ append_assoc (settled_rows old s.active.log) (waiting_rows old s.active.log) one)
+        ∙ rows_with_more t s.manifest.current.active (settled_rows old s.active.log) [] (active_is old s stands) (has_active old s stands h) (waiting_rows old s.active.log ++ one)
         ∙ sym (append_assoc (rows_of t) (waiting_rows old s.active.log) one) in
-        let charged : put_count (rows_of (with_log_rows s.manifest.ruling.active (rows ++ one) t)) ≡ s.charge + puts_of kind =
+        let charged : put_count (rows_of (with_log_rows s.manifest.current.active (rows ++ one) t)) ≡ s.charge + puts_of kind =
         ap put_count all_of ∙ count_law (rows_of t ++ waiting_rows old s.active.log) one ∙ ap (λ (n : ℕ). n + put_count one) (sym (stands.counted h)) ∙ ap (λ (n : ℕ). s.charge + n) (counted_stored kind key value) in
         let capacity : t.shape.sorted_capacity ≡ s.manifest.shape.sorted_capacity = ap (λ (sh : Shape). sh.sorted_capacity) is_shape in
-        taken_law t s.manifest.ruling.active rows (stored_row kind key value) sound (known_stored kind key value) fits (omega (arith, charged, capacity, most))
+        taken_law t s.manifest.current.active rows (stored_row kind key value) sound (known_stored kind key value) fits (omega (arith, charged, capacity, most))
 
     pub appended : Advances (command_of (stored_row kind key value) ∷ []) old new s (with_active s after charge)
     appended = extended old new s after (stored_row kind key value ∷ []) charge stands sizes changed shape_same region_same takes.stands images takes.log.settled takes.log.all row_sound
@@ -178,6 +178,6 @@ module _ (old new : Content) (s : TiersState) (after : LogStoreState) (kind : Ki
     pub not_appended : Advances [] old new s (with_active s after s.charge)
     not_appended = extended old new s after [] s.charge stands sizes changed (ap (λ (l : LogState). l.shape) keeps.log.log) (ap (λ (l : LogState). l.region) keeps.log.log) keeps.stands images keeps.log.settled
         (λ h. keeps.log.all h ∙ sym (append-nil (all_rows old s.active.log)))
-        (λ h. subst (λ (rows : List StoredRow). IsSound (with_log_rows s.manifest.ruling.active rows (shown_stores old s))) (sym (append-nil (all_rows old s.active.log)))
+        (λ h. subst (λ (rows : List StoredRow). IsSound (with_log_rows s.manifest.current.active rows (shown_stores old s))) (sym (append-nil (all_rows old s.active.log)))
         (subst (λ (n : ℕ). IsSound (with_log_rows n (all_rows old s.active.log) (shown_stores old s))) stands.whole.active_region (stands.sound h)))
         (let none : put_count [] ≡ 0 = refl in omega (arith, none)) stands.whole.most

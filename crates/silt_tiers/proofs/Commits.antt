@@ -72,10 +72,10 @@ module _ (old : Content) (s : TiersState) (next : NextLog) (digests : Digests) (
   store_region = ap (λ (t : LogStoreState). t.log.region) emptied.follows.store ∙ ap (λ (b : Body). b.active) (sym emptied.follows.body)
 
   t_shape : (shown_stores old s).shape ≡ s.manifest.shape
-  t_shape = named_shape s.manifest.shape s.manifest.ruling old.shown
+  t_shape = named_shape s.manifest.shape s.manifest.current old.shown
 
-  t_body : (shown_stores old s).body ≡ s.manifest.ruling
-  t_body = named_body s.manifest.shape s.manifest.ruling old.shown
+  t_body : (shown_stores old s).body ≡ s.manifest.current
+  t_body = named_body s.manifest.shape s.manifest.current old.shown
 
   freezes : FreezesActive (shown_stores old s).body next.body
   freezes = subst (λ (b : Body). FreezesActive b next.body) (sym t_body) (record {
@@ -118,7 +118,7 @@ module _ (old : Content) (s : TiersState) (next : NextLog) (digests : Digests) (
 
   module _ (new : Content) (sizes : size new ≡ size old) (m : ManifestState) (now : NowRules old new s next.body digests m) where
     slot_below : spare_slot s.manifest < 2
-    slot_below = below_two (s.manifest.ruling.generation + 1)
+    slot_below = below_two (s.manifest.current.generation + 1)
 
     back : IsTrue new.honest → IsTrue old.honest
     back h = subst IsTrue now.changes.honest h
@@ -133,16 +133,16 @@ module _ (old : Content) (s : TiersState) (next : NextLog) (digests : Digests) (
       active_region = store_region ∙ ap (λ (b : Body). b.active) (sym now.has_body);
       frozen_regions =
           ap (λ (n : ℕ). n ∷ map region_of s.frozen) stands.whole.active_region
-          ∙ ap (λ (ids : List ℕ). s.manifest.ruling.active ∷ ids) stands.whole.frozen_regions
+          ∙ ap (λ (ids : List ℕ). s.manifest.current.active ∷ ids) stands.whole.frozen_regions
           ∙ ap (λ (b : Body). b.frozen) (sym emptied.follows.body) ∙ ap (λ (b : Body). b.frozen) (sym now.has_body);
       settled = subst (λ (sh : Shape). All (IsSettled sh) (s.active ∷ s.frozen)) (sym now.has_shape)
           (All-cons (IsSettled s.manifest.shape) s.active s.frozen (record { has_shape = stands.whole.has_shape; settled = is_quiet.settled }) stands.whole.settled);
       hash_regions = stands.whole.hash_regions ∙ ap (λ (b : Body). b.hashed) (sym emptied.follows.body) ∙ ap (λ (b : Body). b.hashed) (sym now.has_body);
       hashed = subst (λ (sh : Shape). All (IsHashOf sh) s.hashes) (sym now.has_shape) stands.whole.hashed;
       sorted =
-          stands.whole.sorted ∙ ap (λ (sh : Shape). sorted_named sh s.manifest.ruling) (sym now.has_shape)
-          ∙ ap (λ (n : ℕ). let t : SortedState = record { shape = m.shape; region = n; count = s.manifest.ruling.sorted_count } in t) (ap (λ (b : Body). b.sorted) (sym emptied.follows.body ∙ sym now.has_body))
-          ∙ ap (λ (n : ℕ). let t : SortedState = record { shape = m.shape; region = m.ruling.sorted; count = n } in t) (ap (λ (b : Body). b.sorted_count) (sym emptied.follows.body ∙ sym now.has_body));
+          stands.whole.sorted ∙ ap (λ (sh : Shape). sorted_named sh s.manifest.current) (sym now.has_shape)
+          ∙ ap (λ (n : ℕ). let t : SortedState = record { shape = m.shape; region = n; count = s.manifest.current.sorted_count } in t) (ap (λ (b : Body). b.sorted) (sym emptied.follows.body ∙ sym now.has_body))
+          ∙ ap (λ (n : ℕ). let t : SortedState = record { shape = m.shape; region = m.current.sorted; count = n } in t) (ap (λ (b : Body). b.sorted_count) (sym emptied.follows.body ∙ sym now.has_body));
       held = stands.whole.held;
       under_way = under_way_in s after s.converting now.has_shape (ap (λ (b : Body). b.hashed) now.has_body ∙ ap (λ (b : Body). b.hashed) emptied.follows.body) (omega arith) stands.whole.under_way;
       merging = merging_in s after s.merging now.has_shape refl (omega arith) stands.whole.merging;
@@ -161,7 +161,7 @@ module _ (old : Content) (s : TiersState) (next : NextLog) (digests : Digests) (
     now_active h = new_active_law (shown_stores old s) next.body (
         (whole_law old.shown (shown_stores old s) (shown_named old s stands h)).names next.body.active
         ∙ ap (λ (b : Body). names_region b next.body.active) t_body
-        ∙ ap (λ (b : Body). names_region s.manifest.ruling b.active) emptied.follows.body
+        ∙ ap (λ (b : Body). names_region s.manifest.current b.active) emptied.follows.body
         ∙ emptied.follows.lowest.free
         )
 
@@ -194,8 +194,8 @@ module _ (old : Content) (s : TiersState) (next : NextLog) (digests : Digests) (
       same_body = frozen_may_rule.has_body ∙ sym now.has_body;
       named = now_named old new s next.body digests stands frozen_may_rule sizes m now;
       sound = λ h.
-          let own : with_log_rows m.ruling.active [] frozen_stores ≡ frozen_stores = own_rows frozen_stores m.ruling.active [] [] (ap (λ (b : Body). b.active) (frozen_may_rule.has_body ∙ sym now.has_body)) (now_active (back h)) in
-          subst (λ (rows : List StoredRow). IsSound (with_log_rows m.ruling.active rows frozen_stores)) (sym new_rows) (subst IsSound (sym own) (frozen_may_rule.sound (back h)));
+          let own : with_log_rows m.current.active [] frozen_stores ≡ frozen_stores = own_rows frozen_stores m.current.active [] [] (ap (λ (b : Body). b.active) (frozen_may_rule.has_body ∙ sym now.has_body)) (now_active (back h)) in
+          subst (λ (rows : List StoredRow). IsSound (with_log_rows m.current.active rows frozen_stores)) (sym new_rows) (subst IsSound (sym own) (frozen_may_rule.sound (back h)));
       said = λ h. subst (λ (o : Option Digests). AreDigestsOf o frozen_stores) (sym now.has_digests) (frozen_may_rule.said (back h));
       counted = λ h.
           stands.counted (back h)
@@ -212,7 +212,7 @@ module _ (old : Content) (s : TiersState) (next : NextLog) (digests : Digests) (
     has_frozen = record {
       quiet = quiet new after none_used;
       active = refl;
-      ruling = now.has_body;
+      current = now.has_body;
       frozen = omega arith;
       hashes = refl;
       sorted = refl;

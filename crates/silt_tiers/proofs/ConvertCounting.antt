@@ -8,7 +8,7 @@ use Rattle.std.proofs.lemmas.Bool.Decides.{nat_tests}
 use Rattle.std.proofs.lemmas.List.{length-map, length-take}
 use Rattle.silt_disk.specs.Layout.{Shape}
 use Rattle.silt_manifest.specs.Body.{all_below, has_sound_hashes, has_sound_logs, is_distinct, is_well_formed}
-use Rattle.silt_manifest.specs.Standing.{IsNext, ruling_slot, spare_slot}
+use Rattle.silt_manifest.specs.Standing.{IsNext, current_slot, spare_slot}
 use Rattle.silt_manifest.specs.declared.body.Body.{Body}
 use Rattle.silt_manifest.specs.declared.digests.Digests.{Digests}
 use Rattle.silt_manifest.proofs.SoundBodies.{sound_parts}
@@ -116,34 +116,34 @@ converted_sound_body s slot region b sound inside free unspent =
 -- ---- of the stores in memory
 
 -- there are as many hash stores as the body names
-pub hash_count : (s : TiersState) → AreWhole s → length s.hashes ≡ length s.manifest.ruling.hashed
+pub hash_count : (s : TiersState) → AreWhole s → length s.hashes ≡ length s.manifest.current.hashed
 hash_count s whole = sym (length-map s.hashes hash_region_of) ∙ ap length whole.hash_regions
 
 -- if every region is named, there is a hash store in each
-pub no_hash_free : (s : TiersState) (slot : ℕ) → AreWhole s → is_well_formed s.manifest.shape slot s.manifest.ruling ≡ true → AreAllHashesNamed s.manifest.shape.hashes s.manifest.ruling → length s.hashes ≡ s.manifest.shape.hashes
-no_hash_free s slot whole sound named = hash_count s whole ∙ all_hashes_named s.manifest.shape slot s.manifest.ruling sound named
+pub no_hash_free : (s : TiersState) (slot : ℕ) → AreWhole s → is_well_formed s.manifest.shape slot s.manifest.current ≡ true → AreAllHashesNamed s.manifest.shape.hashes s.manifest.current → length s.hashes ≡ s.manifest.shape.hashes
+no_hash_free s slot whole sound named = hash_count s whole ∙ all_hashes_named s.manifest.shape slot s.manifest.current sound named
 
 -- if one is free, there are fewer
-pub hash_free : (s : TiersState) (slot region : ℕ) → AreWhole s → is_well_formed s.manifest.shape slot s.manifest.ruling ≡ true → region < s.manifest.shape.hashes → names_hash s.manifest.ruling region ≡ false → length s.hashes < s.manifest.shape.hashes
+pub hash_free : (s : TiersState) (slot region : ℕ) → AreWhole s → is_well_formed s.manifest.shape slot s.manifest.current ≡ true → region < s.manifest.shape.hashes → names_hash s.manifest.current region ≡ false → length s.hashes < s.manifest.shape.hashes
 hash_free s slot region whole sound inside free =
-    let fewer = fewer_hashes s.manifest.shape slot region s.manifest.ruling sound inside free in
+    let fewer = fewer_hashes s.manifest.shape slot region s.manifest.current sound inside free in
     omega (arith, fewer, hash_count s whole)
 
 -- the record that ends a conversion may follow the current one
-pub may_end : (s : TiersState) (body : Body) (digests : Digests) → is_well_formed s.manifest.shape (ruling_slot s.manifest) s.manifest.ruling ≡ true → AreWhole s → EndsConversion s body digests → IsNext s.manifest body
+pub may_end : (s : TiersState) (body : Body) (digests : Digests) → is_well_formed s.manifest.shape (current_slot s.manifest) s.manifest.current ≡ true → AreWhole s → EndsConversion s body digests → IsNext s.manifest body
 may_end s body digests sound whole ends =
     let way : IsUnderWay s ends.conversion = subst (λ (o : Option ConversionState). IfSome o (IsUnderWay s)) ends.was whole.under_way in
     record {
       generation = ap (λ (b : Body). b.generation) ends.is;
       sound =
           ap (is_well_formed s.manifest.shape (spare_slot s.manifest)) ends.is
-          ∙ converted_sound_body s.manifest.shape (ruling_slot s.manifest) ends.conversion.region s.manifest.ruling sound way.there way.free ends.unspent;
+          ∙ converted_sound_body s.manifest.shape (current_slot s.manifest) ends.conversion.region s.manifest.current sound way.there way.free ends.unspent;
     }
 
 -- it has room for one hash store more
-pub room_for_hash : (s : TiersState) (ruling : Body) (conversion : ConversionState) (limit : ℕ) → AreWhole s → is_well_formed s.manifest.shape (ruling_slot s.manifest) s.manifest.ruling ≡ true → s.converting ≡ Some conversion
-    → limit ≡ s.manifest.shape.hashes → limit ≤ 16 → ruling ≡ s.manifest.ruling → length ruling.hashed < 16
-room_for_hash s ruling conversion limit whole sound was limit_is most same =
+pub room_for_hash : (s : TiersState) (current : Body) (conversion : ConversionState) (limit : ℕ) → AreWhole s → is_well_formed s.manifest.shape (current_slot s.manifest) s.manifest.current ≡ true → s.converting ≡ Some conversion
+    → limit ≡ s.manifest.shape.hashes → limit ≤ 16 → current ≡ s.manifest.current → length current.hashed < 16
+room_for_hash s current conversion limit whole sound was limit_is most same =
     let way : IsUnderWay s conversion = subst (λ (o : Option ConversionState). IfSome o (IsUnderWay s)) was whole.under_way in
-    let fewer = fewer_hashes s.manifest.shape (ruling_slot s.manifest) conversion.region s.manifest.ruling sound way.there way.free in
+    let fewer = fewer_hashes s.manifest.shape (current_slot s.manifest) conversion.region s.manifest.current sound way.there way.free in
     omega (arith, fewer, limit_is, most, ap (λ (b : Body). length b.hashed) same)

@@ -46,20 +46,20 @@ module _ (content : Content) (s : TiersState) (stands : Stands content s) (some 
   oldest_shape = (stands.whole.settled (length s.frozen - 1) s.active last_inside).has_shape
 
   -- its region is the last one that the body names
-  ids : length s.manifest.ruling.frozen ≡ length s.frozen
+  ids : length s.manifest.current.frozen ≡ length s.frozen
   ids = ap length (sym stands.whole.frozen_regions) ∙ length-map s.frozen region_of
 
-  pub some_ids : 0 < length s.manifest.ruling.frozen
+  pub some_ids : 0 < length s.manifest.current.frozen
   some_ids = omega (arith, some, ids)
 
   abbrev last_id : ℕ
-  last_id = get_or s.manifest.ruling.frozen (length s.manifest.ruling.frozen - 1) 0
+  last_id = get_or s.manifest.current.frozen (length s.manifest.current.frozen - 1) 0
 
   oldest_region : (oldest_log s).log.region ≡ last_id
   oldest_region =
       sym (get_or-map region_of s.frozen (length s.frozen - 1) s.active 0 last_inside)
       ∙ ap (λ (l : List ℕ). get_or l (length s.frozen - 1) 0) stands.whole.frozen_regions
-      ∙ ap (λ (n : ℕ). get_or s.manifest.ruling.frozen (n - 1) 0) (sym ids)
+      ∙ ap (λ (n : ℕ). get_or s.manifest.current.frozen (n - 1) 0) (sym ids)
 
   -- its rows in an image
   oldest_rows : (image : List ℕ) → log_rows (oldest_log s).log.shape (oldest_log s).log.region image ≡ log_rows s.manifest.shape last_id image
@@ -73,10 +73,10 @@ module _ (content : Content) (s : TiersState) (stands : Stands content s) (some 
 
   same_rows : IsTrue content.honest → (image : List ℕ) → image_stores image ≡ Ok (shown_stores content s) → log_rows s.manifest.shape last_id image ≡ log_rows s.manifest.shape last_id content.shown
   same_rows h image named =
-      let same_shape = named_shape s.manifest.shape s.manifest.ruling content.shown in
-      let same_body = named_body s.manifest.shape s.manifest.ruling content.shown in
-      rows_named s.manifest.shape s.manifest.ruling (length s.manifest.ruling.frozen - 1) 0 content.shown image
-      (named_here s.manifest.shape s.manifest.ruling (shown_stores content s) image named same_shape same_body)
+      let same_shape = named_shape s.manifest.shape s.manifest.current content.shown in
+      let same_body = named_body s.manifest.shape s.manifest.current content.shown in
+      rows_named s.manifest.shape s.manifest.current (length s.manifest.current.frozen - 1) 0 content.shown image
+      (named_here s.manifest.shape s.manifest.current (shown_stores content s) image named same_shape same_body)
       (omega (arith, some_ids))
 
   -- in each possible crash image
@@ -89,7 +89,7 @@ module _ (content : Content) (s : TiersState) (stands : Stands content s) (some 
   }
 
   -- it is not the active log
-  not_the_active : IsTrue content.honest → last_id ≢ s.manifest.ruling.active
+  not_the_active : IsTrue content.honest → last_id ≢ s.manifest.current.active
   not_the_active h same =
       not_active content s stands h (oldest_log s).log.region (frozen_named s stands.whole.frozen_regions (length s.frozen - 1) s.active last_inside) (oldest_region ∙ same)
 
@@ -109,11 +109,11 @@ module _ (content : Content) (s : TiersState) (stands : Stands content s) (conve
   t = shown_stores content s
 
   t_shape : t.shape ≡ s.manifest.shape
-  t_shape = named_shape s.manifest.shape s.manifest.ruling content.shown
+  t_shape = named_shape s.manifest.shape s.manifest.current content.shown
 
   -- the record that is current then, the hash store, and the stores
   abbrev pub ending_body : Body
-  ending_body = converted_body s.manifest.ruling conversion.region
+  ending_body = converted_body s.manifest.current conversion.region
 
   abbrev pub ending_part : Part
   ending_part = record { region = conversion.region; rows = converted_rows (shown_stores content s).shape (oldest_log s).table (all_rows content (oldest_log s).log) }
@@ -123,15 +123,15 @@ module _ (content : Content) (s : TiersState) (stands : Stands content s) (conve
 
   -- the oldest log has these rows, also once the waiting rows are settled
   pub oldest : IsTrue content.honest → HasOldest rows t
-  oldest h = subst (λ (r : List StoredRow). HasOldest r t) (shown_rows content s stands way.some_frozen h) (oldest_named s.manifest.shape s.manifest.ruling 0 content.shown (some_ids content s stands way.some_frozen))
+  oldest h = subst (λ (r : List StoredRow). HasOldest r t) (shown_rows content s stands way.some_frozen h) (oldest_named s.manifest.shape s.manifest.current 0 content.shown (some_ids content s stands way.some_frozen))
 
   abbrev full : Stores
-  full = with_log_rows s.manifest.ruling.active (all_rows content s.active.log) (shown_stores content s)
+  full = with_log_rows s.manifest.current.active (all_rows content s.active.log) (shown_stores content s)
 
   pub oldest_full : IsTrue content.honest → HasOldest rows full
   oldest_full h =
       subst (λ (r : List StoredRow). HasOldest r full) (shown_rows content s stands way.some_frozen h)
-      (oldest_named_with s.manifest.shape s.manifest.ruling 0 content.shown s.manifest.ruling.active (all_rows content s.active.log) (some_ids content s stands way.some_frozen) (not_the_active content s stands way.some_frozen h))
+      (oldest_named_with s.manifest.shape s.manifest.current 0 content.shown s.manifest.current.active (all_rows content s.active.log) (some_ids content s stands way.some_frozen) (not_the_active content s stands way.some_frozen h))
 
   -- and their table
   pub table_of : IsTrue content.honest → IsTableOf t.shape rows (oldest_log s).table
@@ -157,13 +157,13 @@ module _ (content : Content) (s : TiersState) (stands : Stands content s) (conve
   ending_sound h = (replaces h).sound
 
   -- also once the waiting rows are settled
-  pub ending_full_sound : IsTrue content.honest → IsSound (with_log_rows s.manifest.ruling.active (all_rows content s.active.log) ending_stores)
+  pub ending_full_sound : IsTrue content.honest → IsSound (with_log_rows s.manifest.current.active (all_rows content s.active.log) ending_stores)
   ending_full_sound h =
       let all : List StoredRow = all_rows content s.active.log in
-      let same : full.shape ≡ t.shape = with_shape s.manifest.ruling.active all t in
+      let same : full.shape ≡ t.shape = with_shape s.manifest.current.active all t in
       let sound : IsSound full = subst (λ (n : ℕ). IsSound (with_log_rows n all t)) stands.whole.active_region (stands.sound h) in
       let is = (converts full ending_body rows (oldest_log s).table conversion.region (oldest_full h) (subst (λ (sh : Shape). IsTableOf sh rows (oldest_log s).table) (sym same) (table_of h)) sound).sound in
-      subst IsSound (sym (rows_converted s.manifest.ruling.active all ending_body ending_part t))
+      subst IsSound (sym (rows_converted s.manifest.current.active all ending_body ending_part t))
       (subst (λ (sh : Shape). IsSound (with_converted ending_body (record { region = conversion.region; rows = converted_rows sh (oldest_log s).table rows }) full)) same is)
 
   module _ (done : conversion.next ≡ 4 * conversion.shape.buckets) where

@@ -41,12 +41,12 @@ one_oldest rows other t has also = sym (last rows has) ∙ last other also
 
 -- its rows in the full image are those that a disk with the same stores shows, if it obeys the crash model
 pub oldest_same : (first old : Content) (s : TiersState) (stood : Stands first s) (stands : Stands old s) (conversion : ConversionState) → s.converting ≡ Some conversion → IsTrue first.honest → IsTrue old.honest
-    → shown_stores old s ≡ shown_stores first s → oldest_rows s.manifest.shape s.manifest.ruling (full_image first s) ≡ all_rows old (oldest_log s).log
+    → shown_stores old s ≡ shown_stores first s → oldest_rows s.manifest.shape s.manifest.current (full_image first s) ≡ all_rows old (oldest_log s).log
 oldest_same first old s stood stands conversion was was_honest h same =
-    let named = oldest_named s.manifest.shape s.manifest.ruling s.manifest.ruling.active (full_image first s) (some_ids first s stood (way first s stood conversion was).some_frozen) in
-    let full : HasOldest (oldest_rows s.manifest.shape s.manifest.ruling (full_image first s)) (with_log_rows s.manifest.ruling.active (all_rows first s.active.log) (shown_stores first s)) =
-    subst (HasOldest (oldest_rows s.manifest.shape s.manifest.ruling (full_image first s))) (full_is first s stood was_honest) named in
-    one_oldest (oldest_rows s.manifest.shape s.manifest.ruling (full_image first s)) (all_rows first (oldest_log s).log) _ full (oldest_full first s stood conversion was was_honest)
+    let named = oldest_named s.manifest.shape s.manifest.current s.manifest.current.active (full_image first s) (some_ids first s stood (way first s stood conversion was).some_frozen) in
+    let full : HasOldest (oldest_rows s.manifest.shape s.manifest.current (full_image first s)) (with_log_rows s.manifest.current.active (all_rows first s.active.log) (shown_stores first s)) =
+    subst (HasOldest (oldest_rows s.manifest.shape s.manifest.current (full_image first s))) (full_is first s stood was_honest) named in
+    one_oldest (oldest_rows s.manifest.shape s.manifest.current (full_image first s)) (all_rows first (oldest_log s).log) _ full (oldest_full first s stood conversion was was_honest)
     ∙ one_oldest (all_rows first (oldest_log s).log) (all_rows old (oldest_log s).log) (shown_stores first s) (oldest first s stood conversion was was_honest)
     (subst (HasOldest (all_rows old (oldest_log s).log)) same (oldest old s stands conversion was h))
 

@@ -53,7 +53,7 @@ in_region shape region slot before image below torn =
 
 -- ---- a slot is written
 
-module _ (old new : Content) (s : TiersState) (region slot : ℕ) (stands : Stands old s) (free : names_hash s.manifest.ruling region ≡ false) (there : region < s.manifest.shape.hashes) (below : slot < 4 * s.manifest.shape.buckets)
+module _ (old new : Content) (s : TiersState) (region slot : ℕ) (stands : Stands old s) (free : names_hash s.manifest.current region ≡ false) (there : region < s.manifest.shape.hashes) (below : slot < 4 * s.manifest.shape.buckets)
     (sizes : size new ≡ size old) (changes : ChangesWithin (hash_slot_at s.manifest.shape region slot) (row_len s.manifest.shape) old new) where
   slot_disk : SameDisk old new
   slot_disk = record { size = sizes; honest = changes.honest }
@@ -64,19 +64,19 @@ module _ (old new : Content) (s : TiersState) (region slot : ℕ) (stands : Stan
     each = λ h image left.
         let o : IsTrue old.honest = subst IsTrue changes.honest h in
         let t : Stores = shown_stores old s in
-        let t_shape : t.shape ≡ s.manifest.shape = named_shape s.manifest.shape s.manifest.ruling old.shown in
+        let t_shape : t.shape ≡ s.manifest.shape = named_shape s.manifest.shape s.manifest.current old.shown in
         let from = changes.left o image left in
         free_hash_law from.0 image t region (stands.named.each o from.0 from.1) (subst (λ (sh : Shape). region < sh.hashes) (sym t_shape) there)
-        (ap (λ (b : Body). names_hash b region) (named_body s.manifest.shape s.manifest.ruling old.shown) ∙ free)
+        (ap (λ (b : Body). names_hash b region) (named_body s.manifest.shape s.manifest.current old.shown) ∙ free)
         (subst (λ (sh : Shape). Torn (hash_at sh region) (hash_size sh) from.0 image) (sym t_shape) (in_region s.manifest.shape region slot from.0 image below from.2));
   }
 
-  slot_apart : IsTrue old.honest → IsApart s.manifest.shape s.manifest.ruling (hash_slot_at s.manifest.shape region slot) (row_len s.manifest.shape)
+  slot_apart : IsTrue old.honest → IsApart s.manifest.shape s.manifest.current (hash_slot_at s.manifest.shape region slot) (row_len s.manifest.shape)
   slot_apart h = record {
-    active = behind_logs s.manifest.shape s.manifest.ruling.active region slot (active_below old s stands);
+    active = behind_logs s.manifest.shape s.manifest.current.active region slot (active_below old s stands);
     frozen = λ id named. behind_logs s.manifest.shape id region slot (named_below old s stands h id named);
-    hashed = λ id named. slot_elsewhere s.manifest.shape id region slot (not_among s.manifest.ruling.hashed region id free named) below;
-    sorted = entries_behind s.manifest.shape region slot s.manifest.ruling.sorted there below;
+    hashed = λ id named. slot_elsewhere s.manifest.shape id region slot (not_among s.manifest.current.hashed region id free named) below;
+    sorted = entries_behind s.manifest.shape region slot s.manifest.current.sorted there below;
   }
 
   slot_before_entries : IsOutsideMerge s (hash_slot_at s.manifest.shape region slot) (row_len s.manifest.shape)
@@ -90,7 +90,7 @@ module _ (old new : Content) (s : TiersState) (region slot : ℕ) (stands : Stan
   outside_active =
       subst (λ (sh : Shape). LiesOutside (gates_at sh s.active.log.region) (log_len sh) (hash_slot_at s.manifest.shape region slot) (row_len s.manifest.shape)) (sym stands.whole.has_shape)
       (subst (λ (n : ℕ). LiesOutside (gates_at s.manifest.shape n) (log_len s.manifest.shape) (hash_slot_at s.manifest.shape region slot) (row_len s.manifest.shape)) (sym stands.whole.active_region)
-      (behind_logs s.manifest.shape s.manifest.ruling.active region slot (active_below old s stands)))
+      (behind_logs s.manifest.shape s.manifest.current.active region slot (active_below old s stands)))
 
   -- the stores still stand, with the conversion as it is then
   pub slot_advances : (converting : Option ConversionState) → IfSome converting (IsUnderWay s) → IfSome converting (HasWritten new (oldest_log s)) → Advances [] old new s (record s { converting = converting })

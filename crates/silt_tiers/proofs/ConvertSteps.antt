@@ -9,7 +9,7 @@ use Rattle.silt_disk.specs.Layout.{InLimits, Shape, row_len}
 use Rattle.silt_log_store.specs.State.{IsFrozenStore, LogStoreState}
 use Rattle.silt_log_store.proofs.Buckets.{bucket_count_is}
 use Rattle.silt_manifest.specs.Body.{is_well_formed}
-use Rattle.silt_manifest.specs.Standing.{ruling_slot}
+use Rattle.silt_manifest.specs.Standing.{current_slot}
 use Rattle.silt_manifest.specs.declared.body.Body.{Body}
 use Rattle.silt_manifest.specs.declared.digests.Digests.{Digests}
 use Rattle.silt_frame.specs.declared.digest.Digest.{Digest}
@@ -77,7 +77,7 @@ module _ (s : TiersState) where
 
 -- a conversion that finishes may end with the next body and these digests
 pub may_finish : (s : TiersState) (body : Body) (digests : Digests) (conversion : ConversionState) (digest sorted : Digest) (hashes : List HashState) → AreWhole s → s.converting ≡ Some conversion → convert_turn s ≡ Finished
-    → s.manifest.ruling.generation < 2 ^ 63 - 1 → body ≡ converted_body s.manifest.ruling conversion.region → IsDigestOf conversion.hasher digest.0 → hashes ≡ s.hashes → sorted.0 ≡ s.digest
+    → s.manifest.current.generation < 2 ^ 63 - 1 → body ≡ converted_body s.manifest.current conversion.region → IsDigestOf conversion.hasher digest.0 → hashes ≡ s.hashes → sorted.0 ≡ s.digest
     → digests ≡ digests_with (Some digest) hashes sorted → EndsConversion s body digests
 may_finish s body digests conversion digest sorted hashes whole was turn unspent is digested hashes_are sorted_is digests_are = record {
   conversion = conversion;
@@ -169,25 +169,25 @@ next_converts s before after tags was turn next = record {
 -- ---- the first slot of a new one
 
 -- if no conversion is in progress, the first step begins one in a free region
-module _ (s : TiersState) (log : LogStoreState) (ruling : Body) (hashes region : ℕ) (read : Some log ≡ slice_get s.frozen (length s.frozen - 1)) (none : s.converting ≡ None) (whole : AreWhole s)
-    (sound : is_well_formed s.manifest.shape (ruling_slot s.manifest) s.manifest.ruling ≡ true) (same_ruling : ruling ≡ s.manifest.ruling) (hashes_are : hashes ≡ s.manifest.shape.hashes) where
+module _ (s : TiersState) (log : LogStoreState) (current : Body) (hashes region : ℕ) (read : Some log ≡ slice_get s.frozen (length s.frozen - 1)) (none : s.converting ≡ None) (whole : AreWhole s)
+    (sound : is_well_formed s.manifest.shape (current_slot s.manifest) s.manifest.current ≡ true) (same_current : current ≡ s.manifest.current) (hashes_are : hashes ≡ s.manifest.shape.hashes) where
   some : 0 < length s.frozen
   some = (last_log s log read).0
 
   -- no region is free
-  pub begin_waits : AreAllHashesNamed hashes ruling → Converts Waiting s s
+  pub begin_waits : AreAllHashesNamed hashes current → Converts Waiting s s
   begin_waits all = record {
-    due = sym (waits_turn s none some (no_hash_free s (ruling_slot s.manifest) whole sound
-        (subst (λ (n : ℕ). AreAllHashesNamed n s.manifest.ruling) hashes_are (subst (λ (b : Body). AreAllHashesNamed hashes b) same_ruling all))));
+    due = sym (waits_turn s none some (no_hash_free s (current_slot s.manifest) whole sound
+        (subst (λ (n : ℕ). AreAllHashesNamed n s.manifest.current) hashes_are (subst (λ (b : Body). AreAllHashesNamed hashes b) same_current all))));
     done = refl;
   }
 
-  module _ (lowest_read : IsLowestFreeHash hashes ruling region) where
-    pub lowest_here : IsLowestFreeHash s.manifest.shape.hashes s.manifest.ruling region
-    lowest_here = subst (λ (n : ℕ). IsLowestFreeHash n s.manifest.ruling region) hashes_are (subst (λ (b : Body). IsLowestFreeHash hashes b region) same_ruling lowest_read)
+  module _ (lowest_read : IsLowestFreeHash hashes current region) where
+    pub lowest_here : IsLowestFreeHash s.manifest.shape.hashes s.manifest.current region
+    lowest_here = subst (λ (n : ℕ). IsLowestFreeHash n s.manifest.current region) hashes_are (subst (λ (b : Body). IsLowestFreeHash hashes b region) same_current lowest_read)
 
     pub begin_turn : convert_turn s ≡ Moved
-    begin_turn = moves_turn s none some (hash_free s (ruling_slot s.manifest) region whole sound lowest_here.below lowest_here.free)
+    begin_turn = moves_turn s none some (hash_free s (current_slot s.manifest) region whole sound lowest_here.below lowest_here.free)
 
     module _ (started : ConversionState) (is : started ≡ record { shape = log.log.shape; region = region; tags = replicate (4 * log.log.shape.buckets) None; next = 0; puts = 0; hasher = started.hasher }) (limits : InLimits s.manifest.shape) where
       log_shape : log.log.shape ≡ s.manifest.shape
@@ -207,7 +207,7 @@ module _ (s : TiersState) (log : LogStoreState) (ruling : Body) (hashes region :
         has_shape = started_shape;
         some_frozen = some;
         there = subst (λ (n : ℕ). n < s.manifest.shape.hashes) (sym started_region) lowest_here.below;
-        free = ap (names_hash s.manifest.ruling) started_region ∙ lowest_here.free;
+        free = ap (names_hash s.manifest.current) started_region ∙ lowest_here.free;
         most = omega (arith, started_none);
       }
 
@@ -226,7 +226,7 @@ module _ (s : TiersState) (log : LogStoreState) (ruling : Body) (hashes region :
             conversion = after;
             is = refl;
             step = subst (λ (o : Option ConversionState). IsNextStep s o after) (sym none) (
-              subst (IsLowestFreeHash s.manifest.shape.hashes s.manifest.ruling) (sym (ap (λ (v : ConversionState). v.region) next ∙ started_region)) lowest_here,
+              subst (IsLowestFreeHash s.manifest.shape.hashes s.manifest.current) (sym (ap (λ (v : ConversionState). v.region) next ∙ started_region)) lowest_here,
               ap (λ (v : ConversionState). v.next) next ∙ ap (λ (n : ℕ). n + 1) started_none,
             );
           };

@@ -54,9 +54,9 @@ pub converted_shape : (body : Body) (part : Part) (t : Stores) → (with_convert
 unfolding with_converted
 converted_shape body part t = refl
 
-pub converted_ruling : (body : Body) (part : Part) (t : Stores) → (with_converted body part t).body ≡ body
+pub converted_current : (body : Body) (part : Part) (t : Stores) → (with_converted body part t).body ≡ body
 unfolding with_converted
-converted_ruling body part t = refl
+converted_current body part t = refl
 
 -- other rows of a log, before and after
 pub rows_converted : (region : ℕ) (rows : List StoredRow) (body : Body) (part : Part) (t : Stores) → with_log_rows region rows (with_converted body part t) ≡ with_converted body part (with_log_rows region rows t)

@@ -44,7 +44,7 @@ use Rattle.silt_tiers.proofs.Wholes.{merging_in}
 use Rattle.silt_tiers.proofs.ConvertCounting.{may_end}
 use Rattle.silt_tiers.proofs.Remains.{active_stays, digested_stays, frozen_stays, hashed_stays, located_stays, merged_stays, slot_below, waiting_stays, written_stays}
 use Rattle.silt_tiers.proofs.NextBodies.{now_named, succeeds}
-use Rattle.silt_tiers.proofs.ConvertStores.{converted_named, converted_ruling, converted_shape}
+use Rattle.silt_tiers.proofs.ConvertStores.{converted_named, converted_current, converted_shape}
 use Rattle.silt_tiers.proofs.Said.{converted_said}
 use Rattle.silt_tiers.proofs.ConvertDone.{ending_counted, ending_digest, ending_full_sound, ending_map, ending_slots, ending_sound, ending_stores, oldest_frozen, oldest_shape, oldest_stands, table_of, way}
 use Rattle.silt_tiers.proofs.ConvertRows.{front_converted, front_named, no_part, oldest_same}
@@ -60,7 +60,7 @@ module _ (old : Content) (s : TiersState) (body : Body) (digests : Digests) (sta
   abbrev converted_stores : Stores
   converted_stores = ending_stores old s stands ends.conversion ends.was
 
-  some_ids : 0 < length s.manifest.ruling.frozen
+  some_ids : 0 < length s.manifest.current.frozen
   some_ids = omega (arith, under_way.some_frozen, length-map s.frozen region_of, ap length stands.whole.frozen_regions)
 
   -- it names them in each possible crash image, since nothing is pending
@@ -69,7 +69,7 @@ module _ (old : Content) (s : TiersState) (body : Body) (digests : Digests) (sta
     each = λ h image left.
         ap (λ (shown : List ℕ). stores_named s.manifest.shape body shown) (left_at_rest rests h image left)
         ∙ ap (λ (b : Body). stores_named s.manifest.shape b old.shown) ends.is
-        ∙ converted_named s.manifest.shape s.manifest.ruling ends.conversion.region _ old.shown some_ids (ending_slots old s stands ends.conversion ends.was ends.done h);
+        ∙ converted_named s.manifest.shape s.manifest.current ends.conversion.region _ old.shown some_ids (ending_slots old s stands ends.conversion ends.was ends.done h);
   }
 
   -- the digests are theirs
@@ -82,8 +82,8 @@ module _ (old : Content) (s : TiersState) (body : Body) (digests : Digests) (sta
   converted_may_rule = record {
     follows = λ sound. may_end s body digests sound stands.whole ends;
     stores = converted_stores;
-    has_shape = converted_shape _ _ _ ∙ named_shape s.manifest.shape s.manifest.ruling old.shown;
-    has_body = converted_ruling _ _ _ ∙ sym ends.is;
+    has_shape = converted_shape _ _ _ ∙ named_shape s.manifest.shape s.manifest.current old.shown;
+    has_body = converted_current _ _ _ ∙ sym ends.is;
     names = names;
     sound = ending_sound old s stands ends.conversion ends.was;
     said = said;
@@ -97,10 +97,10 @@ module _ (old : Content) (s : TiersState) (body : Body) (digests : Digests) (sta
     back : IsTrue new.honest → IsTrue old.honest
     back h = subst IsTrue now.changes.honest h
 
-    ruling_is : m.ruling ≡ converted_body s.manifest.ruling ends.conversion.region
-    ruling_is = now.has_body ∙ ends.is
+    current_is : m.current ≡ converted_body s.manifest.current ends.conversion.region
+    current_is = now.has_body ∙ ends.is
 
-    ids : length s.manifest.ruling.frozen ≡ length s.frozen
+    ids : length s.manifest.current.frozen ≡ length s.frozen
     ids = ap length (sym stands.whole.frozen_regions) ∙ length-map s.frozen region_of
 
     -- they are those that the body names
@@ -110,19 +110,19 @@ module _ (old : Content) (s : TiersState) (body : Body) (digests : Digests) (sta
     whole : (digest : List ℕ) → IsHeldHash (store_of ends.conversion digest) → AreWhole (oldest_replaced s m ends.conversion digest)
     whole digest held = record {
       has_shape = stands.whole.has_shape ∙ sym now.has_shape;
-      active_region = stands.whole.active_region ∙ ap (λ (b : Body). b.active) (sym ruling_is);
+      active_region = stands.whole.active_region ∙ ap (λ (b : Body). b.active) (sym current_is);
       frozen_regions =
           sym (take-map region_of (length s.frozen - 1) s.frozen)
           ∙ ap (take (length s.frozen - 1)) stands.whole.frozen_regions
-          ∙ ap (λ (n : ℕ). take (n - 1) s.manifest.ruling.frozen) (sym ids)
-          ∙ ap (λ (b : Body). b.frozen) (sym ruling_is);
+          ∙ ap (λ (n : ℕ). take (n - 1) s.manifest.current.frozen) (sym ids)
+          ∙ ap (λ (b : Body). b.frozen) (sym current_is);
       settled = subst (λ (sh : Shape). All (IsSettled sh) (take (length s.frozen - 1) s.frozen)) (sym now.has_shape) (All-take (IsSettled s.manifest.shape) (length s.frozen - 1) s.frozen stands.whole.settled);
-      hash_regions = ap (λ (l : List ℕ). ends.conversion.region ∷ l) stands.whole.hash_regions ∙ ap (λ (b : Body). b.hashed) (sym ruling_is);
+      hash_regions = ap (λ (l : List ℕ). ends.conversion.region ∷ l) stands.whole.hash_regions ∙ ap (λ (b : Body). b.hashed) (sym current_is);
       hashed = subst (λ (sh : Shape). All (IsHashOf sh) (store_of ends.conversion digest ∷ s.hashes)) (sym now.has_shape) (All-cons (IsHashOf s.manifest.shape) (store_of ends.conversion digest) s.hashes (held_of digest held) stands.whole.hashed);
       sorted =
-          stands.whole.sorted ∙ ap (λ (sh : Shape). sorted_named sh s.manifest.ruling) (sym now.has_shape)
-          ∙ ap (λ (n : ℕ). let t : SortedState = record { shape = m.shape; region = n; count = s.manifest.ruling.sorted_count } in t) (ap (λ (b : Body). b.sorted) (sym ruling_is))
-          ∙ ap (λ (n : ℕ). let t : SortedState = record { shape = m.shape; region = m.ruling.sorted; count = n } in t) (ap (λ (b : Body). b.sorted_count) (sym ruling_is));
+          stands.whole.sorted ∙ ap (λ (sh : Shape). sorted_named sh s.manifest.current) (sym now.has_shape)
+          ∙ ap (λ (n : ℕ). let t : SortedState = record { shape = m.shape; region = n; count = s.manifest.current.sorted_count } in t) (ap (λ (b : Body). b.sorted) (sym current_is))
+          ∙ ap (λ (n : ℕ). let t : SortedState = record { shape = m.shape; region = m.current.sorted; count = n } in t) (ap (λ (b : Body). b.sorted_count) (sym current_is));
       held = stands.whole.held;
       under_way = tt;
       merging = merging_in s (oldest_replaced s m ends.conversion digest) s.merging now.has_shape refl (omega arith) stands.whole.merging;
@@ -178,7 +178,7 @@ module _ (old : Content) (s : TiersState) (body : Body) (digests : Digests) (sta
     count : IsTrue new.honest → IsBucketCount ends.conversion.shape.buckets
     count h =
         let limits = (whole_law old.shown (shown_stores old s) (shown_named old s stands (back h))).limits in
-        subst (λ (sh : Shape). IsBucketCount sh.buckets) (named_shape s.manifest.shape s.manifest.ruling old.shown ∙ sym under_way.has_shape) (bucket_count_is (shown_stores old s).shape.buckets limits.buckets)
+        subst (λ (sh : Shape). IsBucketCount sh.buckets) (named_shape s.manifest.shape s.manifest.current old.shown ∙ sym under_way.has_shape) (bucket_count_is (shown_stores old s).shape.buckets limits.buckets)
 
     -- ---- with the digest of what was written
 
@@ -224,8 +224,8 @@ module _ (old : Content) (s : TiersState) (body : Body) (digests : Digests) (sta
         same_body = converted_may_rule.has_body ∙ sym now.has_body;
         named = now_named old new s body digests stands converted_may_rule sizes m now;
         sound = λ h.
-            subst (λ (n : ℕ). IsSound (with_log_rows n (all_rows new s.active.log) converted_stores)) (ap (λ (b : Body). b.active) (sym ruling_is))
-            (subst (λ (rows : List StoredRow). IsSound (with_log_rows s.manifest.ruling.active rows converted_stores)) (sym (keeps.all (back h)))
+            subst (λ (n : ℕ). IsSound (with_log_rows n (all_rows new s.active.log) converted_stores)) (ap (λ (b : Body). b.active) (sym current_is))
+            (subst (λ (rows : List StoredRow). IsSound (with_log_rows s.manifest.current.active rows converted_stores)) (sym (keeps.all (back h)))
             (ending_full_sound old s stands ends.conversion ends.was (back h)));
         said = λ h. subst (λ (o : Option Digests). AreDigestsOf o converted_stores) (sym now.has_digests) (converted_may_rule.said (back h));
         counted = λ h.
@@ -251,20 +251,20 @@ module _ (old : Content) (s : TiersState) (body : Body) (digests : Digests) (sta
           let fit : Fits new after converted_stores = fits is_whole in
           let front : Stores → List StoredRow = λ t. part_rows (get_or t.hashes 0 no_part) in
           ap (λ (sh : Shape). hash_rows sh ends.conversion.region (full_image new after)) (sym now.has_shape)
-          ∙ sym (front_named m.shape s.manifest.ruling ends.conversion.region (full_image new after))
-          ∙ ap (λ (b : Body). front (stores_named m.shape b (full_image new after))) (sym ruling_is)
+          ∙ sym (front_named m.shape s.manifest.current ends.conversion.region (full_image new after))
+          ∙ ap (λ (b : Body). front (stores_named m.shape b (full_image new after))) (sym current_is)
           ∙ ap front (full_is new after stand here)
-          ∙ ap (λ (t : Stores). front (with_log_rows m.ruling.active (all_rows new s.active.log) t)) (shown_are new after converted_stores fit.same_shape fit.same_body fit.named here)
+          ∙ ap (λ (t : Stores). front (with_log_rows m.current.active (all_rows new s.active.log) t)) (shown_are new after converted_stores fit.same_shape fit.same_body fit.named here)
           ∙ front_converted _ _ _ _ _
-          ∙ ap (λ (sh : Shape). converted_rows sh (oldest_log s).table (all_rows old (oldest_log s).log)) (named_shape s.manifest.shape s.manifest.ruling old.shown)
+          ∙ ap (λ (sh : Shape). converted_rows sh (oldest_log s).table (all_rows old (oldest_log s).log)) (named_shape s.manifest.shape s.manifest.current old.shown)
 
       -- which are the last rows of the log's keys, as the full image had them on a disk that shows the same stores
       pub has_converted_rows : (first : Content) (finished : TiersState) → AreWhole finished → finished ≡ oldest_replaced s m ends.conversion digest → Stands first s → IsTrue first.honest → IsTrue old.honest
           → shown_stores old s ≡ shown_stores first s → HasConvertedRows first new s finished
       has_converted_rows first finished is_whole is stood was_honest h same =
-          let rows : List StoredRow = oldest_rows s.manifest.shape s.manifest.ruling (full_image first s) in
+          let rows : List StoredRow = oldest_rows s.manifest.shape s.manifest.current (full_image first s) in
           let log_rows_are : rows ≡ all_rows old (oldest_log s).log = oldest_same first old s stood stands ends.conversion ends.was was_honest h same in
-          let table_shape : (shown_stores old s).shape ≡ s.manifest.shape = named_shape s.manifest.shape s.manifest.ruling old.shown in
+          let table_shape : (shown_stores old s).shape ≡ s.manifest.shape = named_shape s.manifest.shape s.manifest.current old.shown in
           let converted : AreConverted s.manifest.shape rows (hash_rows s.manifest.shape ends.conversion.region (full_image new finished)) = record {
             table = (oldest_log s).table;
             indexed =
@@ -285,7 +285,7 @@ module _ (old : Content) (s : TiersState) (body : Body) (digests : Digests) (sta
         was = ends.was;
         none = refl;
         shape = now.has_shape;
-        ruling = ruling_is;
+        current = current_is;
         active = refl;
         frozen = refl;
         sorted = refl;

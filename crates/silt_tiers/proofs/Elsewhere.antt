@@ -112,7 +112,7 @@ not_among ids x id none (k, inside, here) e =
     absurd (cc)
 
 -- the body names the region of each frozen log
-pub frozen_named : (s : TiersState) → map region_of s.frozen ≡ s.manifest.ruling.frozen → (k : ℕ) (d : LogStoreState) → k < length s.frozen → Contains s.manifest.ruling.frozen (region_of (get_or s.frozen k d))
+pub frozen_named : (s : TiersState) → map region_of s.frozen ≡ s.manifest.current.frozen → (k : ℕ) (d : LogStoreState) → k < length s.frozen → Contains s.manifest.current.frozen (region_of (get_or s.frozen k d))
 frozen_named s are k d inside = (
   k,
   omega (arith, inside, length-map s.frozen region_of, ap length are),
@@ -121,30 +121,30 @@ frozen_named s are k d inside = (
 
 module _ (content : Content) (s : TiersState) (stands : Stands content s) (honest : IsTrue content.honest) where
   -- the current record is well formed
-  pub ruling_sound : is_well_formed s.manifest.shape (s.manifest.ruling.generation % 2) s.manifest.ruling ≡ true
-  ruling_sound =
+  pub current_sound : is_well_formed s.manifest.shape (s.manifest.current.generation % 2) s.manifest.current ≡ true
+  current_sound =
       let whole : IsWhole (shown_stores content s) content.shown = whole_law content.shown (shown_stores content s) (shown_named content s stands honest) in
       let here : is_well_formed (shown_stores content s).shape ((shown_stores content s).body.generation % 2) (shown_stores content s).body ≡ true = whole.sound in
-      ap (λ (sh : Shape). is_well_formed sh (s.manifest.ruling.generation % 2) s.manifest.ruling) (sym (named_shape s.manifest.shape s.manifest.ruling content.shown))
-      ∙ ap (λ (b : Body). is_well_formed (shown_stores content s).shape (b.generation % 2) b) (sym (named_body s.manifest.shape s.manifest.ruling content.shown))
+      ap (λ (sh : Shape). is_well_formed sh (s.manifest.current.generation % 2) s.manifest.current) (sym (named_shape s.manifest.shape s.manifest.current content.shown))
+      ∙ ap (λ (b : Body). is_well_formed (shown_stores content s).shape (b.generation % 2) b) (sym (named_body s.manifest.shape s.manifest.current content.shown))
       ∙ here
 
   -- each region that it names is there
-  pub named_below : (region : ℕ) → Contains s.manifest.ruling.frozen region → region < s.manifest.shape.logs
+  pub named_below : (region : ℕ) → Contains s.manifest.current.frozen region → region < s.manifest.shape.logs
   named_below region (k, inside, here) =
-      (names_regions s.manifest.shape (s.manifest.ruling.generation % 2) s.manifest.ruling ruling_sound).logs region (suc k, omega (arith, inside), here)
+      (names_regions s.manifest.shape (s.manifest.current.generation % 2) s.manifest.current current_sound).logs region (suc k, omega (arith, inside), here)
 
   -- also each hash region
-  pub hash_below : (region : ℕ) → Contains s.manifest.ruling.hashed region → region < s.manifest.shape.hashes
-  hash_below region named = (names_regions s.manifest.shape (s.manifest.ruling.generation % 2) s.manifest.ruling ruling_sound).hashes region named
+  pub hash_below : (region : ℕ) → Contains s.manifest.current.hashed region → region < s.manifest.shape.hashes
+  hash_below region named = (names_regions s.manifest.shape (s.manifest.current.generation % 2) s.manifest.current current_sound).hashes region named
 
   -- and the frozen ones are not the active one
-  pub not_active : (region : ℕ) → Contains s.manifest.ruling.frozen region → region ≢ s.manifest.ruling.active
-  not_active region there = not_among s.manifest.ruling.frozen s.manifest.ruling.active region (apart_of s.manifest.shape (s.manifest.ruling.generation % 2) s.manifest.ruling ruling_sound) there
+  pub not_active : (region : ℕ) → Contains s.manifest.current.frozen region → region ≢ s.manifest.current.active
+  not_active region there = not_among s.manifest.current.frozen s.manifest.current.active region (apart_of s.manifest.shape (s.manifest.current.generation % 2) s.manifest.current current_sound) there
 
 -- a change outside the regions of the frozen logs leaves these
 pub all_frozen_elsewhere : (old new : Content) (s : TiersState) (at count : ℕ) → Stands old s → ChangesWithin at count old new
-    → (IsTrue old.honest → (region : ℕ) → Contains s.manifest.ruling.frozen region → LiesOutside (gates_at s.manifest.shape region) (log_len s.manifest.shape) at count) → All (IsFrozen new) s.frozen
+    → (IsTrue old.honest → (region : ℕ) → Contains s.manifest.current.frozen region → LiesOutside (gates_at s.manifest.shape region) (log_len s.manifest.shape) at count) → All (IsFrozen new) s.frozen
 all_frozen_elsewhere old new s at count stands changes outside k d inside =
     let store : LogStoreState = get_or s.frozen k d in
     let is_shape : store.log.shape ≡ s.manifest.shape = (stands.whole.settled k d inside).has_shape in
@@ -158,7 +158,7 @@ all_frozen_elsewhere old new s at count stands changes outside k d inside =
 -- ---- hash stores
 
 -- the body names the region of each hash store
-pub hash_named : (s : TiersState) → map hash_region_of s.hashes ≡ s.manifest.ruling.hashed → (k : ℕ) (d : HashState) → k < length s.hashes → Contains s.manifest.ruling.hashed (hash_region_of (get_or s.hashes k d))
+pub hash_named : (s : TiersState) → map hash_region_of s.hashes ≡ s.manifest.current.hashed → (k : ℕ) (d : HashState) → k < length s.hashes → Contains s.manifest.current.hashed (hash_region_of (get_or s.hashes k d))
 hash_named s are k d inside = (
   k,
   omega (arith, inside, length-map s.hashes hash_region_of, ap length are),
@@ -167,7 +167,7 @@ hash_named s are k d inside = (
 
 -- a change outside the slots of the hash stores leaves these
 pub all_hashed_elsewhere : (old new : Content) (s : TiersState) (at count : ℕ) → Stands old s → ChangesWithin at count old new
-    → (IsTrue old.honest → (region : ℕ) → Contains s.manifest.ruling.hashed region → LiesOutside (hash_at s.manifest.shape region) (slots_len s.manifest.shape) at count) → All (IsHashStore new) s.hashes
+    → (IsTrue old.honest → (region : ℕ) → Contains s.manifest.current.hashed region → LiesOutside (hash_at s.manifest.shape region) (slots_len s.manifest.shape) at count) → All (IsHashStore new) s.hashes
 all_hashed_elsewhere old new s at count stands changes outside k d inside =
     let store : HashState = get_or s.hashes k d in
     let is : IsHashOf s.manifest.shape store = stands.whole.hashed k d inside in
@@ -195,7 +195,7 @@ pub log_written_elsewhere : (old new : Content) (store : LogStoreState) (convers
     → (IsTrue old.honest → (store.log.region < store.log.shape.logs) × LiesOutside (gates_at store.log.shape store.log.region) (log_len store.log.shape) at count × LiesOutside (hash_at conversion.shape conversion.region) (slots_len conversion.shape) at count)
     → HasWritten old store conversion → HasWritten new store conversion
 log_written_elsewhere old new store conversion at count fits there most frozen changes lies is =
-    let plain : LogStoreState = record store { log = record store.log { settled = store.log.used; loose = false } } in
+    let plain : LogStoreState = record store { log = record store.log { settled = store.log.used; stale = false } } in
     let plainly : HasWritten old plain conversion = record { shape = is.shape; due = is.due; tagged = is.tagged; charged = is.charged; hashed = is.hashed } in
     let inside : IsTrue old.honest → gates_at store.log.shape store.log.region + store.log.shape.log_capacity ≤ size old =
     λ h. let ends = log_inside store.log.shape store.log.region (lies h).0 in let gates = (regions_apart store.log.shape).gates store.log.region in omega (arith, ends, gates, fits) in
@@ -203,7 +203,7 @@ log_written_elsewhere old new store conversion at count fits there most frozen c
       region = (lies h).0;
       order = omega arith;
       room = let few = open_most store.log.shape store.log.region old.shown (inside h) in omega (arith, few, frozen.rows h);
-      gap = λ loose. absurd (let no : false ≡ true = loose in cc);
+      gap = λ stale. absurd (let no : false ≡ true = stale in cc);
     } in
     let stays : IsTrue old.honest → HasWritten new plain conversion =
     λ h. written_elsewhere plain conversion old new at count (bounds h) there most (subst (λ (sh : Shape). device_size sh ≤ size old) (sym is.shape) fits) (lies h).1 (lies h).2 changes plainly in
@@ -217,7 +217,7 @@ log_written_elsewhere old new store conversion at count fits there most frozen c
 
 -- a conversion in progress keeps what it has written if only bytes outside the frozen logs and its slots change
 pub written_all_elsewhere : (old new : Content) (s : TiersState) (at count : ℕ) (o : Option ConversionState) → Stands old s → ChangesWithin at count old new
-    → (IsTrue old.honest → (region : ℕ) → Contains s.manifest.ruling.frozen region → LiesOutside (gates_at s.manifest.shape region) (log_len s.manifest.shape) at count)
+    → (IsTrue old.honest → (region : ℕ) → Contains s.manifest.current.frozen region → LiesOutside (gates_at s.manifest.shape region) (log_len s.manifest.shape) at count)
     → (IsTrue old.honest → IfSome o (λ conversion. LiesOutside (hash_at s.manifest.shape conversion.region) (slots_len s.manifest.shape) at count))
     → IfSome o (IsUnderWay s) → IfSome o (HasWritten old (oldest_log s)) → IfSome o (HasWritten new (oldest_log s))
 written_all_elsewhere old new s at count None stands changes outside apart under_way is = tt
@@ -242,26 +242,26 @@ written_all_elsewhere old new s at count (Some conversion) stands changes outsid
 
 -- a change outside the entries of the sorted store leaves their index
 pub located_elsewhere : (old new : Content) (s : TiersState) (at count : ℕ) → Stands old s → ChangesWithin at count old new
-    → (IsTrue old.honest → LiesOutside (sorted_at s.manifest.shape s.manifest.ruling.sorted) (entries_len s.manifest.shape) at count) → IsLocated new s
+    → (IsTrue old.honest → LiesOutside (sorted_at s.manifest.shape s.manifest.current.sorted) (entries_len s.manifest.shape) at count) → IsLocated new s
 located_elsewhere old new s at count stands changes behind honest =
     let is_shape : s.sorted.shape ≡ s.manifest.shape = ap (λ (t : SortedState). t.shape) stands.whole.sorted in
-    let is_region : s.sorted.region ≡ s.manifest.ruling.sorted = ap (λ (t : SortedState). t.region) stands.whole.sorted in
+    let is_region : s.sorted.region ≡ s.manifest.current.sorted = ap (λ (t : SortedState). t.region) stands.whole.sorted in
     indexed_elsewhere s.sorted s.index old new at count stands.whole.held
     (subst (λ (sh : Shape). device_size sh ≤ size old) (sym is_shape) (omega (arith, stands.has_size)))
     (subst (λ (n : ℕ). LiesOutside (sorted_at s.sorted.shape n) (entries_len s.sorted.shape) at count) (sym is_region)
-    (subst (λ (sh : Shape). LiesOutside (sorted_at sh s.manifest.ruling.sorted) (entries_len sh) at count) (sym is_shape) (behind (subst IsTrue changes.honest honest))))
+    (subst (λ (sh : Shape). LiesOutside (sorted_at sh s.manifest.current.sorted) (entries_len sh) at count) (sym is_shape) (behind (subst IsTrue changes.honest honest))))
     changes stands.located honest
 
 -- and their digest
 pub digested_elsewhere : (old new : Content) (s : TiersState) (at count : ℕ) → Stands old s → ChangesWithin at count old new
-    → (IsTrue old.honest → LiesOutside (sorted_at s.manifest.shape s.manifest.ruling.sorted) (entries_len s.manifest.shape) at count) → IsDigested new s
+    → (IsTrue old.honest → LiesOutside (sorted_at s.manifest.shape s.manifest.current.sorted) (entries_len s.manifest.shape) at count) → IsDigested new s
 digested_elsewhere old new s at count stands changes behind honest =
     let is_shape : s.sorted.shape ≡ s.manifest.shape = ap (λ (t : SortedState). t.shape) stands.whole.sorted in
-    let is_region : s.sorted.region ≡ s.manifest.ruling.sorted = ap (λ (t : SortedState). t.region) stands.whole.sorted in
+    let is_region : s.sorted.region ≡ s.manifest.current.sorted = ap (λ (t : SortedState). t.region) stands.whole.sorted in
     digest_elsewhere s.sorted s.digest old new at count stands.whole.held
     (subst (λ (sh : Shape). device_size sh ≤ size old) (sym is_shape) (omega (arith, stands.has_size)))
     (subst (λ (n : ℕ). LiesOutside (sorted_at s.sorted.shape n) (entries_len s.sorted.shape) at count) (sym is_region)
-    (subst (λ (sh : Shape). LiesOutside (sorted_at sh s.manifest.ruling.sorted) (entries_len sh) at count) (sym is_shape) (behind (subst IsTrue changes.honest honest))))
+    (subst (λ (sh : Shape). LiesOutside (sorted_at sh s.manifest.current.sorted) (entries_len sh) at count) (sym is_shape) (behind (subst IsTrue changes.honest honest))))
     changes stands.digested honest
 
 -- ---- the merge
@@ -269,15 +269,15 @@ digested_elsewhere old new s at count stands changes behind honest =
 -- a merge in progress keeps what it has gathered and written if only bytes outside its entries, those of the sorted store and the slots of
 -- the hash stores change
 pub merged_all_elsewhere : (old new : Content) (s : TiersState) (at count : ℕ) (o : Option MergeState) → Stands old s → ChangesWithin at count old new
-    → (IsTrue old.honest → (region : ℕ) → Contains s.manifest.ruling.hashed region → LiesOutside (hash_at s.manifest.shape region) (slots_len s.manifest.shape) at count)
-    → (IsTrue old.honest → LiesOutside (sorted_at s.manifest.shape s.manifest.ruling.sorted) (entries_len s.manifest.shape) at count)
+    → (IsTrue old.honest → (region : ℕ) → Contains s.manifest.current.hashed region → LiesOutside (hash_at s.manifest.shape region) (slots_len s.manifest.shape) at count)
+    → (IsTrue old.honest → LiesOutside (sorted_at s.manifest.shape s.manifest.current.sorted) (entries_len s.manifest.shape) at count)
     → (IsTrue old.honest → IfSome o (λ merge. LiesOutside (sorted_at s.manifest.shape merge.region) (entries_len s.manifest.shape) at count))
     → IfSome o (IsMerging s) → IfSome o (HasGathered old s) → IfSome o (HasGathered new s)
 merged_all_elsewhere old new s at count None stands changes outside behind apart merging is = tt
 merged_all_elsewhere old new s at count (Some merge) stands changes outside behind apart merging is =
     let way : IsMerging s merge = merging in
     let is_shape : s.sorted.shape ≡ s.manifest.shape = ap (λ (t : SortedState). t.shape) stands.whole.sorted in
-    let is_region : s.sorted.region ≡ s.manifest.ruling.sorted = ap (λ (t : SortedState). t.region) stands.whole.sorted in
+    let is_region : s.sorted.region ≡ s.manifest.current.sorted = ap (λ (t : SortedState). t.region) stands.whole.sorted in
     let fits : device_size s.sorted.shape ≤ size old = subst (λ (sh : Shape). device_size sh ≤ size old) (sym is_shape) (omega (arith, stands.has_size)) in
     let slots : IsTrue old.honest → All (λ (store : HashState). LiesOutside (hash_at s.sorted.shape store.region) (slots_len s.sorted.shape) at count) (oldest_stores merge.stores s.hashes) =
     λ h. All-drop (λ (store : HashState). LiesOutside (hash_at s.sorted.shape store.region) (slots_len s.sorted.shape) at count) (length s.hashes - merge.stores) s.hashes
@@ -286,7 +286,7 @@ merged_all_elsewhere old new s at count (Some merge) stands changes outside behi
     λ h. merged_elsewhere (oldest_stores merge.stores s.hashes) s.sorted merge old new at count stands.whole.held way.held fits
     (subst (λ (sh : Shape). LiesOutside (sorted_at sh merge.region) (entries_len sh) at count) (sym is_shape) (apart h))
     (subst (λ (n : ℕ). LiesOutside (sorted_at s.sorted.shape n) (entries_len s.sorted.shape) at count) (sym is_region)
-    (subst (λ (sh : Shape). LiesOutside (sorted_at sh s.manifest.ruling.sorted) (entries_len sh) at count) (sym is_shape) (behind h)))
+    (subst (λ (sh : Shape). LiesOutside (sorted_at sh s.manifest.current.sorted) (entries_len sh) at count) (sym is_shape) (behind h)))
     (slots h) changes is in
     record {
       shape = is.shape;

@@ -36,7 +36,7 @@ module _ (old new : Content) (s : TiersState) (next : NextLog) where
     same_store =
         let log : after.log ≡ next.store.log = empties.log.log ∙ sym (
         ap (λ (t : LogStoreState). t.log) is.store
-        ∙ ap (λ (t : LogStoreState). record t.log { settled = 0; used = 0; loose = false }) (sym is.store)
+        ∙ ap (λ (t : LogStoreState). record t.log { settled = 0; used = 0; stale = false }) (sym is.store)
         ) in
         ap (λ (l : LogState). let r : LogStoreState = record { log = l; table = after.table; puts = after.puts } in r) log
         ∙ ap (λ t. let r : LogStoreState = record { log = next.store.log; table = t; puts = after.puts } in r) empties.table

@@ -18,13 +18,13 @@ use Rattle.silt_event.specs.Rows.{command_of, map_of_rows}
 use Rattle.silt_image.proofs.Verdict.{rows_law}
 use Rattle.silt_disk.specs.Header.{header_of, version_of}
 use Rattle.silt_disk.proofs.Images.{torn_slice_before}
-use Rattle.silt_manifest.specs.Ruling.{where_found}
-use Rattle.silt_manifest.specs.Standing.{RulesAsHeld, ruling_record}
+use Rattle.silt_manifest.specs.Current.{where_found}
+use Rattle.silt_manifest.specs.Standing.{RulesAsHeld, current_record}
 use Rattle.silt_manifest.proofs.Laws.{other_regions}
 use Rattle.silt_standing.specs.State.{TiersState}
 use Rattle.silt_standing.specs.Standing.{Stands, base_map, current_map, full_image, shown_stores}
 use Rattle.silt_tiers.specs.Laws.{IsGoodWith}
-use Rattle.silt_tiers.proofs.Named.{active_named, map_with_more, named_body, named_here, named_shape, region_torn, rows_with_more, said_with_rows, says_ruling, sound_settled, stands_for, stores_map, with_body, with_shape}
+use Rattle.silt_tiers.proofs.Named.{active_named, map_with_more, named_body, named_here, named_shape, region_torn, rows_with_more, said_with_rows, says_current, sound_settled, stands_for, stores_map, with_body, with_shape}
 
 -- the map of the settled rows
 pub base_is : (content : Content) (s : TiersState) → base_map content s ≡ map_of_rows (rows_of (shown_stores content s))
@@ -63,14 +63,14 @@ opened_map content l t is sized same_shape same_region honest named =
 
 module _ (content : Content) (s : TiersState) (stands : Stands content s) where
   -- the active log's region
-  pub active_below : s.manifest.ruling.active < s.manifest.shape.logs
+  pub active_below : s.manifest.current.active < s.manifest.shape.logs
   active_below =
       let here : s.active.log.region < s.active.log.shape.logs = stands.active.bounds.region in
       subst (λ (n : ℕ). n < s.manifest.shape.logs) stands.whole.active_region (subst (λ (sh : Shape). s.active.log.region < sh.logs) stands.whole.has_shape here)
 
   -- the active log's rows in an image
-  pub active_rows : (image : List ℕ) → log_rows s.manifest.shape s.manifest.ruling.active image ≡ log_rows s.active.log.shape s.active.log.region image
-  active_rows image = ap (λ (sh : Shape). log_rows sh s.manifest.ruling.active image) (sym stands.whole.has_shape) ∙ ap (λ (n : ℕ). log_rows s.active.log.shape n image) (sym stands.whole.active_region)
+  pub active_rows : (image : List ℕ) → log_rows s.manifest.shape s.manifest.current.active image ≡ log_rows s.active.log.shape s.active.log.region image
+  active_rows image = ap (λ (sh : Shape). log_rows sh s.manifest.current.active image) (sym stands.whole.has_shape) ∙ ap (λ (n : ℕ). log_rows s.active.log.shape n image) (sym stands.whole.active_region)
 
   -- the active log's size
   pub active_size : size content ≡ device_size s.active.log.shape
@@ -86,31 +86,31 @@ module _ (content : Content) (s : TiersState) (stands : Stands content s) where
 
   -- of which the first log is the active one
   pub has_active : IsTrue content.honest → HasActive (settled_rows content s.active.log) (shown_stores content s)
-  has_active honest = active_named s.manifest.shape s.manifest.ruling (shown_stores content s) (settled_rows content s.active.log) content.shown (shown_named honest)
-      (named_shape s.manifest.shape s.manifest.ruling content.shown) (named_body s.manifest.shape s.manifest.ruling content.shown)
+  has_active honest = active_named s.manifest.shape s.manifest.current (shown_stores content s) (settled_rows content s.active.log) content.shown (shown_named honest)
+      (named_shape s.manifest.shape s.manifest.current content.shown) (named_body s.manifest.shape s.manifest.current content.shown)
       (active_rows content.shown ∙ stands.active.images.each honest content.shown (shown_left content))
 
   -- the region of the active log in the stores
-  pub active_is : (shown_stores content s).body.active ≡ s.manifest.ruling.active
-  active_is = ap (λ b. b.active) (named_body s.manifest.shape s.manifest.ruling content.shown)
+  pub active_is : (shown_stores content s).body.active ≡ s.manifest.current.active
+  active_is = ap (λ b. b.active) (named_body s.manifest.shape s.manifest.current content.shown)
 
   -- nothing is found, also with all rows
-  pub all_sound : IsTrue content.honest → IsSound (with_log_rows s.manifest.ruling.active (settled_rows content s.active.log ++ waiting_rows content s.active.log) (shown_stores content s))
+  pub all_sound : IsTrue content.honest → IsSound (with_log_rows s.manifest.current.active (settled_rows content s.active.log ++ waiting_rows content s.active.log) (shown_stores content s))
   all_sound honest =
-      subst (λ (rows : List StoredRow). IsSound (with_log_rows s.manifest.ruling.active rows (shown_stores content s))) rows_split
+      subst (λ (rows : List StoredRow). IsSound (with_log_rows s.manifest.current.active rows (shown_stores content s))) rows_split
       (subst (λ (n : ℕ). IsSound (with_log_rows n (all_rows content s.active.log) (shown_stores content s))) stands.whole.active_region (stands.sound honest))
 
   -- nothing is found in what is shown
   pub shown_sound : IsTrue content.honest → IsSound (shown_stores content s)
-  shown_sound honest = sound_settled (shown_stores content s) s.manifest.ruling.active (settled_rows content s.active.log) (waiting_rows content s.active.log) active_is (has_active honest) (all_sound honest)
+  shown_sound honest = sound_settled (shown_stores content s) s.manifest.current.active (settled_rows content s.active.log) (waiting_rows content s.active.log) active_is (has_active honest) (all_sound honest)
 
   -- the rows of the active log in the full image
-  pub full_rows : IsTrue content.honest → log_rows s.manifest.shape s.manifest.ruling.active (full_image content s) ≡ all_rows content s.active.log
+  pub full_rows : IsTrue content.honest → log_rows s.manifest.shape s.manifest.current.active (full_image content s) ≡ all_rows content s.active.log
   full_rows honest = active_rows (full_image content s) ∙ stands.active.full honest
 
   -- an image with a current record and stores of this shape has the record's digests
   pub says_held : (image : List ℕ) (t : Stores) → image_stores image ≡ Ok t → t.shape ≡ s.manifest.shape → RulesAsHeld s.manifest image → image_digests image ≡ s.manifest.digests
-  says_held image t is same_shape rules = says_ruling s.manifest.shape t (ruling_record s.manifest) image is same_shape rules
+  says_held image t is same_shape rules = says_current s.manifest.shape t (current_record s.manifest) image is same_shape rules
 
   -- it is current in each possible crash image
   pub left_rules : IsTrue content.honest → (image : List ℕ) → Left content image → RulesAsHeld s.manifest image
@@ -128,47 +128,47 @@ module _ (content : Content) (s : TiersState) (stands : Stands content s) where
 
   -- an image that is changed in the region of the active log
   pub torn_active : (before image : List ℕ) (rows : List StoredRow) → image_stores before ≡ Ok (shown_stores content s) → Torn (gates_at s.active.log.shape s.active.log.region) (log_size s.active.log.shape) before image
-      → log_rows s.active.log.shape s.active.log.region image ≡ rows → image_stores image ≡ Ok (with_log_rows s.manifest.ruling.active rows (shown_stores content s))
+      → log_rows s.active.log.shape s.active.log.region image ≡ rows → image_stores image ≡ Ok (with_log_rows s.manifest.current.active rows (shown_stores content s))
   torn_active before image rows named torn are =
-      region_torn s.manifest.shape (shown_stores content s) s.manifest.ruling.active rows before image (named_shape s.manifest.shape s.manifest.ruling content.shown) named active_below
+      region_torn s.manifest.shape (shown_stores content s) s.manifest.current.active rows before image (named_shape s.manifest.shape s.manifest.current content.shown) named active_below
       (subst (λ (n : ℕ). Torn (gates_at s.manifest.shape n) (log_size s.manifest.shape) before image) stands.whole.active_region
       (subst (λ (sh : Shape). Torn (gates_at sh s.active.log.region) (log_size sh) before image) stands.whole.has_shape torn))
       (active_rows image ∙ are)
 
   -- the stores of the full image
-  pub full_stores : IsTrue content.honest → image_stores (full_image content s) ≡ Ok (with_log_rows s.manifest.ruling.active (all_rows content s.active.log) (shown_stores content s))
+  pub full_stores : IsTrue content.honest → image_stores (full_image content s) ≡ Ok (with_log_rows s.manifest.current.active (all_rows content s.active.log) (shown_stores content s))
   full_stores honest = torn_active content.shown (full_image content s) (all_rows content s.active.log) (shown_named honest) (full_torn content s.active.log stands.active.bounds active_size) (stands.active.full honest)
 
   -- an image with these rows in the active log: its map
   pub map_with_rows : IsTrue content.honest → (image : List ℕ) (more : List StoredRow)
-      → image_stores image ≡ Ok (with_log_rows s.manifest.ruling.active (settled_rows content s.active.log ++ more) (shown_stores content s))
+      → image_stores image ≡ Ok (with_log_rows s.manifest.current.active (settled_rows content s.active.log ++ more) (shown_stores content s))
       → image_map image ≡ map_after (base_map content s) (map command_of more)
   map_with_rows honest image more is =
-      stores_map (with_log_rows s.manifest.ruling.active (settled_rows content s.active.log ++ more) (shown_stores content s)) image is
-      ∙ map_with_more (shown_stores content s) s.manifest.ruling.active (settled_rows content s.active.log) (waiting_rows content s.active.log) active_is (has_active honest) more
+      stores_map (with_log_rows s.manifest.current.active (settled_rows content s.active.log ++ more) (shown_stores content s)) image is
+      ∙ map_with_more (shown_stores content s) s.manifest.current.active (settled_rows content s.active.log) (waiting_rows content s.active.log) active_is (has_active honest) more
       ∙ ap (λ (m : Map). map_after m (map command_of more)) (sym (base_is content s))
 
   -- the map of the full image
   pub full_map : IsTrue content.honest → image_map (full_image content s) ≡ current_map content s
   full_map honest = map_with_rows honest (full_image content s) (waiting_rows content s.active.log)
-      (full_stores honest ∙ ap (λ (rows : List StoredRow). Ok (with_log_rows s.manifest.ruling.active rows (shown_stores content s))) rows_split)
+      (full_stores honest ∙ ap (λ (rows : List StoredRow). Ok (with_log_rows s.manifest.current.active rows (shown_stores content s))) rows_split)
 
   -- the numbers of the full image
-  pub full_numbers : IsTrue content.honest → IsGoodWith s.manifest.shape s.manifest.ruling s.charge (full_image content s)
+  pub full_numbers : IsTrue content.honest → IsGoodWith s.manifest.shape s.manifest.current s.charge (full_image content s)
   full_numbers honest =
-      let t : Stores = with_log_rows s.manifest.ruling.active (all_rows content s.active.log) (shown_stores content s) in
-      let split : t ≡ with_log_rows s.manifest.ruling.active (settled_rows content s.active.log ++ waiting_rows content s.active.log) (shown_stores content s) =
-      ap (λ (rows : List StoredRow). with_log_rows s.manifest.ruling.active rows (shown_stores content s)) rows_split in
+      let t : Stores = with_log_rows s.manifest.current.active (all_rows content s.active.log) (shown_stores content s) in
+      let split : t ≡ with_log_rows s.manifest.current.active (settled_rows content s.active.log ++ waiting_rows content s.active.log) (shown_stores content s) =
+      ap (λ (rows : List StoredRow). with_log_rows s.manifest.current.active rows (shown_stores content s)) rows_split in
       let is : image_stores (full_image content s) ≡ Ok t = full_stores honest in
-      let same_shape : t.shape ≡ s.manifest.shape = with_shape s.manifest.ruling.active (all_rows content s.active.log) (shown_stores content s) ∙ named_shape s.manifest.shape s.manifest.ruling content.shown in
+      let same_shape : t.shape ≡ s.manifest.shape = with_shape s.manifest.current.active (all_rows content s.active.log) (shown_stores content s) ∙ named_shape s.manifest.shape s.manifest.current content.shown in
       record {
-        stores = is ∙ ap Ok (sym (named_here s.manifest.shape s.manifest.ruling t (full_image content s) is same_shape
-            (with_body s.manifest.ruling.active (all_rows content s.active.log) (shown_stores content s) ∙ named_body s.manifest.shape s.manifest.ruling content.shown)));
+        stores = is ∙ ap Ok (sym (named_here s.manifest.shape s.manifest.current t (full_image content s) is same_shape
+            (with_body s.manifest.current.active (all_rows content s.active.log) (shown_stores content s) ∙ named_body s.manifest.shape s.manifest.current content.shown)));
         good = (stands_for s.manifest.shape t s.manifest.digests (map_of_rows (rows_of t)) (full_image content s) is same_shape (subst IsSound (sym split) (all_sound honest))
-            (said_with_rows s.manifest.digests s.manifest.ruling.active (all_rows content s.active.log) (shown_stores content s) (stands.said honest))
+            (said_with_rows s.manifest.digests s.manifest.current.active (all_rows content s.active.log) (shown_stores content s) (stands.said honest))
             (says_held (full_image content s) t is same_shape (full_rules honest)) refl).good;
         charged = charge_is (full_image content s) t is ∙ ap (λ (u : Stores). put_count (rows_of u)) split
-            ∙ ap put_count (rows_with_more (shown_stores content s) s.manifest.ruling.active (settled_rows content s.active.log) (waiting_rows content s.active.log) active_is (has_active honest) (waiting_rows content s.active.log))
+            ∙ ap put_count (rows_with_more (shown_stores content s) s.manifest.current.active (settled_rows content s.active.log) (waiting_rows content s.active.log) active_is (has_active honest) (waiting_rows content s.active.log))
             ∙ sym (stands.counted honest);
       }
 
@@ -179,7 +179,7 @@ module _ (content : Content) (s : TiersState) (stands : Stands content s) where
   -- each image represents the base
   pub base_stands : IsTrue content.honest → (image : List ℕ) → image_stores image ≡ Ok (shown_stores content s) → RulesAsHeld s.manifest image → StandsFor s.manifest.shape (base_map content s) image
   base_stands honest image is rules =
-      let same_shape = named_shape s.manifest.shape s.manifest.ruling content.shown in
+      let same_shape = named_shape s.manifest.shape s.manifest.current content.shown in
       stands_for s.manifest.shape (shown_stores content s) s.manifest.digests (base_map content s) image is
       same_shape (shown_sound honest) (stands.said honest) (says_held image (shown_stores content s) is same_shape rules) (sym (base_is content s))
 
@@ -188,15 +188,15 @@ module _ (content : Content) (s : TiersState) (stands : Stands content s) where
 
   -- an image with these rows in the active log, in which nothing is found
   pub stands_with_rows : IsTrue content.honest → (image : List ℕ) (more : List StoredRow)
-      → image_stores image ≡ Ok (with_log_rows s.manifest.ruling.active (settled_rows content s.active.log ++ more) (shown_stores content s)) → RulesAsHeld s.manifest image
-      → IsSound (with_log_rows s.manifest.ruling.active (settled_rows content s.active.log ++ more) (shown_stores content s))
+      → image_stores image ≡ Ok (with_log_rows s.manifest.current.active (settled_rows content s.active.log ++ more) (shown_stores content s)) → RulesAsHeld s.manifest image
+      → IsSound (with_log_rows s.manifest.current.active (settled_rows content s.active.log ++ more) (shown_stores content s))
       → StandsFor s.manifest.shape (map_after (base_map content s) (map command_of more)) image
   stands_with_rows honest image more is rules sound =
-      let t : Stores = with_log_rows s.manifest.ruling.active (settled_rows content s.active.log ++ more) (shown_stores content s) in
+      let t : Stores = with_log_rows s.manifest.current.active (settled_rows content s.active.log ++ more) (shown_stores content s) in
       let same_shape : t.shape ≡ s.manifest.shape =
-      with_shape s.manifest.ruling.active (settled_rows content s.active.log ++ more) (shown_stores content s) ∙ named_shape s.manifest.shape s.manifest.ruling content.shown in
+      with_shape s.manifest.current.active (settled_rows content s.active.log ++ more) (shown_stores content s) ∙ named_shape s.manifest.shape s.manifest.current content.shown in
       stands_for s.manifest.shape t s.manifest.digests (map_after (base_map content s) (map command_of more)) image is same_shape sound
-      (said_with_rows s.manifest.digests s.manifest.ruling.active (settled_rows content s.active.log ++ more) (shown_stores content s) (stands.said honest))
+      (said_with_rows s.manifest.digests s.manifest.current.active (settled_rows content s.active.log ++ more) (shown_stores content s) (stands.said honest))
       (says_held image t is same_shape rules)
-      (map_with_more (shown_stores content s) s.manifest.ruling.active (settled_rows content s.active.log) (waiting_rows content s.active.log) active_is (has_active honest) more
+      (map_with_more (shown_stores content s) s.manifest.current.active (settled_rows content s.active.log) (waiting_rows content s.active.log) active_is (has_active honest) more
       ∙ ap (λ (m : Map). map_after m (map command_of more)) (sym (base_is content s)))

@@ -50,17 +50,17 @@ module _ (old new : Content) (s : TiersState) (after : LogStoreState) (stands : 
   module _ (opens : OpensStore old new s.active after) where
     -- the stores with all rows settled
     now : Stores
-    now = with_log_rows s.manifest.ruling.active (settled_rows old s.active.log ++ waiting_rows old s.active.log) (shown_stores old s)
+    now = with_log_rows s.manifest.current.active (settled_rows old s.active.log ++ waiting_rows old s.active.log) (shown_stores old s)
 
-    now_is : now ≡ with_log_rows s.manifest.ruling.active (settled_rows old s.active.log ++ waiting_rows old s.active.log) (shown_stores old s)
+    now_is : now ≡ with_log_rows s.manifest.current.active (settled_rows old s.active.log ++ waiting_rows old s.active.log) (shown_stores old s)
     unfolding now
     now_is = refl
 
     same_shape : now.shape ≡ s.manifest.shape
-    same_shape = ap (λ (t : Stores). t.shape) now_is ∙ with_shape _ _ _ ∙ named_shape s.manifest.shape s.manifest.ruling old.shown
+    same_shape = ap (λ (t : Stores). t.shape) now_is ∙ with_shape _ _ _ ∙ named_shape s.manifest.shape s.manifest.current old.shown
 
-    same_body : now.body ≡ s.manifest.ruling
-    same_body = ap (λ (t : Stores). t.body) now_is ∙ with_body _ _ _ ∙ named_body s.manifest.shape s.manifest.ruling old.shown
+    same_body : now.body ≡ s.manifest.current
+    same_body = ap (λ (t : Stores). t.body) now_is ∙ with_body _ _ _ ∙ named_body s.manifest.shape s.manifest.current old.shown
 
     shape_same : after.log.shape ≡ s.active.log.shape
     shape_same = ap (λ (l : LogState). l.shape) opens.log.log
@@ -86,7 +86,7 @@ module _ (old new : Content) (s : TiersState) (after : LogStoreState) (stands : 
 
     -- all rows of the stores
     now_rows : IsTrue old.honest → rows_of now ≡ rows_of (shown_stores old s) ++ waiting_rows old s.active.log
-    now_rows h = ap rows_of now_is ∙ rows_with_more (shown_stores old s) s.manifest.ruling.active (settled_rows old s.active.log) [] (active_is old s stands) (has_active old s stands h) (waiting_rows old s.active.log)
+    now_rows h = ap rows_of now_is ∙ rows_with_more (shown_stores old s) s.manifest.current.active (settled_rows old s.active.log) [] (active_is old s stands) (has_active old s stands h) (waiting_rows old s.active.log)
 
     none : waiting_rows new after.log ≡ []
     none = none_waiting new after.log settled_all
@@ -108,11 +108,11 @@ module _ (old new : Content) (s : TiersState) (after : LogStoreState) (stands : 
       same_body = same_body;
       named = named;
       sound = λ h.
-          subst (λ (t : Stores). IsSound (with_log_rows s.manifest.ruling.active (all_rows new after.log) t)) (sym now_is)
-          (subst IsSound (sym (again_law (shown_stores old s) s.manifest.ruling.active (settled_rows old s.active.log ++ waiting_rows old s.active.log) (all_rows new after.log)))
-          (subst (λ (rows : List StoredRow). IsSound (with_log_rows s.manifest.ruling.active rows (shown_stores old s))) (sym (opens.log.all (was h) ∙ rows_split old s stands)) (all_sound old s stands (was h))));
+          subst (λ (t : Stores). IsSound (with_log_rows s.manifest.current.active (all_rows new after.log) t)) (sym now_is)
+          (subst IsSound (sym (again_law (shown_stores old s) s.manifest.current.active (settled_rows old s.active.log ++ waiting_rows old s.active.log) (all_rows new after.log)))
+          (subst (λ (rows : List StoredRow). IsSound (with_log_rows s.manifest.current.active rows (shown_stores old s))) (sym (opens.log.all (was h) ∙ rows_split old s stands)) (all_sound old s stands (was h))));
       said = λ h. subst (λ (t : Stores). AreDigestsOf s.manifest.digests t) (sym now_is)
-          (said_with_rows s.manifest.digests s.manifest.ruling.active (settled_rows old s.active.log ++ waiting_rows old s.active.log) (shown_stores old s) (stands.said (was h)));
+          (said_with_rows s.manifest.digests s.manifest.current.active (settled_rows old s.active.log ++ waiting_rows old s.active.log) (shown_stores old s) (stands.said (was h)));
       counted = λ h.
           stands.counted (was h) ∙ ap put_count (sym (now_rows (was h)) ∙ sym (append-nil (rows_of now)) ∙ ap (λ (rows : List StoredRow). rows_of now ++ rows) (sym none));
     }
@@ -127,7 +127,7 @@ module _ (old new : Content) (s : TiersState) (after : LogStoreState) (stands : 
         base =
             base_is new (with_active s after s.charge)
             ∙ ap (λ (t : Stores). map_of_rows (rows_of t)) (shown_are new (with_active s after s.charge) now same_shape same_body named (there h) ∙ now_is)
-            ∙ map_with_more (shown_stores old s) s.manifest.ruling.active (settled_rows old s.active.log) [] (active_is old s stands) (has_active old s stands h) (waiting_rows old s.active.log)
+            ∙ map_with_more (shown_stores old s) s.manifest.current.active (settled_rows old s.active.log) [] (active_is old s stands) (has_active old s stands h) (waiting_rows old s.active.log)
             ∙ ap (λ (m : Map). map_after m (waiting_commands old s)) (sym (base_is old s));
       };
     }
@@ -147,13 +147,13 @@ module _ (old new : Content) (s : TiersState) (after : LogStoreState) (stands : 
           let waiting : List StoredRow = waiting_rows old s.active.log in
           let some : List StoredRow = take has.0 waiting in
           let from = changed.left o image left in
-          let is : image_stores image ≡ Ok (with_log_rows s.manifest.ruling.active (settled_rows old s.active.log ++ some) (shown_stores old s)) =
+          let is : image_stores image ≡ Ok (with_log_rows s.manifest.current.active (settled_rows old s.active.log ++ some) (shown_stores old s)) =
           torn_active old s stands from.0 image (settled_rows old s.active.log ++ some) (stands.named.each o from.0 from.1) from.2 has.2 in
           record {
             kept = map command_of some;
             begins = record { rest = map command_of (drop has.0 waiting); is = sym (map-append command_of some (drop has.0 waiting)) ∙ ap (map command_of) (take-append-drop has.0 waiting) };
             stands = stands_with_rows old s stands o image some is ((rules_stay old new s stands sizes changed).each h image left).rules
-                (sound_some (shown_stores old s) s.manifest.ruling.active (settled_rows old s.active.log) waiting (active_is old s stands) (has_active old s stands o) has.0 (all_sound old s stands o));
+                (sound_some (shown_stores old s) s.manifest.current.active (settled_rows old s.active.log) waiting (active_is old s stands) (has_active old s stands o) has.0 (all_sound old s stands o));
           };
     }
 
@@ -161,7 +161,7 @@ module _ (old new : Content) (s : TiersState) (after : LogStoreState) (stands : 
     pub flush_failed_map : Remaps [] old new s (with_active s after s.charge)
     flush_failed_map h =
         let same : after.log ≡ s.active.log = opens.log.log in
-        let is : image_stores (full_image new s) ≡ Ok (with_log_rows s.manifest.ruling.active (settled_rows old s.active.log ++ waiting_rows old s.active.log) (shown_stores old s)) =
+        let is : image_stores (full_image new s) ≡ Ok (with_log_rows s.manifest.current.active (settled_rows old s.active.log ++ waiting_rows old s.active.log) (shown_stores old s)) =
         full_with old new s stands sizes changed (there h) s.active.log (settled_rows old s.active.log ++ waiting_rows old s.active.log) refl refl stands.active.bounds
         (opens.log.full h ∙ rows_split old s stands) in
         ap (λ (l : LogState). image_map (full_image new (with_active s (record after { log = l }) s.charge))) same

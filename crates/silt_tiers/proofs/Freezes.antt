@@ -66,7 +66,7 @@ store_elsewhere old new store at count stands sized sizes outside changes =
     }
 
 module _ (old new : Content) (s : TiersState) (at count : ℕ) (stands : Stands old s) (sizes : size new ≡ size old) (changes : ChangesWithin at count old new)
-    (apart : IsTrue old.honest → IsApart s.manifest.shape s.manifest.ruling at count) (outside : LiesOutside (gates_at s.active.log.shape s.active.log.region) (log_len s.active.log.shape) at count) where
+    (apart : IsTrue old.honest → IsApart s.manifest.shape s.manifest.current at count) (outside : LiesOutside (gates_at s.active.log.shape s.active.log.region) (log_len s.active.log.shape) at count) where
   pub same_here : SameDisk old new
   same_here = record { size = sizes; honest = changes.honest }
 
@@ -74,7 +74,7 @@ module _ (old new : Content) (s : TiersState) (at count : ℕ) (stands : Stands 
   kept = log_elsewhere old new s.active.log at count stands.active (omega (arith, active_size old s stands)) sizes outside changes
 
   -- the stores stand in this state, with the same rows waiting
-  module _ (m : ManifestState) (converting : Option ConversionState) (merging : Option MergeState) (same_shape : m.shape ≡ s.manifest.shape) (same_ruling : m.ruling ≡ s.manifest.ruling) (same_digests : m.digests ≡ s.manifest.digests) (idle : m.prepared ≡ None) (rules : Rules m new)
+  module _ (m : ManifestState) (converting : Option ConversionState) (merging : Option MergeState) (same_shape : m.shape ≡ s.manifest.shape) (same_current : m.current ≡ s.manifest.current) (same_digests : m.digests ≡ s.manifest.digests) (idle : m.prepared ≡ None) (rules : Rules m new)
       (named : LeavesOnly new (λ image. image_stores image ≡ Ok (shown_stores old s)))
       (under_way : IfSome converting (IsUnderWay s)) (written : IfSome converting (HasWritten new (oldest_log s))) (is_merging : IfSome merging (IsMerging s)) (merged : IfSome merging (HasGathered new s)) where
     abbrev after : TiersState
@@ -84,15 +84,15 @@ module _ (old new : Content) (s : TiersState) (at count : ℕ) (stands : Stands 
     back h = subst IsTrue changes.honest h
 
     t_shape : (shown_stores old s).shape ≡ m.shape
-    t_shape = named_shape s.manifest.shape s.manifest.ruling old.shown ∙ sym same_shape
+    t_shape = named_shape s.manifest.shape s.manifest.current old.shown ∙ sym same_shape
 
-    t_body : (shown_stores old s).body ≡ m.ruling
-    t_body = named_body s.manifest.shape s.manifest.ruling old.shown ∙ sym same_ruling
+    t_body : (shown_stores old s).body ≡ m.current
+    t_body = named_body s.manifest.shape s.manifest.current old.shown ∙ sym same_current
 
     fits_on : Fits new after (shown_stores old s)
     fits_on = record {
       has_size = sizes ∙ stands.has_size ∙ ap device_size (sym same_shape);
-      whole = whole_with s m converting merging same_shape same_ruling under_way is_merging stands.whole;
+      whole = whole_with s m converting merging same_shape same_current under_way is_merging stands.whole;
       idle = idle;
       rules = rules;
       active = record { log = kept.stands; index = indexed_same old new s.active back (λ h. kept.all (back h)) stands.indexed };
@@ -106,8 +106,8 @@ module _ (old new : Content) (s : TiersState) (at count : ℕ) (stands : Stands 
       same_body = t_body;
       named = named;
       sound = λ h.
-          let active_of : s.active.log.region ≡ m.ruling.active = stands.whole.active_region ∙ ap (λ (b : Body). b.active) (sym same_ruling) in
-          subst (λ (rows : List StoredRow). IsSound (with_log_rows m.ruling.active rows (shown_stores old s))) (sym (kept.all (back h)))
+          let active_of : s.active.log.region ≡ m.current.active = stands.whole.active_region ∙ ap (λ (b : Body). b.active) (sym same_current) in
+          subst (λ (rows : List StoredRow). IsSound (with_log_rows m.current.active rows (shown_stores old s))) (sym (kept.all (back h)))
           (subst (λ (n : ℕ). IsSound (with_log_rows n (all_rows old s.active.log) (shown_stores old s))) active_of (stands.sound (back h)));
       said = λ h. subst (λ (o : Option Digests). AreDigestsOf o (shown_stores old s)) (sym same_digests) (stands.said (back h));
       counted = λ h.
@@ -134,10 +134,10 @@ module _ (old new : Content) (s : TiersState) (at count : ℕ) (stands : Stands 
   merged_on outside_merge = merged_all_elsewhere old new s at count s.merging stands changes (λ h. (apart h).hashed) (λ h. (apart h).sorted) outside_merge stands.whole.merging stands.merged
 
   -- so do the stores with their conversion and their merge as they are, after a change outside their slots and entries
-  pub stays_on : (IsTrue old.honest → IsOutsideConversion s at count) → (IsTrue old.honest → IsOutsideMerge s at count) → (m : ManifestState) → m.shape ≡ s.manifest.shape → m.ruling ≡ s.manifest.ruling → m.digests ≡ s.manifest.digests → m.prepared ≡ None → Rules m new
+  pub stays_on : (IsTrue old.honest → IsOutsideConversion s at count) → (IsTrue old.honest → IsOutsideMerge s at count) → (m : ManifestState) → m.shape ≡ s.manifest.shape → m.current ≡ s.manifest.current → m.digests ≡ s.manifest.digests → m.prepared ≡ None → Rules m new
       → LeavesOnly new (λ image. image_stores image ≡ Ok (shown_stores old s)) → Advances [] old new s (record s { manifest = m })
-  stays_on outside_slots outside_merge m same_shape same_ruling same_digests idle rules named =
-      stays_with m s.converting s.merging same_shape same_ruling same_digests idle rules named stands.whole.under_way
+  stays_on outside_slots outside_merge m same_shape same_current same_digests idle rules named =
+      stays_with m s.converting s.merging same_shape same_current same_digests idle rules named stands.whole.under_way
       (written_all_elsewhere old new s at count s.converting stands changes (λ h. (apart h).frozen) outside_slots stands.whole.under_way stands.written)
       stands.whole.merging (merged_on outside_merge)
 
@@ -175,7 +175,7 @@ region_before_merge s region below = behind s.merging
     behind None = tt
     behind (Some merge) = entries_behind_log s.manifest.shape region merge.region below
 
-module _ (old new : Content) (s : TiersState) (region : ℕ) (stands : Stands old s) (below : region < s.manifest.shape.logs) (free : names_region s.manifest.ruling region ≡ false)
+module _ (old new : Content) (s : TiersState) (region : ℕ) (stands : Stands old s) (below : region < s.manifest.shape.logs) (free : names_region s.manifest.current region ≡ false)
     (sizes : size new ≡ size old) (gates : ChangesWithin (gates_at s.manifest.shape region) s.manifest.shape.log_capacity old new) where
   in_region : ChangesWithin (gates_at s.manifest.shape region) (log_size s.manifest.shape) old new
   in_region = within_wider (gates_at s.manifest.shape region) (log_size s.manifest.shape) (omega arith) (omega (arith, up_least s.manifest.shape.log_capacity)) gates
@@ -187,19 +187,19 @@ module _ (old new : Content) (s : TiersState) (region : ℕ) (stands : Stands ol
         let o : IsTrue old.honest = subst IsTrue gates.honest h in
         let t : Stores = shown_stores old s in
         let from = in_region.left o image left in
-        let names : names_log t region ≡ false = (whole_law old.shown t (shown_named old s stands o)).names region ∙ ap (λ (b : Body). names_region b region) (named_body s.manifest.shape s.manifest.ruling old.shown) ∙ free in
-        region_torn s.manifest.shape t region (log_rows s.manifest.shape region image) from.0 image (named_shape s.manifest.shape s.manifest.ruling old.shown) (stands.named.each o from.0 from.1) below from.2 refl
+        let names : names_log t region ≡ false = (whole_law old.shown t (shown_named old s stands o)).names region ∙ ap (λ (b : Body). names_region b region) (named_body s.manifest.shape s.manifest.current old.shown) ∙ free in
+        region_torn s.manifest.shape t region (log_rows s.manifest.shape region image) from.0 image (named_shape s.manifest.shape s.manifest.current old.shown) (stands.named.each o from.0 from.1) below from.2 refl
         ∙ ap Ok (unnamed_law t region (log_rows s.manifest.shape region image) names);
   }
 
   outside_active : LiesOutside (gates_at s.active.log.shape s.active.log.region) (log_len s.active.log.shape) (gates_at s.manifest.shape region) (log_size s.manifest.shape)
   outside_active =
       subst (λ (sh : Shape). LiesOutside (gates_at sh s.active.log.region) (log_len sh) (gates_at s.manifest.shape region) (log_size s.manifest.shape)) (sym stands.whole.has_shape)
-      (subst (λ (n : ℕ). LiesOutside (gates_at s.manifest.shape n) (log_len s.manifest.shape) (gates_at s.manifest.shape region) (log_size s.manifest.shape)) (sym stands.whole.active_region) (region_apart s.manifest.shape s.manifest.ruling region below free).active)
+      (subst (λ (n : ℕ). LiesOutside (gates_at s.manifest.shape n) (log_len s.manifest.shape) (gates_at s.manifest.shape region) (log_size s.manifest.shape)) (sym stands.whole.active_region) (region_apart s.manifest.shape s.manifest.current region below free).active)
 
   -- the stores still stand
   pub cleared : Advances [] old new s s
-  cleared = stays_on old new s (gates_at s.manifest.shape region) (log_size s.manifest.shape) stands sizes in_region (λ h. region_apart s.manifest.shape s.manifest.ruling region below free) outside_active
+  cleared = stays_on old new s (gates_at s.manifest.shape region) (log_size s.manifest.shape) stands sizes in_region (λ h. region_apart s.manifest.shape s.manifest.current region below free) outside_active
       (λ h. region_before_conversion s region below) (λ h. region_before_merge s region below) s.manifest refl refl refl stands.idle
       (rules_elsewhere s.manifest (gates_at s.manifest.shape region) (log_size s.manifest.shape) old new (omega (arith, stands.has_size)) (inr (omega arith)) in_region stands.rules)
       free_named

@@ -259,7 +259,7 @@ named_rows shape body image =
 
 module _ (content : Content) (s : TiersState) (shows : ShowsStores content s) (honest : IsTrue content.honest) where
   -- the rows of the frozen logs
-  frozen_rows : map (λ region. log_rows s.manifest.shape region content.shown) s.manifest.ruling.frozen ≡ map (rows_in content) s.frozen
+  frozen_rows : map (λ region. log_rows s.manifest.shape region content.shown) s.manifest.current.frozen ≡ map (rows_in content) s.frozen
   frozen_rows =
       ap (map (λ region. log_rows s.manifest.shape region content.shown)) (sym shows.whole.frozen_regions)
       ∙ map_twice (λ region. log_rows s.manifest.shape region content.shown) region_of s.frozen
@@ -270,7 +270,7 @@ module _ (content : Content) (s : TiersState) (shows : ShowsStores content s) (h
       ∙ sym (scanned_all content store.log ((shows.frozen k d inside).rows honest)))
 
   -- and those of the hash stores
-  hash_store_rows : map (λ region. filter has_known_kind (hash_rows s.manifest.shape region content.shown)) s.manifest.ruling.hashed ≡ map (known_in content) s.hashes
+  hash_store_rows : map (λ region. filter has_known_kind (hash_rows s.manifest.shape region content.shown)) s.manifest.current.hashed ≡ map (known_in content) s.hashes
   hash_store_rows =
       ap (map (λ region. filter has_known_kind (hash_rows s.manifest.shape region content.shown))) (sym shows.whole.hash_regions)
       ∙ map_twice (λ region. filter has_known_kind (hash_rows s.manifest.shape region content.shown)) hash_region_of s.hashes
@@ -280,23 +280,23 @@ module _ (content : Content) (s : TiersState) (shows : ShowsStores content s) (h
       ap (λ (sh : Shape). filter has_known_kind (hash_rows sh store.region content.shown)) (sym (shows.whole.hashed k d inside).has_shape))
 
   -- the entries
-  entries_shown : sorted_rows s.manifest.shape s.manifest.ruling.sorted s.manifest.ruling.sorted_count content.shown ≡ entries_of content s.sorted
+  entries_shown : sorted_rows s.manifest.shape s.manifest.current.sorted s.manifest.current.sorted_count content.shown ≡ entries_of content s.sorted
   entries_shown = ap (entries_of content) (sym shows.whole.sorted)
 
   -- the rows of the active log
-  active_shown : log_rows s.manifest.shape s.manifest.ruling.active content.shown ≡ log_rows s.active.log.shape s.active.log.region content.shown
-  active_shown = ap (λ (sh : Shape). log_rows sh s.manifest.ruling.active content.shown) (sym shows.whole.has_shape) ∙ ap (λ (n : ℕ). log_rows s.active.log.shape n content.shown) (sym shows.whole.active_region)
+  active_shown : log_rows s.manifest.shape s.manifest.current.active content.shown ≡ log_rows s.active.log.shape s.active.log.region content.shown
+  active_shown = ap (λ (sh : Shape). log_rows sh s.manifest.current.active content.shown) (sym shows.whole.has_shape) ∙ ap (λ (n : ℕ). log_rows s.active.log.shape n content.shown) (sym shows.whole.active_region)
 
   -- all rows, the oldest first: the entries, those of the hash stores, of the frozen logs and of the active one
   pub rows_by_log : rows_of (shown_stores content s) ++ waiting_rows content s.active.log ≡ rows_behind content s ++ oldest_first (map (rows_in content) s.frozen) ++ all_rows content s.active.log
   rows_by_log =
       let behind : List StoredRow = rows_behind content s in
       let frozen : List StoredRow = oldest_first (map (rows_in content) s.frozen) in
-      let hash_parts : List (List StoredRow) = map (λ region. filter has_known_kind (hash_rows s.manifest.shape region content.shown)) s.manifest.ruling.hashed in
-      let frozen_parts : List (List StoredRow) = map (λ region. log_rows s.manifest.shape region content.shown) s.manifest.ruling.frozen in
-      let shown : List StoredRow = log_rows s.manifest.shape s.manifest.ruling.active content.shown in
+      let hash_parts : List (List StoredRow) = map (λ region. filter has_known_kind (hash_rows s.manifest.shape region content.shown)) s.manifest.current.hashed in
+      let frozen_parts : List (List StoredRow) = map (λ region. log_rows s.manifest.shape region content.shown) s.manifest.current.frozen in
+      let shown : List StoredRow = log_rows s.manifest.shape s.manifest.current.active content.shown in
       ap (λ (rows : List StoredRow). rows ++ waiting_rows content s.active.log)
-      (named_rows s.manifest.shape s.manifest.ruling content.shown
+      (named_rows s.manifest.shape s.manifest.current content.shown
       ∙ ap (λ (rows : List StoredRow). rows ++ oldest_first hash_parts ++ (oldest_first frozen_parts ++ shown)) entries_shown
       ∙ ap (λ (stores : List (List StoredRow)). entries_of content s.sorted ++ oldest_first stores ++ (oldest_first frozen_parts ++ shown)) hash_store_rows
       ∙ ap (λ (logs : List (List StoredRow)). behind ++ (oldest_first logs ++ shown)) frozen_rows
@@ -316,7 +316,7 @@ module _ (content : Content) (s : TiersState) (stands : Stands content s) (hones
   -- nothing is found in the entries
   pub entries_sound : sorted_findings (entries_of content s.sorted) ≡ []
   entries_sound =
-      subst (λ (rows : List StoredRow). sorted_findings rows ≡ []) (named_entries s.manifest.shape s.manifest.ruling content.shown ∙ entries_shown content s (stands_shown content s stands) honest)
+      subst (λ (rows : List StoredRow). sorted_findings rows ≡ []) (named_entries s.manifest.shape s.manifest.current content.shown ∙ entries_shown content s (stands_shown content s stands) honest)
       (finds_nothing (shown_stores content s) (shown_sound content s stands honest)).entries
 
   -- what the map has for a key

@@ -5,7 +5,7 @@ use Rattle.std.proofs.lemmas.Bool.{and_from, and_parts, eq-eqb, le-leb, lt-ltb}
 use Rattle.std.proofs.lemmas.List.{length-take}
 use Rattle.silt_disk.specs.Layout.{Shape}
 use Rattle.silt_manifest.specs.Body.{has_sound_hashes, has_sound_logs, is_well_formed}
-use Rattle.silt_manifest.specs.Standing.{IsNext, ruling_slot, spare_slot}
+use Rattle.silt_manifest.specs.Standing.{IsNext, current_slot, spare_slot}
 use Rattle.silt_manifest.specs.declared.body.Body.{Body}
 use Rattle.silt_manifest.specs.declared.digests.Digests.{Digests}
 use Rattle.silt_merge.specs.State.{MergeState}
@@ -32,19 +32,19 @@ merged_sound_body s slot count region written b sound there room unspent =
     and_from _ _ (and_from _ _ (and_from _ _ (and_from _ _ (and_from _ _ generation remainder) logs) hashes) (lt-ltb region 2 there)) (le-leb written s.sorted_capacity room)
 
 -- the record that ends a merge may follow the current one
-pub may_end_merge : (s : TiersState) (body : Body) (digests : Digests) (store : IndexedState) → is_well_formed s.manifest.shape (ruling_slot s.manifest) s.manifest.ruling ≡ true → AreWhole s → EndsMerge s body digests store → IsNext s.manifest body
+pub may_end_merge : (s : TiersState) (body : Body) (digests : Digests) (store : IndexedState) → is_well_formed s.manifest.shape (current_slot s.manifest) s.manifest.current ≡ true → AreWhole s → EndsMerge s body digests store → IsNext s.manifest body
 may_end_merge s body digests store sound whole ends =
     let way : IsMerging s ends.merge = subst (λ (o : Option MergeState). IfSome o (IsMerging s)) ends.was whole.merging in
     record {
       generation = ap (λ (b : Body). b.generation) ends.is;
       sound =
           ap (is_well_formed s.manifest.shape (spare_slot s.manifest)) ends.is
-          ∙ merged_sound_body s.manifest.shape (ruling_slot s.manifest) ends.merge.stores ends.merge.region ends.merge.written s.manifest.ruling sound way.held.there
+          ∙ merged_sound_body s.manifest.shape (current_slot s.manifest) ends.merge.stores ends.merge.region ends.merge.written s.manifest.current sound way.held.there
           (subst (λ (sh : Shape). ends.merge.written ≤ sh.sorted_capacity) way.has_shape way.held.room) ends.unspent;
     }
 
 -- there are no more hash stores than a manifest has room for
-pub few_hashes : (s : TiersState) (limit : ℕ) → AreWhole s → is_well_formed s.manifest.shape (ruling_slot s.manifest) s.manifest.ruling ≡ true → limit ≡ s.manifest.shape.hashes → limit ≤ 16 → length s.hashes ≤ 16
+pub few_hashes : (s : TiersState) (limit : ℕ) → AreWhole s → is_well_formed s.manifest.shape (current_slot s.manifest) s.manifest.current ≡ true → limit ≡ s.manifest.shape.hashes → limit ≤ 16 → length s.hashes ≤ 16
 few_hashes s limit whole sound limit_is most =
-    let fewer = (sound_hashes s.manifest.shape (ruling_slot s.manifest) s.manifest.ruling sound).most in
+    let fewer = (sound_hashes s.manifest.shape (current_slot s.manifest) s.manifest.current sound).most in
     omega (arith, fewer, limit_is, most, hash_count s whole)

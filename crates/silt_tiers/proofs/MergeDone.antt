@@ -55,19 +55,19 @@ module _ (content : Content) (s : TiersState) (stands : Stands content s) where
       (shown_entries h)
 
   -- the stores of the full image
-  pub full_is : IsTrue content.honest → spec.full_stores content s ≡ with_log_rows s.manifest.ruling.active (all_rows content s.active.log) (shown_stores content s)
-  full_is h = named_here s.manifest.shape s.manifest.ruling (with_log_rows s.manifest.ruling.active (all_rows content s.active.log) (shown_stores content s)) (full_image content s) (full_stores content s stands h)
-      (with_shape s.manifest.ruling.active (all_rows content s.active.log) (shown_stores content s) ∙ named_shape s.manifest.shape s.manifest.ruling content.shown)
-      (with_body s.manifest.ruling.active (all_rows content s.active.log) (shown_stores content s) ∙ named_body s.manifest.shape s.manifest.ruling content.shown)
+  pub full_is : IsTrue content.honest → spec.full_stores content s ≡ with_log_rows s.manifest.current.active (all_rows content s.active.log) (shown_stores content s)
+  full_is h = named_here s.manifest.shape s.manifest.current (with_log_rows s.manifest.current.active (all_rows content s.active.log) (shown_stores content s)) (full_image content s) (full_stores content s stands h)
+      (with_shape s.manifest.current.active (all_rows content s.active.log) (shown_stores content s) ∙ named_shape s.manifest.shape s.manifest.current content.shown)
+      (with_body s.manifest.current.active (all_rows content s.active.log) (shown_stores content s) ∙ named_body s.manifest.shape s.manifest.current content.shown)
 
   -- what a merge takes of what is shown, and of the full image
   pub sources_shown : (count : ℕ) → merge_sources count (shown_stores content s) ≡ sources content.shown (oldest_stores count s.hashes) s.sorted
-  sources_shown count = sources_named s.manifest.shape s.manifest.ruling s.hashes s.sorted count content.shown stands.whole.sorted stands.whole.hash_regions
+  sources_shown count = sources_named s.manifest.shape s.manifest.current s.hashes s.sorted count content.shown stands.whole.sorted stands.whole.hash_regions
 
   pub sources_full : IsTrue content.honest → (count : ℕ) → merge_sources count (spec.full_stores content s) ≡ sources content.shown (oldest_stores count s.hashes) s.sorted
   sources_full h count =
       ap (merge_sources count) (full_is h)
-      ∙ sources_with s.manifest.ruling.active count (all_rows content s.active.log) (shown_stores content s)
+      ∙ sources_with s.manifest.current.active count (all_rows content s.active.log) (shown_stores content s)
       ∙ sources_shown count
 
   -- a merge is done after the steps that its stores take
@@ -123,7 +123,7 @@ module _ (content : Content) (s : TiersState) (merge : MergeState) (stands : Sta
   room h =
       let few = (key_count_law rows).1 in
       let most = charge_law t (shown_sound content s stands h) in
-      let capacity : t.shape.sorted_capacity ≡ s.manifest.shape.sorted_capacity = ap (λ (sh : Shape). sh.sorted_capacity) (named_shape s.manifest.shape s.manifest.ruling content.shown) in
+      let capacity : t.shape.sorted_capacity ≡ s.manifest.shape.sorted_capacity = ap (λ (sh : Shape). sh.sorted_capacity) (named_shape s.manifest.shape s.manifest.current content.shown) in
       omega (arith, few, most, capacity, taken_puts)
 
   -- and are the newest rows that are puts
@@ -154,8 +154,8 @@ module _ (content : Content) (s : TiersState) (merge : MergeState) (stands : Sta
   merged_sound body h = (replaces body h).sound
 
   -- also once the waiting rows are settled
-  pub merged_full_sound : (body : Body) → IsTrue content.honest → IsSound (with_log_rows s.manifest.ruling.active (all_rows content s.active.log) (merged_stores body))
-  merged_full_sound body h = sound_with body newer_parts taken_parts new_entries (all_rows content s.active.log) s.manifest.ruling.active t split (is_merge h)
+  pub merged_full_sound : (body : Body) → IsTrue content.honest → IsSound (with_log_rows s.manifest.current.active (all_rows content s.active.log) (merged_stores body))
+  merged_full_sound body h = sound_with body newer_parts taken_parts new_entries (all_rows content s.active.log) s.manifest.current.active t split (is_merge h)
       (subst (λ (n : ℕ). IsSound (with_log_rows n (all_rows content s.active.log) t)) stands.whole.active_region (stands.sound h))
 
   -- the puts that went away do not count, and the entries do
@@ -179,8 +179,8 @@ module _ (content : Content) (s : TiersState) (merge : MergeState) (stands : Sta
 -- ---- its end
 
 -- a merge that is done may end with a sorted store of its entries and their index
-pub may_end : (s : TiersState) (body : Body) (digests : Digests) (merge : MergeState) (store : IndexedState) → s.merging ≡ Some merge → is_done merge s.sorted ≡ true → s.manifest.ruling.generation < 2 ^ 63 - 1
-    → store.sorted ≡ record { shape = merge.shape; region = merge.region; count = merge.written } → body ≡ merged_body s.manifest.ruling merge.stores merge.region merge.written → digests ≡ merged_digests s merge.stores store
+pub may_end : (s : TiersState) (body : Body) (digests : Digests) (merge : MergeState) (store : IndexedState) → s.merging ≡ Some merge → is_done merge s.sorted ≡ true → s.manifest.current.generation < 2 ^ 63 - 1
+    → store.sorted ≡ record { shape = merge.shape; region = merge.region; count = merge.written } → body ≡ merged_body s.manifest.current merge.stores merge.region merge.written → digests ≡ merged_digests s merge.stores store
     → ((content : Content) (stores : List HashState) (sorted : SortedState) → is_done merge sorted ≡ true → HasMerged content stores sorted merge → IsTrue content.honest → AreSound content.shown stores sorted
     → IsIndexOf (entries_of content store.sorted) store.index)
     → ((content : Content) (stores : List HashState) (sorted : SortedState) → HasMerged content stores sorted merge → HasDigest content store.sorted store.digest) → EndsMerge s body digests store

@@ -54,7 +54,7 @@ module _ (old new : Content) (s : TiersState) (region : ℕ) (stands : Stands ol
   entry_disk = record { size = sizes; honest = changes.honest }
 
   -- the body names the other region
-  not_named : s.manifest.ruling.sorted ≢ region
+  not_named : s.manifest.current.sorted ≢ region
   not_named same = apart (ap (λ (t : SortedState). t.region) stands.whole.sorted ∙ same)
 
   -- each possible crash image has the same stores
@@ -63,26 +63,26 @@ module _ (old new : Content) (s : TiersState) (region : ℕ) (stands : Stands ol
     each = λ h image left.
         let o : IsTrue old.honest = subst IsTrue changes.honest h in
         let t : Stores = shown_stores old s in
-        let t_shape : t.shape ≡ s.manifest.shape = named_shape s.manifest.shape s.manifest.ruling old.shown in
-        let t_sorted : t.body.sorted ≡ s.manifest.ruling.sorted = ap (λ (b : Body). b.sorted) (named_body s.manifest.shape s.manifest.ruling old.shown) in
+        let t_shape : t.shape ≡ s.manifest.shape = named_shape s.manifest.shape s.manifest.current old.shown in
+        let t_sorted : t.body.sorted ≡ s.manifest.current.sorted = ap (λ (b : Body). b.sorted) (named_body s.manifest.shape s.manifest.current old.shown) in
         let from = changes.left o image left in
         free_sorted_law from.0 image t region (stands.named.each o from.0 from.1) there (λ same. not_named (sym (same ∙ t_sorted)))
         (subst (λ (sh : Shape). Torn (sorted_at sh region) (sorted_size sh) from.0 image) (sym t_shape) from.2);
   }
 
-  entry_apart : IsTrue old.honest → IsApart s.manifest.shape s.manifest.ruling (sorted_at s.manifest.shape region) (sorted_size s.manifest.shape)
+  entry_apart : IsTrue old.honest → IsApart s.manifest.shape s.manifest.current (sorted_at s.manifest.shape region) (sorted_size s.manifest.shape)
   entry_apart h = record {
-    active = behind_log s.manifest.shape s.manifest.ruling.active region (active_below old s stands);
+    active = behind_log s.manifest.shape s.manifest.current.active region (active_below old s stands);
     frozen = λ id named. behind_log s.manifest.shape id region (named_below old s stands h id named);
     hashed = λ id named. behind_hash s.manifest.shape id region (hash_below old s stands h id named);
-    sorted = other_sorted s.manifest.shape s.manifest.ruling.sorted region not_named;
+    sorted = other_sorted s.manifest.shape s.manifest.current.sorted region not_named;
   }
 
   outside_active : LiesOutside (gates_at s.active.log.shape s.active.log.region) (log_len s.active.log.shape) (sorted_at s.manifest.shape region) (sorted_size s.manifest.shape)
   outside_active =
       subst (λ (sh : Shape). LiesOutside (gates_at sh s.active.log.region) (log_len sh) (sorted_at s.manifest.shape region) (sorted_size s.manifest.shape)) (sym stands.whole.has_shape)
       (subst (λ (n : ℕ). LiesOutside (gates_at s.manifest.shape n) (log_len s.manifest.shape) (sorted_at s.manifest.shape region) (sorted_size s.manifest.shape)) (sym stands.whole.active_region)
-      (behind_log s.manifest.shape s.manifest.ruling.active region (active_below old s stands)))
+      (behind_log s.manifest.shape s.manifest.current.active region (active_below old s stands)))
 
   outside_conversion : IsOutsideConversion s (sorted_at s.manifest.shape region) (sorted_size s.manifest.shape)
   outside_conversion = behind s.converting stands.whole.under_way

@@ -65,9 +65,9 @@ pub merged_shape : (body : Body) (newer : List Part) (entries : List StoredRow) 
 unfolding with_merged
 merged_shape body newer entries t = refl
 
-pub merged_ruling : (body : Body) (newer : List Part) (entries : List StoredRow) (t : Stores) → (with_merged body newer entries t).body ≡ body
+pub merged_current : (body : Body) (newer : List Part) (entries : List StoredRow) (t : Stores) → (with_merged body newer entries t).body ≡ body
 unfolding with_merged
-merged_ruling body newer entries t = refl
+merged_current body newer entries t = refl
 
 pub merged_entries : (body : Body) (newer : List Part) (entries : List StoredRow) (t : Stores) → (with_merged body newer entries t).entries ≡ entries
 unfolding with_merged

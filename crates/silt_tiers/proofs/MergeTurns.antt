@@ -36,18 +36,18 @@ use Rattle.silt_tiers.proofs.ConvertCounting.{hash_count, none_of_first}
 use Rattle.silt_tiers.proofs.Remains.{active_stays, frozen_stays, hashed_stays, slot_below, waiting_stays, written_stays}
 use Rattle.silt_tiers.proofs.NextBodies.{now_named, succeeds}
 use Rattle.silt_tiers.proofs.MergeCounting.{may_end_merge}
-use Rattle.silt_tiers.proofs.MergeStores.{merged_entries, merged_named, merged_ruling, merged_shape, sources_with, with_entries}
+use Rattle.silt_tiers.proofs.MergeStores.{merged_entries, merged_named, merged_current, merged_shape, sources_with, with_entries}
 use Rattle.silt_tiers.proofs.Said.{merged_said}
 use Rattle.silt_tiers.proofs.MergeDone.{entries_are, full_is, merged_counted, merged_full_sound, merged_map, merged_sound, merged_stores, way}
 
 -- a conversion is in progress in stores with fewer hash stores
-under_way_fewer : (s t : TiersState) (count : ℕ) (o : Option ConversionState) → t.manifest.shape ≡ s.manifest.shape → t.manifest.ruling.hashed ≡ take count s.manifest.ruling.hashed → t.frozen ≡ s.frozen → IfSome o (IsUnderWay s) → IfSome o (IsUnderWay t)
+under_way_fewer : (s t : TiersState) (count : ℕ) (o : Option ConversionState) → t.manifest.shape ≡ s.manifest.shape → t.manifest.current.hashed ≡ take count s.manifest.current.hashed → t.frozen ≡ s.frozen → IfSome o (IsUnderWay s) → IfSome o (IsUnderWay t)
 under_way_fewer s t count None same_shape fewer same_frozen is = tt
 under_way_fewer s t count (Some conversion) same_shape fewer same_frozen is = record {
   has_shape = is.has_shape ∙ sym same_shape;
   some_frozen = omega (arith, is.some_frozen, ap length same_frozen);
   there = subst (λ (sh : Shape). conversion.region < sh.hashes) (sym same_shape) is.there;
-  free = ap (λ (ids : List ℕ). list_any (λ id. id == conversion.region) ids) fewer ∙ none_of_first s.manifest.ruling.hashed count conversion.region is.free;
+  free = ap (λ (ids : List ℕ). list_any (λ id. id == conversion.region) ids) fewer ∙ none_of_first s.manifest.current.hashed count conversion.region is.free;
   most = subst (λ (sh : Shape). conversion.next ≤ 4 * sh.buckets) (sym same_shape) is.most;
 }
 
@@ -67,7 +67,7 @@ module _ (old : Content) (s : TiersState) (body : Body) (digests : Digests) (sto
     each = λ h image left.
         ap (λ (shown : List ℕ). stores_named s.manifest.shape body shown) (left_at_rest rests h image left)
         ∙ ap (λ (b : Body). stores_named s.manifest.shape b old.shown) ends.is
-        ∙ merged_named s.manifest.shape s.manifest.ruling ends.merge.stores ends.merge.region ends.merge.written old.shown
+        ∙ merged_named s.manifest.shape s.manifest.current ends.merge.stores ends.merge.region ends.merge.written old.shown
         ∙ ap (λ (b : Body). merged_stores old s ends.merge stands ends.was ends.done b) (sym ends.is);
   }
 
@@ -84,8 +84,8 @@ module _ (old : Content) (s : TiersState) (body : Body) (digests : Digests) (sto
   merged_may_rule = record {
     follows = λ sound. may_end_merge s body digests store sound stands.whole ends;
     stores = now_stores;
-    has_shape = merged_shape _ _ _ _ ∙ named_shape s.manifest.shape s.manifest.ruling old.shown;
-    has_body = merged_ruling _ _ _ _;
+    has_shape = merged_shape _ _ _ _ ∙ named_shape s.manifest.shape s.manifest.current old.shown;
+    has_body = merged_current _ _ _ _;
     names = names;
     sound = merged_sound old s ends.merge stands ends.was ends.done body;
     said = said;
@@ -103,29 +103,29 @@ module _ (old : Content) (s : TiersState) (body : Body) (digests : Digests) (sto
     abbrev after : TiersState
     after = sorted_replaced s m ends.merge.stores store
 
-    ruling_is : m.ruling ≡ merged_body s.manifest.ruling ends.merge.stores ends.merge.region ends.merge.written
-    ruling_is = now.has_body ∙ ends.is
+    current_is : m.current ≡ merged_body s.manifest.current ends.merge.stores ends.merge.region ends.merge.written
+    current_is = now.has_body ∙ ends.is
 
     -- they are those that the body names
     pub merged_whole : AreWhole (sorted_replaced s m ends.merge.stores store)
     merged_whole = record {
       has_shape = stands.whole.has_shape ∙ sym now.has_shape;
-      active_region = stands.whole.active_region ∙ ap (λ (b : Body). b.active) (sym ruling_is);
-      frozen_regions = stands.whole.frozen_regions ∙ ap (λ (b : Body). b.frozen) (sym ruling_is);
+      active_region = stands.whole.active_region ∙ ap (λ (b : Body). b.active) (sym current_is);
+      frozen_regions = stands.whole.frozen_regions ∙ ap (λ (b : Body). b.frozen) (sym current_is);
       settled = subst (λ (sh : Shape). All (IsSettled sh) s.frozen) (sym now.has_shape) stands.whole.settled;
       hash_regions =
           sym (take-map hash_region_of (length s.hashes - ends.merge.stores) s.hashes)
           ∙ ap (take (length s.hashes - ends.merge.stores)) stands.whole.hash_regions
-          ∙ ap (λ (n : ℕ). take (n - ends.merge.stores) s.manifest.ruling.hashed) (hash_count s stands.whole)
-          ∙ ap (λ (b : Body). b.hashed) (sym ruling_is);
+          ∙ ap (λ (n : ℕ). take (n - ends.merge.stores) s.manifest.current.hashed) (hash_count s stands.whole)
+          ∙ ap (λ (b : Body). b.hashed) (sym current_is);
       hashed = subst (λ (sh : Shape). All (IsHashOf sh) (take (length s.hashes - ends.merge.stores) s.hashes)) (sym now.has_shape)
           (All-take (IsHashOf s.manifest.shape) (length s.hashes - ends.merge.stores) s.hashes stands.whole.hashed);
       sorted =
           ends.entries
           ∙ ap (λ (sh : Shape). let t : SortedState = record { shape = sh; region = ends.merge.region; count = ends.merge.written } in t) (under_way.has_shape ∙ sym now.has_shape)
-          ∙ ap (λ (b : Body). sorted_named m.shape b) (sym ruling_is);
+          ∙ ap (λ (b : Body). sorted_named m.shape b) (sym current_is);
       held = subst IsHeldSorted (sym ends.entries) (record { region = under_way.held.there; room = under_way.held.room });
-      under_way = under_way_fewer s after (length s.manifest.ruling.hashed - ends.merge.stores) s.converting now.has_shape (ap (λ (b : Body). b.hashed) ruling_is) refl stands.whole.under_way;
+      under_way = under_way_fewer s after (length s.manifest.current.hashed - ends.merge.stores) s.converting now.has_shape (ap (λ (b : Body). b.hashed) current_is) refl stands.whole.under_way;
       merging = tt;
       most = subst (λ (sh : Shape). s.charge - ((s.charge - charge_without s ends.merge.stores) - store.sorted.count) ≤ sh.sorted_capacity) (sym now.has_shape) (let most = stands.whole.most in omega (arith, most));
     }
@@ -172,8 +172,8 @@ module _ (old : Content) (s : TiersState) (body : Body) (digests : Digests) (sto
       same_body = merged_may_rule.has_body ∙ sym now.has_body;
       named = now_named old new s body digests stands merged_may_rule sizes m now;
       sound = λ h.
-          subst (λ (n : ℕ). IsSound (with_log_rows n (all_rows new s.active.log) now_stores)) (ap (λ (b : Body). b.active) (sym ruling_is))
-          (subst (λ (rows : List StoredRow). IsSound (with_log_rows s.manifest.ruling.active rows now_stores)) (sym (keeps.all (back h)))
+          subst (λ (n : ℕ). IsSound (with_log_rows n (all_rows new s.active.log) now_stores)) (ap (λ (b : Body). b.active) (sym current_is))
+          (subst (λ (rows : List StoredRow). IsSound (with_log_rows s.manifest.current.active rows now_stores)) (sym (keeps.all (back h)))
           (merged_full_sound old s ends.merge stands ends.was ends.done body (back h)));
       said = λ h. subst (λ (o : Option Digests). AreDigestsOf o now_stores) (sym now.has_digests) (merged_may_rule.said (back h));
       counted = λ h.
@@ -197,7 +197,7 @@ module _ (old : Content) (s : TiersState) (body : Body) (digests : Digests) (sto
       was = ends.was;
       none = refl;
       shape = now.has_shape;
-      ruling = ruling_is;
+      current = current_is;
       active = refl;
       frozen = refl;
       converting = refl;
@@ -209,7 +209,7 @@ module _ (old : Content) (s : TiersState) (body : Body) (digests : Digests) (sto
     entries_now h =
         let here : IsTrue new.honest = subst IsTrue (sym now.changes.honest) h in
         ap (λ (t : Stores). t.entries) (full_is new after goes.stands here)
-        ∙ with_entries m.ruling.active (all_rows new s.active.log) (shown_stores new after)
+        ∙ with_entries m.current.active (all_rows new s.active.log) (shown_stores new after)
         ∙ ap (λ (t : Stores). t.entries) (shown_are new after now_stores fits.same_shape fits.same_body fits.named here)
         ∙ merged_entries _ _ _ _
         ∙ entries_are old s ends.merge stands ends.was ends.done h
@@ -220,6 +220,6 @@ module _ (old : Content) (s : TiersState) (body : Body) (digests : Digests) (sto
         ap (λ (t : TiersState). (spec.full_stores new t).entries) is
         ∙ entries_now h
         ∙ ap (λ (t : Stores). merged_rows (merge_sources ends.merge.stores t)) same
-        ∙ ap merged_rows (sym (sources_with s.manifest.ruling.active ends.merge.stores (all_rows first s.active.log) (shown_stores first s)))
+        ∙ ap merged_rows (sym (sources_with s.manifest.current.active ends.merge.stores (all_rows first s.active.log) (shown_stores first s)))
         ∙ ap (λ (t : Stores). merged_rows (merge_sources ends.merge.stores t)) (sym (full_is first s stood was_honest))
         )

@@ -5,7 +5,7 @@ use Rattle.silt_disk.specs.Disk.{Torn}
 use Rattle.silt_disk.specs.Layout.{Shape, gates_at, log_size}
 use Rattle.silt_log.specs.Rows.{log_rows}
 use Rattle.silt_frame.specs.Rows.{StoredRow}
-use Rattle.silt_manifest.specs.Ruling.{manifest_found, ruling_manifest, where_found}
+use Rattle.silt_manifest.specs.Current.{manifest_found, current_manifest, where_found}
 use Rattle.silt_manifest.specs.declared.body.Body.{Body}
 use Rattle.silt_manifest.specs.declared.digests.Digests.{Digests}
 use Rattle.silt_manifest.specs.declared.slot.Damage.{Damage}
@@ -71,14 +71,14 @@ stands_for shape t said m image is same_shape sound are says has_map =
     (subst (λ (s : Shape). StandsFor s (map_of_rows (rows_of t)) image) same_shape (stands_law image t is sound (subst (λ (o : Option Digests). AreDigestsOf o t) (sym says) are)))
 
 -- a current record was found
-pub found_ruling : (r : Result SlotRecord Damage) (found : SlotRecord) → where_found r ≡ Some found → r ≡ Ok found
-found_ruling (Ok other) found e = ap Ok (let same : other ≡ found = let g : Some other ≡ Some found = e in cc in same)
-found_ruling (Err damage) found e = absurd (let no : None ≡ Some found = e in cc)
+pub found_current : (r : Result SlotRecord Damage) (found : SlotRecord) → where_found r ≡ Some found → r ≡ Ok found
+found_current (Ok other) found e = ap Ok (let same : other ≡ found = let g : Some other ≡ Some found = e in cc in same)
+found_current (Err damage) found e = absurd (let no : None ≡ Some found = e in cc)
 
 -- an image with stores has the digests of the current record
-pub says_ruling : (shape : Shape) (t : Stores) (found : SlotRecord) (image : List ℕ) → image_stores image ≡ Ok t → t.shape ≡ shape → ruling_manifest shape image ≡ Some found → image_digests image ≡ found.digests
-says_ruling shape t found image is same_shape rules =
-    digests_law image t found is (ap (λ (s : Shape). manifest_found s image) same_shape ∙ found_ruling (manifest_found shape image) found rules)
+pub says_current : (shape : Shape) (t : Stores) (found : SlotRecord) (image : List ℕ) → image_stores image ≡ Ok t → t.shape ≡ shape → current_manifest shape image ≡ Some found → image_digests image ≡ found.digests
+says_current shape t found image is same_shape rules =
+    digests_law image t found is (ap (λ (s : Shape). manifest_found s image) same_shape ∙ found_current (manifest_found shape image) found rules)
 
 -- the digests of stores do not depend on the rows of the logs
 pub said_with_rows : (said : Option Digests) (region : ℕ) (rows : List StoredRow) (t : Stores) → AreDigestsOf said t → AreDigestsOf said (with_log_rows region rows t)

@@ -4,9 +4,9 @@ use Rattle.std.proofs.lemmas.List.{append-nil}
 use Rattle.silt_disk.specs.Disk.{ChangesWithin, Content, Left, LeavesOnly, Torn, size}
 use Rattle.silt_disk.specs.Layout.{Shape, slot_at}
 use Rattle.silt_disk.proofs.Images.{shown_left, within_trans, within_wider}
-use Rattle.silt_manifest.specs.Ruling.{ruling_manifest}
+use Rattle.silt_manifest.specs.Current.{current_manifest}
 use Rattle.silt_manifest.specs.Digests.{long_record}
-use Rattle.silt_manifest.specs.Standing.{ManifestState, Rules, RulesAsHeld, RulesOldOrNew, ruling_record, spare_slot}
+use Rattle.silt_manifest.specs.Standing.{ManifestState, Rules, RulesAsHeld, RulesOldOrNew, current_record, spare_slot}
 use Rattle.silt_manifest.specs.declared.body.Body.{Body}
 use Rattle.silt_manifest.specs.declared.digests.Digests.{Digests}
 use Rattle.silt_manifest.specs.declared.slot.SlotRecord.{SlotRecord}
@@ -19,7 +19,7 @@ use Rattle.silt_tiers.specs.Calls.{Advances, Breaks, Remaps}
 use Rattle.silt_tiers.specs.Succession.{MayRule, NowRules}
 use Rattle.silt_tiers.proofs.Facts.{active_is, base_is, base_stands}
 use Rattle.silt_tiers.proofs.Freezes.{below_two}
-use Rattle.silt_tiers.proofs.Named.{named_shape, says_ruling, stands_for, stores_map}
+use Rattle.silt_tiers.proofs.Named.{named_shape, says_current, stands_for, stores_map}
 use Rattle.silt_tiers.proofs.Standing.{Fits, fits_stand, shown_are}
 use Rattle.silt_tiers.proofs.Turns.{begun_none, quiet_remap, ruled_named, same_named, waiting_remap}
 
@@ -29,7 +29,7 @@ same_some a b e = cc
 
 -- in an image this record is current
 abbrev RulesNext : TiersState → Body → Digests → List ℕ → Type 0
-RulesNext s body digests image = ruling_manifest s.manifest.shape image ≡ Some (long_record body digests)
+RulesNext s body digests image = current_manifest s.manifest.shape image ≡ Some (long_record body digests)
 
 -- in an image the old record is current, or this one
 abbrev EitherRules : TiersState → Body → Digests → List ℕ → Type 0
@@ -55,9 +55,9 @@ module _ (s : TiersState) (body : Body) (digests : Digests) (m : ManifestState) 
 
   -- after them the next record is current
   pub now_rules : (old middle new : Content) (after : ManifestState) → ChangesWithin (slot_at (spare_slot s.manifest)) 4096 old middle → ChangesWithin (slot_at (spare_slot m)) 1 middle new
-      → Rules after new → after.shape ≡ m.shape → Some (ruling_record after) ≡ m.prepared → after.prepared ≡ None → NowRules old new s body digests after
+      → Rules after new → after.shape ≡ m.shape → Some (current_record after) ≡ m.prepared → after.prepared ≡ None → NowRules old new s body digests after
   now_rules old middle new after first second rules same_shape opened idle =
-      let next : ruling_record after ≡ long_record body digests = same_some (ruling_record after) (long_record body digests) (opened ∙ ap (λ (n : ManifestState). n.prepared) is) in
+      let next : current_record after ≡ long_record body digests = same_some (current_record after) (long_record body digests) (opened ∙ ap (λ (n : ManifestState). n.prepared) is) in
       record {
         rules = rules;
         has_shape = same_shape ∙ ap (λ (n : ManifestState). n.shape) is;
@@ -72,7 +72,7 @@ module _ (s : TiersState) (body : Body) (digests : Digests) (m : ManifestState) 
 module _ (old new : Content) (s : TiersState) (body : Body) (digests : Digests) (stands : Stands old s) (may : MayRule old s body digests) (sizes : size new ≡ size old)
     (changes : ChangesWithin (slot_at (spare_slot s.manifest)) 4096 old new) where
   slot_below : spare_slot s.manifest < 2
-  slot_below = below_two (s.manifest.ruling.generation + 1)
+  slot_below = below_two (s.manifest.current.generation + 1)
 
   back : IsTrue new.honest → IsTrue old.honest
   back h = subst IsTrue changes.honest h
@@ -108,7 +108,7 @@ module _ (old new : Content) (s : TiersState) (body : Body) (digests : Digests) 
 
     next_stands : IsTrue old.honest → (image : List ℕ) → TurnsNamed image → StandsFor s.manifest.shape (base_map old s) image
     next_stands h image (is, rules) = stands_for s.manifest.shape may.stores (Some digests) (base_map old s) image is may.has_shape (may.sound h) (may.said h)
-        (says_ruling s.manifest.shape may.stores (long_record body digests) image is may.has_shape rules) (may.same_map h)
+        (says_current s.manifest.shape may.stores (long_record body digests) image is may.has_shape rules) (may.same_map h)
 
     -- each possible crash image represents the base
     pub manifest_breaks : Breaks old new s
@@ -132,7 +132,7 @@ module _ (old new : Content) (s : TiersState) (body : Body) (digests : Digests) 
       | inl quiet ↦ quiet_remap old new s (spare_slot s.manifest) slot_below stands sizes changes quiet s quiet.settled h (shown_base h)
       | inr same ↦ elim (old_or_new.each (there h) new.shown (shown_left new)) [
         | inl stays ↦ waiting_remap old new s (spare_slot s.manifest) slot_below stands sizes changes s (shown_stores old s) refl
-            (named_shape s.manifest.shape s.manifest.ruling old.shown) (active_is old s stands) h stays.0 (sym (base_is old s))
+            (named_shape s.manifest.shape s.manifest.current old.shown) (active_is old s stands) h stays.0 (sym (base_is old s))
         | inr turns ↦ waiting_remap old new s (spare_slot s.manifest) slot_below stands sizes changes s may.stores refl
             may.has_shape (ap (λ (b : Body). b.active) may.has_body ∙ same) h turns.0 (may.same_map h)
       ]
@@ -147,7 +147,7 @@ module _ (old new : Content) (s : TiersState) (body : Body) (digests : Digests) 
     each = λ h image left.
         let from = now.changes.left (subst IsTrue now.changes.honest h) image left in
         next_named old new s body digests stands may sizes now.changes h from.0 image from.1 from.2
-        (ap (λ (sh : Shape). ruling_manifest sh image) (sym now.has_shape) ∙ (now.rules.each h image left).rules
+        (ap (λ (sh : Shape). current_manifest sh image) (sym now.has_shape) ∙ (now.rules.each h image left).rules
         ∙ ap (λ (b : Body). let r : SlotRecord = record { body = b; digests = m.digests } in Some r) now.has_body
         ∙ ap (λ (o : Option Digests). let r : SlotRecord = record { body = body; digests = o } in Some r) now.has_digests);
   }

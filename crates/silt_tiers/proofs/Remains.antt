@@ -17,10 +17,10 @@ use Rattle.silt_tiers.proofs.Turns.{active_kept}
 
 module _ (old new : Content) (s : TiersState) (stands : Stands old s) (sizes : size new ≡ size old) (changes : ChangesWithin (slot_at (spare_slot s.manifest)) 4096 old new) where
   pub slot_below : spare_slot s.manifest < 2
-  slot_below = below_two (s.manifest.ruling.generation + 1)
+  slot_below = below_two (s.manifest.current.generation + 1)
 
-  apart : IsApart s.manifest.shape s.manifest.ruling (slot_at (spare_slot s.manifest)) 4096
-  apart = slot_apart s.manifest.shape s.manifest.ruling (spare_slot s.manifest) slot_below
+  apart : IsApart s.manifest.shape s.manifest.current (slot_at (spare_slot s.manifest)) 4096
+  apart = slot_apart s.manifest.shape s.manifest.current (spare_slot s.manifest) slot_below
 
   -- the active log is as it was
   pub active_stays : KeepsRows old new s.active.log s.active.log

@@ -24,8 +24,8 @@ use Rattle.silt_tiers.proofs.Elsewhere.{all_frozen_elsewhere, all_hashed_elsewhe
 use Rattle.silt_standing.proofs.Places.{entries_behind_log}
 
 -- the stores that are shown are those that all images have
-pub shown_are : (content : Content) (s : TiersState) (t : Stores) → t.shape ≡ s.manifest.shape → t.body ≡ s.manifest.ruling → LeavesOnly content (λ image. image_stores image ≡ Ok t) → IsTrue content.honest → shown_stores content s ≡ t
-shown_are content s t same_shape same_body named honest = named_here s.manifest.shape s.manifest.ruling t content.shown (named.each honest content.shown (shown_left content)) same_shape same_body
+pub shown_are : (content : Content) (s : TiersState) (t : Stores) → t.shape ≡ s.manifest.shape → t.body ≡ s.manifest.current → LeavesOnly content (λ image. image_stores image ≡ Ok t) → IsTrue content.honest → shown_stores content s ≡ t
+shown_are content s t same_shape same_body named honest = named_here s.manifest.shape s.manifest.current t content.shown (named.each honest content.shown (shown_left content)) same_shape same_body
 
 -- what has to be known for stores to stand on a disk
 pub record Fits (content : Content) (s : TiersState) (t : Stores) : Type 0 where
@@ -41,9 +41,9 @@ pub record Fits (content : Content) (s : TiersState) (t : Stores) : Type 0 where
   pub written : IfSome s.converting (HasWritten content (oldest_log s))
   pub merged : IfSome s.merging (HasGathered content s)
   pub same_shape : t.shape ≡ s.manifest.shape
-  pub same_body : t.body ≡ s.manifest.ruling
+  pub same_body : t.body ≡ s.manifest.current
   pub named : LeavesOnly content (λ image. image_stores image ≡ Ok t)
-  pub sound : IsTrue content.honest → IsSound (with_log_rows s.manifest.ruling.active (all_rows content s.active.log) t)
+  pub sound : IsTrue content.honest → IsSound (with_log_rows s.manifest.current.active (all_rows content s.active.log) t)
   pub said : IsTrue content.honest → AreDigestsOf s.manifest.digests t
   pub counted : IsTrue content.honest → s.charge ≡ put_count (rows_of t ++ waiting_rows content s.active.log)
 
@@ -82,61 +82,61 @@ module _ (old new : Content) (s : TiersState) (stands : Stands old s) (sizes : s
   back h = subst IsTrue changes.honest h
 
   -- in the manifest's words
-  pub changes_active : ChangesWithin (gates_at s.manifest.shape s.manifest.ruling.active) (log_size s.manifest.shape) old new
+  pub changes_active : ChangesWithin (gates_at s.manifest.shape s.manifest.current.active) (log_size s.manifest.shape) old new
   changes_active =
       subst (λ (n : ℕ). ChangesWithin (gates_at s.manifest.shape n) (log_size s.manifest.shape) old new) stands.whole.active_region
       (subst (λ (sh : Shape). ChangesWithin (gates_at sh s.active.log.region) (log_size sh) old new) stands.whole.has_shape changes)
 
   -- the same manifest is current
   pub rules_stay : Rules s.manifest new
-  rules_stay = rules_elsewhere s.manifest (gates_at s.manifest.shape s.manifest.ruling.active) (log_size s.manifest.shape) old new (omega (arith, stands.has_size)) (inr (omega arith)) changes_active stands.rules
+  rules_stay = rules_elsewhere s.manifest (gates_at s.manifest.shape s.manifest.current.active) (log_size s.manifest.shape) old new (omega (arith, stands.has_size)) (inr (omega arith)) changes_active stands.rules
 
   -- the frozen logs match the disk as before
   pub frozen_stay : All (IsFrozen new) s.frozen
-  frozen_stay = all_frozen_elsewhere old new s (gates_at s.manifest.shape s.manifest.ruling.active) (log_size s.manifest.shape) stands changes_active
-      (λ h region there. outside_other s.manifest.shape region s.manifest.ruling.active (not_active old s stands h region there))
+  frozen_stay = all_frozen_elsewhere old new s (gates_at s.manifest.shape s.manifest.current.active) (log_size s.manifest.shape) stands changes_active
+      (λ h region there. outside_other s.manifest.shape region s.manifest.current.active (not_active old s stands h region there))
 
   -- the hash stores match the disk as before
   pub hashed_stay : All (IsHashStore new) s.hashes
-  hashed_stay = all_hashed_elsewhere old new s (gates_at s.manifest.shape s.manifest.ruling.active) (log_size s.manifest.shape) stands changes_active
-      (λ h region there. slots_behind_log s.manifest.shape s.manifest.ruling.active region (active_below old s stands))
+  hashed_stay = all_hashed_elsewhere old new s (gates_at s.manifest.shape s.manifest.current.active) (log_size s.manifest.shape) stands changes_active
+      (λ h region there. slots_behind_log s.manifest.shape s.manifest.current.active region (active_below old s stands))
 
   -- and the index of the entries is theirs as before
   pub located_stays : IsLocated new s
-  located_stays = located_elsewhere old new s (gates_at s.manifest.shape s.manifest.ruling.active) (log_size s.manifest.shape) stands changes_active
-      (λ h. entries_behind_log s.manifest.shape s.manifest.ruling.active s.manifest.ruling.sorted (active_below old s stands))
+  located_stays = located_elsewhere old new s (gates_at s.manifest.shape s.manifest.current.active) (log_size s.manifest.shape) stands changes_active
+      (λ h. entries_behind_log s.manifest.shape s.manifest.current.active s.manifest.current.sorted (active_below old s stands))
 
   -- and so is the digest
   pub digested_stays : IsDigested new s
-  digested_stays = digested_elsewhere old new s (gates_at s.manifest.shape s.manifest.ruling.active) (log_size s.manifest.shape) stands changes_active
-      (λ h. entries_behind_log s.manifest.shape s.manifest.ruling.active s.manifest.ruling.sorted (active_below old s stands))
+  digested_stays = digested_elsewhere old new s (gates_at s.manifest.shape s.manifest.current.active) (log_size s.manifest.shape) stands changes_active
+      (λ h. entries_behind_log s.manifest.shape s.manifest.current.active s.manifest.current.sorted (active_below old s stands))
 
   -- and a conversion has written what it had
   pub written_stays : IfSome s.converting (HasWritten new (oldest_log s))
-  written_stays = written_all_elsewhere old new s (gates_at s.manifest.shape s.manifest.ruling.active) (log_size s.manifest.shape) s.converting stands changes_active
-      (λ h region there. outside_other s.manifest.shape region s.manifest.ruling.active (not_active old s stands h region there))
+  written_stays = written_all_elsewhere old new s (gates_at s.manifest.shape s.manifest.current.active) (log_size s.manifest.shape) s.converting stands changes_active
+      (λ h region there. outside_other s.manifest.shape region s.manifest.current.active (not_active old s stands h region there))
       (λ h. behind s.converting)
       stands.whole.under_way stands.written
     where
-      behind : (o : Option ConversionState) → IfSome o (λ conversion. LiesOutside (hash_at s.manifest.shape conversion.region) (slots_len s.manifest.shape) (gates_at s.manifest.shape s.manifest.ruling.active) (log_size s.manifest.shape))
+      behind : (o : Option ConversionState) → IfSome o (λ conversion. LiesOutside (hash_at s.manifest.shape conversion.region) (slots_len s.manifest.shape) (gates_at s.manifest.shape s.manifest.current.active) (log_size s.manifest.shape))
       behind None = tt
-      behind (Some conversion) = slots_behind_log s.manifest.shape s.manifest.ruling.active conversion.region (active_below old s stands)
+      behind (Some conversion) = slots_behind_log s.manifest.shape s.manifest.current.active conversion.region (active_below old s stands)
 
   -- and a merge has gathered and written what it had
   pub merged_stays : IfSome s.merging (HasGathered new s)
-  merged_stays = merged_all_elsewhere old new s (gates_at s.manifest.shape s.manifest.ruling.active) (log_size s.manifest.shape) s.merging stands changes_active
-      (λ h region there. slots_behind_log s.manifest.shape s.manifest.ruling.active region (active_below old s stands))
-      (λ h. entries_behind_log s.manifest.shape s.manifest.ruling.active s.manifest.ruling.sorted (active_below old s stands))
+  merged_stays = merged_all_elsewhere old new s (gates_at s.manifest.shape s.manifest.current.active) (log_size s.manifest.shape) s.merging stands changes_active
+      (λ h region there. slots_behind_log s.manifest.shape s.manifest.current.active region (active_below old s stands))
+      (λ h. entries_behind_log s.manifest.shape s.manifest.current.active s.manifest.current.sorted (active_below old s stands))
       (λ h. behind s.merging)
       stands.whole.merging stands.merged
     where
-      behind : (o : Option MergeState) → IfSome o (λ merge. LiesOutside (sorted_at s.manifest.shape merge.region) (entries_len s.manifest.shape) (gates_at s.manifest.shape s.manifest.ruling.active) (log_size s.manifest.shape))
+      behind : (o : Option MergeState) → IfSome o (λ merge. LiesOutside (sorted_at s.manifest.shape merge.region) (entries_len s.manifest.shape) (gates_at s.manifest.shape s.manifest.current.active) (log_size s.manifest.shape))
       behind None = tt
-      behind (Some merge) = entries_behind_log s.manifest.shape s.manifest.ruling.active merge.region (active_below old s stands)
+      behind (Some merge) = entries_behind_log s.manifest.shape s.manifest.current.active merge.region (active_below old s stands)
 
   -- with these rows of the log in each image, each has the stores with them
   pub named_with : (rows : List StoredRow) → LeavesOnly new (λ image. log_rows s.active.log.shape s.active.log.region image ≡ rows)
-      → LeavesOnly new (λ image. image_stores image ≡ Ok (with_log_rows s.manifest.ruling.active rows (shown_stores old s)))
+      → LeavesOnly new (λ image. image_stores image ≡ Ok (with_log_rows s.manifest.current.active rows (shown_stores old s)))
   named_with rows images = record {
     each = λ h image left.
         let from = changes.left (back h) image left in
@@ -146,7 +146,7 @@ module _ (old new : Content) (s : TiersState) (stands : Stands old s) (sizes : s
   -- with these rows of the log in the full image, that has the stores with them
   pub full_with : IsTrue new.honest → (l : LogState) (rows : List StoredRow) → l.shape ≡ s.active.log.shape → l.region ≡ s.active.log.region → log.InBounds l
       → log_rows s.active.log.shape s.active.log.region (log.opened_image new l) ≡ rows
-      → image_stores (log.opened_image new l) ≡ Ok (with_log_rows s.manifest.ruling.active rows (shown_stores old s))
+      → image_stores (log.opened_image new l) ≡ Ok (with_log_rows s.manifest.current.active rows (shown_stores old s))
   full_with h l rows same_shape same_region bounds are =
       let opened : Torn (gates_at l.shape l.region) (log_size l.shape) new.shown (log.opened_image new l) = full_torn new l bounds (sizes ∙ stands.has_size ∙ ap device_size (sym stands.whole.has_shape ∙ sym same_shape)) in
       let here : Torn (gates_at s.active.log.shape s.active.log.region) (log_size s.active.log.shape) new.shown (log.opened_image new l) =

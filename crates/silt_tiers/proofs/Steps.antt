@@ -12,10 +12,10 @@ use Rattle.silt_tiers.specs.NextLog.{HasFrozen, IsLowestFree, IsNextLog, empty_s
 pub next_for : (s t : TiersState) (next : NextLog) → t.manifest ≡ s.manifest → t.frozen ≡ s.frozen → IsNextLog s next → IsNextLog t next
 next_for s t next manifest frozen is = record {
   region = is.region;
-  lowest = subst (λ (m : ManifestState). IsLowestFree m.shape.logs m.ruling is.region) (sym manifest) is.lowest;
+  lowest = subst (λ (m : ManifestState). IsLowestFree m.shape.logs m.current is.region) (sym manifest) is.lowest;
   spare = subst (λ (m : ManifestState). length t.frozen + 1 < m.shape.logs) (sym manifest) (subst (λ (l : List LogStoreState). length l + 1 < s.manifest.shape.logs) (sym frozen) is.spare);
-  unspent = subst (λ (m : ManifestState). m.ruling.generation < 2 ^ 63 - 1) (sym manifest) is.unspent;
-  body = is.body ∙ ap (λ (m : ManifestState). next_body m.ruling is.region) (sym manifest);
+  unspent = subst (λ (m : ManifestState). m.current.generation < 2 ^ 63 - 1) (sym manifest) is.unspent;
+  body = is.body ∙ ap (λ (m : ManifestState). next_body m.current is.region) (sym manifest);
   store = is.store ∙ ap (λ (m : ManifestState). empty_store m.shape is.region) (sym manifest);
 }
 
@@ -24,7 +24,7 @@ pub frozen_from : (next : NextLog) (content : Content) (first before after : Tie
 frozen_from next content first before after behind charge has = record {
   quiet = has.quiet;
   active = has.active;
-  ruling = has.ruling;
+  current = has.current;
   frozen = has.frozen ∙ ap (λ (l : List LogStoreState). length l + 1) behind.frozen;
   hashes = has.hashes ∙ behind.hashes;
   sorted = has.sorted ∙ behind.sorted;

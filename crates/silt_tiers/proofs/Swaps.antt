@@ -38,7 +38,7 @@ last_off xs rest x d o both some =
 
 -- the body then names one hash store more
 pub named_more : (s : TiersState) (m : ManifestState) (may : MayReplace s m) (ended : ConversionState) (taken : Option ConversionState) → taken ≡ s.converting → taken ≡ Some ended → (made : HashState) (digest : List ℕ) → made ≡ store_of ended digest → IsHeldHash made
-    → length m.ruling.hashed ≡ length s.hashes + 1
+    → length m.current.hashed ≡ length s.hashes + 1
 named_more s m may ended taken taken_is taken_some made digest made_is held =
     let same : ended ≡ may.conversion = same_conversion ended may.conversion s.converting (sym taken_is ∙ taken_some) may.was in
     let is_store : made ≡ store_of may.conversion digest = made_is ∙ ap (λ (v : ConversionState). store_of v digest) same in

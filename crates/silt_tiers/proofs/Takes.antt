@@ -49,7 +49,7 @@ turns_for command old middle_content new before middle after next key disk needs
   needs = needs;
   region = is.region;
   lowest = is.lowest;
-  ruling = ap (λ m. m.ruling) same ∙ frozen.ruling ∙ is.body;
+  current = ap (λ m. m.current) same ∙ frozen.current ∙ is.body;
   waits = λ h. waits_alone command old new before after (goes.moves h) (waits (honest_after old middle_content disk h) ∙ ap (λ (cs : List Command). cs ++ command ∷ []) frozen.quiet.none_wait);
 }
 

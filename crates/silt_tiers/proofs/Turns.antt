@@ -7,8 +7,8 @@ use Rattle.silt_log.specs.Calls.{KeepsRows}
 use Rattle.silt_log.specs.State.{LogState, waiting_rows}
 use Rattle.silt_log.specs.State as log
 use Rattle.silt_log.proofs.Waiting.{waiting_kept}
-use Rattle.silt_manifest.specs.Ruling.{manifest_found, ruling_manifest}
-use Rattle.silt_manifest.specs.Standing.{RulesAsHeld, ruling_record}
+use Rattle.silt_manifest.specs.Current.{manifest_found, current_manifest}
+use Rattle.silt_manifest.specs.Standing.{RulesAsHeld, current_record}
 use Rattle.silt_manifest.specs.declared.slot.SlotRecord.{SlotRecord}
 use Rattle.silt_image.specs.Stores.{Stores, image_stores, stores_named}
 use Rattle.silt_event.specs.Commands.{Map, map_after}
@@ -19,7 +19,7 @@ use Rattle.silt_standing.specs.State.{TiersState}
 use Rattle.silt_standing.specs.Standing.{Stands, base_map, full_image, shown_stores, waiting_commands}
 use Rattle.silt_tiers.specs.Calls.{HasBegun}
 use Rattle.silt_standing.specs.Standing.{IsQuiet}
-use Rattle.silt_tiers.proofs.Named.{found_ruling, named_body, named_here, named_shape}
+use Rattle.silt_tiers.proofs.Named.{found_current, named_body, named_here, named_shape}
 use Rattle.silt_tiers.proofs.Facts.{full_map, opened_map}
 use Rattle.silt_tiers.proofs.Elsewhere.{outside_slot}
 use Rattle.silt_tiers.proofs.Freezes.{IsApart, full_quiet, kept, quiet_map, slot_apart}
@@ -39,8 +39,8 @@ module _ (old new : Content) (s : TiersState) (slot : ℕ) (below : slot < 2) (s
   there : IsTrue old.honest → IsTrue new.honest
   there h = subst IsTrue (sym changes.honest) h
 
-  apart : IsTrue old.honest → IsApart s.manifest.shape s.manifest.ruling (slot_at slot) 4096
-  apart h = slot_apart s.manifest.shape s.manifest.ruling slot below
+  apart : IsTrue old.honest → IsApart s.manifest.shape s.manifest.current (slot_at slot) 4096
+  apart h = slot_apart s.manifest.shape s.manifest.current slot below
 
   -- the active log matches the disk as before
   pub active_kept : KeepsRows old new s.active.log s.active.log
@@ -48,26 +48,26 @@ module _ (old new : Content) (s : TiersState) (slot : ℕ) (below : slot < 2) (s
 
   -- an image in which this record is current has the stores that it names in an earlier image
   pub ruled_named : (h : IsTrue new.honest) (before image : List ℕ) (found : SlotRecord) → image_stores before ≡ Ok (shown_stores old s) → Torn (slot_at slot) 4096 before image
-      → ruling_manifest s.manifest.shape image ≡ Some found → image_stores image ≡ Ok (stores_named s.manifest.shape found.body before)
+      → current_manifest s.manifest.shape image ≡ Some found → image_stores image ≡ Ok (stores_named s.manifest.shape found.body before)
   ruled_named h before image found named torn rules =
       let t : Stores = shown_stores old s in
-      let t_shape : t.shape ≡ s.manifest.shape = named_shape s.manifest.shape s.manifest.ruling old.shown in
-      manifest_law before image t slot found named below torn (ap (λ (sh : Shape). manifest_found sh image) t_shape ∙ found_ruling (manifest_found s.manifest.shape image) found rules)
+      let t_shape : t.shape ≡ s.manifest.shape = named_shape s.manifest.shape s.manifest.current old.shown in
+      manifest_law before image t slot found named below torn (ap (λ (sh : Shape). manifest_found sh image) t_shape ∙ found_current (manifest_found s.manifest.shape image) found rules)
       ∙ ap (λ (sh : Shape). Ok (stores_named sh found.body before)) t_shape
 
   -- if the old record is current, the stores are the old ones
   pub same_named : (h : IsTrue new.honest) (before image : List ℕ) → image_stores before ≡ Ok (shown_stores old s) → Torn (slot_at slot) 4096 before image
       → RulesAsHeld s.manifest image → image_stores image ≡ Ok (shown_stores old s)
   same_named h before image named torn rules =
-      ruled_named h before image (ruling_record s.manifest) named torn rules
-      ∙ ap Ok (named_here s.manifest.shape s.manifest.ruling (shown_stores old s) before named (named_shape s.manifest.shape s.manifest.ruling old.shown) (named_body s.manifest.shape s.manifest.ruling old.shown))
+      ruled_named h before image (current_record s.manifest) named torn rules
+      ∙ ap Ok (named_here s.manifest.shape s.manifest.current (shown_stores old s) before named (named_shape s.manifest.shape s.manifest.current old.shown) (named_body s.manifest.shape s.manifest.current old.shown))
 
   -- the map of the full image, if nothing waited and nothing waits
   pub quiet_remap : IsQuiet old s → (after : TiersState) → after.active.log.settled ≡ after.active.log.used → IsTrue old.honest → image_map new.shown ≡ base_map old s → image_map (full_image new after) ≡ image_map (full_image old s)
   quiet_remap is_quiet after settled h same = ap image_map (full_quiet new after settled) ∙ same ∙ sym (quiet_map old s is_quiet) ∙ sym (full_map old s stands h)
 
   -- and if the same rows wait in the same log, with stores that have it and the same map
-  pub waiting_remap : (after : TiersState) (t : Stores) → after.active.log ≡ s.active.log → t.shape ≡ s.manifest.shape → t.body.active ≡ s.manifest.ruling.active → IsTrue old.honest
+  pub waiting_remap : (after : TiersState) (t : Stores) → after.active.log ≡ s.active.log → t.shape ≡ s.manifest.shape → t.body.active ≡ s.manifest.current.active → IsTrue old.honest
       → image_stores new.shown ≡ Ok t → map_of_rows (rows_of t) ≡ base_map old s → image_map (full_image new after) ≡ image_map (full_image old s)
   waiting_remap after t same_log same_shape same_active h named same_map =
       let l : LogState = s.active.log in

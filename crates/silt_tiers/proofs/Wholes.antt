@@ -27,7 +27,7 @@ oldest_behind newer logs d e some =
 -- ---- a conversion
 
 -- it is in progress in stores with the same shape and hash stores, and with no fewer frozen logs
-pub under_way_in : (s t : TiersState) (o : Option ConversionState) → t.manifest.shape ≡ s.manifest.shape → t.manifest.ruling.hashed ≡ s.manifest.ruling.hashed → length s.frozen ≤ length t.frozen
+pub under_way_in : (s t : TiersState) (o : Option ConversionState) → t.manifest.shape ≡ s.manifest.shape → t.manifest.current.hashed ≡ s.manifest.current.hashed → length s.frozen ≤ length t.frozen
     → IfSome o (IsUnderWay s) → IfSome o (IsUnderWay t)
 under_way_in s t None same_shape same_hashed more is = tt
 under_way_in s t (Some conversion) same_shape same_hashed more is = record {
@@ -82,18 +82,18 @@ pub written_with_active : (content : Content) (s : TiersState) (after : LogStore
 written_with_active content s after charge whole written = written_in content s (oldest_log (record s { active = after; charge = charge })) s.converting (oldest_any s.frozen after s.active) whole.under_way written
 
 -- with another manifest of the same shape and the same current record, and with this conversion and this merge
-pub whole_with : (s : TiersState) (m : ManifestState) (converting : Option ConversionState) (merging : Option MergeState) → m.shape ≡ s.manifest.shape → m.ruling ≡ s.manifest.ruling
+pub whole_with : (s : TiersState) (m : ManifestState) (converting : Option ConversionState) (merging : Option MergeState) → m.shape ≡ s.manifest.shape → m.current ≡ s.manifest.current
     → IfSome converting (IsUnderWay s) → IfSome merging (IsMerging s) → AreWhole s → AreWhole (record s { manifest = m; converting = converting; merging = merging })
-whole_with s m converting merging same_shape same_ruling under_way is_merging whole = record {
+whole_with s m converting merging same_shape same_current under_way is_merging whole = record {
   has_shape = whole.has_shape ∙ sym same_shape;
-  active_region = whole.active_region ∙ ap (λ (b : Body). b.active) (sym same_ruling);
-  frozen_regions = whole.frozen_regions ∙ ap (λ (b : Body). b.frozen) (sym same_ruling);
+  active_region = whole.active_region ∙ ap (λ (b : Body). b.active) (sym same_current);
+  frozen_regions = whole.frozen_regions ∙ ap (λ (b : Body). b.frozen) (sym same_current);
   settled = subst (λ (sh : Shape). All (IsSettled sh) s.frozen) (sym same_shape) whole.settled;
-  hash_regions = whole.hash_regions ∙ ap (λ (b : Body). b.hashed) (sym same_ruling);
+  hash_regions = whole.hash_regions ∙ ap (λ (b : Body). b.hashed) (sym same_current);
   hashed = subst (λ (sh : Shape). All (IsHashOf sh) s.hashes) (sym same_shape) whole.hashed;
-  sorted = whole.sorted ∙ ap (λ (sh : Shape). sorted_named sh s.manifest.ruling) (sym same_shape) ∙ ap (sorted_named m.shape) (sym same_ruling);
+  sorted = whole.sorted ∙ ap (λ (sh : Shape). sorted_named sh s.manifest.current) (sym same_shape) ∙ ap (sorted_named m.shape) (sym same_current);
   held = whole.held;
-  under_way = under_way_in s (record s { manifest = m; converting = converting; merging = merging }) converting same_shape (ap (λ (b : Body). b.hashed) same_ruling) (omega arith) under_way;
+  under_way = under_way_in s (record s { manifest = m; converting = converting; merging = merging }) converting same_shape (ap (λ (b : Body). b.hashed) same_current) (omega arith) under_way;
   merging = merging_in s (record s { manifest = m; converting = converting; merging = merging }) merging same_shape refl (omega arith) is_merging;
   most = subst (λ (sh : Shape). s.charge ≤ sh.sorted_capacity) (sym same_shape) whole.most;
 }

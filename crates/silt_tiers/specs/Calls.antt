@@ -89,4 +89,4 @@ HasNoFreeLog s = length s.frozen + 1 ≡ s.manifest.shape.logs
 
 -- the current record has the last generation
 abbrev pub IsLastGeneration : TiersState → Type 0
-IsLastGeneration s = s.manifest.ruling.generation ≡ 2 ^ 63 - 1
+IsLastGeneration s = s.manifest.current.generation ≡ 2 ^ 63 - 1

@@ -62,7 +62,7 @@ converted_body body region = record body { generation = body.generation + 1; fro
 -- one more slot is written, or the first slot of the lowest free region
 abbrev pub IsNextStep : TiersState → Option ConversionState → ConversionState → Type 0
 IsNextStep s (Some before) after = (after.region ≡ before.region) × (after.next ≡ before.next + 1)
-IsNextStep s None after = IsLowestFreeHash s.manifest.shape.hashes s.manifest.ruling after.region × (after.next ≡ 1)
+IsNextStep s None after = IsLowestFreeHash s.manifest.shape.hashes s.manifest.current after.region × (after.next ≡ 1)
 
 -- a conversion went one step on, and nothing else is changed
 pub record MovesOn (before after : TiersState) : Type 0 where
@@ -76,7 +76,7 @@ pub record Finishes (before after : TiersState) : Type 0 where
   pub was : before.converting ≡ Some conversion
   pub none : after.converting ≡ None
   pub shape : after.manifest.shape ≡ before.manifest.shape
-  pub ruling : after.manifest.ruling ≡ converted_body before.manifest.ruling conversion.region
+  pub current : after.manifest.current ≡ converted_body before.manifest.current conversion.region
   pub active : after.active ≡ before.active
   pub frozen : after.frozen ≡ take (length before.frozen - 1) before.frozen
   pub sorted : after.sorted ≡ before.sorted
@@ -110,7 +110,7 @@ pub record AreConverted (shape : Shape) (rows slots : List StoredRow) : Type 0 w
 abbrev pub HasConvertedRows : Content → Content → TiersState → TiersState → Type 0
 HasConvertedRows old new before after =
     IfSome before.converting (λ conversion.
-    AreConverted before.manifest.shape (oldest_rows before.manifest.shape before.manifest.ruling (full_image old before)) (hash_rows before.manifest.shape conversion.region (full_image new after)))
+    AreConverted before.manifest.shape (oldest_rows before.manifest.shape before.manifest.current (full_image old before)) (hash_rows before.manifest.shape conversion.region (full_image new after)))
 
 -- the error that says why a slot was not written
 abbrev pub refusal_of_step : {F : Type 0} → StepError F → ConvertError F
@@ -133,8 +133,8 @@ pub record EndsConversion (s : TiersState) (body : Body) (digests : Digests) : T
   pub conversion : ConversionState
   pub was : s.converting ≡ Some conversion
   pub done : conversion.next ≡ 4 * conversion.shape.buckets
-  pub unspent : s.manifest.ruling.generation < 2 ^ 63 - 1
-  pub is : body ≡ converted_body s.manifest.ruling conversion.region
+  pub unspent : s.manifest.current.generation < 2 ^ 63 - 1
+  pub is : body ≡ converted_body s.manifest.current conversion.region
   pub digest : List ℕ
   pub digested : IsDigestOf conversion.hasher digest
   pub digests_are : digests ≡ converted_digests s digest

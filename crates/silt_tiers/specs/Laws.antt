@@ -24,9 +24,9 @@ pub record Means (content : Content) (s : TiersState) : Type 0 where
   pub full : IsTrue content.honest → image_map (full_image content s) ≡ current_map content s
   pub shown : IsTrue content.honest → image_map content.shown ≡ base_map content s
   pub safe : LeavesOnly content (StandsFor s.manifest.shape (base_map content s))
-  pub numbers : IsTrue content.honest → IsGoodWith s.manifest.shape s.manifest.ruling s.charge (full_image content s)
+  pub numbers : IsTrue content.honest → IsGoodWith s.manifest.shape s.manifest.current s.charge (full_image content s)
   pub merging : IsTrue content.honest → IfSome s.merging (IsDoneBySteps content s)
-  pub rows : IsTrue content.honest → log_rows s.manifest.shape s.manifest.ruling.active (full_image content s) ≡ all_rows content s.active.log
+  pub rows : IsTrue content.honest → log_rows s.manifest.shape s.manifest.current.active (full_image content s) ≡ all_rows content s.active.log
 
 -- all images of a disk on which stores stand are so
 abbrev pub StandingLaw : Type 0

@@ -59,7 +59,7 @@ pub record EndsMerged (before after : TiersState) : Type 0 where
   pub was : before.merging ≡ Some merge
   pub none : after.merging ≡ None
   pub shape : after.manifest.shape ≡ before.manifest.shape
-  pub ruling : after.manifest.ruling ≡ merged_body before.manifest.ruling merge.stores merge.region merge.written
+  pub current : after.manifest.current ≡ merged_body before.manifest.current merge.stores merge.region merge.written
   pub active : after.active ≡ before.active
   pub frozen : after.frozen ≡ before.frozen
   pub converting : after.converting ≡ before.converting
@@ -78,7 +78,7 @@ pub record Merges (progress : Progress) (before after : TiersState) : Type 0 whe
 
 -- the stores of the full image
 abbrev pub full_stores : Content → TiersState → Stores
-full_stores content s = stores_named s.manifest.shape s.manifest.ruling (full_image content s)
+full_stores content s = stores_named s.manifest.shape s.manifest.current (full_image content s)
 
 -- the rows that a merge of this many of the oldest hash stores takes, the oldest first
 abbrev pub merge_sources : ℕ → Stores → List StoredRow
@@ -122,11 +122,11 @@ pub record EndsMerge (s : TiersState) (body : Body) (digests : Digests) (store :
   pub merge : MergeState
   pub was : s.merging ≡ Some merge
   pub done : is_done merge s.sorted ≡ true
-  pub unspent : s.manifest.ruling.generation < 2 ^ 63 - 1
+  pub unspent : s.manifest.current.generation < 2 ^ 63 - 1
   pub entries : store.sorted ≡ record { shape = merge.shape; region = merge.region; count = merge.written }
   pub located : (content : Content) → Stands content s → HasIndex content store.sorted store.index
   pub digested : (content : Content) → Stands content s → HasDigest content store.sorted store.digest
-  pub is : body ≡ merged_body s.manifest.ruling merge.stores merge.region merge.written
+  pub is : body ≡ merged_body s.manifest.current merge.stores merge.region merge.written
   pub digests_are : digests ≡ merged_digests s merge.stores store
 
 -- how many of the rows of hash stores are puts

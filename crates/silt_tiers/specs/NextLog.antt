@@ -36,7 +36,7 @@ next_body body region = record body { generation = body.generation + 1; active =
 -- a log of this region with no rows, an empty table and no puts
 abbrev pub empty_store : Shape → ℕ → LogStoreState
 empty_store shape region = record {
-  log = record { shape = shape; region = region; settled = 0; used = 0; loose = false };
+  log = record { shape = shape; region = region; settled = 0; used = 0; stale = false };
   table = empty_slots shape.buckets;
   puts = 0;
 }
@@ -44,10 +44,10 @@ empty_store shape region = record {
 -- a new log in the lowest free region, with the body that puts it in front of the others
 pub record IsNextLog (s : TiersState) (next : NextLog) : Type 0 where
   pub region : ℕ
-  pub lowest : IsLowestFree s.manifest.shape.logs s.manifest.ruling region
+  pub lowest : IsLowestFree s.manifest.shape.logs s.manifest.current region
   pub spare : length s.frozen + 1 < s.manifest.shape.logs
-  pub unspent : s.manifest.ruling.generation < 2 ^ 63 - 1
-  pub body : next.body ≡ next_body s.manifest.ruling region
+  pub unspent : s.manifest.current.generation < 2 ^ 63 - 1
+  pub body : next.body ≡ next_body s.manifest.current region
   pub store : next.store ≡ empty_store s.manifest.shape region
 
 -- why there is no next log, in the order in which it is decided
@@ -60,7 +60,7 @@ NoNextCause s NoMemory = (HasNoFreeLog s → ⊥) × (IsLastGeneration s → ⊥
 pub record HasFrozen (next : NextLog) (content : Content) (before after : TiersState) : Type 0 where
   pub quiet : IsQuiet content after
   pub active : after.active ≡ next.store
-  pub ruling : after.manifest.ruling ≡ next.body
+  pub current : after.manifest.current ≡ next.body
   pub frozen : length after.frozen ≡ length before.frozen + 1
   pub hashes : after.hashes ≡ before.hashes
   pub sorted : after.sorted ≡ before.sorted

@@ -24,15 +24,15 @@ HasPlace content s key = IsTrue content.honest → CannotTake s.manifest.shape (
 -- the active log took a row of this key, under the same body
 pub record StaysFor (old new : Content) (before after : TiersState) (key : List ℕ) (command : Command) : Type 0 where
   pub has_place : HasPlace old before key
-  pub ruling : after.manifest.ruling ≡ before.manifest.ruling
+  pub current : after.manifest.current ≡ before.manifest.current
   pub waits : IsTrue old.honest → WaitsBehind command (base_map old before) (base_map new after) (waiting_commands old before) (waiting_commands new after)
 
 -- the active log was frozen for a row of this key: the next record is current, with the lowest free region
 pub record TurnsFor (old new : Content) (before after : TiersState) (key : List ℕ) (command : Command) : Type 0 where
   pub needs : NeedsNext old before key
   pub region : ℕ
-  pub lowest : IsLowestFree before.manifest.shape.logs before.manifest.ruling region
-  pub ruling : after.manifest.ruling ≡ next_body before.manifest.ruling region
+  pub lowest : IsLowestFree before.manifest.shape.logs before.manifest.current region
+  pub current : after.manifest.current ≡ next_body before.manifest.current region
   pub waits : IsTrue old.honest → WaitsAlone command (base_map old before) (base_map new after) (waiting_commands old before) (waiting_commands new after)
 
 -- a row of this key, which does this command, was taken: by the log that was active or by the next one

@@ -112,7 +112,7 @@ impl Tiers {
             return Ok(Progress::Idle);
         };
         let geometry = self.manifest.geometry();
-        let Some(region) = lowest_free_hash(geometry.hashes(), &self.manifest.ruling()) else {
+        let Some(region) = lowest_free_hash(geometry.hashes(), &self.manifest.current()) else {
             return Ok(Progress::Waiting);
         };
         let Ok(mut conversion) = Conversion::start(alloc, oldest, region) else {
@@ -209,15 +209,15 @@ impl Tiers {
         ensures rows { OnOk result (IsTrue (D.content disk.old).honest → HasConvertedRows (D.content disk.old) (D.content disk.new) self.old self.new) }
         ensures err { IfErr result (ConvertErrorCause D.Disk disk.old disk.new self.old self.new) }
     {
-        let ruling = self.manifest.ruling();
-        if ruling.generation == LAST_GENERATION {
+        let current = self.manifest.current();
+        if current.generation == LAST_GENERATION {
             return Err(ConvertError::Spent);
         }
         let Some(conversion) = &self.converting else {
             unreachable!()
         };
         let _limits = self.manifest.geometry().hashes(); // so that the body has room for one hash store more
-        let body = converted_body(&ruling, conversion.region());
+        let body = converted_body(&current, conversion.region());
         let sorted = *self.sorted.digest();
         let digests = digests_with(Some(conversion.digest()), &self.hashes, sorted);
         match self.end_conversion(disk, &body, &digests) {

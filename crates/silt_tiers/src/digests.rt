@@ -34,7 +34,7 @@ impl Tiers {
     pub(crate) fn own_digests(&self) -> Digests
         ensures { result ≡ own_digests self.now }
     {
-        let _sound = self.manifest.ruling(); // so there are no more hash stores than regions
+        let _sound = self.manifest.current(); // so there are no more hash stores than regions
         let _limits = self.manifest.geometry().hashes();
         digests_with(None, &self.hashes, *self.sorted.digest())
     }

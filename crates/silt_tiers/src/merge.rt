@@ -102,7 +102,7 @@ impl Tiers {
         if self.hashes.is_empty() {
             return Ok(Progress::Idle);
         }
-        let _sound = self.manifest.ruling(); // so there are no more hash stores than regions
+        let _sound = self.manifest.current(); // so there are no more hash stores than regions
         let _limits = self.manifest.geometry().hashes();
         let region = 1 - self.sorted.region();
         let sorted = self.sorted.entries();
@@ -157,7 +157,7 @@ impl Tiers {
         requires { count ≤ length self.now.hashes }
         ensures { result ≡ merged_digests self.now count sorted.now }
     {
-        let _sound = self.manifest.ruling(); // so there are no more hash stores than regions
+        let _sound = self.manifest.current(); // so there are no more hash stores than regions
         let _limits = self.manifest.geometry().hashes();
         let newer = &self.hashes[..self.hashes.len() - count];
         digests_with(None, newer, *sorted.digest())
@@ -200,8 +200,8 @@ impl Tiers {
         ensures finishes { IfOk result (λ progress. progress ≡ Finished) }
         ensures err { IfErr result (MergeErrorCause D.Disk disk.old disk.new self.old self.new) }
     {
-        let ruling = self.manifest.ruling();
-        if ruling.generation == LAST_GENERATION {
+        let current = self.manifest.current();
+        if current.generation == LAST_GENERATION {
             return Err(MergeError::Spent);
         }
         let Some(merge) = &self.merging else {
@@ -211,7 +211,7 @@ impl Tiers {
             return Err(MergeError::NoMemory);
         };
         let count = merge.stores() as usize;
-        let body = merged_body(&ruling, count, sorted.region(), sorted.len());
+        let body = merged_body(&current, count, sorted.region(), sorted.len());
         let digests = self.merged_digests(count, &sorted);
         match self.end_merge(disk, &body, &digests, sorted) {
             Ok(()) => Ok(Progress::Finished),

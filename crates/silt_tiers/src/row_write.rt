@@ -59,7 +59,7 @@ impl Tiers {
         ensures charge { OnOk result (self.new.charge ≡ self.old.charge + puts_of kind) }
         ensures converting { OnOk result (self.new.converting ≡ self.old.converting) }
         ensures merging { OnOk result (self.new.merging ≡ self.old.merging) }
-        ensures ruling { OnOk result (WritesKey (D.content disk.old) (D.content disk.new) self.old self.new key.now.0 (command_of (stored_row kind key.now value.now))) }
+        ensures current { OnOk result (WritesKey (D.content disk.old) (D.content disk.new) self.old self.new key.now.0 (command_of (stored_row kind key.now value.now))) }
         ensures err { IfErr result (WriteCause D.Disk disk.old disk.new self.old self.new key.now.0) }
     {
         match self.write_active(disk, kind, key, value) {
@@ -117,7 +117,7 @@ impl Tiers {
         ensures charge { OnOk result (self.new.charge ≡ self.old.charge + puts_of kind) }
         ensures converting { OnOk result (self.new.converting ≡ self.old.converting) }
         ensures merging { OnOk result (self.new.merging ≡ self.old.merging) }
-        ensures ruling { OnOk result (TurnsFor (D.content disk.old) (D.content disk.new) self.old self.new key.now.0 (command_of (stored_row kind key.now value.now))) }
+        ensures current { OnOk result (TurnsFor (D.content disk.old) (D.content disk.new) self.old self.new key.now.0 (command_of (stored_row kind key.now value.now))) }
         ensures err { IfErr result (WriteCause D.Disk disk.old disk.new self.old self.new key.now.0) }
     {
         let next = match self.next_log(alloc) {
@@ -143,17 +143,17 @@ impl Tiers {
         ensures err { IfErr result (NoNextCause self.now) }
     {
         let geometry = self.manifest.geometry();
-        let ruling = self.manifest.ruling();
-        let Some(region) = lowest_free(geometry.logs(), &ruling) else {
+        let current = self.manifest.current();
+        let Some(region) = lowest_free(geometry.logs(), &current) else {
             return Err(NoNextLog::NoRoom);
         };
-        if ruling.generation == LAST_GENERATION {
+        if current.generation == LAST_GENERATION {
             return Err(NoNextLog::Spent);
         }
         match LogStore::new(alloc, geometry, region) {
             Ok(store) => Ok(NextLog {
                 store,
-                body: next_body(&ruling, region),
+                body: next_body(&current, region),
             }),
             Err(_) => Err(NoNextLog::NoMemory),
         }

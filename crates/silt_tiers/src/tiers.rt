@@ -178,7 +178,7 @@ impl Tiers {
         ensures map { OnOk result (Remaps [] (D.content disk.old) (D.content disk.new) self.now self.now) }
         ensures err { IfErr result (BreaksOff D.Disk disk.old disk.new self.now self.now) }
     {
-        let _sound = self.manifest.ruling(); // the next body is well formed as it is
+        let _sound = self.manifest.current(); // the next body is well formed as it is
         let mut manifest = self.manifest;
         manifest.prepare_next(disk, *next, *digests)?;
         manifest.commit_next(disk)?;

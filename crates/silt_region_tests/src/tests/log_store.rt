@@ -381,9 +381,9 @@ fn sealed_with_fault(alloc: Global, gate: u8) -> Result<Option<bool>, Fail> {
     Ok(seal(alloc, &mut failing))
 }
 
-// A loose log is sealed by a write, and one that is not is left alone.
+// A log with stale commit bytes is sealed by a write. One without is left alone.
 #[test]
-fn seals_a_loose_log(rt: HostRuntime) -> Result<(), Fail> {
+fn seals_a_stale_log(rt: HostRuntime) -> Result<(), Fail> {
     let alloc = rt.alloc();
     let mut disk = crowded(alloc, 2, true)?;
     write_row(&mut disk, 5, 1, &paired(6))?;

@@ -86,13 +86,13 @@ fn version_on<D: Disk>(disk: &D) -> Option<Version>
 }
 
 // What the slots of a disk of this length hold: the current record, or the damage.
-fn ruling<D: Disk>(disk: &D, geometry: Geometry) -> Option<Result<Body, Damage>> {
+fn current<D: Disk>(disk: &D, geometry: Geometry) -> Option<Result<Body, Damage>> {
     if disk.len() != LEN as u64 {
         return None;
     }
     let version = version_on(disk)?;
     match read_current(disk, geometry, version) {
-        Ok(manifest) => Some(Ok(manifest.ruling())),
+        Ok(manifest) => Some(Ok(manifest.current())),
         Err(ReadFault::Damaged(damage)) => Some(Err(damage)),
         Err(ReadFault::Device(_)) => None,
     }
@@ -114,7 +114,7 @@ fn said<D: Disk>(disk: &D, geometry: Geometry) -> Option<Digests> {
 fn is_next(manifest: &Manifest, next: &Body) -> bool
     ensures { IsTrue result ↔ IsNext manifest.now next.now }
 {
-    let generation = manifest.ruling().generation + 1;
+    let generation = manifest.current().generation + 1;
     next.generation == generation
         && next.is_well_formed(&manifest.geometry(), (generation % 2) as u32)
 }
@@ -228,14 +228,14 @@ fn body_of(generation: u64) -> Body {
 }
 
 // What the slots of a device with these first bytes hold.
-fn ruling_of(
+fn current_of(
     alloc: Global,
     geometry: Geometry,
     first: &Slot,
     second: &Slot,
 ) -> Result<Option<Result<Body, Damage>>, Fail> {
     let disk = device(alloc, first, second, NEVER)?.restart();
-    Ok(ruling(&disk, geometry))
+    Ok(current(&disk, geometry))
 }
 
 #[test]
@@ -255,7 +255,7 @@ fn finds_the_damaged_slot(rt: HostRuntime) -> Result<(), Fail> {
     ];
     for (first, second, found) in cases {
         assert_eq!(rt;
-            ruling_of(rt.alloc(), geometry, &first, &second)?,
+            current_of(rt.alloc(), geometry, &first, &second)?,
             Some(found)
         );
     }
@@ -275,7 +275,7 @@ fn good_slot() -> Slot {
 }
 
 // What is read if this byte is at this place.
-fn ruling_changed(
+fn current_changed(
     alloc: Global,
     geometry: Geometry,
     place: usize,
@@ -285,14 +285,14 @@ fn ruling_changed(
 {
     let mut slot = good_slot();
     slot[place] = byte;
-    ruling_of(alloc, geometry, &slot, &slot_of(0, 0))
+    current_of(alloc, geometry, &slot, &slot_of(0, 0))
 }
 
 // Each rule of what is well formed, one at a time.
 #[test]
 fn refuses_each_fault_of_a_body(rt: HostRuntime) -> Result<(), Fail> {
     let geometry = small(&rt);
-    let good = ruling_changed(rt.alloc(), geometry, 0, 0xA7)?;
+    let good = current_changed(rt.alloc(), geometry, 0, 0xA7)?;
     assert!(rt; matches!(good, Some(Ok(_))));
     let cases: [(usize, u8); 10] = [
         (12, 2),
@@ -309,7 +309,7 @@ fn refuses_each_fault_of_a_body(rt: HostRuntime) -> Result<(), Fail> {
     for (place, byte) in cases {
         assert!(rt; place < 461);
         assert_eq!(rt;
-            ruling_changed(rt.alloc(), geometry, place, byte)?,
+            current_changed(rt.alloc(), geometry, place, byte)?,
             Some(Err(Damage::Slot(0))),
             "{byte} at {place}"
         );
@@ -324,7 +324,7 @@ fn the_greater_generation_rules(rt: HostRuntime) -> Result<(), Fail> {
         let mut body = Body::first();
         body.generation = greater;
         assert_eq!(rt;
-            ruling_of(
+            current_of(
                 rt.alloc(),
                 geometry,
                 &slot_of(0xA7, 2),
@@ -388,7 +388,7 @@ fn write_greatest(alloc: Global, geometry: Geometry) -> Result<(MemDisk, bool, b
 
 // The current body and its digests are those that were written.
 fn reads_back(rt: &impl Abort, disk: &MemDisk, geometry: Geometry) {
-    assert_eq!(rt; ruling(disk, geometry), Some(Ok(greatest())));
+    assert_eq!(rt; current(disk, geometry), Some(Ok(greatest())));
     assert!(rt; said(disk, geometry) == Some(some_digests()));
 }
 
@@ -403,7 +403,7 @@ fn writes_the_layouts_bytes(rt: HostRuntime) -> Result<(), Fail> {
 
 // What is current on a device whose header has this version, and whose first slot, open and of generation 0, has this
 // byte behind its gate; and whether there are digests.
-fn ruling_as(
+fn current_as(
     alloc: Global,
     geometry: Geometry,
     (number, byte): (u8, u8),
@@ -411,7 +411,7 @@ fn ruling_as(
     let mut slot = slot_of(0xA7, 0);
     slot[1] = byte;
     let disk = device_as(alloc, number, (&slot, &slot_of(0, 1)), NEVER)?.restart();
-    Ok((ruling(&disk, geometry), said(&disk, geometry).is_some()))
+    Ok((current(&disk, geometry), said(&disk, geometry).is_some()))
 }
 
 // With digests and without on a device of version 1, and with digests alone on one of version 2.
@@ -425,19 +425,19 @@ fn takes_the_forms_of_its_version(rt: HostRuntime) -> Result<(), Fail> {
         ((2, 0x00), (Some(Err(Damage::Slot(0))), false)),
         ((2, 0x80), (first, true)),
     ] {
-        assert_eq!(rt; ruling_as(rt.alloc(), geometry, form)?, found, "{form:?}");
+        assert_eq!(rt; current_as(rt.alloc(), geometry, form)?, found, "{form:?}");
     }
     Ok(())
 }
 
 // The two slots, if this generation is current and the other slot has this gate, the first slot in front.
 fn slots_of(old: u8, spare: u8) -> (Slot, Slot) {
-    let ruling_slot = slot_of(0xA7, old);
+    let current_slot = slot_of(0xA7, old);
     let spare_slot = slot_of(spare, old.wrapping_sub(1));
     if old % 2 == 0 {
-        (ruling_slot, spare_slot)
+        (current_slot, spare_slot)
     } else {
-        (spare_slot, ruling_slot)
+        (spare_slot, current_slot)
     }
 }
 
@@ -451,7 +451,7 @@ fn stopped_write(
 ) -> Result<(bool, Option<Result<Body, Damage>>), Fail> {
     let mut disk = device(alloc, &slots.0, &slots.1, stop)?.restart();
     let done = write_next(&mut disk, geometry, next);
-    Ok((done, ruling(&disk.restart(), geometry)))
+    Ok((done, current(&disk.restart(), geometry)))
 }
 
 // Whether a stop at the call that writes a gate leaves the gate written.
@@ -468,7 +468,7 @@ fn each_stop_leaves_the_old_or_the_new_body(rt: HostRuntime) -> Result<(), Fail>
     for (old, spare) in [(0u8, 0u8), (1, 0), (2, 0xA7), (3, 0xA7)] {
         let slots = slots_of(old, spare);
         let next = body_of(u64::from(old) + 1);
-        let before = ruling_of(alloc, geometry, &slots.0, &slots.1)?;
+        let before = current_of(alloc, geometry, &slots.0, &slots.1)?;
         for k in 0..8u32 {
             for fill in FILLS {
                 let done = k == 0 || k > 6;
@@ -492,7 +492,7 @@ fn stopped_writes(
 ) -> Result<(bool, Option<Result<Body, Damage>>), Fail> {
     let mut disk = device(alloc, &slot_of(0xA7, 0), &slot_of(0, 0), stop)?.restart();
     let done = write_two(&mut disk, geometry, body_of(1), body_of(2));
-    Ok((done, ruling(&disk.restart(), geometry)))
+    Ok((done, current(&disk.restart(), geometry)))
 }
 
 // Which body is current after a stop at this call.
@@ -532,7 +532,7 @@ fn writes_in_turn(rt: HostRuntime) -> Result<(), Fail> {
     for generation in 1..6u64 {
         disk = disk.restart();
         let done = write_next(&mut disk, geometry, body_of(generation));
-        let found = ruling(&disk, geometry);
+        let found = current(&disk, geometry);
         assert_eq!(rt; (done, found), (true, Some(Ok(body_of(generation)))));
     }
     Ok(())
@@ -599,7 +599,7 @@ fn stopped_first(
     put_digests(&mut slot);
     let (disk, done) = first_written(alloc, &slot_of(0xA7, 4), &slot_of(0xA7, 5), stop)?;
     let disk = disk.restart();
-    Ok((done, ruling(&disk, geometry), shows(&disk, 4096, &slot)))
+    Ok((done, current(&disk, geometry), shows(&disk, 4096, &slot)))
 }
 
 // Over two old bodies, a stop at each of the eight calls, with every fill. The seventh writes the gate, at an even
@@ -668,7 +668,7 @@ fn the_first_gate_is_closed_by_a_zero(rt: HostRuntime) -> Result<(), Fail> {
 fn reads_with_fault(alloc: Global, geometry: Geometry, number: u64) -> Result<bool, Fail> {
     let disk = device(alloc, &slot_of(0xA7, 0), &slot_of(0, 0), NEVER)?.restart();
     let disk = FaultDisk::new(disk, Call::Read, number);
-    Ok(ruling(&disk, geometry).is_some())
+    Ok(current(&disk, geometry).is_some())
 }
 
 // Whether the next body is written if a call of this kind and this number fails.

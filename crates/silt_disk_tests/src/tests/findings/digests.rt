@@ -86,7 +86,7 @@ const OLDER_SLOT_1: Changes = &[(28_695, 3)];
 
 const NEWEST_SLOT_1: Changes = &[(32_791, 3)];
 
-// The header has version 1. The ruling slot, and the other one, says that no digests follow.
+// The header has version 1. The current slot, and the other one, says that no digests follow.
 const OLD: Changes = &[(12, 1)];
 
 const SHORT: Changes = &[(8193, 0x00)];
@@ -132,7 +132,7 @@ const OF_VERSIONS: [Case; 9] = [
         &[OLD, SHORT, OLDER_SLOT_0],
         Err(Damaged(Hash { region: 0, slot: 0 })),
     ),
-    // the ruling slot is closed
+    // the current slot is closed
     (
         &[&[(8192, 0)]],
         Ok(Report {
@@ -153,7 +153,7 @@ fn compares_digests(rt: HostRuntime) -> Result<(), Fail> {
     look_at_each(&rt, rt.alloc(), disk.shown(), &OF_VERSIONS)
 }
 
-// The same device without digests. Of the digests that a slot then says it has, all zeros, only those of the ruling slot are compared.
+// The same device without digests. Of the digests that a slot then says it has, all zeros, only those of the current slot are compared.
 const OF_VERSION_1: [Case; 5] = [
     (&[], Ok(OF_THREE_OLD_STORES)),
     (&[NEWEST_ROW, OLDER_ROW, ENTRY], Ok(OF_THREE_OLD_STORES)),
@@ -169,7 +169,7 @@ fn compares_no_digests_on_old_devices(rt: HostRuntime) -> Result<(), Fail> {
     look_at_each(&rt, rt.alloc(), &whole, &OF_VERSION_1)
 }
 
-// The digests of the ruling slot and what is behind them: where they begin, how many bytes follow, and what is found where one of these
+// The digests of the current slot and what is behind them: where they begin, how many bytes follow, and what is found where one of these
 // is another. Digests past the two hash stores are not looked at, nor are those of the other slot.
 const FIELDS: [(usize, usize, Found); 6] = [
     (8313, 20, Err(NEWEST)),

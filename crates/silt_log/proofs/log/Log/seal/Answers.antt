@@ -14,7 +14,7 @@ returns-then-not-self-clause-images g c =
 pub returns-then-not-self-clause-ok : goal.returns-then-not-self-clause-ok
 returns-then-not-self-clause-ok g c =
     let bounds : InBounds c.args.self.now = subst InBounds c.self.view_is c.self.invariant.bounds in
-    quiet_done _ c.args.self.now bounds c.requires.size c.requires.rests c.requires.scanned (ap (λ (l : LogState). l.loose) (sym c.self.view_is) ∙ c.if-not-self.true)
+    quiet_done _ c.args.self.now bounds c.requires.size c.requires.rests c.requires.scanned (ap (λ (l : LogState). l.stale) (sym c.self.view_is) ∙ c.if-not-self.true)
 
 pub returns-in_err-write_gates-clause-changes : goal.returns-in_err-write_gates-clause-changes
 returns-in_err-write_gates-clause-changes g c =
@@ -27,20 +27,20 @@ pub returns-in_err-write_gates-clause-images : goal.returns-in_err-write_gates-c
 returns-in_err-write_gates-clause-images g c =
     let log : LogState = c.args.self.now in
     let bounds : InBounds log = subst InBounds c.self.view_is c.self.invariant.bounds in
-    let loose : log.loose ≡ true = ap (λ (l : LogState). l.loose) (sym c.self.view_is) ∙ c.if-not-self.false in
+    let stale : log.stale ≡ true = ap (λ (l : LogState). l.stale) (sym c.self.view_is) ∙ c.if-not-self.false in
     let at = past_place _ log _ _ c.self.view_is c.gates_at.ensures.value c.from.ensures in
     let count = past_count _ log _ _ c.self.view_is c.log_capacity.ensures.value (subst (IsHeld _) (sym c.deref_mut.ensures.len) c.self.invariant) in
-    seal_images _ _ log bounds c.requires.size c.requires.rests c.requires.scanned _ (bounds.gap loose) refl (within_at _ _ _ _ _ _ at count c.write_gates.ensures.changes)
+    seal_images _ _ log bounds c.requires.size c.requires.rests c.requires.scanned _ (bounds.gap stale) refl (within_at _ _ _ _ _ _ at count c.write_gates.ensures.changes)
 
 pub returns-clause-written : goal.returns-clause-written
-returns-clause-written g c = λ loose.
+returns-clause-written g c = λ stale.
     let log : LogState = c.args.self.now in
     let at = past_place _ log _ _ c.self.view_is c.gates_at.ensures.value c.from.ensures in
     let count = past_count _ log _ _ c.self.view_is c.log_capacity.ensures.value (subst (IsHeld _) (sym c.deref_mut.ensures.len) c.self.invariant) in
     fills_at _ _ _ _ 0 _ _ at count c.in_ok-write_gates.ensures.written
 
 pub returns-then-not-self-clause-written : goal.returns-then-not-self-clause-written
-returns-then-not-self-clause-written g c = λ loose. absurd (false≢true (sym (ap (λ (l : LogState). l.loose) (sym c.self.view_is) ∙ c.if-not-self.true) ∙ loose))
+returns-then-not-self-clause-written g c = λ stale. absurd (false≢true (sym (ap (λ (l : LogState). l.stale) (sym c.self.view_is) ∙ c.if-not-self.true) ∙ stale))
 
 pub returns-clause-changes : goal.returns-clause-changes
 returns-clause-changes g c =
@@ -53,14 +53,14 @@ pub returns-clause-images : goal.returns-clause-images
 returns-clause-images g c =
     let log : LogState = c.args.self.now in
     let bounds : InBounds log = subst InBounds c.self.view_is c.self.invariant.bounds in
-    let loose : log.loose ≡ true = ap (λ (l : LogState). l.loose) (sym c.self.view_is) ∙ c.if-not-self.false in
+    let stale : log.stale ≡ true = ap (λ (l : LogState). l.stale) (sym c.self.view_is) ∙ c.if-not-self.false in
     let at = past_place _ log _ _ c.self.view_is c.gates_at.ensures.value c.from.ensures in
     let count = past_count _ log _ _ c.self.view_is c.log_capacity.ensures.value (subst (IsHeld _) (sym c.deref_mut.ensures.len) c.self.invariant) in
-    seal_images _ _ log bounds c.requires.size c.requires.rests c.requires.scanned _ (bounds.gap loose) refl (within_at _ _ _ _ _ _ at count c.write_gates.ensures.changes)
+    seal_images _ _ log bounds c.requires.size c.requires.rests c.requires.scanned _ (bounds.gap stale) refl (within_at _ _ _ _ _ _ at count c.write_gates.ensures.changes)
 
 pub invariant_of-self-2 : goal.invariant_of-self-2
 invariant_of-self-2 g c = record {
-  bounds = record { region = c.self.invariant.bounds.region; order = c.self.invariant.bounds.order; room = c.self.invariant.bounds.room; gap = λ loose. absurd (false≢true loose) };
+  bounds = record { region = c.self.invariant.bounds.region; order = c.self.invariant.bounds.order; room = c.self.invariant.bounds.room; gap = λ stale. absurd (false≢true stale) };
   buffer = c.self.invariant.buffer;
 }
 
@@ -68,8 +68,8 @@ pub returns-clause-ok : goal.returns-clause-ok
 returns-clause-ok g c =
     let log : LogState = c.args.self.now in
     let bounds : InBounds log = subst InBounds c.self.view_is c.self.invariant.bounds in
-    let loose : log.loose ≡ true = ap (λ (l : LogState). l.loose) (sym c.self.view_is) ∙ c.if-not-self.false in
+    let stale : log.stale ≡ true = ap (λ (l : LogState). l.stale) (sym c.self.view_is) ∙ c.if-not-self.false in
     let at = past_place _ log _ _ c.self.view_is c.gates_at.ensures.value c.from.ensures in
     let count = past_count _ log _ _ c.self.view_is c.log_capacity.ensures.value (subst (IsHeld _) (sym c.deref_mut.ensures.len) c.self.invariant) in
-    let done = seal_done _ _ log bounds c.requires.size c.requires.rests c.requires.scanned _ (bounds.gap loose) count c.write_gates.ensures.size (writes_at _ _ _ _ _ at c.in_ok-write_gates.ensures.written) c.in_ok-write_gates.ensures.rests in
-    seals_as _ _ _ _ _ (ap (λ (l : LogState). let sealed : LogState = record l { loose = false } in sealed) c.self.view_is) done
+    let done = seal_done _ _ log bounds c.requires.size c.requires.rests c.requires.scanned _ (bounds.gap stale) count c.write_gates.ensures.size (writes_at _ _ _ _ _ at c.in_ok-write_gates.ensures.written) c.in_ok-write_gates.ensures.rests in
+    seals_as _ _ _ _ _ (ap (λ (l : LogState). let sealed : LogState = record l { stale = false } in sealed) c.self.view_is) done

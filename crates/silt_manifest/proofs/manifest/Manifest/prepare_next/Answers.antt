@@ -64,6 +64,6 @@ returns-clause-ready g c =
     record {
       next = c.args.next;
       digests = c.args.digests;
-      prepared = prepared_state m c.self.inside.geometry c.self.inside.ruling c.args.next c.self.inside.digests c.args.digests _
-          (sym (ap (λ state. state.shape) c.self.view_is)) (sym (ap (λ state. state.ruling) c.self.view_is)) (sym (ap (λ state. state.digests) c.self.view_is)) c.requires.next fits fits_digests ready;
+      prepared = prepared_state m c.self.inside.geometry c.self.inside.current c.args.next c.self.inside.digests c.args.digests _
+          (sym (ap (λ state. state.shape) c.self.view_is)) (sym (ap (λ state. state.current) c.self.view_is)) (sym (ap (λ state. state.digests) c.self.view_is)) c.requires.next fits fits_digests ready;
     }

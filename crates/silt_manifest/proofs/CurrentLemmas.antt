@@ -5,7 +5,7 @@ use Rattle.std.proofs.lemmas.Bool.Decides.{nat_tests}
 use Rattle.silt_disk.specs.Header.{header_of, version_of}
 use Rattle.silt_disk.specs.Layout.{Shape}
 use Rattle.silt_disk.specs.declared.header.Version.{Version}
-use Rattle.silt_manifest.specs.Ruling.{is_sound_record, manifest_found, open_record, record_found, ruling_manifest, where_found}
+use Rattle.silt_manifest.specs.Current.{is_sound_record, manifest_found, open_record, record_found, current_manifest, where_found}
 use Rattle.silt_manifest.specs.declared.slot.Damage.TheVariants.{Slot}
 use Rattle.silt_manifest.specs.declared.slot.SlotRecord.{SlotRecord}
 
@@ -59,7 +59,7 @@ second_is_sound s v first second b rules =
     ]
 
 -- the current record of an image is sound in its slot
-pub rules_sound : (s : Shape) (r o : ℕ) (b : SlotRecord) (image : List ℕ) → r + o ≡ 1 → open_record image r ≡ Some b → ruling_manifest s image ≡ Some b → is_sound_record s (version_of (header_of image)) r (Some b) ≡ true
+pub rules_sound : (s : Shape) (r o : ℕ) (b : SlotRecord) (image : List ℕ) → r + o ≡ 1 → open_record image r ≡ Some b → current_manifest s image ≡ Some b → is_sound_record s (version_of (header_of image)) r (Some b) ≡ true
 rules_sound s r o b image slots stands rules =
     let v = version_of (header_of image) in
     elim (cases_eq r 0) [
@@ -90,7 +90,7 @@ alone_found s v r o b image is slots sound stands closed =
     ]
 
 -- a record is current if it is newer than the other
-pub newer_rules : (s : Shape) (v : Version) (r o : ℕ) (a b : SlotRecord) (image : List ℕ) → version_of (header_of image) ≡ v → r + o ≡ 1 → is_sound_record s v r (Some a) ≡ true → is_sound_record s v o (Some b) ≡ true → b.body.generation ≡ a.body.generation + 1 → open_record image r ≡ Some a → open_record image o ≡ Some b → ruling_manifest s image ≡ Some b
+pub newer_rules : (s : Shape) (v : Version) (r o : ℕ) (a b : SlotRecord) (image : List ℕ) → version_of (header_of image) ≡ v → r + o ≡ 1 → is_sound_record s v r (Some a) ≡ true → is_sound_record s v o (Some b) ≡ true → b.body.generation ≡ a.body.generation + 1 → open_record image r ≡ Some a → open_record image o ≡ Some b → current_manifest s image ≡ Some b
 newer_rules s v r o a b image is slots sound_a sound_b next stands_a stands_b =
     elim (cases_eq r 0) [
       | inl zero_r ↦
@@ -107,7 +107,7 @@ newer_rules s v r o a b image is slots sound_a sound_b next stands_a stands_b =
     ]
 
 -- images of one version whose slots hold the same have the same current record
-pub same_rules : (s : Shape) (r o : ℕ) (before after : List ℕ) → version_of (header_of after) ≡ version_of (header_of before) → r + o ≡ 1 → open_record after r ≡ open_record before r → open_record after o ≡ open_record before o → ruling_manifest s after ≡ ruling_manifest s before
+pub same_rules : (s : Shape) (r o : ℕ) (before after : List ℕ) → version_of (header_of after) ≡ version_of (header_of before) → r + o ≡ 1 → open_record after r ≡ open_record before r → open_record after o ≡ open_record before o → current_manifest s after ≡ current_manifest s before
 same_rules s r o before after is slots same_r same_o =
     elim (cases_eq r 0) [
       | inl zero_r ↦
@@ -122,7 +122,7 @@ same_rules s r o before after is slots same_r same_o =
     ]
 
 -- a record stays current if its slot stays, and the other one is closed or stays too
-pub still_rules : (s : Shape) (r o : ℕ) (b : SlotRecord) (before after : List ℕ) → version_of (header_of after) ≡ version_of (header_of before) → r + o ≡ 1 → open_record before r ≡ Some b → ruling_manifest s before ≡ Some b → open_record after r ≡ open_record before r → (open_record after o ≡ None) ⊎ (open_record after o ≡ open_record before o) → ruling_manifest s after ≡ Some b
+pub still_rules : (s : Shape) (r o : ℕ) (b : SlotRecord) (before after : List ℕ) → version_of (header_of after) ≡ version_of (header_of before) → r + o ≡ 1 → open_record before r ≡ Some b → current_manifest s before ≡ Some b → open_record after r ≡ open_record before r → (open_record after o ≡ None) ⊎ (open_record after o ≡ open_record before o) → current_manifest s after ≡ Some b
 still_rules s r o b before after is slots stands rules same_r other =
     elim other [
       | inl closed ↦ ap where_found (alone_found s (version_of (header_of before)) r o b after is slots (rules_sound s r o b before slots stands rules) (same_r ∙ stands) closed)

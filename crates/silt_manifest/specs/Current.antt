@@ -65,8 +65,8 @@ where_found (Err damage) = None
 
 -- The current record of an image: of the open slots, all sound, the one of greater generation. It depends only on the version in the
 -- header and the records of the open slots.
-abbrev pub ruling_manifest : Shape → List ℕ → Option SlotRecord
-ruling_manifest s image = where_found (manifest_found s image)
+abbrev pub current_manifest : Shape → List ℕ → Option SlotRecord
+current_manifest s image = where_found (manifest_found s image)
 
 -- a slot of an image holds this, and it is sound
 pub record HasSlot (s : Shape) (version : Version) (slot : ℕ) (found : Option SlotRecord) (image : List ℕ) : Type 0 where
