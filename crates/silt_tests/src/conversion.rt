@@ -1,4 +1,5 @@
-// A frozen log as a hash store: its bytes, what is found damaged in it, and faults on the way.
+// The conversion of a frozen log into a hash store: its bytes, and the damage that an opening finds
+// in it.
 
 use crate::lines::CONVERTED;
 use crate::script::{Told, live, repeated};
@@ -10,7 +11,7 @@ use std::alloc::Global;
 use std::process::Abort;
 use std::test::Fail;
 
-// The replies to five puts, a flush and a conversion.
+// The replies are those to five puts, a flush and a conversion of nine steps.
 fn is_converted(rt: &impl Abort, told: &[Told]) {
     assert_eq!(rt; told.len(), 16);
     for reply in &told[7..15] {
@@ -27,14 +28,15 @@ pub(crate) fn converted(rt: &impl Abort, alloc: Global) -> Result<MemDisk, Fail>
     Ok(disk)
 }
 
-// The refusal of an opening of these bytes with some of them changed, none if they open.
+// The damage that an opening of these bytes finds after some of them are changed, or none if the
+// store opens.
 fn refusal_of(alloc: Global, whole: &[u8], changes: &[(usize, u8)]) -> Result<Option<Place>, Fail> {
     let bytes = changed(alloc, whole, changes)?;
     let disk = MemDisk::with_bytes(alloc, &bytes)?;
     damage_in(Core::open(alloc, disk))
 }
 
-// What an opening found damaged, none if it found nothing.
+// The damaged place that an opening reports, or none if the store opened.
 fn damage_in(opening: Result<Core<MemDisk>, OpenFault<MemDisk>>) -> Result<Option<Place>, Fail> {
     let Err(fault) = opening else {
         return Ok(None);
@@ -45,13 +47,14 @@ fn damage_in(opening: Result<Core<MemDisk>, OpenFault<MemDisk>>) -> Result<Optio
     }
 }
 
-// The digest of those slots.
+// The digest of the eight slots that the conversion writes.
 const OF_FOUR_ROWS: &[u8] =
     b"\xa6\x41\x0a\x32\x34\xdc\x02\x40\x9f\xe6\x82\xdc\x58\xd1\x9a\x3c\x59\xf4\xf9\x43";
 
-// Each of the keys 1 to 4 has the buckets 0 and 0 of two, so that they stand in the first four slots of 23 bytes from 28,672 on; the
-// other four slots are zeros. The manifest in slot 0 has generation 2, log 1 active, no frozen log, and hash store 0; behind it stand the
-// digest of the slots, zeros for 15 stores more, and the digest of no entries.
+// Both buckets of the keys 1 to 4 are bucket 0 of two. So their rows are in the first four slots of
+// 23 bytes, from 28,672 on, and the other four slots are zeros. The manifest in slot 0 has
+// generation 2, log 1 active, no frozen log, and hash store 0. After it come the digest of the
+// slots, zeros for 15 more stores, and the digest of no entries.
 fn has_its_slots(rt: &impl Abort, disk: &MemDisk) {
     for slot in 0..4u8 {
         let at = 28_672 + 23 * slot as usize;
@@ -76,8 +79,9 @@ fn writes_the_slots_in_order(rt: HostRuntime) -> Result<(), Fail> {
     Ok(())
 }
 
-// Changes of the device after a conversion, and what is then found damaged: nothing; a slot of an unknown kind; in slot 4 the row of
-// slot 0, which there lies in neither of its key's buckets; and another value in slot 0, where every slot is as it may be.
+// Changes of the device after a conversion, and the damage that an opening then finds. First there
+// is none, then a slot of an unknown kind. Then slot 4 has the row of slot 0, in neither of its
+// key's buckets. Last, slot 0 has another value, which only the digest shows.
 type Case<'a> = (&'a [(usize, u8)], Option<Place>);
 
 const CASES: [Case; 4] = [

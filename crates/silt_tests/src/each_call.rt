@@ -1,4 +1,4 @@
-// Each read, write and sync of a life fails, one at a time, and the device then goes on.
+// Each read, write and sync of a life fails, one at a time. The device works again after it.
 
 use crate::faults::is_failed;
 use crate::kept::{after, goes_on, is_kept};
@@ -24,7 +24,8 @@ struct Life<'a> {
     told: &'a [Told],
 }
 
-// Which calls of a life fail, one at a time: each read, or each write and each sync. There are just so many.
+// Which calls of a life fail, one at a time: each read, or each write and each sync. The numbers
+// are exact.
 #[derive(Clone, Copy)]
 enum Fails {
     Reads(u64),
@@ -38,7 +39,7 @@ fn each_fails(rt: &impl Abort, alloc: Global, life: &Life, fails: Fails) -> Resu
     }
 }
 
-// The lines of a conversion, with a get, a step and a swap behind it.
+// The lines of a conversion, followed by a get, a step and a swap.
 fn converted_lines(alloc: Global) -> Result<Vec<Line>, AllocError> {
     let mut lines = repeated(alloc, &CONVERTED)?;
     lines.extend_from_slice(&ASKED_BEHIND)?;
@@ -46,7 +47,7 @@ fn converted_lines(alloc: Global) -> Result<Vec<Line>, AllocError> {
     Ok(lines)
 }
 
-// A conversion, with a get, a step and a swap behind it.
+// The life is a conversion, followed by a get, a step and a swap.
 fn conversion_fails(rt: &impl Abort, alloc: Global, fails: Fails) -> Result<(), Fail> {
     let geometry = small()?;
     let mut told = repeated(alloc, &CONVERTED_TOLD)?;
@@ -60,7 +61,7 @@ fn conversion_fails(rt: &impl Abort, alloc: Global, fails: Fails) -> Result<(), 
     each_fails(rt, alloc, &life, fails)
 }
 
-// A merge beside two conversions, with a swap behind them that freezes a log.
+// The life is a merge beside two conversions, followed by a swap that freezes a log.
 fn merge_fails(rt: &impl Abort, alloc: Global, fails: Fails) -> Result<(), Fail> {
     let geometry = of_three_hash_stores()?;
     let mut told = repeated(alloc, &CONVERTED_MEANWHILE_TOLD)?;
@@ -75,7 +76,8 @@ fn merge_fails(rt: &impl Abort, alloc: Global, fails: Fails) -> Result<(), Fail>
     each_fails(rt, alloc, &life, fails)
 }
 
-// A store on the life's disk. If the first opening is refused with a fault, which is counted, the disk is opened again, by the calls that follow.
+// Opens the store on this disk. If the opening is refused with a fault, counts the fault and opens
+// the disk again.
 fn opened_again(alloc: Global, disk: FaultDisk, faults: &mut u32) -> Result<Core<FaultDisk>, Fail> {
     match Core::open(alloc, disk) {
         Ok(core) => Ok(core),
@@ -92,7 +94,7 @@ fn opened_again(alloc: Global, disk: FaultDisk, faults: &mut u32) -> Result<Core
     }
 }
 
-// Asks a line, once more after a fault, and whether there was one.
+// The reply to a line, which is asked once more after a fault, and whether there was one.
 fn asked_again(
     alloc: Global,
     core: &mut Core<FaultDisk>,
@@ -105,7 +107,8 @@ fn asked_again(
     Ok((told, false))
 }
 
-// The values of the keys 0 to 7 in the list of the entries, which is asked for once more if it was refused with a fault, and whether it was.
+// The values of the keys 0 to 7 in the list of the entries. A list that is refused with a fault is
+// asked for once more. Returns whether that was so.
 fn listed_again(alloc: Global, core: &Core<FaultDisk>) -> Result<([u16; 8], bool), Fail> {
     match core.entries(alloc) {
         Ok(entries) => Ok((values_of(&entries), false)),
@@ -117,7 +120,8 @@ fn listed_again(alloc: Global, core: &Core<FaultDisk>) -> Result<([u16; 8], bool
     }
 }
 
-// All lines of the life get the replies that are due. Says how often one was refused with a fault and was asked again.
+// Asks all lines of the life and compares the replies. Returns how many lines were refused with a
+// fault and asked again.
 fn ask_all(
     rt: &impl Abort,
     alloc: Global,
@@ -133,7 +137,8 @@ fn ask_all(
     Ok(faults)
 }
 
-// The lines of the life, and the list of the entries behind them. Says how often one was refused with a fault and was asked again.
+// Asks all lines of the life and then the list of the entries. Returns how many of them were
+// refused with a fault and asked again.
 fn ask_and_list(
     rt: &impl Abort,
     alloc: Global,
@@ -146,8 +151,8 @@ fn ask_and_list(
     Ok(faults.saturating_add(is_told as u32))
 }
 
-// This read of the life fails: the call that made it is refused with the fault, and asked again has its own answer, as all others have. Says how many
-// faults there were.
+// Fails this read of the life. The call that made it is refused with the fault, and a second try
+// succeeds; all other calls succeed at once. Returns how many faults there were.
 fn faults_of_read(rt: &impl Abort, alloc: Global, life: &Life, number: u64) -> Result<u32, Fail> {
     let disk = FaultDisk::new(formatted_with(alloc, life.geometry)?, Call::Read, number);
     let mut faults = 0;
@@ -156,7 +161,7 @@ fn faults_of_read(rt: &impl Abort, alloc: Global, life: &Life, number: u64) -> R
     Ok(more.saturating_add(faults))
 }
 
-// Each read of the life fails in turn, of which there are just so many.
+// Fails each read of the life in turn. The life makes exactly this many reads.
 fn each_read_fails(rt: &impl Abort, alloc: Global, life: &Life, reads: u64) -> Result<(), Fail> {
     for number in 1..1000u64 {
         let faults = faults_of_read(rt, alloc, life, number)?;
@@ -169,23 +174,26 @@ fn each_read_fails(rt: &impl Abort, alloc: Global, life: &Life, reads: u64) -> R
     Err("reads without end".into())
 }
 
-// An opening makes four reads. All keys have one bucket, so the four puts that the first log takes read the heads of all rows before
-// them, and the fifth finds the log full. Each slot that is not empty is written from one row. The get reads a row of the active log
-// and two slots. So does the swap, and then the head of that row. The list reads two rows, eight slots and four values.
+// An opening makes four reads. All keys have one bucket, so each of the first four puts reads the
+// heads of all rows before its own. The fifth finds the log full. The conversion reads one row for
+// each of the four slots that are not empty. The get reads a row of the active log and two slots.
+// The swap reads these too, and then the head of that row. The list reads two rows, eight slots and
+// four values.
 #[test]
 fn each_read_of_a_conversion_fails(rt: HostRuntime) -> Result<(), Fail> {
     conversion_fails(&rt, rt.alloc(), Fails::Reads(4 + 6 + 4 + 3 + 4 + 14))
 }
 
-// Each log has one row, so no put reads. Three conversions read one row each, the merge the slots together and one value. The gets read
-// the active log's row, and then the newest hash store's. So does the swap, whose log is full. The list reads the entry, sixteen slots
+// Each log has one row, so no put reads. Each of three conversions reads one row. The merge reads
+// all slots at once, and then one value. The gets read the active log's row, and then the newest
+// hash store's. The swap reads these too; its log is full. The list reads the entry, sixteen slots
 // and two values, and the rows of two logs.
 #[test]
 fn each_read_of_a_merge_fails(rt: HostRuntime) -> Result<(), Fail> {
     merge_fails(&rt, rt.alloc(), Fails::Reads(4 + 3 + 2 + 3 + 2 + 21))
 }
 
-// Which of a kind of call fails, and what a stop behind the life leaves, if there is one.
+// The write or sync that fails, and the fill of the crash after the life, if there is one.
 #[derive(Clone, Copy)]
 struct Failing {
     call: Call,
@@ -193,7 +201,8 @@ struct Failing {
     stop: Option<Fill>,
 }
 
-// Whether the store has failed with this reply: behind the one that is refused with the fault all others are refused Failed, and those before it are the life's own.
+// Compares one reply, and returns whether the store has failed by then. Before the fault the
+// replies are the life's own. After it all are refused Failed.
 fn has_failed_with(
     rt: &impl Abort,
     has_failed: bool,
@@ -212,7 +221,7 @@ fn has_failed_with(
     false
 }
 
-// All replies are such. Says whether one gave the fault.
+// Compares all replies with those due around one fault. Returns whether there was a fault.
 fn tells_once(rt: &impl Abort, life: &Life, told: &[Told], number: u64) -> bool {
     assert_eq!(rt; told.len(), life.told.len());
     let mut has_failed = false;
@@ -222,7 +231,8 @@ fn tells_once(rt: &impl Abort, life: &Life, told: &[Told], number: u64) -> bool 
     has_failed
 }
 
-// The life on a disk on which this write or sync fails: the disk, the replies, and whether the call was made.
+// Runs the life on a disk on which this write or sync fails: the disk, the replies, and whether the
+// call was made.
 fn lived(
     rt: &impl Abort,
     alloc: Global,
@@ -244,7 +254,8 @@ fn is_fault(rt: &impl Abort, refusal: u32, number: u64) {
     assert_eq!(rt; refusal, 5, "call {number}");
 }
 
-// The life of an opened store, of which this write or sync fails: the disk, the replies, and whether the call was made.
+// Runs the life in an opened store whose write or sync of this number fails: the disk, the replies,
+// and whether the call was made.
 fn answered(
     rt: &impl Abort,
     alloc: Global,
@@ -256,7 +267,7 @@ fn answered(
     with_disk(core.close().into_disk(), answers)
 }
 
-// A disk, and the replies that it gave.
+// Joins a disk and the replies of its store.
 fn with_disk(
     disk: MemDisk,
     answers: Result<(Vec<Told>, bool), AllocError>,
@@ -278,14 +289,14 @@ fn answers(
     Ok((told, is_made))
 }
 
-// Where the call was made, the store is failed.
+// If the failing call was made, the store is failed.
 fn has_failed(rt: &impl Abort, alloc: Global, core: &mut Core<FaultDisk>, is_made: bool) {
     if is_made {
         is_failed(rt, alloc, core);
     }
 }
 
-// The disk after this stop, if there is one.
+// The disk after a crash, if there is one.
 fn stopped(disk: MemDisk, stop: Option<Fill>) -> MemDisk {
     match stop {
         Some(_) => disk.restart(),
@@ -297,8 +308,9 @@ fn keeps(rt: &impl Abort, life: &Life, told: &[Told], found: [u16; 8], number: u
     assert!(rt; is_kept(life.lines, told, found), "{found:?} call {number}");
 }
 
-// This write or sync of the life fails. Then every call is refused, and an opening, with or without a stop before it, finds what is
-// kept, and goes on from there. Says whether the call was made.
+// Fails this write or sync of the life. From then on every call is refused. The next opening, with
+// or without a crash before it, finds what is kept, and the store goes on from there. Returns
+// whether the call was made.
 fn change_fails(
     rt: &impl Abort,
     alloc: Global,
@@ -315,7 +327,7 @@ fn change_fails(
     Ok(is_made)
 }
 
-// Each call of a kind fails in turn, of which there are so many, with this stop behind the life.
+// Fails each call of a kind in turn. The life makes exactly this many, and ends with this crash.
 fn each_of_a_kind_fails(
     rt: &impl Abort,
     alloc: Global,
@@ -331,7 +343,8 @@ fn each_of_a_kind_fails(
     Ok(())
 }
 
-// Each write and each sync fails in turn, of which there are so many, with no stop behind the life, and with each.
+// Fails each write and each sync in turn, of which there are exactly this many: without a crash
+// after the life, and with each fill.
 fn each_change_fails(
     rt: &impl Abort,
     alloc: Global,
@@ -348,17 +361,20 @@ fn each_change_fails(
     Ok(())
 }
 
-// Of the 42 calls of the conversion five puts and the swap make twelve writes. The flush before the freeze makes one and two syncs, the
-// clearing of the next log one of each, the manifest three of each. The last flush makes one write and two syncs. Eight slots are a
-// write each, and the last step makes a sync and a manifest. The opening makes a sync.
+// The writes and syncs of the conversion, 42 in all. The opening makes a sync. Five puts and the
+// swap make twelve writes. The flush before the freeze makes one write and two syncs, the clearing
+// of the next log one of each, and the manifest three of each. The last flush makes one write and
+// two syncs. The eight slots take a write each. The last step makes a sync, and writes the manifest
+// again.
 const OF_A_CONVERSION: (u64, u64) = (12 + 1 + 1 + 3 + 1 + 8 + 3, 1 + 2 + 1 + 3 + 2 + 1 + 3);
 
-// Of the 108 calls of the merge the opening makes a sync, four puts and the swap make ten writes, each of four freezes makes five writes
-// and six syncs, each of three conversions eleven writes and four syncs. One key is an entry, and the last step makes
-// three writes and four syncs.
+// The writes and syncs of the merge, 108 in all. The opening makes a sync. Four puts and the swap
+// make ten writes. Each of four freezes makes five writes and six syncs, and each of three
+// conversions eleven writes and four syncs. One key becomes an entry, by one write. The last step
+// makes three writes and four syncs.
 const OF_A_MERGE: (u64, u64) = (10 + 4 * 5 + 3 * 11 + 1 + 3, 1 + 4 * 6 + 3 * 4 + 4);
 
-// So many calls are these writes and syncs.
+// The writes and syncs to fail, which are this many calls in all.
 fn are_calls(rt: &impl Abort, (writes, syncs): (u64, u64), calls: u64) -> Fails {
     assert_eq!(rt; writes.saturating_add(syncs), calls);
     Fails::Changes(writes, syncs)

@@ -1,4 +1,5 @@
-// A flush of which one sync fails, and what the next opening finds with no crash in between; and a flush that makes no call.
+// One sync of a flush fails, and the next opening comes without a crash in between. And a flush
+// with no row waiting makes no device call.
 
 use crate::life_lines::Line;
 use crate::script::{Told, replies_of};
@@ -8,7 +9,7 @@ use silt_store_set::{Core, Progress};
 use std::alloc::{AllocError, Global};
 use std::test::Fail;
 
-// A disk, and the replies that it gave.
+// Joins a disk and the replies of its store.
 fn with_disk(
     disk: FaultDisk,
     told: Result<Vec<Told>, AllocError>,
@@ -16,7 +17,7 @@ fn with_disk(
     Ok((disk, told?))
 }
 
-// The replies to these lines by the store on this disk, which is closed behind them.
+// Asks these lines of the store on this disk and closes it.
 fn told_on(alloc: Global, disk: FaultDisk, lines: &[Line]) -> Result<(FaultDisk, Vec<Told>), Fail> {
     match Core::open(alloc, disk) {
         Ok(mut core) => {
@@ -27,7 +28,8 @@ fn told_on(alloc: Global, disk: FaultDisk, lines: &[Line]) -> Result<(FaultDisk,
     }
 }
 
-// The replies to these lines by an empty store on a disk of which this call fails, counted from the opening on.
+// Asks these lines of an empty store on a disk on which this call fails. The calls are counted from
+// the opening on.
 fn told_where(
     alloc: Global,
     call: Call,
@@ -41,7 +43,8 @@ fn told_where(
     )
 }
 
-// A put, a flush and a get if this sync fails, and a get by the next opening. The opening's sync is the first, the flush makes two.
+// The replies to a put, a flush and a get if this sync fails, and to a get after the next opening.
+// The opening makes sync 1, and the flush syncs 2 and 3.
 fn flush_fails(alloc: Global, sync: u64) -> Result<(Vec<Told>, Vec<Told>), Fail> {
     let lines = [Line::Put(1, 0x0102), Line::Flush, Line::Get(1)];
     let (disk, told) = told_where(alloc, Call::Sync, sync, &lines)?;
@@ -67,7 +70,8 @@ fn the_put_is_there_where_the_second_sync_of_its_flush_fails(rt: HostRuntime) ->
     Ok(())
 }
 
-// A get, a flush and steps in an empty store, and then a put and its flush.
+// A get, a flush and steps of an empty store make no sync and no write. The put and its flush after
+// them do.
 const IDLE: [Line; 6] = [
     Line::Get(1),
     Line::Flush,
@@ -84,7 +88,8 @@ const IDLE_TOLD: [Told; 4] = [
     Told::Progress(Progress::Idle),
 ];
 
-// The next sync behind the opening's is that of the put's flush: nothing before it makes one.
+// Sync 2 is the first one after the opening. It fails in the flush of the put, so no call before
+// that makes a sync.
 #[test]
 fn a_flush_with_nothing_waiting_makes_no_sync(rt: HostRuntime) -> Result<(), Fail> {
     let (_, told) = told_where(rt.alloc(), Call::Sync, 2, &IDLE)?;
@@ -94,7 +99,7 @@ fn a_flush_with_nothing_waiting_makes_no_sync(rt: HostRuntime) -> Result<(), Fai
     Ok(())
 }
 
-// The first write is the put's: nothing before it makes one.
+// Write 1 fails in the put, so no call before it makes a write.
 #[test]
 fn a_flush_with_nothing_waiting_makes_no_write(rt: HostRuntime) -> Result<(), Fail> {
     let (_, told) = told_where(rt.alloc(), Call::Write, 1, &IDLE)?;

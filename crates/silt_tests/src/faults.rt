@@ -1,4 +1,4 @@
-// A row whose write fails, and the refusals of puts and deletes.
+// The store after a failed write of a row, and the refusals of puts and deletes.
 
 use crate::support::{entries_of, values_of};
 use silt_device::{Call, Disk, FaultDisk, MemDisk, MemFault};
@@ -10,20 +10,21 @@ use std::alloc::Global;
 use std::process::Abort;
 use std::test::Fail;
 
-// A small store on a disk on which one call fails, the calls of the opening counted too.
+// A store of the small geometry on a disk on which one call fails. The calls of the opening count
+// too.
 fn faulty(alloc: Global, call: Call, number: u64) -> Result<Core<FaultDisk>, Fail> {
     let disk = FaultDisk::new(formatted(alloc)?, call, number);
     Ok(Core::open(alloc, disk).ok().ok_or("opens")?)
 }
 
-// A small store of values of two bytes, of which so many may be sorted.
+// A store of values of two bytes that may have this many sorted entries.
 fn of_capacity(alloc: Global, sorted_capacity: u32) -> Result<Core<MemDisk>, Fail> {
     let geometry = of_regions(4, 2, 2, sorted_capacity)?;
     let disk = formatted_with(alloc, geometry)?;
     Ok(Core::open(alloc, disk).ok().ok_or("opens")?)
 }
 
-// The count that was answered, or the number of the refusal.
+// The count that a call returned, or the number of the refusal.
 fn answer<T>(answered: Result<T, Refusal<MemFault>>) -> Result<T, u32> {
     match answered {
         Ok(count) => Ok(count),
@@ -31,7 +32,7 @@ fn answer<T>(answered: Result<T, Refusal<MemFault>>) -> Result<T, u32> {
     }
 }
 
-// Puts a value of two bytes, of which the first is 0.
+// Puts a value of two bytes. The first byte is 0.
 fn put(
     rt: &impl Abort,
     alloc: Global,
@@ -51,7 +52,7 @@ fn refused<T: Drop>(answered: Result<T, Refusal<MemFault>>) -> u32 {
     }
 }
 
-/// Every call of a failed store is refused, and the list of its entries too.
+/// Every call of a failed store is refused with the number of Failed.
 pub(crate) fn is_failed(rt: &impl Abort, alloc: Global, core: &mut Core<FaultDisk>) {
     assert_eq!(rt; core.geometry().value_len(), 2);
     let mut out = [7; 2];
@@ -69,13 +70,13 @@ pub(crate) fn is_failed(rt: &impl Abort, alloc: Global, core: &mut Core<FaultDis
     assert_eq!(rt; told, [9; 9]);
 }
 
-// The values of the keys 0 to 7 on a disk whose store is given up.
+// Closes the store, and returns the values of the keys 0 to 7 on its disk.
 fn left_by(alloc: Global, core: Core<FaultDisk>) -> Result<[u16; 8], Fail> {
     let (_, found) = entries_of(alloc, core.close().into_disk())?;
     Ok(found)
 }
 
-// These are all entries: so many, with the values of the keys 0 to 7 among them.
+// The list has this many entries, and these are the values of the keys 0 to 7 in it.
 fn lists<D: Disk>(
     rt: &impl Abort,
     alloc: Global,
@@ -88,13 +89,13 @@ fn lists<D: Disk>(
     Ok(())
 }
 
-// How many entries are listed, and the values of the keys 0 to 7 among them.
+// The number of entries in the list, and the values of the keys 0 to 7 in it.
 fn listed<D: Disk>(alloc: Global, core: &Core<D>) -> Result<(usize, [u16; 8]), Fail> {
     let entries = core.entries(alloc).ok().ok_or("has entries")?;
     Ok((entries.len(), values_of(&entries)))
 }
 
-// A put is flushed, and the next put or delete fails.
+// A put is flushed. Then the next put or delete fails, and so does the store.
 fn row_fails(rt: &impl Abort, alloc: Global, core: &mut Core<FaultDisk>, deletes: bool) {
     assert_eq!(rt; core.geometry().value_len(), 2);
     assert_eq!(rt; answer(core.put(alloc, &key(1), &[0, 5])), Ok(1));
@@ -108,7 +109,8 @@ fn row_fails(rt: &impl Abort, alloc: Global, core: &mut Core<FaultDisk>, deletes
     is_failed(rt, alloc, core);
 }
 
-// A put's two writes, and a delete's: the row is not accepted, and the store is failed. What was flushed stands.
+// Either write of a put or of a delete fails. The store does not accept the row and fails. The
+// flushed value is kept.
 #[test]
 fn a_write_that_fails_fails_the_store(rt: HostRuntime) -> Result<(), Fail> {
     let alloc = rt.alloc();
@@ -121,7 +123,7 @@ fn a_write_that_fails_fails_the_store(rt: HostRuntime) -> Result<(), Fail> {
     Ok(())
 }
 
-// Two puts are taken, and no third, of whatever key.
+// The store accepts two puts. It refuses a third put of any key, for it is full.
 fn takes_two_puts(rt: &impl Abort, alloc: Global, core: &mut Core<MemDisk>) {
     assert_eq!(rt; put(rt, alloc, core, 1, 1), Ok(1));
     assert_eq!(rt; put(rt, alloc, core, 1, 2), Ok(2));
@@ -129,14 +131,15 @@ fn takes_two_puts(rt: &impl Abort, alloc: Global, core: &mut Core<MemDisk>) {
     assert_eq!(rt; put(rt, alloc, core, 2, 3), Err(7));
 }
 
-// A delete is taken and makes no room for a put.
+// The store accepts a delete, which makes no room for a put.
 fn takes_a_delete(rt: &impl Abort, alloc: Global, core: &mut Core<MemDisk>) {
     assert_eq!(rt; answer(core.delete(alloc, &key(1))), Ok(3));
     assert_eq!(rt; put(rt, alloc, core, 2, 3), Err(7));
     assert_eq!(rt; answer(core.flush()), Ok(3));
 }
 
-// Of as many put rows as may be sorted no further put is taken, of whatever key; a delete is, and makes no room for a put.
+// A store with as many put rows as it may have sorted entries refuses every further put. It accepts
+// a delete, which makes no room for a put.
 #[test]
 fn a_full_store_takes_no_put(rt: HostRuntime) -> Result<(), Fail> {
     let alloc = rt.alloc();
@@ -158,7 +161,7 @@ fn takes_two_and_a_delete(
     Ok(())
 }
 
-// Eight puts of these keys are taken, with the values 1 to 8.
+// The store accepts eight puts of these keys, with the values 1 to 8.
 fn takes_eight_puts(rt: &impl Abort, alloc: Global, core: &mut Core<MemDisk>, keys: [u8; 8]) {
     let mut n = 0u8;
     for first in keys {
@@ -167,7 +170,7 @@ fn takes_eight_puts(rt: &impl Abort, alloc: Global, core: &mut Core<MemDisk>, ke
     }
 }
 
-// Neither a put nor a delete is taken, and a flush is answered.
+// The store refuses puts and deletes for lack of room, and acknowledges a flush.
 fn takes_no_row(rt: &impl Abort, alloc: Global, core: &mut Core<MemDisk>) {
     assert_eq!(rt; put(rt, alloc, core, 5, 5), Err(8));
     assert_eq!(rt; put(rt, alloc, core, 1, 5), Err(8));
@@ -175,7 +178,7 @@ fn takes_no_row(rt: &impl Abort, alloc: Global, core: &mut Core<MemDisk>) {
     assert_eq!(rt; answer(core.flush()), Ok(8));
 }
 
-// Where both logs are full neither put nor delete is taken, and nothing is changed.
+// If both logs are full, the store refuses puts and deletes, and its values stay.
 #[test]
 fn full_logs_take_no_row(rt: HostRuntime) -> Result<(), Fail> {
     let alloc = rt.alloc();
@@ -187,7 +190,8 @@ fn full_logs_take_no_row(rt: HostRuntime) -> Result<(), Fail> {
     Ok(())
 }
 
-// If the store and all its logs are full, a put is refused StoreFull.
+// If the store and all its logs are full, a put is refused StoreFull rather than NoRoom. A delete
+// is refused NoRoom.
 #[test]
 fn tells_a_full_store_before_full_logs(rt: HostRuntime) -> Result<(), Fail> {
     let alloc = rt.alloc();
@@ -202,7 +206,7 @@ fn takes_neither(rt: &impl Abort, alloc: Global, core: &mut Core<MemDisk>) {
     assert_eq!(rt; answer(core.delete(alloc, &key(1))), Err(8));
 }
 
-// Slot 1 is open with the last generation.
+// Slot 1 of the manifest is open and has the last generation. The rest of the slot is zeros.
 const LAST_GENERATION: [(usize, u8); 9] = [
     (8192, 0xA7),
     (8193, 0x7F),
@@ -215,7 +219,7 @@ const LAST_GENERATION: [(usize, u8); 9] = [
     (8200, 0xFF),
 ];
 
-// Four puts are taken, and the fifth, for which the log would be frozen, is not.
+// The store accepts four puts. The fifth would have to freeze the log, and is refused Spent.
 fn takes_four_puts(rt: &impl Abort, alloc: Global, core: &mut Core<MemDisk>) {
     for n in 1..5u8 {
         assert_eq!(rt; put(rt, alloc, core, n, n), Ok(n as u64));
@@ -224,14 +228,14 @@ fn takes_four_puts(rt: &impl Abort, alloc: Global, core: &mut Core<MemDisk>) {
     assert_eq!(rt; answer(core.flush()), Ok(4));
 }
 
-/// A small disk without digests whose manifest has the last generation.
+/// A small disk of version 1 whose manifest has the last generation.
 pub(crate) fn of_last_generation(alloc: Global) -> Result<MemDisk, Fail> {
     let whole = blank_of_version_1(alloc, small()?)?;
     let bytes = changed(alloc, &whole, &LAST_GENERATION)?;
     Ok(MemDisk::with_bytes(alloc, &bytes)?)
 }
 
-// A store whose manifest has the last generation freezes no log: slot 1 is open with that generation, and else zeros.
+// A store whose manifest has the last generation freezes no log.
 #[test]
 fn spends_its_generations(rt: HostRuntime) -> Result<(), Fail> {
     let mut core = opened_on(rt.alloc(), of_last_generation(rt.alloc())?)?;
@@ -241,7 +245,7 @@ fn spends_its_generations(rt: HostRuntime) -> Result<(), Fail> {
     Ok(())
 }
 
-// The keys 3, 1 and 2 are put, and 2 is deleted.
+// Puts the keys 3, 1 and 2, and deletes 2.
 fn takes_three_puts(rt: &impl Abort, alloc: Global, core: &mut Core<MemDisk>) {
     for n in [3, 1, 2] {
         assert!(rt; put(rt, alloc, core, n, n).is_ok());
@@ -249,7 +253,7 @@ fn takes_three_puts(rt: &impl Abort, alloc: Global, core: &mut Core<MemDisk>) {
     assert_eq!(rt; answer(core.delete(alloc, &key(2))), Ok(4));
 }
 
-// Exactly the keys that have a value, with the last one accepted.
+// The list has exactly the keys that have a value, each with its last accepted value.
 #[test]
 fn lists_all_entries(rt: HostRuntime) -> Result<(), Fail> {
     let alloc = rt.alloc();

@@ -1,4 +1,5 @@
-// What no contract says: that each call that takes memory succeeds if there is enough, and the bytes on the device.
+// Each call that takes memory succeeds if there is enough, and the bytes on the device are those of
+// the layout.
 
 use crate::life_lines::Line;
 use crate::lines::IDLE;
@@ -12,7 +13,7 @@ use std::alloc::Global;
 use std::process::Abort;
 use std::test::Fail;
 
-// A key, put with the value 1, 2, flushed and found.
+// Puts a key with the value 1, 2, flushes, and gets that value.
 fn finds(rt: &impl Abort, alloc: Global, core: &mut Core<MemDisk>, key: &Key) {
     assert_eq!(rt; core.geometry().value_len(), 2);
     assert_eq!(rt; core.put(alloc, key, &[1, 2]).ok(), Some(1));
@@ -22,7 +23,7 @@ fn finds(rt: &impl Abort, alloc: Global, core: &mut Core<MemDisk>, key: &Key) {
     assert_eq!(rt; out, [1, 2]);
 }
 
-// The gates of the log's first rows, and the row of that key.
+// The gates of the log's first two rows, and the body of the first row.
 fn has_its_row(rt: &impl Abort, disk: &MemDisk) {
     assert!(rt; stands_at(disk, 12_288, b"\xa7\x00"));
     let row =
@@ -41,7 +42,8 @@ fn puts_flushes_and_gets(rt: HostRuntime) -> Result<(), Fail> {
     Ok(())
 }
 
-// The header of the small geometry, and the gates and the first body of the manifest, with the digest of no entries.
+// The header of the small geometry, both gates of the manifest and its first record, with the
+// digest of no entries.
 fn is_laid_out(rt: &impl Abort, disk: &MemDisk) {
     let header =
         b"\xa7SILTFLSH\x00\x00\x00\x02\x00\x00\x00\x02\x00\x00\x00\x02\x00\x00\x00\x04\x00\x00\x00\x02\x00\x00\x00\x02\x00\x00\x00\x08";

@@ -1,4 +1,5 @@
-// A formatting that is stopped at each of its calls, on a device of zeros and on one that holds a store, of either version.
+// A crash at each call of a formatting, on a device of zeros and on one that holds a store, of
+// either version.
 
 use crate::kept::goes_on;
 use crate::lines::{MERGED_TWICE, of_two_hash_stores};
@@ -15,29 +16,31 @@ use std::test::Fail;
 // How many writes and syncs a formatting makes. The last but one opens the header's gate, at offset 0.
 const FORMAT_CALLS: u32 = 15;
 
-// Whether the header's gate may have been opened.
+// Whether the header's gate is open for the new store after this crash.
 fn is_opened(stop: Stop) -> bool {
     let is_shown = matches!(stop.fill, Fill::New | Fill::Mix);
     is_answered(stop) || FORMAT_CALLS - 1 <= stop.k && is_shown
 }
 
-// Whether the formatting comes to its end before this stop.
+// Whether the formatting ends before this crash.
 fn is_answered(stop: Stop) -> bool {
     stop.k == 0 || stop.k > FORMAT_CALLS
 }
 
-// Whether the header's gate was not yet closed for good: call 1 is its write, and call 2 its sync.
+// Whether the crash leaves the header's old gate open. Call 1 writes a zero over it, and call 2 is
+// the sync.
 fn is_old(stop: Stop) -> bool {
     0 < stop.k && stop.k < 3 && stop.fill == Fill::Old
 }
 
-// What an opening finds on a device of zeros after this stop: an empty store, or that there is none.
+// What an opening of a device that was zeros finds after this crash: an empty store, or the refusal
+// NotFormatted.
 fn left_on_zeros(stop: Stop) -> Result<[u16; 8], u32> {
     if is_opened(stop) { Ok([0; 8]) } else { Err(1) }
 }
 
-// Formats a disk as a small store, stopped so: the disk after the stop, which ends the further lives with the same fill, and whether
-// the formatting was answered.
+// Formats a disk as a small store, with this crash. Returns the disk after the crash, and whether
+// the formatting succeeded. The next two lives end with crashes of the same fill.
 fn formatted_until(alloc: Global, disk: MemDisk, stop: Stop) -> Result<(MemDisk, bool), Fail> {
     let stops = stopping(
         alloc,
@@ -58,7 +61,7 @@ fn formatted_until(alloc: Global, disk: MemDisk, stop: Stop) -> Result<(MemDisk,
 // What an opening finds: the values of the keys 0 to 7, if there are no other keys, or the number of its refusal.
 type Found = Result<[u16; 8], u32>;
 
-// A disk, and what was found on it.
+// Joins a disk and what was found on it.
 fn with_found(disk: MemDisk, values: Result<[u16; 8], Fail>) -> Result<(MemDisk, Found), Fail> {
     Ok((disk, Ok(values?)))
 }
@@ -73,7 +76,8 @@ fn found_on(alloc: Global, disk: MemDisk) -> Result<(MemDisk, Found), Fail> {
     }
 }
 
-// A formatting of a device of zeros, stopped so: whether it was answered, and what is found.
+// Formats a device of zeros with this crash: whether the formatting succeeded, and what an opening
+// then finds.
 fn left_of_zeros(alloc: Global, stop: Stop) -> Result<(bool, Found), Fail> {
     let disk = MemDisk::new(alloc, SMALL_LEN)?;
     let (disk, answered) = formatted_until(alloc, disk, stop)?;
@@ -81,7 +85,8 @@ fn left_of_zeros(alloc: Global, stop: Stop) -> Result<(bool, Found), Fail> {
     Ok((answered, found))
 }
 
-// Up to the call that opens the header's gate the device holds no store; from there on it may, and then an empty one.
+// A crash before the call that opens the header's gate leaves no store. A later one leaves an empty
+// store, or none.
 #[test]
 fn formatting_stopped_anywhere(rt: HostRuntime) -> Result<(), Fail> {
     for k in 0..FORMAT_CALLS + 2 {
@@ -94,11 +99,12 @@ fn formatting_stopped_anywhere(rt: HostRuntime) -> Result<(), Fail> {
     Ok(())
 }
 
-// What the old store holds: two hash stores were merged, and a put stands in a log.
+// The values in the old store: two hash stores were merged, and a put is in a log.
 const OLD_VALUES: [u16; 8] = [0, 0, 0x0304, 0x0506, 0, 0, 0, 0];
 
-// What is found behind a formatting over an old store that is stopped so: the old store is whole as long as its header's gate may be
-// open, then there is none, and the new store is empty.
+// What an opening finds after this crash in a formatting over an old store. As long as the header's
+// old gate is open, it finds the whole old store. Then it finds none, and at the end the new, empty
+// one.
 fn left_over(stop: Stop) -> Found {
     if is_opened(stop) {
         Ok([0; 8])
@@ -109,7 +115,7 @@ fn left_over(stop: Stop) -> Found {
     }
 }
 
-// The geometry of what is found.
+// The geometry of the store that is found, old or new.
 fn geometry_after(stop: Stop) -> Result<Geometry, Fail> {
     if is_opened(stop) {
         small()
@@ -122,7 +128,8 @@ fn is_left(rt: &impl Abort, found: Found, stop: Stop) {
     assert_eq!(rt; found, left_over(stop), "{stop:?}");
 }
 
-// A formatting over an old store of another geometry, stopped so. Whatever is found, the next lives go on from it, without the rows of old.
+// Formats an old store of another geometry with this crash. The next lives go on from what is
+// found, without old rows.
 fn formatted_over(rt: &impl Abort, alloc: Global, old: &[u8], stop: Stop) -> Result<(), Fail> {
     let geometry = geometry_after(stop)?;
     let disk = MemDisk::with_bytes(alloc, old)?;
@@ -135,7 +142,7 @@ fn formatted_over(rt: &impl Abort, alloc: Global, old: &[u8], stop: Stop) -> Res
     }
 }
 
-// A device that holds no store is formatted, and the store goes on from there.
+// Formats a device that holds no store, and the store goes on from there.
 fn formatted_again(rt: &impl Abort, alloc: Global, disk: MemDisk, fill: Fill) -> Result<(), Fail> {
     let geometry = small()?;
     let (disk, answered) = formatted_until(alloc, disk, Stop { k: 0, fill })?;
@@ -145,7 +152,7 @@ fn formatted_again(rt: &impl Abort, alloc: Global, disk: MemDisk, fill: Fill) ->
     goes_on(rt, alloc, disk, geometry, [0; 8])
 }
 
-// A disk with that store.
+// A disk with the old store.
 fn old_disk(alloc: Global) -> Result<MemDisk, Fail> {
     let disk = formatted_with(alloc, of_two_hash_stores()?)?;
     let lines = repeated(alloc, &MERGED_TWICE)?;
@@ -153,7 +160,7 @@ fn old_disk(alloc: Global) -> Result<MemDisk, Fail> {
     Ok(disk)
 }
 
-// Each stop of a formatting over these bytes.
+// Tries each crash in a formatting over these bytes.
 fn each_formatted_over(rt: &impl Abort, alloc: Global, old: &[u8]) -> Result<(), Fail> {
     assert_eq!(rt; old.len(), SMALL_LEN);
     for k in 0..FORMAT_CALLS + 2 {
@@ -175,7 +182,7 @@ fn formatting_over_a_store_stopped_anywhere(rt: HostRuntime) -> Result<(), Fail>
     each_formatted_over(&rt, rt.alloc(), disk.shown())
 }
 
-// The same over that store without digests.
+// The same if the old store is on a device of version 1, without digests.
 #[test]
 fn formatting_over_an_old_store_stopped_anywhere(rt: HostRuntime) -> Result<(), Fail> {
     let disk = old_disk(rt.alloc())?;

@@ -1,4 +1,4 @@
-// What a life may leave behind, and how the next ones go on from there.
+// What a life may keep, and how the next lives go on from there.
 
 use crate::life_lines::Line;
 use crate::lines::IDLE;
@@ -10,7 +10,8 @@ use std::alloc::{AllocError, Global};
 use std::process::Abort;
 use std::test::Fail;
 
-// The key and the value, 0 for none, that a line writes over these values. A swap of another value than the key's writes nothing.
+// The key that a line changes, and its new value, 0 for none. A swap changes nothing if the key has
+// another value.
 fn change_by(line: Line, values: [u16; 8]) -> Option<(usize, u16)> {
     match line {
         Line::Put(first, last) => Some((first as usize, last)),
@@ -23,7 +24,8 @@ fn change_by(line: Line, values: [u16; 8]) -> Option<(usize, u16)> {
     }
 }
 
-/// The values of the keys 0 to 7 after a beginning of the commands, 0 for none. No swap here has the old value 0.
+/// The values of the keys 0 to 7, 0 for none, after this many of the commands. No swap in these
+/// tests has the old value 0.
 pub(crate) fn after(lines: &[Line], mut commands: u64) -> [u16; 8] {
     let mut values = [0; 8];
     for line in lines {
@@ -63,7 +65,8 @@ fn acknowledged(told: &[Told]) -> u64 {
     count
 }
 
-/// Whether the entries are those after a beginning of the accepted commands that has all the acknowledged ones.
+/// Whether the entries are those after the first commands: all acknowledged ones, and perhaps some
+/// that were only accepted.
 pub(crate) fn is_kept(lines: &[Line], told: &[Told], found: [u16; 8]) -> bool {
     for commands in acknowledged(told)..accepted(told).saturating_add(1) {
         if after(lines, commands) == found {
@@ -73,8 +76,8 @@ pub(crate) fn is_kept(lines: &[Line], told: &[Told], found: [u16; 8]) -> bool {
     false
 }
 
-// The replies to the first put of a life on this disk: whether it makes the charge too great, or finds no room in the active log and
-// no other region.
+// The reply that is due to a put at the beginning of a life on this disk. It is refused if the
+// store is full, or if neither the active log nor another one has room.
 fn told_of_put(alloc: Global, disk: &MemDisk, geometry: Geometry) -> Result<Told, Fail> {
     let report = check(alloc, disk).ok().ok_or("is whole")?;
     if report.charge >= geometry.sorted_capacity() {
@@ -88,7 +91,7 @@ fn told_of_put(alloc: Global, disk: &MemDisk, geometry: Geometry) -> Result<Told
     Ok(Told::Refused(8))
 }
 
-// A put of key 7 and a flush, and then steps of conversion and of merging in turn, this many of each.
+// A put of key 7 and a flush, and then this many steps of conversion and of merging in turn.
 fn put_and_steps(alloc: Global, value: u16, steps: u32) -> Result<Vec<Line>, AllocError> {
     let mut lines = repeated(alloc, &[(Line::Put(7, value), 1), (Line::Flush, 1)])?;
     for _ in 0..steps {
@@ -97,7 +100,7 @@ fn put_and_steps(alloc: Global, value: u16, steps: u32) -> Result<Vec<Line>, All
     Ok(lines)
 }
 
-// A life of these lines.
+// Runs a life of these lines.
 fn lived_with_put(
     alloc: Global,
     disk: MemDisk,
@@ -108,7 +111,7 @@ fn lived_with_put(
     live(alloc, disk, &lines)
 }
 
-// What the store has after such a put of key 7 if it had this before, and how many commands a flush behind it acknowledges.
+// The values after this reply to a put of key 7, and how many commands the next flush acknowledges.
 fn with_put(reply: Told, value: u16, mut found: [u16; 8]) -> ([u16; 8], u64) {
     if reply == Told::Accepted(1) {
         found[7] = value;
@@ -117,14 +120,14 @@ fn with_put(reply: Told, value: u16, mut found: [u16; 8]) -> ([u16; 8], u64) {
     (found, 0)
 }
 
-// Whether a life gets these replies, and the last of so many steps of both kinds found nothing to do.
+// The life got these replies. Its last step of each kind, if it has steps, found nothing to do.
 fn has_grown(rt: &impl Abort, told: &[Told], expected: &[Told], steps: u32) {
     assert!(rt; told.starts_with(expected), "{told:?}");
     assert!(rt; steps == 0 || told.ends_with(&[IDLE, IDLE]), "{told:?}");
 }
 
-// A life of a put of key 7, a flush and this many steps of both kinds, the last of which finds nothing to do: the disk, and what then
-// stands where this stood before.
+// Runs a life of a put of key 7, a flush and this many steps of both kinds. Returns the disk and
+// the values that it should now have.
 fn grown(
     rt: &impl Abort,
     alloc: Global,
@@ -145,8 +148,9 @@ fn grown(
     Ok((disk, stands))
 }
 
-/// The lives behind one that left these entries: a put and a flush, and a stop; then a put, a flush and all steps of the background
-/// work, and a stop. What is found is compared after each, also before the last stop.
+/// Goes on from a store with these entries. One life puts, flushes and crashes. The next one puts,
+/// flushes, does all background work and crashes. The values are compared after each, and before
+/// the last crash too.
 pub(crate) fn goes_on(
     rt: &impl Abort,
     alloc: Global,
@@ -162,7 +166,7 @@ pub(crate) fn goes_on(
     Ok(())
 }
 
-// These values stand on the disk.
+// The store on the disk has these values.
 fn has_still(
     rt: &impl Abort,
     alloc: Global,

@@ -1,8 +1,8 @@
-//! Tests of the store as one whole, over disks in memory: what no clause says.
+//! Tests of the store as a whole, over disks in memory. They show what no contract says.
 //!
-//! A clause that allows a refusal for lack of memory is met by a body that always refuses. So each call that takes memory is made here where there
-//! is enough of it. The worked lives stand here letter for letter through the public calls, with a stop at every device call of theirs, and each
-//! call failing in turn.
+//! A body that always refuses for lack of memory meets its contract. So these tests make each call
+//! that takes memory while there is enough of it. They run worked lives through the public calls
+//! and compare each reply. They crash these lives at every device call, and fail each call in turn.
 #![tactic(auto)]
 
 #[cfg(test)]

@@ -1,4 +1,4 @@
-// The events that the lines of the tests stand for.
+// The lines in which the tests write lives, and the events that they represent.
 ghost use Rattle.std.specs.Prelude.{All, IfOk};
 ghost use Rattle.silt_event.specs.Events.{HasValueOf};
 
@@ -7,7 +7,8 @@ use silt_fixtures::key;
 use silt_frame::Value;
 use std::alloc::{AllocError, Global};
 
-/// One event of a life. A key is given by its first byte, and a value by the number that its two bytes are.
+/// One event of a life. A key is given by its first byte, and a value by the number that its two
+/// bytes make.
 #[derive(Clone, Copy, Debug, PartialEq, Eq)]
 pub enum Line {
     Put(u8, u16),
@@ -19,7 +20,7 @@ pub enum Line {
     Merge,
 }
 
-/// The event that a line stands for.
+/// The event that a line represents.
 pub fn event(alloc: Global, line: Line) -> Result<Event, AllocError>
     ensures { IfOk result (HasValueOf 2) }
 {

@@ -1,4 +1,5 @@
-// Lives that several tests do, and the replies of them. Each line stands with the number of times that it is asked.
+// Lives that several tests run, and the replies to them. Each line has the number of times that it
+// is asked.
 
 use crate::life_lines::Line;
 use crate::script::Told;
@@ -13,7 +14,8 @@ pub(crate) const FINISHED: Told = Told::Progress(Progress::Finished);
 
 pub(crate) const IDLE: Told = Told::Progress(Progress::Idle);
 
-/// Three puts and a flush: the opening's sync is call 1, each put makes two, and the gates are written by call 9. Ten calls.
+/// Three puts and a flush, which make ten calls. The opening's sync is call 1, each put makes two
+/// writes, and call 9 writes the gates.
 pub(crate) const THREE_PUTS: [Line; 4] = [
     Line::Put(1, 1),
     Line::Put(2, 2),
@@ -21,9 +23,10 @@ pub(crate) const THREE_PUTS: [Line; 4] = [
     Line::Flush,
 ];
 
-/// Five puts, of which the last freezes the full log, and a flush; then the conversion of that log. Forty calls. The freezing put makes
-/// the three of a flush, two for the gates of the next log, six for the manifest, and two for its row. Each of the eight slots is one
-/// write; the last step makes a sync and the six calls of the manifest.
+/// Five puts and a flush, and then a conversion: forty calls. The last put freezes the full log. It
+/// makes the three calls of a flush, two for the gates of the next log, six for the manifest, and
+/// two for its row. Each of the eight slots takes one write. The last step makes a sync and the six
+/// calls of the manifest.
 pub(crate) const CONVERTED: [(Line, u8); 7] = [
     (Line::Put(1, 1), 1),
     (Line::Put(2, 2), 1),
@@ -34,7 +37,8 @@ pub(crate) const CONVERTED: [(Line, u8); 7] = [
     (Line::Convert, 9),
 ];
 
-/// The replies to that life, with a get of key 2 and a step more behind it, which makes no device call.
+/// The replies to that life, and to a get of key 2 and one more step after it, which makes no
+/// device call.
 pub(crate) const CONVERTED_TOLD: [(Told, u8); 10] = [
     (Told::Accepted(1), 1),
     (Told::Accepted(2), 1),
@@ -51,8 +55,9 @@ pub(crate) const CONVERTED_TOLD: [(Told, u8); 10] = [
 /// That get and that step.
 pub(crate) const ASKED_BEHIND: [Line; 2] = [Line::Get(2), Line::Convert];
 
-/// Logs of one row, of which the second put freezes the first: a merge of one hash store; then a delete and another key, and a merge of
-/// the two hash stores that they became with what was merged before. The last put still stands in a log. 106 calls.
+/// Two merges over logs of one row: 106 calls. The second put freezes the first log, which becomes
+/// the hash store of the first merge. A delete and another put freeze two more logs, and the second
+/// merge takes the hash stores of these. The last put is still in a log.
 pub(crate) const MERGED_TWICE: [(Line, u8); 13] = [
     (Line::Put(1, 0x0102), 1),
     (Line::Put(2, 0x0304), 1),
@@ -90,7 +95,7 @@ pub(crate) const MERGED_TWICE_TOLD: [(Told, u8); 18] = [
     (Told::Acknowledged(4), 1),
 ];
 
-/// A merge in progress while two more hash stores are made, which it leaves alone. 95 calls.
+/// Two more hash stores are made while a merge is in progress, which leaves them alone: 95 calls.
 pub(crate) const CONVERTED_MEANWHILE: [(Line, u8); 11] = [
     (Line::Put(1, 1), 1),
     (Line::Put(2, 2), 1),
@@ -123,18 +128,21 @@ pub(crate) const CONVERTED_MEANWHILE_TOLD: [(Told, u8); 15] = [
     (Told::Value(0, 4), 1),
 ];
 
-/// A swap behind that conversion, of the value in the hash store: the active log takes its row, by two calls.
+/// A swap after that conversion, of a value in the hash store. The active log takes its row, by two
+/// calls.
 pub(crate) const SWAP_CONVERTED: Line = Line::Swap(2, 2, 6);
 
-/// A swap behind the two merges, of the value in the sorted store. The active log is full and no row waits: two calls for the gates of the
-/// next log, six for the manifest, and two for the row.
+/// A swap after the two merges, of a value in the sorted store. The active log is full and no row
+/// waits. So the swap makes two calls for the gates of the next log, six for the manifest, and two
+/// for the row.
 pub(crate) const SWAP_MERGED: Line = Line::Swap(2, 0x0304, 0x0607);
 
-/// A swap behind the merge beside conversions, of the value in a hash store. The active log is full, and its row waits: three calls for the
-/// flush, two for the gates of the next log, six for the manifest, and two for the row.
+/// A swap after the merge beside conversions, of a value in a hash store. The active log is full
+/// and its row waits. So the swap makes three calls for the flush, two for the gates of the next
+/// log, six for the manifest, and two for the row.
 pub(crate) const SWAP_MEANWHILE: Line = Line::Swap(1, 3, 5);
 
-/// Logs of one row, and two hash regions.
+/// Two logs of one row, and two hash regions.
 pub(crate) fn of_two_hash_stores() -> Result<Geometry, Fail> {
     of_regions(1, 2, 2, 4)
 }

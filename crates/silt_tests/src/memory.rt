@@ -1,5 +1,6 @@
-// Calls that are refused a request for memory: each is refused NoMemory and leaves the store as it is, and a second try succeeds. These
-// tests pass whichever one request of theirs is refused, and if none is; docs/contributing.md says how each is refused in turn.
+// Calls that are refused a request for memory. Each returns NoMemory and changes nothing, and a
+// second try succeeds. These tests pass whichever one of their requests is refused, and also if
+// none is. docs/contributing.md says how to refuse each in turn.
 ghost use Rattle.std.specs.Prelude.{All, IfOk};
 ghost use Rattle.silt_event.specs.Events.{HasValueOf};
 
@@ -19,7 +20,7 @@ use std::alloc::Global;
 use std::process::Abort;
 use std::test::Fail;
 
-// These lines or replies, each so many times.
+// These lines or replies, each this many times. A refused request is made once more.
 fn repeated_twice<T: Copy>(alloc: Global, parts: &[(T, u8)]) -> Result<Vec<T>, Fail> {
     match repeated(alloc, parts) {
         Ok(lines) => Ok(lines),
@@ -27,7 +28,7 @@ fn repeated_twice<T: Copy>(alloc: Global, parts: &[(T, u8)]) -> Result<Vec<T>, F
     }
 }
 
-// Adds a line or a reply.
+// Adds a line or a reply. A refused request is made once more.
 fn push_twice<T: Copy>(lines: &mut Vec<T>, line: T) -> Result<(), Fail> {
     match lines.push(line) {
         Ok(()) => Ok(()),
@@ -35,7 +36,7 @@ fn push_twice<T: Copy>(lines: &mut Vec<T>, line: T) -> Result<(), Fail> {
     }
 }
 
-// A disk of zeros.
+// A disk of zeros. A refused request is made once more.
 fn zeros(alloc: Global, geometry: Geometry) -> Result<MemDisk, Fail> {
     match MemDisk::new(alloc, geometry.size() as usize) {
         Ok(disk) => Ok(disk),
@@ -43,7 +44,8 @@ fn zeros(alloc: Global, geometry: Geometry) -> Result<MemDisk, Fail> {
     }
 }
 
-// A formatted disk. Where the formatting is refused memory, all bytes are zeros as before.
+// A formatted disk. If the formatting is out of memory, it has changed no byte, and is made once
+// more.
 fn formatted(rt: &impl Abort, alloc: Global, geometry: Geometry) -> Result<MemDisk, Fail> {
     match format(alloc, zeros(alloc, geometry)?, geometry) {
         Ok(disk) => Ok(disk),
@@ -60,7 +62,7 @@ fn formatted(rt: &impl Abort, alloc: Global, geometry: Geometry) -> Result<MemDi
     }
 }
 
-// The store on this disk.
+// The store on this disk, which is opened once more if the opening is out of memory.
 fn opened(alloc: Global, disk: MemDisk) -> Result<Core<MemDisk>, Fail> {
     match Core::open(alloc, disk) {
         Ok(core) => Ok(core),
@@ -74,7 +76,7 @@ fn opened(alloc: Global, disk: MemDisk) -> Result<Core<MemDisk>, Fail> {
     }
 }
 
-// What a check of this disk reports.
+// The report of a check of this disk, which is made once more if it is out of memory.
 fn checked(alloc: Global, disk: &MemDisk) -> Result<Report, Fail> {
     match check(alloc, disk) {
         Ok(report) => Ok(report),
@@ -83,7 +85,8 @@ fn checked(alloc: Global, disk: &MemDisk) -> Result<Report, Fail> {
     }
 }
 
-// The values of the keys 0 to 7 in the list of the entries.
+// The values of the keys 0 to 7 in the list of the entries. A list that is out of memory is asked
+// for once more.
 fn listed(alloc: Global, core: &Core<MemDisk>) -> Result<[u16; 8], Fail> {
     match core.entries(alloc) {
         Ok(entries) => Ok(values_of(&entries)),
@@ -95,7 +98,8 @@ fn listed(alloc: Global, core: &Core<MemDisk>) -> Result<[u16; 8], Fail> {
     }
 }
 
-// Asks a line of a store with these values. If it is refused memory, they stand as before, and it is asked again.
+// The reply to a line in a store with these values. If the call is out of memory, the values are as
+// before, and it is made once more.
 fn asked(
     rt: &impl Abort,
     alloc: Global,
@@ -119,7 +123,9 @@ fn made(rt: &impl Abort, alloc: Global, geometry: Geometry) -> Result<Core<MemDi
     opened(alloc, disk)
 }
 
-// A life in which logs are frozen, converted and merged, and a swap freezes one more: format, opening, each call, check, and the list of the entries.
+// Each call succeeds at its first or second try: format, opening, check, the list of the entries,
+// and the events of a life. In this life logs are frozen, converted and merged, and a swap freezes
+// one more.
 #[test]
 fn each_call_lacks_memory(rt: HostRuntime) -> Result<(), Fail> {
     let alloc = rt.alloc();
@@ -128,7 +134,7 @@ fn each_call_lacks_memory(rt: HostRuntime) -> Result<(), Fail> {
     is_found_again(&rt, alloc, core.close(), values)
 }
 
-// Does all lines of that life, and gives the values behind them.
+// Asks all lines of that life, and returns the values that they leave.
 fn all_done(rt: &impl Abort, alloc: Global, core: &mut Core<MemDisk>) -> Result<[u16; 8], Fail> {
     let mut lines = repeated_twice(alloc, &CONVERTED_MEANWHILE)?;
     let mut replies = repeated_twice(alloc, &CONVERTED_MEANWHILE_TOLD)?;
@@ -140,7 +146,7 @@ fn all_done(rt: &impl Abort, alloc: Global, core: &mut Core<MemDisk>) -> Result<
     Ok(values)
 }
 
-// The five commands of that life are acknowledged, and these are the values.
+// A flush acknowledges the five commands of that life, and the store has these values.
 fn has_flushed(
     rt: &impl Abort,
     alloc: Global,
@@ -163,7 +169,7 @@ fn lists(
     Ok(())
 }
 
-// All lines of a life get the replies that are due.
+// Asks all lines of a life and compares the replies.
 fn all_asked(
     rt: &impl Abort,
     alloc: Global,
@@ -186,7 +192,7 @@ fn has_merged(rt: &impl Abort, alloc: Global, disk: &MemDisk) -> Result<(), Fail
     Ok(())
 }
 
-// The same, and these values.
+// The disk has two hash stores and a sorted entry, and its store has these values.
 fn is_found_again(
     rt: &impl Abort,
     alloc: Global,
@@ -198,7 +204,7 @@ fn is_found_again(
     lists(rt, alloc, &core, values)
 }
 
-// Four puts that freeze nothing, with gets: each reply but a get's is its own.
+// Three commands that freeze no log, and gets. Only a get may be out of memory in its place.
 const PLAIN: [(Line, u8); 6] = [
     (Line::Put(1, 1), 1),
     (Line::Get(1), 2),
@@ -225,7 +231,7 @@ fn plain_events(alloc: Global) -> Result<Vec<Event>, Fail>
     Ok(events_twice(alloc, &lines)?)
 }
 
-// Runs these events, and looks at the answers, and at the values behind them.
+// Runs these events, and compares the replies and the values that they leave.
 fn run_plain(rt: &impl Abort, alloc: Global, core: &mut Core<MemDisk>) -> Result<(), Fail> {
     let events = plain_events(alloc)?;
     let replies = repeated_twice(alloc, &PLAIN_TOLD)?;
@@ -237,7 +243,8 @@ fn run_plain(rt: &impl Abort, alloc: Global, core: &mut Core<MemDisk>) -> Result
     Ok(())
 }
 
-// A run of events is refused memory before its first event, or one get of it is, in its place.
+// If memory is refused to a run of events, either the run does nothing, or one of its gets is
+// refused.
 #[test]
 fn a_run_lacks_memory(rt: HostRuntime) -> Result<(), Fail> {
     let alloc = rt.alloc();
@@ -245,7 +252,8 @@ fn a_run_lacks_memory(rt: HostRuntime) -> Result<(), Fail> {
     run_plain(&rt, alloc, &mut core)
 }
 
-// The replies to these events. A run that was refused memory has done none of them.
+// The replies to these events. A run that is out of memory has done none of them, and is made once
+// more.
 fn run_again(
     rt: &impl Abort,
     alloc: Global,
@@ -262,7 +270,7 @@ fn run_again(
     Ok(run(alloc, core, 2, events)?)
 }
 
-// Whether this is the answer that is due, or that of a get which was refused memory, and how often that was.
+// 1 if a get is out of memory, else 0 after a comparison of the reply with the one that is due.
 fn lacks(rt: &impl Abort, told: Told, expected: Told) -> u32 {
     if told != Told::Refused(6) {
         assert_eq!(rt; told, expected);
@@ -272,7 +280,7 @@ fn lacks(rt: &impl Abort, told: Told, expected: Told) -> u32 {
     1
 }
 
-// How many gets were refused memory. All other answers are those that are due.
+// How many gets are out of memory. All other replies are those that are due.
 fn gets_lacking(rt: &impl Abort, answers: &[Reply<MemFault>], due: &[Told]) -> u32 {
     let mut lacking = 0u32;
     for (answer, expected) in answers.iter().zip(due.iter()) {
@@ -292,7 +300,7 @@ fn told_last<F: Drop>(life: &LifeReply<F>) -> Told {
     }
 }
 
-// The last reply to each of these two lives, none if they are refused memory before the first one.
+// The last reply to each of these two lives, or none if memory ran out before the first one.
 fn told_of_two(
     rt: &impl Abort,
     alloc: Global,
@@ -311,8 +319,8 @@ fn last_of_two(rt: &impl Abort, replies: &[LifeReply<MemFault>]) -> (Told, Told)
     (told_last(&replies[0]), told_last(&replies[1]))
 }
 
-// One of two lives may be refused memory in its place, or the get is. Where it was the first one that nothing was put in, the second finds
-// nothing.
+// One of two lives, or the get of the second, may be out of memory. If it is the first life, the
+// get finds nothing.
 fn one_lacks(rt: &impl Abort, first: Told, second: Told) {
     if first == Told::NotOpened(6) {
         assert_eq!(rt; second, Told::Absent);
@@ -323,8 +331,8 @@ fn one_lacks(rt: &impl Abort, first: Told, second: Told) {
     assert!(rt; expected.contains(&second), "{second:?}");
 }
 
-// Two lives, of which the first puts and flushes and the second gets. They are refused memory before the first one, or one of them is in
-// its place, or the get is.
+// The first of two lives puts and flushes, the second gets. If memory is refused, no life begins,
+// or one of them is not opened, or the get is refused.
 #[test]
 fn a_life_lacks_memory(rt: HostRuntime) -> Result<(), Fail> {
     let put = [Line::Put(1, 1), Line::Flush];

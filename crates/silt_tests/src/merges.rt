@@ -1,4 +1,5 @@
-// Hash stores and the sorted store as one sorted store: the replies of whole lives, and a get of each key between any two lines of them.
+// Merges of hash stores and the sorted store. The tests compare the replies of whole lives, also
+// with a get of each key after each line.
 
 use crate::kept::after;
 use crate::life_lines::Line;
@@ -16,7 +17,7 @@ use std::alloc::{AllocError, Global};
 use std::process::Abort;
 use std::test::Fail;
 
-// One hash region, whose hash store a second conversion waits for until it is merged.
+// There is one hash region. So a second conversion waits until the first hash store is merged.
 const MERGED_FOR_ROOM: [(Line, u8); 6] = [
     (Line::Put(1, 1), 1),
     (Line::Put(2, 2), 1),
@@ -30,7 +31,7 @@ fn of_one_hash_store() -> Result<Geometry, Fail> {
     of_regions(1, 3, 1, 8)
 }
 
-// The replies to a get of a key of this value, 0 for none.
+// The reply to a get of a key with this value, 0 for none.
 fn told_of(value: u16) -> Told {
     let [first, last] = value.to_be_bytes();
     if value == 0 {
@@ -39,7 +40,7 @@ fn told_of(value: u16) -> Told {
     Told::Value(first, last)
 }
 
-// The lines with a get of the keys 1 to 3 behind each.
+// The lines, and after each of them a get of the keys 1 to 3.
 fn with_gets(alloc: Global, lines: &[Line]) -> Result<Vec<Line>, AllocError> {
     let mut all = Vec::new(alloc);
     for line in lines {
@@ -48,7 +49,8 @@ fn with_gets(alloc: Global, lines: &[Line]) -> Result<Vec<Line>, AllocError> {
     Ok(all)
 }
 
-// The replies to the lines, and behind each of the last value that each of the keys 1 to 3 was given.
+// The replies to the lines, and after each of them the last values that the lines gave to the keys
+// 1 to 3.
 fn told_with_gets(alloc: Global, lines: &[Line], told: &[Told]) -> Result<Vec<Told>, AllocError> {
     let mut all = Vec::new(alloc);
     all.push(Told::Opened)?;
@@ -64,13 +66,13 @@ fn told_with_gets(alloc: Global, lines: &[Line], told: &[Told]) -> Result<Vec<To
     Ok(all)
 }
 
-// The replies to the life on a new disk with a get of each key behind each of its lines.
+// The replies to the life on a new disk, with a get of each key after each line.
 fn told_asked(alloc: Global, geometry: Geometry, lines: &[Line]) -> Result<Vec<Told>, Fail> {
     let asked = with_gets(alloc, lines)?;
     told_of_life(alloc, geometry, &asked)
 }
 
-// The life on a new disk answers so with a get of each key between any two of its lines.
+// The life on a new disk gets these replies if a get of each key follows each line.
 fn answers_asked(
     rt: &impl Abort,
     alloc: Global,
@@ -84,7 +86,7 @@ fn answers_asked(
     Ok(())
 }
 
-// The life on a new disk answers so.
+// The life on a new disk gets these replies.
 fn answers_alone(
     rt: &impl Abort,
     alloc: Global,
@@ -99,7 +101,7 @@ fn answers_alone(
     Ok(())
 }
 
-// The life on a new disk answers so, and so it does with a get of each key between any two of its lines.
+// The life on a new disk gets these replies, with and without a get of each key after each line.
 fn answers(
     rt: &impl Abort,
     alloc: Global,
@@ -119,8 +121,9 @@ fn drops_what_is_deleted(rt: HostRuntime) -> Result<(), Fail> {
     answers(&rt, rt.alloc(), geometry, &MERGED_TWICE, &MERGED_TWICE_TOLD)
 }
 
-// Of the three keys one is deleted, one is merged, and one still stands in the active log. Each put froze a log but for the first, and
-// each conversion and each merge changed the manifest too.
+// Of three keys one is deleted, one is merged, and one is still in the active log. Each put and
+// delete but the first froze a log. Each freeze, conversion and merge made a generation of the
+// manifest.
 #[test]
 fn reports_what_is_merged(rt: HostRuntime) -> Result<(), Fail> {
     let alloc = rt.alloc();

@@ -1,4 +1,5 @@
-// How many reads of the device a put, a delete and the list of the entries make: so many reads refuse the call, as each fails in turn.
+// How many device reads a put, a delete and the list of the entries make. Each read fails in turn,
+// and the refusals are counted.
 
 use crate::life_lines::Line;
 use crate::script::{Told, ask, live, repeated};
@@ -15,7 +16,7 @@ enum Asked {
     Entries,
 }
 
-// Where a read is made that fails.
+// Which call makes the read that fails: the opening, the call after it, or none.
 #[derive(Clone, Copy, PartialEq, Eq)]
 enum Made {
     Opening,
@@ -23,7 +24,7 @@ enum Made {
     Never,
 }
 
-// Whether the call is refused for a fault of the device.
+// Whether the call is refused with a fault of the device.
 fn is_refused(alloc: Global, core: &mut Core<FaultDisk>, asked: Asked) -> Result<bool, Fail> {
     match asked {
         Asked::Line(line) => Ok(ask(alloc, core, line)? == Told::Refused(5)),
@@ -35,7 +36,7 @@ fn is_refused(alloc: Global, core: &mut Core<FaultDisk>, asked: Asked) -> Result
     }
 }
 
-// Where the read of this number is made, by an opening of these bytes and then this call.
+// Which call makes the read of this number: an opening of these bytes, this call after it, or none.
 fn place_of_read(alloc: Global, bytes: &[u8], asked: Asked, number: u64) -> Result<Made, Fail> {
     let disk = FaultDisk::new(MemDisk::with_bytes(alloc, bytes)?, Call::Read, number);
     let Ok(mut core) = Core::open(alloc, disk) else {
@@ -47,7 +48,7 @@ fn place_of_read(alloc: Global, bytes: &[u8], asked: Asked, number: u64) -> Resu
     }
 }
 
-// How many reads an opening of these bytes makes, and how many this call behind it.
+// How many reads an opening of these bytes makes, and how many this call after it.
 fn reads_of(alloc: Global, bytes: &[u8], asked: Asked) -> Result<(u32, u32), Fail> {
     let (mut opening, mut call) = (0u32, 0u32);
     for number in 1..200u64 {
@@ -76,7 +77,7 @@ pub(crate) fn after_lines(
     Ok(disk)
 }
 
-// How many reads each of these lines makes, alone behind an opening.
+// How many reads each of these lines makes as the only one after an opening.
 fn reads_of_each<const N: usize>(
     alloc: Global,
     bytes: &[u8],
@@ -89,7 +90,7 @@ fn reads_of_each<const N: usize>(
     Ok(counts)
 }
 
-// Three keys of one bucket in the active log, in the slots 0 to 2, and one of them twice.
+// Three keys of one bucket in the active log, in the slots 0 to 2. One of them has two rows.
 const ACTIVE: [(Line, u8); 5] = [
     (Line::Put(1, 1), 1),
     (Line::Put(2, 2), 1),
@@ -98,8 +99,8 @@ const ACTIVE: [(Line, u8); 5] = [
     (Line::Flush, 1),
 ];
 
-// A put or delete reads the heads of the rows whose slots have the key's tag, up to the key's own, and none if the key is alone in
-// its buckets. It looks in no other store.
+// A put or delete reads the heads of the rows whose slots have the key's tag, up to the key's own.
+// It reads none if the key is alone in its buckets. It looks in no other store.
 #[test]
 fn a_put_reads_the_heads_of_its_candidates_once(rt: HostRuntime) -> Result<(), Fail> {
     let disk = after_lines(rt.alloc(), of_regions(8, 2, 2, 16)?, &ACTIVE)?;
@@ -122,7 +123,8 @@ fn a_put_reads_the_heads_of_its_candidates_once(rt: HostRuntime) -> Result<(), F
     Ok(())
 }
 
-// Four rows of a frozen log and one of the active log: the put of a frozen log's key reads the active log's row alone.
+// Four rows of a frozen log and one of the active log. A put of a frozen log's key reads only the
+// active log's row.
 const FROZEN: [(Line, u8); 6] = [
     (Line::Put(1, 1), 1),
     (Line::Put(2, 2), 1),
@@ -141,7 +143,8 @@ fn a_put_reads_nothing_of_older_stores(rt: HostRuntime) -> Result<(), Fail> {
     Ok(())
 }
 
-// The list of the entries, of a frozen log of four rows of which one is a delete, and an active log of one row.
+// The list reads each row once: four of a frozen log, one of which is a delete, and one of the
+// active log.
 #[test]
 fn a_list_of_entries_reads_each_row_once(rt: HostRuntime) -> Result<(), Fail> {
     let disk = after_lines(rt.alloc(), of_regions(4, 2, 2, 8)?, &FROZEN)?;

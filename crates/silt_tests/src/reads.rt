@@ -1,4 +1,5 @@
-// Reads that fail, one after the other: each gives the device's fault, and no other call is refused.
+// Reads fail, one at a time. Each gives the device's fault to the call that made it, and refuses no
+// other call.
 
 use crate::life_lines::Line;
 use crate::script::{Told, live, repeated, replies_of};
@@ -10,7 +11,8 @@ use std::alloc::Global;
 use std::process::Abort;
 use std::test::Fail;
 
-// Five puts, of which the last freezes the full log, and its conversion; three rows more, and a put that freezes the next log.
+// Five puts, the last of which freezes the full log, and its conversion. Then come three more rows,
+// and a put that freezes the next log.
 const THREE_PLACES: [(Line, u8); 12] = [
     (Line::Put(1, 1), 1),
     (Line::Put(2, 2), 1),
@@ -26,7 +28,8 @@ const THREE_PLACES: [(Line, u8); 12] = [
     (Line::Get(2), 1),
 ];
 
-// A key of the active log, one of the frozen log, one of the hash store, one that was deleted, and the first step of a conversion.
+// Gets of four keys: in the active log, in the frozen log, in the hash store, and deleted. Then the
+// first step of a conversion.
 const ASKED: [Line; 5] = [
     Line::Get(2),
     Line::Get(6),
@@ -43,10 +46,11 @@ const ANSWERS: [Told; 5] = [
     Told::Progress(Progress::Moved),
 ];
 
-// How often each of the calls was refused with the device's fault: an opening, the five events, the list of the entries.
+// How often each call was refused with the device's fault: the opening, the five events, and the
+// list of the entries.
 type Refused = [u32; 7];
 
-// Which of these replies is the device's fault, if one is. All others are the answers.
+// Which of these replies is the device's fault, if one is. All others are those that are due.
 fn place_of_fault(rt: &impl Abort, told: &[Told], answers: &[Told]) -> Option<usize> {
     assert_eq!(rt; told.len(), answers.len());
     let mut refused = None;
@@ -69,7 +73,7 @@ fn listed(alloc: Global, core: &Core<FaultDisk>) -> Result<[u16; 8], u32> {
     }
 }
 
-// Which call of an opened store is refused with the fault of a read.
+// Which call of an opened store is refused with the fault of a read, if one is.
 fn place_of_call(
     rt: &impl Abort,
     alloc: Global,
@@ -90,7 +94,7 @@ fn is_fault(rt: &impl Abort, refusal: u32, number: u64) {
     assert_eq!(rt; refusal, 5, "read {number}");
 }
 
-// Which call is refused with the fault of this read, none if it is not made.
+// Which call is refused with the fault of this read, or none if no call makes it.
 fn place_of_read(
     rt: &impl Abort,
     alloc: Global,
@@ -107,7 +111,7 @@ fn place_of_read(
     }
 }
 
-// How often each call was refused with a fault, over all reads up to the first that is not made.
+// How often each call was refused with a fault, over all reads up to the first that no call makes.
 fn all_refused(rt: &impl Abort, alloc: Global, bytes: &[u8]) -> Result<Refused, Fail> {
     let mut counts = [0u32; 7];
     for number in 1..200u64 {
@@ -120,11 +124,15 @@ fn all_refused(rt: &impl Abort, alloc: Global, bytes: &[u8]) -> Result<Refused, 
     Err("reads without end".into())
 }
 
-// An opening reads the header, two slots, the gates of two logs and five heads, all slots of the hash store by one read, and for each row there the
-// heads of the rows before it that have its bucket and tag: one, two and three.
-// A get reads each candidate's row whole, up to the one that has the key. All keys here have bucket 0 alone, so the candidates are all
-// rows of a store, by their slots: the active log has key 2; the frozen one 5, 6, 7 and the delete of 1; the hash store 1, 2, 3 and 4.
-// So key 2 takes one read; key 6 one and two; key 3 one, four and three; key 1 one and four. A slot is written from one row. The
+// An opening reads the header, two slots, the gates of two logs and five heads. It reads all slots
+// of the hash store at once. For three rows there it also reads the heads of the rows before them
+// with the same bucket and tag: one, two and three.
+// A get reads each candidate's row whole, up to the one that has the key. All keys here have only
+// bucket 0, so all rows of a store are candidates, in the order of their slots. The active log has
+// key 2; the frozen one 5, 6, 7 and the delete of 1; the hash store 1, 2, 3 and 4. So key 2 takes
+// one read; key 6 one and two; key 3 one, four and three; key 1 one and four.
+// The conversion reads one row for a slot. The list reads five rows of logs, eight slots, and the
+// values in four of these.
 // entries are read from five rows of logs and from eight slots, of which four have values.
 #[test]
 fn tells_each_failed_read_as_a_fault(rt: HostRuntime) -> Result<(), Fail> {

@@ -1,4 +1,4 @@
-// Lives that are stopped: what the next ones answer.
+// Lives that end in crashes, and the replies in the lives after them.
 
 use crate::life_lines::Line;
 use crate::lines::THREE_PUTS;
@@ -10,13 +10,13 @@ use std::alloc::Global;
 use std::process::Abort;
 use std::test::Fail;
 
-// A small disk whose lives end so.
+// A small disk whose lives end with these crashes.
 fn armed(alloc: Global, stops: &[(u32, Fill)]) -> Result<MemDisk, Fail> {
     let stops = stopping(alloc, stops)?;
     Ok(formatted(alloc)?.arm(stops))
 }
 
-// The replies to lives on this disk.
+// The lives on this disk get these replies.
 fn are_told(
     rt: &impl Abort,
     alloc: Global,
@@ -29,7 +29,7 @@ fn are_told(
     Ok(())
 }
 
-// The replies to lives on a small disk that is stopped so.
+// The lives on a small disk with these crashes get these replies.
 fn are_told_stopped(
     rt: &impl Abort,
     alloc: Global,
@@ -51,7 +51,7 @@ const TOLD_TO_CALL_9: [Told; 5] = [
     Told::Refused(5),
 ];
 
-// A row whose gate no flush wrote is lost, whatever else the stop leaves.
+// A row whose gate no flush wrote is lost, whichever image the crash leaves.
 #[test]
 fn loses_what_no_flush_answered(rt: HostRuntime) -> Result<(), Fail> {
     let all: [&[Line]; 2] = [&[Line::Put(1, 2)], &[Line::Get(1)]];
@@ -62,7 +62,8 @@ fn loses_what_no_flush_answered(rt: HostRuntime) -> Result<(), Fail> {
     Ok(())
 }
 
-// The stop leaves three gates open, closed, open: the rows end at the closed one, and the open one past it never counts again.
+// The crash leaves three gates open, closed, open. The rows end at the closed one, and the open one
+// past it never counts again.
 #[test]
 fn keeps_the_rows_before_the_first_closed_gate(rt: HostRuntime) -> Result<(), Fail> {
     let second = [
@@ -102,7 +103,7 @@ fn has_gates(rt: &impl Abort, disk: &MemDisk, gates: &[u8; 4]) {
     assert!(rt; stands_at(disk, 12_288, gates), "{gates:?}");
 }
 
-// The gates at 12,288 to 12,290 after that stop, and after the opening that follows it.
+// The gates at 12,288 to 12,291 after that crash, and after the opening that follows it.
 #[test]
 fn seals_the_gates_past_the_first_closed_one(rt: HostRuntime) -> Result<(), Fail> {
     let disk = armed(rt.alloc(), &[(9, Fill::Mix)])?;
@@ -114,7 +115,8 @@ fn seals_the_gates_past_the_first_closed_one(rt: HostRuntime) -> Result<(), Fail
     Ok(())
 }
 
-// What a flush has answered stands over every stop, and a life that was not opened is followed by the next.
+// An acknowledged put survives every crash, also one in an opening. A life that was not opened is
+// followed by one that is.
 #[test]
 fn keeps_what_a_flush_answered(rt: HostRuntime) -> Result<(), Fail> {
     let all: [&[Line]; 3] = [
@@ -136,7 +138,8 @@ fn keeps_what_a_flush_answered(rt: HostRuntime) -> Result<(), Fail> {
     Ok(())
 }
 
-// The opening after a stop is stopped itself, at its sync, its write of the gates and the sync after it.
+// A second crash interrupts the opening after the first one: at its sync, its write of the gates,
+// or the sync after it.
 #[test]
 fn recovers_after_a_stopped_recovery(rt: HostRuntime) -> Result<(), Fail> {
     let all: [&[Line]; 3] = [&THREE_PUTS, &[Line::Get(1)], &[Line::Get(1), Line::Get(3)]];
@@ -165,7 +168,8 @@ fn recovers_after_a_stopped_recovery(rt: HostRuntime) -> Result<(), Fail> {
     Ok(())
 }
 
-// Each life opens the disk anew: a get answers what the stop left, and the count begins again.
+// Each life opens the disk anew. Its gets find what the crash left, and its count begins at 1
+// again.
 #[test]
 fn opens_the_disk_for_each_life(rt: HostRuntime) -> Result<(), Fail> {
     let first = [Line::Put(1, 1), Line::Flush, Line::Put(2, 2), Line::Get(2)];
@@ -193,7 +197,7 @@ fn opens_the_disk_for_each_life(rt: HostRuntime) -> Result<(), Fail> {
     )
 }
 
-// A life without events is opened and answers nothing, and no lives answer nothing.
+// A life without events is opened and has no reply. No lives at all have no replies.
 #[test]
 fn lives_without_events(rt: HostRuntime) -> Result<(), Fail> {
     are_told_stopped(
@@ -206,10 +210,10 @@ fn lives_without_events(rt: HostRuntime) -> Result<(), Fail> {
     are_told_stopped(&rt, rt.alloc(), &[], &[], &[])
 }
 
-// Two lives that want a store of values of two bytes.
+// Two lives that need a store of values of two bytes.
 const TWO_LIVES: [&[Line]; 2] = [&[Line::Put(1, 1), Line::Flush], &[Line::Get(1)]];
 
-// A store of values of another length is not opened in any of the lives.
+// A store of values of another length is opened in none of the lives.
 #[test]
 fn refuses_values_of_another_length(rt: HostRuntime) -> Result<(), Fail> {
     for value_len in [1u32, 3, 4096] {
@@ -219,7 +223,7 @@ fn refuses_values_of_another_length(rt: HostRuntime) -> Result<(), Fail> {
     Ok(())
 }
 
-// A device of zeros holds no store, in any of the lives.
+// A device of zeros holds no store. It is opened in none of the lives, and stays as it is.
 #[test]
 fn refuses_without_running(rt: HostRuntime) -> Result<(), Fail> {
     let disk = MemDisk::new(rt.alloc(), SMALL_LEN)?;

@@ -1,4 +1,4 @@
-// Lives as the tests write them, and how the tests write their replies.
+// The lives that the tests write as lines, and how the tests write their replies.
 ghost use Rattle.std.specs.Prelude.{All, IfOk};
 ghost use Rattle.silt_event.specs.Events.{HasValueOf};
 
@@ -26,7 +26,7 @@ pub(crate) enum Told {
     Other,
 }
 
-// Adds a line, or a reply, so many times.
+// Adds a line or a reply this many times.
 fn add<T: Copy>(lines: &mut Vec<T>, line: T, count: u8) -> Result<(), AllocError> {
     for _ in 0..count {
         lines.push(line)?;
@@ -34,7 +34,7 @@ fn add<T: Copy>(lines: &mut Vec<T>, line: T, count: u8) -> Result<(), AllocError
     Ok(())
 }
 
-/// These lines or replies, each so many times.
+/// These lines or replies, each this many times.
 pub(crate) fn repeated<T: Copy>(alloc: Global, parts: &[(T, u8)]) -> Result<Vec<T>, AllocError> {
     let mut lines = Vec::new(alloc);
     for (line, count) in parts {
@@ -43,7 +43,7 @@ pub(crate) fn repeated<T: Copy>(alloc: Global, parts: &[(T, u8)]) -> Result<Vec<
     Ok(lines)
 }
 
-/// The events of a life, made once more if memory was refused.
+/// The events of a life, made once more if memory is refused.
 pub(crate) fn events_twice(alloc: Global, lines: &[Line]) -> Result<Vec<Event>, AllocError>
     ensures { IfOk result (λ events. All (HasValueOf 2) events.items) }
 {
@@ -53,7 +53,7 @@ pub(crate) fn events_twice(alloc: Global, lines: &[Line]) -> Result<Vec<Event>, 
     }
 }
 
-/// The events of each life, made once more if memory was refused.
+/// The events of each life, made once more if memory is refused.
 pub(crate) fn all_events_twice(
     alloc: Global,
     all: &[&[Line]],
@@ -99,7 +99,7 @@ pub(crate) fn tell_reply<F: Drop>(reply: &Reply<F>) -> Told {
     }
 }
 
-// Writes replies behind those before.
+// Adds these replies to those before.
 fn tell<F: Drop>(told_before: &mut Vec<Told>, replies: &[Reply<F>]) -> Result<(), AllocError> {
     for reply in replies {
         told_before.push(tell_reply(reply))?;
@@ -107,7 +107,7 @@ fn tell<F: Drop>(told_before: &mut Vec<Told>, replies: &[Reply<F>]) -> Result<()
     Ok(())
 }
 
-// Writes a life behind those before.
+// Adds the replies of a life to those before.
 fn tell_life(told: &mut Vec<Told>, life: &LifeReply<MemFault>) -> Result<(), AllocError> {
     match life {
         LifeReply::NotOpened(refusal) => Ok(told.push(Told::NotOpened(refusal.label().0))?),
@@ -118,7 +118,7 @@ fn tell_life(told: &mut Vec<Told>, life: &LifeReply<MemFault>) -> Result<(), All
     }
 }
 
-// Tells lives.
+// The replies of all lives, one after the other.
 fn tell_lives(alloc: Global, lives: &[LifeReply<MemFault>]) -> Result<Vec<Told>, AllocError> {
     let mut told = Vec::new(alloc);
     for life in lives {
@@ -127,7 +127,7 @@ fn tell_lives(alloc: Global, lives: &[LifeReply<MemFault>]) -> Result<Vec<Told>,
     Ok(told)
 }
 
-/// The replies to lives of values of two bytes, on this disk.
+/// The replies to lives with values of two bytes, on this disk.
 pub(crate) fn told_lives(
     alloc: Global,
     disk: MemDisk,
@@ -138,7 +138,7 @@ pub(crate) fn told_lives(
     tell_lives(alloc, &replies)
 }
 
-/// The replies to these events, none if the store has values of another length.
+/// The replies to these events, or no replies if the store has values of another length.
 pub(crate) fn run<D: Disk>(
     alloc: Global,
     core: &mut Core<D>,
@@ -153,7 +153,7 @@ pub(crate) fn run<D: Disk>(
     core.run(alloc, events)
 }
 
-// The replies to an event, if the store has values of this length.
+// The reply to an event, if the store has values of this length.
 fn told_of<D: Disk>(alloc: Global, core: &mut Core<D>, value_len: u32, event: &Event) -> Told
     requires { HasValueOf value_len event.now }
 {
@@ -163,7 +163,8 @@ fn told_of<D: Disk>(alloc: Global, core: &mut Core<D>, value_len: u32, event: &E
     tell_reply(&core.answer(alloc, event))
 }
 
-/// The replies to a line, in an opened store of values of two bytes. Its event is made once more if memory was refused.
+/// The reply to a line, in an opened store of values of two bytes. Its event is made once more if
+/// memory is refused.
 pub(crate) fn ask<D: Disk>(
     alloc: Global,
     core: &mut Core<D>,
@@ -188,7 +189,7 @@ fn answers<D: Disk>(
     run(alloc, core, 2, &events)
 }
 
-// Writes the replies to these lines, in an opened store of values of two bytes, behind those before.
+// Adds the replies to these lines, in an opened store of values of two bytes, to those before.
 fn tell_events<D: Disk>(
     alloc: Global,
     core: &mut Core<D>,
@@ -199,7 +200,8 @@ fn tell_events<D: Disk>(
     tell(told_before, &replies)
 }
 
-/// The replies to events, in an opened store of values of two bytes on a disk on which one call fails.
+/// The replies to these lines, in an opened store of values of two bytes on a disk on which one
+/// call fails.
 pub(crate) fn replies_of(
     alloc: Global,
     core: &mut Core<FaultDisk>,
@@ -210,7 +212,7 @@ pub(crate) fn replies_of(
     Ok(told)
 }
 
-// The replies to an opening, and to the events behind it.
+// `Opened` and the replies to these lines.
 fn told_from<D: Disk>(
     alloc: Global,
     core: &mut Core<D>,
@@ -222,7 +224,7 @@ fn told_from<D: Disk>(
     Ok(told)
 }
 
-// A disk, and the replies that it gave.
+// Joins a disk and the replies of its store.
 fn with_disk(
     disk: MemDisk,
     told: Result<Vec<Told>, AllocError>,
@@ -230,7 +232,8 @@ fn with_disk(
     Ok((disk, told?))
 }
 
-/// One life of values of two bytes, on this disk: the disk after it, as yet without a stop, and the replies.
+/// Runs one life with values of two bytes on this disk: the disk as it is before any crash, and the
+/// replies.
 pub(crate) fn live(
     alloc: Global,
     disk: MemDisk,
@@ -248,7 +251,7 @@ pub(crate) fn live(
     }
 }
 
-/// That life, with these replies.
+/// Runs that life, which gets these replies.
 pub(crate) fn lived(
     rt: &impl Abort,
     alloc: Global,

@@ -1,4 +1,5 @@
-// A stop at each device call, with each fill, on a device of either version: what the next opening finds.
+// A crash at each device call, with each fill, on a device of either version. The tests show what
+// the next opening finds.
 
 use crate::kept::{goes_on, is_kept};
 use crate::life_lines::Line;
@@ -15,10 +16,10 @@ use std::alloc::Global;
 use std::process::Abort;
 use std::test::Fail;
 
-// A put and a delete with a flush after each: eleven calls.
+// A put and a delete, each with a flush after it: eleven calls.
 const PUT_AND_DELETE: [Line; 4] = [Line::Put(1, 1), Line::Flush, Line::Delete(1), Line::Flush];
 
-// A put over a flushed put, then another key, never flushed: ten calls.
+// A put over a flushed put, and then a put of another key, never flushed: ten calls.
 const TWO_UNFLUSHED: [Line; 5] = [
     Line::Put(1, 1),
     Line::Flush,
@@ -27,7 +28,8 @@ const TWO_UNFLUSHED: [Line; 5] = [
     Line::Put(2, 3),
 ];
 
-// A put, swaps of a value that waits, of one that is flushed, of another value and of a deleted one: twelve calls.
+// A put, and swaps that compare with a waiting value, with a wrong one, with a flushed one, and
+// with a deleted one: twelve calls.
 const SWAPS: [Line; 7] = [
     Line::Put(1, 1),
     Line::Swap(1, 1, 2),
@@ -42,7 +44,8 @@ fn was_stopped(told: &[Told]) -> bool {
     told.iter().any(|reply| matches!(reply, Told::Refused(5) | Told::NotOpened(5)))
 }
 
-// The life on a disk of these bytes that ends so, and each further one with the same fill.
+// Runs the life on a disk of these bytes, with this crash. The next two lives end with crashes of
+// the same fill.
 fn lived(
     alloc: Global,
     new: &[u8],
@@ -57,7 +60,7 @@ fn lived(
     Ok(live(alloc, disk, lines)?)
 }
 
-// Stops this disk and opens it: what it has.
+// Crashes this disk, opens it, and returns its values.
 fn reopened(
     rt: &impl Abort,
     alloc: Global,
@@ -77,7 +80,8 @@ fn keeps(rt: &impl Abort, lines: &[Line], told: &[Told], found: [u16; 8], stop: 
     assert!(rt; is_kept(lines, told, found), "{found:?} {stop:?}");
 }
 
-// The life on a disk of this geometry and these bytes, stopped so; then what the next one finds, and how it goes on.
+// Runs the life with this crash on a disk of this geometry and these bytes. Compares what the next
+// life finds, and goes on from there. Returns whether the crash was within the life.
 fn stopped_at(
     rt: &impl Abort,
     alloc: Global,
@@ -93,12 +97,13 @@ fn stopped_at(
     Ok(was_stopped(&told))
 }
 
-// Whether a life of so many calls is stopped at one of them.
+// Whether the crash is at one of the calls of a life that makes this many.
 fn is_within(stop: Stop, calls: u32) -> bool {
     0 < stop.k && stop.k <= calls
 }
 
-// Stops the life on a disk of this geometry and these bytes at each of its calls, of which there are this many, and at its end.
+// Crashes the life on a disk of this geometry and these bytes at each of its calls and at its end.
+// It makes exactly this many calls.
 fn sweep_on(
     rt: &impl Abort,
     alloc: Global,
@@ -117,7 +122,7 @@ fn sweep_on(
     Ok(())
 }
 
-// Stops the life so on a new disk of this geometry and version.
+// Crashes the life at each call on a new disk of this geometry and version.
 fn sweep_as(
     rt: &impl Abort,
     alloc: Global,
@@ -129,7 +134,7 @@ fn sweep_as(
     sweep_on(rt, alloc, geometry, &new, lines, calls)
 }
 
-// Stops the life so on a new disk of this geometry of each version: it makes as many calls on both.
+// Crashes the life at each call on a new disk of each version. It makes as many calls on both.
 fn sweep(
     rt: &impl Abort,
     alloc: Global,
@@ -169,10 +174,11 @@ fn swaps_stopped_anywhere(rt: HostRuntime) -> Result<(), Fail> {
     sweep(&rt, rt.alloc(), small()?, &SWAPS, 12)
 }
 
-// A long life with a swap behind it: on which geometry, and how many calls it makes without the swap, and how many the swap makes.
+// A long life with a swap after it: the geometry, the lines, how many calls they make, the swap,
+// and how many calls it makes.
 type Swapped<'a> = (Geometry, &'a [(Line, u8)], u32, Line, u32);
 
-// Whether this life on a new disk of this version is stopped at this call.
+// Whether a crash at this call is within the life, on a new disk of this geometry and version.
 fn stops_at(
     alloc: Global,
     (geometry, version): (Geometry, Version),
@@ -185,7 +191,8 @@ fn stops_at(
     Ok(was_stopped(&told))
 }
 
-// Stops this life at each of its calls, with a swap behind it. Without the swap it makes its own calls alone.
+// Crashes this life with a swap after it at each of its calls. Without the swap the life makes
+// exactly its own calls.
 fn sweep_swapped(
     rt: &impl Abort,
     alloc: Global,

@@ -1,4 +1,5 @@
-// Compare and swap: in which store the old value may be, how many reads it takes, what decides first, and reads that fail.
+// Compare and swap: in which store the old value may be, how many reads it takes, what is decided
+// first, and failed reads.
 
 use crate::faults::of_last_generation;
 use crate::life_lines::Line;
@@ -13,7 +14,7 @@ use std::alloc::Global;
 use std::process::Abort;
 use std::test::Fail;
 
-// Swaps of a key that has no value, of one that waits, of another value, and of one that was deleted.
+// Swaps that compare with no value, with a waiting value, with a wrong one, and with a deleted one.
 const PLAIN: [Line; 8] = [
     Line::Swap(1, 1, 2),
     Line::Put(1, 1),
@@ -44,7 +45,7 @@ fn compares_with_what_is_accepted(rt: HostRuntime) -> Result<(), Fail> {
     Ok(())
 }
 
-// Values that have only a part in common with the key's.
+// Old values that agree with the key's value only in part, and then the right one.
 const IN_PART: [Line; 5] = [
     Line::Put(1, 0x0102),
     Line::Swap(1, 0x0103, 9),
@@ -69,7 +70,7 @@ fn compares_each_byte(rt: HostRuntime) -> Result<(), Fail> {
     Ok(())
 }
 
-// The number of the accepted command, none if the value differs, or else the number of the refusal.
+// The number of the accepted command, none if the value differs, or the number of the refusal.
 fn swapped(answer: Result<Option<u64>, Refusal<MemFault>>) -> Result<Option<u64>, u32> {
     match answer {
         Ok(accepted) => Ok(accepted),
@@ -77,7 +78,8 @@ fn swapped(answer: Result<Option<u64>, Refusal<MemFault>>) -> Result<Option<u64>
     }
 }
 
-// A value of sevens differs from one whose last byte is 8, and its swap for that one is accepted once.
+// A value of sevens differs from one whose last byte is 8. A swap of the first for the second is
+// accepted once.
 fn swaps_the_last_byte(
     rt: &impl Abort,
     alloc: Global,
@@ -96,7 +98,8 @@ fn swaps_the_last_byte(
     assert_eq!(rt; swapped(core.swap(alloc, &key(1), sevens, last)), Ok(None));
 }
 
-// Of this length: one byte, the longest value that one read takes, the first that takes two, and the longest.
+// Swaps values of this length. The lengths tried are one byte, the longest value of one read, the
+// shortest of two, and the longest.
 fn swaps_values_of(rt: &impl Abort, alloc: Global, value_len: u32) -> Result<(), Fail> {
     let sevens = vec![in alloc; 7u8; value_len as usize]?;
     let mut last = vec![in alloc; 7u8; value_len.saturating_sub(1) as usize]?;
@@ -114,7 +117,7 @@ fn compares_values_of_each_length(rt: HostRuntime) -> Result<(), Fail> {
     Ok(())
 }
 
-// A swap that no flush acknowledged is lost, and the value before it is there again.
+// A swap that no flush acknowledged is lost in a crash, and the key has its old value again.
 #[test]
 fn loses_a_swap_without_a_flush(rt: HostRuntime) -> Result<(), Fail> {
     let alloc = rt.alloc();
@@ -139,8 +142,8 @@ fn loses_a_swap_without_a_flush(rt: HostRuntime) -> Result<(), Fail> {
 
 // ---- the stores
 
-// Four keys in the sorted store; 5, 6, 7 and the delete of 4 in the hash store; 0 twice, 6 and the delete of 7 in the frozen log; and 1 in
-// the active log.
+// Four keys are in the sorted store. The hash store has 5, 6, 7 and the delete of 4. The frozen log
+// has 0 twice, 6 and the delete of 7. The active log has 1.
 const SPREAD: [(Line, u8); 17] = [
     (Line::Put(1, 1), 1),
     (Line::Put(2, 2), 1),
@@ -170,7 +173,8 @@ fn spread(alloc: Global) -> Result<MemDisk, Fail> {
     after_lines(alloc, of_three_logs()?, &SPREAD)
 }
 
-// The swaps of a life on that device, the fourth of which freezes the active log, and their replies.
+// The swaps of a life on that device, and their replies. The fourth accepted one freezes the active
+// log.
 const SWAPPED: [(Line, Told); 12] = [
     (Line::Swap(1, 11, 21), Told::Accepted(1)),
     (Line::Swap(0, 8, 30), Told::Differs),
@@ -209,12 +213,14 @@ fn finds_the_old_value_in_each_store(rt: HostRuntime) -> Result<(), Fail> {
 
 // ---- reads
 
-// A swap alone behind an opening, its reply, and how many reads it makes.
+// A swap as the only line after an opening, its reply, and how many reads it makes.
 type Read = (Line, Told, u32);
 
-// On that device all keys have one bucket, so each row of a store is a candidate, by its slot: 1 in the active log; 0, 6, 7 in the frozen
-// one; 5, 6, 7, 4 in the hash store. A candidate takes one read, up to the key's own. The sorted store takes one if an entry begins with
-// the key's first byte. An accepted swap reads one head more, as the row of 1 is a candidate for the place of its own row.
+// On that device all keys have one bucket. So each row of a store is a candidate, in the order of
+// the slots. The active log has 1, the frozen one 0, 6, 7, and the hash store 5, 6, 7, 4. Each
+// candidate takes one read, up to the key's own. The sorted store takes one if an entry begins with
+// the key's first byte. An accepted swap reads one more head, since the row of 1 is a candidate for
+// the place of the new row.
 const READS: [Read; 11] = [
     (Line::Swap(1, 11, 21), Told::Accepted(1), 1 + 1),
     (Line::Swap(1, 1, 21), Told::Differs, 1),
@@ -229,7 +235,8 @@ const READS: [Read; 11] = [
     (Line::Swap(8, 8, 20), Told::Differs, 1 + 3 + 4),
 ];
 
-// A key alone in the active log: its row, and then the head of that row. A key that is nowhere reads that one candidate.
+// A key alone in the active log takes one read of its row, and one of that row's head if the swap
+// is accepted. An absent key reads that one candidate.
 const ALONE: [(Line, u8); 2] = [(Line::Put(1, 1), 1), (Line::Flush, 1)];
 
 const READS_ALONE: [Read; 3] = [
@@ -238,18 +245,19 @@ const READS_ALONE: [Read; 3] = [
     (Line::Swap(2, 3, 2), Told::Differs, 1),
 ];
 
-// In an empty store there is nothing to read.
+// An empty store has nothing to read.
 const READS_OF_NOTHING: [Read; 1] = [(Line::Swap(1, 1, 2), Told::Differs, 0)];
 
-// The replies to this line of a store on a disk of these bytes where this read fails, asked twice.
+// The replies to this line, which is asked twice, in a store on a disk of these bytes on which this
+// read fails.
 fn asked_twice(alloc: Global, bytes: &[u8], line: Line, number: u64) -> Result<(Told, Told), Fail> {
     let disk = FaultDisk::new(MemDisk::with_bytes(alloc, bytes)?, Call::Read, number);
     let mut core = opened_on(alloc, disk)?;
     Ok((ask(alloc, &mut core, line)?, ask(alloc, &mut core, line)?))
 }
 
-// Each read of the swap fails in turn: it is refused with the fault, and asked again it has its own reply. The read after its last one is
-// not made: the first reply is then its own.
+// Fails each read of the swap in turn. The swap is refused with the fault, and a second try gets
+// its own reply. It makes no further read: if that one fails, the first reply is its own.
 fn makes_reads(
     rt: &impl Abort,
     alloc: Global,
@@ -267,7 +275,7 @@ fn makes_reads(
     Ok(())
 }
 
-// Each of these swaps makes so many reads behind an opening of this device.
+// After an opening of this device each of these swaps makes exactly its number of reads.
 fn each_makes_reads(
     rt: &impl Abort,
     alloc: Global,
@@ -290,7 +298,8 @@ fn each_read_of_a_swap_fails(rt: HostRuntime) -> Result<(), Fail> {
     each_makes_reads(&rt, alloc, &formatted(alloc)?, &READS_OF_NOTHING)
 }
 
-// A key that has no value, and another bucket than all keys there. The entry of key 2 begins with its first byte.
+// An absent key, in another bucket than all keys there. The entry of key 2 begins with the same
+// byte.
 fn absent_key() -> Key {
     let mut bytes = [0; 20];
     bytes[0] = 2;
@@ -298,7 +307,7 @@ fn absent_key() -> Key {
     Key(bytes)
 }
 
-// The answer to a swap of that key on a disk of these bytes where this read fails.
+// The result of a swap of that key on a disk of these bytes on which this read fails.
 fn swap_absent(
     rt: &impl Abort,
     alloc: Global,
@@ -315,7 +324,7 @@ fn swap_absent(
     Ok(swapped(core.swap(alloc, &absent_key(), &[0, 2], &[0, 3])))
 }
 
-// It makes that one read: no other store has a candidate.
+// A swap of the absent key reads that one entry: no other store has a candidate.
 #[test]
 fn an_absent_key_reads_one_entry(rt: HostRuntime) -> Result<(), Fail> {
     let alloc = rt.alloc();
@@ -329,7 +338,7 @@ fn an_absent_key_reads_one_entry(rt: HostRuntime) -> Result<(), Fail> {
 
 // ---- what decides first
 
-// A life on a new disk of this geometry whose last lines get these replies.
+// Runs a life on a new disk of this geometry. Its last lines get these replies.
 fn ends_with(
     rt: &impl Abort,
     alloc: Global,
@@ -344,7 +353,8 @@ fn ends_with(
     Ok(())
 }
 
-// Of a full store the comparison comes first: a swap of the right value is refused StoreFull, and one of another value differs.
+// In a full store the comparison is decided first. A swap with the right old value is refused
+// StoreFull, one with another value gets `Differs`.
 #[test]
 fn a_full_store_compares_first(rt: HostRuntime) -> Result<(), Fail> {
     let lines = [
@@ -364,7 +374,8 @@ fn a_full_store_compares_first(rt: HostRuntime) -> Result<(), Fail> {
     ends_with(&rt, rt.alloc(), small()?, &lines, &expected)
 }
 
-// So it is if the logs are full and the store is not: the refusal is NoRoom.
+// If the logs are full and the store is not, the comparison is decided first too. Else the refusal
+// is NoRoom.
 #[test]
 fn full_logs_compare_first(rt: HostRuntime) -> Result<(), Fail> {
     let lines = [
@@ -382,7 +393,8 @@ fn full_logs_compare_first(rt: HostRuntime) -> Result<(), Fail> {
     ends_with(&rt, rt.alloc(), of_regions(4, 2, 2, 9)?, &lines, &expected)
 }
 
-// So it is if the next log has no generation left: the refusal is Spent.
+// If no generation is left to freeze the log, the comparison is decided first too. Else the refusal
+// is Spent.
 #[test]
 fn a_last_generation_compares_first(rt: HostRuntime) -> Result<(), Fail> {
     let alloc = rt.alloc();

@@ -1,5 +1,5 @@
-// Devices of version 1, from before manifests had digests: they open, they keep their version, and they take on digests with their next
-// manifest.
+// Devices of version 1, whose manifests had no digests. They open and keep their version, and their
+// next manifest has digests.
 
 use crate::conversion::converted;
 use crate::life_lines::Line;
@@ -25,7 +25,7 @@ fn converted_as(rt: &impl Abort, alloc: Global, version: Version) -> Result<Vec<
 const OF_FOUR_ENTRIES: &[u8] =
     b"\x57\x7a\x07\xb5\x9a\x0e\xfa\x7c\x9c\xfd\x45\x70\x0c\x3c\x11\xa2\x4e\xe2\xac\xe3";
 
-// The manifest of generation 3 rules in slot 1, with digests, and the header has this version.
+// The manifest of generation 3 is current, in slot 1, with digests. The header has this version.
 fn has_digests(rt: &impl Abort, disk: &MemDisk, number: u8) {
     assert!(rt; stands_at(disk, 8192, b"\xa7\x80\0\0\0\0\0\0\x03"));
     assert!(rt; stands_at(disk, 8313, &[0; 320]));
@@ -46,7 +46,8 @@ const MERGED: Report = Report {
     layout: Layout::Two,
 };
 
-// What is reported of a device that this version has after a conversion, and again after the merge of its hash store.
+// What a check reports of a device of this version after a conversion, and again after the merge of
+// its hash store.
 fn merges_as(
     rt: &impl Abort,
     alloc: Global,
@@ -73,7 +74,7 @@ fn an_old_device_takes_on_digests(rt: HostRuntime) -> Result<(), Fail> {
     merges_as(&rt, rt.alloc(), (Version::Two, 2, Layout::Two))
 }
 
-// The last reply to a get of key 1 where its row has another value.
+// The last reply to a get of key 1 if its row has another value.
 fn told_of_another_value(rt: &impl Abort, alloc: Global, version: Version) -> Result<Told, Fail> {
     let whole = converted_as(rt, alloc, version)?;
     let bytes = changed(alloc, &whole, &[(28_694, 2)])?;
@@ -81,7 +82,7 @@ fn told_of_another_value(rt: &impl Abort, alloc: Global, version: Version) -> Re
     Ok(*told.last().ok_or("a reply")?)
 }
 
-// Without digests another value is one as good. With them the opening is refused.
+// Without digests a get returns the changed value. With them the opening is refused.
 #[test]
 fn digests_tell_another_value(rt: HostRuntime) -> Result<(), Fail> {
     let old = told_of_another_value(&rt, rt.alloc(), Version::One)?;
