@@ -1,9 +1,11 @@
-//! Tests of disks, and of what is found on them: images after a stop, formatting, opening and checking, damage at each byte that decides, and
-//! long random runs beside a plain map.
+//! Tests of disks, and of what a check or an opening finds on them. They try crash images, formatting,
+//! opening and checking, and damage of each byte that matters. Long random runs are compared with a
+//! plain map.
 //!
-//! This crate tests what no clause says, seen from outside through the public calls.
+//! They show what no contract says, through the public calls.
 //!
-//! `MemFile` is a file in memory that behaves, for disks in files: it meets each clause of `RandomAccessFile`.
+//! `MemFile` is a file in memory that behaves, for disks in files: it meets each clause of
+//! `RandomAccessFile`.
 #![tactic(auto)]
 
 mod mem_file;

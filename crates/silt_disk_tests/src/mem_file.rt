@@ -8,8 +8,8 @@ use std::alloc::{AllocError, Global};
 use std::fs::Metadata;
 use std::io::{self, ErrorKind};
 
-/// A file in memory that behaves: its bytes are those of a disk in memory, which knows what is settled
-/// and what a stop may leave.
+/// A file in memory that behaves. Its bytes are those of a disk in memory, which knows which of
+/// them are settled and computes crash images.
 #[derive(Drop)]
 pub struct MemFile {
     disk: MemDisk,
@@ -25,7 +25,7 @@ impl MemFile {
         Ok(MemFile { disk, alloc })
     }
 
-    /// The bytes that a stop leaves of the file, if none of those that are pending were written.
+    /// The bytes of the file after a crash, if the device wrote none of the pending ones.
     pub fn after_stop(self) -> Result<Vec<u8>, AllocError> {
         let disk = self.disk.restart();
         disk.shown().to_vec(self.alloc)

@@ -1,5 +1,5 @@
-// What no clause says, of disks and of what stands on them. What several of these tests share stands here: what is found on a disk, and numbers
-// that are made one of the other.
+// Tests of disks, and of stores on them. This module has what several of them need: what a check
+// finds on a disk, and pseudo-random numbers.
 
 mod device;
 mod findings;
@@ -18,18 +18,18 @@ use std::alloc::Global;
 use std::process::Abort;
 use std::test::Fail;
 
-// The bytes of an empty store of the small geometry, SMALL_LEN of them, on a device of version 1: its manifest has no digests, so that
-// stores can be named there whose bytes are made by hand.
+// The bytes of an empty store of the small geometry, SMALL_LEN of them, on a device of version 1.
+// Its manifest has no digests, so it can name stores whose bytes are made by hand.
 fn small_blank(rt: &impl Abort, alloc: Global) -> Result<Vec<u8>, Fail> {
     let whole = blank_of_version_1(alloc, small()?)?;
     assert_eq!(rt; whole.len(), SMALL_LEN);
     Ok(whole)
 }
 
-// Changes of the bytes of a device: a place, and the byte that is then there.
+// Changes of a device: the place of a byte, and its new value.
 type Changes<'a> = &'a [(usize, u8)];
 
-// The numbers of an empty store.
+// What a check reports of an empty store.
 const EMPTY: Report = Report {
     generation: 0,
     active: 0,
@@ -43,16 +43,16 @@ const EMPTY: Report = Report {
     layout: Layout::Two,
 };
 
-// The numbers of an empty store on a device of version 1.
+// What a check reports of an empty store on a device of version 1.
 const EMPTY_OLD: Report = Report {
     layout: Layout::One,
     ..EMPTY
 };
 
-// The numbers of a store, or what is found.
+// The report of a check, or what it finds wrong.
 type Found = Result<Report, Finding>;
 
-// The finding for which a look was refused.
+// The finding of a check that was refused.
 fn finding<F: Drop>(error: OpenError<F>) -> Result<Finding, Fail> {
     match error {
         OpenError::NotFormatted => Ok(Finding::NotFormatted),
@@ -63,7 +63,7 @@ fn finding<F: Drop>(error: OpenError<F>) -> Result<Finding, Fail> {
     }
 }
 
-// The numbers of the store on a disk, or what is found.
+// The report of a check of this disk, or what it finds wrong.
 fn checked(alloc: Global, disk: &MemDisk) -> Result<Found, Fail> {
     match check(alloc, disk) {
         Ok(report) => Ok(Ok(report)),

@@ -1,4 +1,4 @@
-// What no clause says of disks: which image a stop leaves, which call fails, and the worked layouts.
+// Disks in memory: which image each crash leaves, which call fails, and the worked layouts.
 mod behaving_file;
 mod buffered_disk;
 mod files;
@@ -14,8 +14,8 @@ const FIRST: [u8; 4] = [0x11, 0x12, 0x13, 0x14];
 
 const SECOND: [u8; 3] = [0x23, 0x24, 0x25];
 
-// A call of a disk and its answer: whether a write of bytes at a place or a sync is done, and the four bytes from a place on, where they
-// are read.
+// A call of a disk, and its result: whether the write or the sync succeeds, or the four bytes that
+// a read returns.
 #[derive(Clone, Copy, Debug)]
 enum Step {
     Write(u64, &'static [u8], bool),
@@ -23,7 +23,7 @@ enum Step {
     Read(u64, Option<[u8; 4]>),
 }
 
-// Whether these bytes were written. They are not if the disk has no place for them.
+// Whether these bytes were written. They are not if they do not fit on the disk.
 fn write_at<D: Disk>(disk: &mut D, at: u64, bytes: &[u8]) -> bool {
     if at > disk.len() || bytes.len() as u64 > disk.len() - at {
         return false;
@@ -31,7 +31,7 @@ fn write_at<D: Disk>(disk: &mut D, at: u64, bytes: &[u8]) -> bool {
     disk.write(at, bytes).is_ok()
 }
 
-// The four bytes from a place on, if the disk has as many and gives them.
+// The four bytes from a place on, if the disk has as many and the read succeeds.
 fn four_at<D: Disk>(disk: &D, at: u64) -> Option<[u8; 4]> {
     if at > disk.len() || disk.len() - at < 4 {
         return None;
@@ -49,7 +49,7 @@ fn is_answered<D: Disk>(disk: &mut D, step: Step) -> bool {
     }
 }
 
-// Makes these calls, up to the first with another answer, and gives that one.
+// Makes these calls up to the first with another result, and returns that one.
 fn first_wrong<D: Disk>(disk: &mut D, steps: &[Step]) -> Option<Step> {
     for step in steps {
         if !is_answered(disk, *step) {
@@ -59,14 +59,14 @@ fn first_wrong<D: Disk>(disk: &mut D, steps: &[Step]) -> Option<Step> {
     None
 }
 
-// Makes these calls on a disk of this length, and each has its answer.
+// Makes these calls on a disk of this length, and compares their results.
 fn do_all<D: Disk>(rt: &impl Abort, disk: &mut D, len: u64, steps: &[Step]) {
     assert_eq!(rt; disk.len(), len);
     let wrong = first_wrong(disk, steps);
     assert!(rt; wrong.is_none(), "{wrong:?}");
 }
 
-// A disk of these bytes whose lives end so.
+// A disk of these bytes whose lives end with these crashes.
 fn armed(alloc: Global, bytes: &[u8], ends: &[(u32, Fill)]) -> Result<MemDisk, AllocError> {
     let mut stops = Vec::new(alloc);
     for (k, fill) in ends {
@@ -83,7 +83,7 @@ const FOUR_CALLS: [Step; 4] = [
     Step::Sync(true),
 ];
 
-// What a life of these four calls leaves that stops at the K-th of them.
+// The image that a life of these four calls leaves if it crashes at the K-th of them.
 const LEFT: [(u32, Fill, [u8; 8]); 22] = [
     (1, Fill::Old, [0, 0, 0, 0, 0, 0, 0, 0]),
     (1, Fill::New, [0, 0x11, 0x12, 0x13, 0x14, 0, 0, 0]),
@@ -109,7 +109,7 @@ const LEFT: [(u32, Fill, [u8; 8]); 22] = [
     (0, Fill::Ones, [0, 0x11, 0x12, 0x23, 0x24, 0x25, 0, 0]),
 ];
 
-// How many of the four calls are done, up to the first that is not.
+// How many of the four calls succeed, up to the first that fails.
 fn count_done<D: Disk>(disk: &mut D) -> u32 {
     let mut done = 0u32;
     for step in FOUR_CALLS {
@@ -121,7 +121,7 @@ fn count_done<D: Disk>(disk: &mut D) -> u32 {
     done
 }
 
-// The bytes of a disk of eight. None: the read fails.
+// The bytes of a disk of eight, or none if the read fails.
 fn eight_of<D: Disk>(disk: &D) -> Option<[u8; 8]> {
     let mut read = [0; 8];
     if disk.len() != 8 {
@@ -131,7 +131,8 @@ fn eight_of<D: Disk>(disk: &D) -> Option<[u8; 8]> {
     Some(read)
 }
 
-// The four calls on a disk of eight bytes that stops at the K-th: of it and all after it, reads too, none is answered.
+// Makes the four calls on a disk of eight bytes that crashes at the K-th. That call and all after
+// it fail, reads too.
 fn stops_at(rt: &impl Abort, disk: &mut MemDisk, k: u32) {
     let is_stopped = 0 < k && k < 5;
     assert_eq!(rt; disk.len(), 8);
@@ -144,13 +145,14 @@ fn stops_at(rt: &impl Abort, disk: &mut MemDisk, k: u32) {
     assert!(rt; !is_stopped || disk.sync().is_err(), "at {k}");
 }
 
-// This is what stands on the disk, and what it shows.
+// The disk has these bytes, and shows them.
 fn shows(rt: &impl Abort, disk: &MemDisk, left: [u8; 8], k: u32) {
     assert_eq!(rt; eight_of(disk), Some(left), "at {k}");
     assert_eq!(rt; disk.shown(), left.as_slice(), "at {k}");
 }
 
-// Each call in turn fails, and every call after it, reads too. A failed write's bytes count as shown.
+// Each call in turn fails, and every call after it, reads too. The bytes of the failed write are
+// shown, and are pending.
 #[test]
 fn each_stop_leaves_its_image(rt: HostRuntime) -> Result<(), Fail> {
     for (k, fill, left) in LEFT {
@@ -161,10 +163,12 @@ fn each_stop_leaves_its_image(rt: HostRuntime) -> Result<(), Fail> {
     Ok(())
 }
 
-// The calls of a life, and what the disk of four bytes shows at its end and after the stop.
+// The calls of a life, the bytes that a disk of four shows at its end, and those that it has after
+// the crash.
 type Shown = (&'static [Step], [u8; 4], [u8; 4]);
 
-// Of a disk with the bytes 1, 2, 3 and 4, whose first life is stopped at its end, with ones, and whose second one at call 1.
+// The disk begins with the bytes 1, 2, 3 and 4. The first life crashes at its end, with ones, and
+// the second one at call 1.
 const LIVES: [Shown; 3] = [
     (
         &[Step::Write(1, &[7, 8], true)],
@@ -188,7 +192,7 @@ const LIVES: [Shown; 3] = [
     ),
 ];
 
-// A life, and the stop behind it.
+// Runs a life, and crashes the disk.
 fn lived(rt: &impl Abort, mut disk: MemDisk, (steps, shown, left): Shown) -> MemDisk {
     do_all(rt, &mut disk, 4, steps);
     shows_four(rt, &disk, shown);
@@ -202,7 +206,8 @@ fn shows_four(rt: &impl Abort, disk: &MemDisk, bytes: [u8; 4]) {
     assert_eq!(rt; disk.len(), 4);
 }
 
-// With k = 0 no call fails and the stop comes at the end, and so it is, with the settled bytes, past the list.
+// With k = 0 no call fails, and the crash comes at the end of the life. A life past the end of the
+// list is the same, and its crash leaves the settled bytes.
 #[test]
 fn each_restart_begins_the_next_life(rt: HostRuntime) -> Result<(), Fail> {
     let mut disk = armed(
@@ -216,7 +221,7 @@ fn each_restart_begins_the_next_life(rt: HostRuntime) -> Result<(), Fail> {
     Ok(())
 }
 
-// Two reads, two writes and two syncs of a disk of eight bytes. Which of them failed.
+// Makes two reads, two writes and two syncs of a disk of eight bytes. Returns which of them failed.
 fn six_calls<D: Disk>(rt: &impl Abort, disk: &mut D) -> [bool; 6] {
     assert_eq!(rt; disk.len(), 8);
     let first = [
@@ -234,7 +239,7 @@ fn six_calls<D: Disk>(rt: &impl Abort, disk: &mut D) -> [bool; 6] {
     ]
 }
 
-// Which of the six calls failed on a disk on which this one does.
+// Which of the six calls fail on a disk that fails this one.
 fn failed_calls(
     rt: &impl Abort,
     alloc: Global,
@@ -245,7 +250,7 @@ fn failed_calls(
     Ok(six_calls(rt, &mut disk))
 }
 
-// The named call fails, and no other.
+// The chosen call fails, and no other.
 #[test]
 fn one_call_fails(rt: HostRuntime) -> Result<(), Fail> {
     for (place, call) in [Call::Read, Call::Write, Call::Sync].iter().enumerate() {
@@ -260,7 +265,7 @@ fn one_call_fails(rt: HostRuntime) -> Result<(), Fail> {
     Ok(())
 }
 
-// The second write fails, of a disk of four bytes.
+// The second write fails on a disk of four bytes.
 const SECOND_WRITE_FAILS: [Step; 5] = [
     Step::Write(0, &[5], true),
     Step::Sync(true),
@@ -269,7 +274,7 @@ const SECOND_WRITE_FAILS: [Step; 5] = [
     Step::Write(3, &[8], true),
 ];
 
-// A write that is made to fail shows nothing new, and a stop may leave anything in its range.
+// A failed write shows nothing new, and its range is pending: a crash may leave any bytes there.
 #[test]
 fn a_failed_write_shows_nothing_new(rt: HostRuntime) -> Result<(), Fail> {
     let inner = armed(rt.alloc(), &[1, 2, 3, 4], &[(0, Fill::Ones)])?;
@@ -300,7 +305,7 @@ fn geometry(numbers: [u32; 6]) -> Result<Geometry, BadGeometry> {
     )
 }
 
-// Each limit from either side.
+// The numbers on both sides of each limit, and whether they are within the limits.
 const LIMITS: [([u32; 6], bool); 25] = [
     ([0, 2, 4, 2, 2, 8], false),
     ([1, 2, 4, 2, 2, 8], true),
@@ -348,8 +353,8 @@ fn numbers_of(geometry: &Geometry) -> [u32; 6] {
     ]
 }
 
-// Where a slot, the gates and the bodies of a log, a hash region and a sorted region begin, of the first and of the second of each. None:
-// there are no two.
+// Where the first or the second of each kind begins: a slot, the gates and the bodies of a log, a
+// hash region and a sorted region. None if the geometry has no second one.
 fn places_of(geometry: &Geometry, second: bool) -> Option<[u64; 5]> {
     if geometry.logs() < 2 || geometry.hashes() < 2 {
         return None;

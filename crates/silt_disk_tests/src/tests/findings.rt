@@ -1,4 +1,4 @@
-// What is found on a device of given bytes: by a check and by an opening alike.
+// What a check and an opening find on a device of given bytes. Both find the same.
 
 mod damage;
 mod digests;
@@ -14,7 +14,7 @@ use std::alloc::Global;
 use std::process::Abort;
 use std::test::Fail;
 
-// Lists of changes that are made one after the other, and what is found behind them.
+// Lists of changes that are made one after the other, and what is then found.
 type Case<'a> = (&'a [Changes<'a>], Found);
 
 const HEADER: Finding = Damaged(Place::Header);
@@ -25,14 +25,14 @@ const NO_SLOT: Finding = Damaged(Place::NoSlot);
 
 const CHARGE: Finding = Damaged(Place::Charge);
 
-// The slots of the manifest.
+// Findings in the slots of the manifest.
 const SLOT_0: Finding = Damaged(Place::Slot(0));
 
 const SLOT_1: Finding = Damaged(Place::Slot(1));
 
 const SORTED_DIGEST: Finding = Damaged(Place::SortedDigest);
 
-// The finding for which a store was not opened.
+// The finding for which an opening was refused.
 fn finding_of(refusal: Refusal<MemFault>) -> Result<Finding, Fail> {
     match refusal {
         Refusal::NotFormatted => Ok(NotFormatted),
@@ -42,7 +42,8 @@ fn finding_of(refusal: Refusal<MemFault>) -> Result<Finding, Fail> {
     }
 }
 
-// Opens a store on a disk of these bytes, and looks at the disk once more. Where it is refused nothing was written.
+// Opens a store on a disk of these bytes, and checks the disk once more. A refused opening has
+// written nothing.
 fn opened(rt: &impl Abort, alloc: Global, disk: MemDisk, bytes: &[u8]) -> Result<Found, Fail> {
     match Core::open(alloc, disk) {
         Ok(core) => checked(alloc, &core.close()),
@@ -53,7 +54,8 @@ fn opened(rt: &impl Abort, alloc: Global, disk: MemDisk, bytes: &[u8]) -> Result
     }
 }
 
-// What is found on a device of these bytes, before and after an opening, and by it.
+// What a check of a device of these bytes finds. An opening finds the same, and so does a check
+// after it.
 fn looked_at(rt: &impl Abort, alloc: Global, bytes: &[u8]) -> Result<Found, Fail> {
     let disk = MemDisk::with_bytes(alloc, bytes)?;
     let told = checked(alloc, &disk)?;
@@ -72,7 +74,7 @@ fn is_opened_so(
     Ok(told)
 }
 
-// What is found on a device of these bytes behind these changes.
+// What is found on a device of these bytes after these changes.
 fn looked_behind(
     rt: &impl Abort,
     alloc: Global,
@@ -86,7 +88,7 @@ fn looked_behind(
     looked_at(rt, alloc, &bytes)
 }
 
-// Each of these cases of a device of these bytes.
+// Tries each of these cases on a device of these bytes.
 fn look_at_each(rt: &impl Abort, alloc: Global, whole: &[u8], cases: &[Case]) -> Result<(), Fail> {
     for (all, expected) in cases {
         let found = looked_behind(rt, alloc, whole, all)?;
@@ -95,7 +97,7 @@ fn look_at_each(rt: &impl Abort, alloc: Global, whole: &[u8], cases: &[Case]) ->
     Ok(())
 }
 
-// Each of these cases of an empty store of the small geometry without digests.
+// Tries each of these cases on an empty store of the small geometry without digests.
 fn look_at_small(rt: &impl Abort, alloc: Global, cases: &[Case]) -> Result<(), Fail> {
     let whole = small_blank(rt, alloc)?;
     look_at_each(rt, alloc, &whole, cases)
@@ -111,7 +113,7 @@ fn looked_changed(
     looked_at(rt, alloc, &bytes)
 }
 
-// One byte of a device of these bytes is changed: its place, the byte that is then there, and what is found.
+// Changes single bytes of a device: the place, the new byte, and what is then found.
 fn find_each_byte(
     rt: &impl Abort,
     alloc: Global,
@@ -125,7 +127,8 @@ fn find_each_byte(
     Ok(())
 }
 
-// Bytes of a device are changed one after the other. What is found first decides.
+// Changes bytes of a device one after the other. Each time the finding that comes first in the
+// order is reported.
 fn find_in_turn(
     rt: &impl Abort,
     alloc: Global,
@@ -140,7 +143,7 @@ fn find_in_turn(
     Ok(())
 }
 
-// The first bytes of a device, as many as this, with these changes, and what is found there.
+// Tries the first bytes of a device, this many, with these changes, and compares what is found.
 fn find_each_cut(
     rt: &impl Abort,
     alloc: Global,

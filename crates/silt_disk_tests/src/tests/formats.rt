@@ -1,4 +1,4 @@
-// The device calls that a formatting and an opening make, by a stop at each, and reads that fail.
+// The device calls of a formatting and of an opening, with a crash at each, and failed reads.
 
 use super::{Changes, EMPTY, checked, small_blank};
 use silt_device::{Call, FaultDisk, Fill, MemDisk, Stop, Stoppable};
@@ -14,7 +14,7 @@ use std::test::Fail;
 // How many writes and syncs a formatting makes.
 const FORMAT_CALLS: u32 = 15;
 
-// A disk of these bytes whose first life ends at this write or sync.
+// A disk of these bytes that crashes at this write or sync.
 fn stopping(alloc: Global, bytes: &[u8], k: u32, fill: Fill) -> Result<MemDisk, Fail> {
     let mut stops = Vec::new(alloc);
     stops.push(Stop { k, fill })?;
@@ -38,7 +38,8 @@ fn end_of<F: Drop>(error: &FormatError<F>) -> End {
     }
 }
 
-// Formats a device of so many of these bytes as a small store, stopped at this write or sync: how it ends, and the disk after the stop.
+// Formats a device of this many of these bytes as a small store, with a crash at this write or
+// sync. Returns how the formatting ends, and the disk after the crash.
 fn formatted(
     alloc: Global,
     (len, byte): (usize, u8),
@@ -52,7 +53,8 @@ fn formatted(
     }
 }
 
-// A formatting of zeros, stopped so. A stop leaves no store or an empty one, and only the last two calls may leave one.
+// A crash in a formatting of zeros leaves no store or an empty one. Only one at the last two calls
+// may leave a store.
 fn leaves_no_other_store(rt: &impl Abort, alloc: Global, k: u32, fill: Fill) -> Result<(), Fail> {
     let (disk, end) = formatted(alloc, (SMALL_LEN, 0), k, fill)?;
     let left = checked(alloc, &disk)?;
@@ -78,7 +80,7 @@ fn a_stopped_formatting_leaves_no_other_store(rt: HostRuntime) -> Result<(), Fai
     Ok(())
 }
 
-// On a device of another length no call is made: the first would fail.
+// A device of another length is refused with no call: the first one would fail.
 #[test]
 fn formats_no_other_length(rt: HostRuntime) -> Result<(), Fail> {
     let (disk, end) = formatted(rt.alloc(), (45_055, 0), 1, Fill::Ones)?;
@@ -88,7 +90,7 @@ fn formats_no_other_length(rt: HostRuntime) -> Result<(), Fail> {
     Ok(())
 }
 
-// The gates of both logs that a device shows.
+// The gates of both logs on a device.
 fn gates_of(rt: &impl Abort, shown: &[u8]) -> [u8; 8] {
     assert!(rt; shown.len() == SMALL_LEN);
     let mut gates = [0; 8];
@@ -97,7 +99,8 @@ fn gates_of(rt: &impl Abort, shown: &[u8]) -> [u8; 8] {
     gates
 }
 
-// Whether a device of these bytes is opened if this write or sync is stopped, and what it then shows of the gates of both logs.
+// The gates of both logs after an opening of a device of these bytes that crashes at this write or
+// sync. None if the opening fails.
 fn opened(rt: &impl Abort, alloc: Global, bytes: &[u8], k: u32) -> Result<Option<[u8; 8]>, Fail> {
     match open(alloc, stopping(alloc, bytes, k, Fill::Old)?) {
         Ok(opened) => Ok(Some(gates_of(rt, opened.disk.shown()))),
@@ -108,13 +111,14 @@ fn opened(rt: &impl Abort, alloc: Global, bytes: &[u8], k: u32) -> Result<Option
     }
 }
 
-// Log 1 is frozen, and its second gate is open behind a closed one; then the third gate of the active log is open behind closed ones.
+// Log 1 is frozen, and its second gate is open after a closed one. In the second case the third
+// gate of the active log is open after closed ones too.
 const OPEN_BEHIND: [(Changes, u32); 2] = [
     (&[(4112, 1), (4116, 1), (20_481, 0xA7)], 1),
     (&[(4112, 1), (4116, 1), (20_481, 0xA7), (12_290, 0xA7)], 3),
 ];
 
-// A device of these bytes is opened with so many writes and syncs.
+// An opening of a device of these bytes makes exactly this many writes and syncs.
 fn opens_in(rt: &impl Abort, alloc: Global, bytes: &[u8], calls: u32) -> Result<(), Fail> {
     for k in 1..calls.saturating_add(2) {
         let gates = opened(rt, alloc, bytes, k)?;
@@ -124,7 +128,8 @@ fn opens_in(rt: &impl Abort, alloc: Global, bytes: &[u8], calls: u32) -> Result<
     Ok(())
 }
 
-// A sync, and if a gate of the active log past its first closed one is open, a write and a sync. Frozen logs are only read.
+// An opening makes a sync. If a gate of the active log past its first closed one is open, it also
+// makes a write and a sync. It never writes to a frozen log.
 #[test]
 fn seals_the_active_log_alone(rt: HostRuntime) -> Result<(), Fail> {
     for (changes, calls) in OPEN_BEHIND {
@@ -140,7 +145,8 @@ fn small_changed(rt: &impl Abort, alloc: Global, changes: &[(usize, u8)]) -> Res
     changed(alloc, &whole, changes)
 }
 
-// Whether a check of a disk of these bytes is refused with a fault if this read fails, and whether it is answered.
+// Whether a check of a disk of these bytes is refused with a fault if this read fails, and whether
+// it succeeds.
 fn checked_at(alloc: Global, bytes: &[u8], number: u64) -> Result<(bool, bool), Fail> {
     let disk = FaultDisk::new(MemDisk::with_bytes(alloc, bytes)?, Call::Read, number);
     match check(alloc, &disk) {
@@ -150,7 +156,7 @@ fn checked_at(alloc: Global, bytes: &[u8], number: u64) -> Result<(bool, bool), 
     }
 }
 
-// A device of these bytes is checked with so many reads, of which each may fail.
+// A check of a device of these bytes makes exactly this many reads, and returns the fault of each.
 fn checks_in(rt: &impl Abort, alloc: Global, bytes: &[u8], reads: u64) -> Result<(), Fail> {
     for number in 1..reads.saturating_add(2) {
         let answer = checked_at(alloc, bytes, number)?;
@@ -159,8 +165,8 @@ fn checks_in(rt: &impl Abort, alloc: Global, bytes: &[u8], reads: u64) -> Result
     Ok(())
 }
 
-// An empty store is read in four reads: the header, two slots, the gates. A hash store of eight slots is read in one read more, and so are
-// three sorted entries.
+// A check of an empty store makes four reads: the header, two slots, and the gates. The eight slots
+// of a hash store take one more, and so do three sorted entries.
 const READS: [(Changes, u64); 3] = [
     (&[], 4),
     (&[(4144, 1)], 5),
@@ -176,8 +182,8 @@ fn hands_on_each_fault_of_a_read(rt: HostRuntime) -> Result<(), Fail> {
     Ok(())
 }
 
-// What a get answers from these bytes if the read of this number fails: whether there is a value, none after a fault, and the
-// bytes of the value.
+// A get on a device of these bytes, on which the read of this number fails. Returns whether there
+// is a value, or none after a fault, and the bytes of the value.
 fn got(
     alloc: Global,
     bytes: &[u8],
@@ -194,10 +200,11 @@ fn got(
     Ok((answer.ok(), value))
 }
 
-// Three sorted entries, of which the second has a value.
+// Three sorted entries. The second has a value other than zeros.
 const WITH_A_VALUE: Changes = &[(4216, 3), (36_886, 1), (36_906, 7), (36_908, 2)];
 
-// An opening reads a store of three sorted entries in five reads. A get of one of them then makes one.
+// An opening of a store of three sorted entries makes five reads. A get of one of them then makes
+// one.
 #[test]
 fn gets_an_entry_in_one_read(rt: HostRuntime) -> Result<(), Fail> {
     let bytes = small_changed(&rt, rt.alloc(), WITH_A_VALUE)?;
@@ -211,14 +218,14 @@ fn reads_once(rt: &impl Abort, alloc: Global, bytes: &[u8]) -> Result<(), Fail> 
     Ok(())
 }
 
-// The gates of the header, of the manifest's slots and of the first log that a device shows.
+// The gates of the header, of the manifest's slots and of the first row of log 0 on a device.
 fn first_gates(rt: &impl Abort, shown: &[u8]) -> [u8; 4] {
     assert_eq!(rt; shown.len(), SMALL_LEN);
     [shown[0], shown[4096], shown[8192], shown[12_288]]
 }
 
-// What they are after a stop at each call of a formatting, on a device of ones whose pending bytes are then all new: a gate is closed
-// with a zero, and opened with 0xA7.
+// The gates after a crash at each call of a formatting, on a device of ones whose pending bytes all
+// become new. A gate is closed with a zero, and opened with 0xA7.
 #[test]
 fn closes_gates_with_zeros(rt: HostRuntime) -> Result<(), Fail> {
     for k in 1..FORMAT_CALLS + 1 {

@@ -1,4 +1,4 @@
-// Stores at the limits of their numbers, if there is ample memory.
+// Stores at the limits of their numbers.
 
 use silt_device::{Disk, Geometry};
 use silt_fixtures::{key, opened_with};
@@ -41,7 +41,8 @@ fn finds<D: Disk>(rt: &impl Abort, alloc: Global, core: &mut Core<D>, value: &[u
     assert!(rt; is_listed(alloc, core, value));
 }
 
-// The longest values, put, flushed, and found by a get of events and by a list of all entries.
+// A store with the longest values finds one after a put and a flush, by a get and in the list of
+// all entries.
 #[test]
 fn finds_the_longest_values(rt: HostRuntime) -> Result<(), Fail> {
     let geometry = Geometry::new(4096, 2, 4, 2, 2, 8).ok().ok_or("in limits")?;

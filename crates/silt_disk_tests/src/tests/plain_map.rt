@@ -1,4 +1,4 @@
-// A long run of pseudo-random events, answered as a plain map answers them.
+// A long run of pseudo-random events, with the replies of a plain map.
 
 use super::{generation_of, key_of, next};
 use silt_device::{Disk, Geometry};
@@ -10,10 +10,10 @@ use std::collections::BTreeMap;
 use std::process::Abort;
 use std::test::Fail;
 
-// How many keys the events name.
+// The number of keys in the events.
 const KEYS: u8 = 40;
 
-// Puts a value. A put that finds all logs in use changes nothing.
+// Puts a value. A put that finds no room in the logs changes nothing.
 fn put<D: Disk>(
     rt: &impl Abort,
     alloc: Global,
@@ -41,7 +41,8 @@ fn compared(map: &BTreeMap<Key, [u8; 2]>, key: &Key, own: bool, other: [u8; 2]) 
     }
 }
 
-// Swaps a value. One that finds all logs in use changes nothing, but only where the key has the value that it compares with.
+// Swaps a value. A swap is refused for lack of room only if the key has the old value, and then it
+// changes nothing.
 fn swap<D: Disk>(
     rt: &impl Abort,
     alloc: Global,
@@ -64,7 +65,7 @@ fn swap<D: Disk>(
     Ok(())
 }
 
-// Takes a value away. A delete that finds all logs in use changes nothing.
+// Deletes a key. A delete that finds no room in the logs changes nothing.
 fn delete<D: Disk>(
     alloc: Global,
     core: &mut Core<D>,
@@ -95,8 +96,9 @@ fn get<D: Disk>(
     Ok(())
 }
 
-// Does the event of this number: three of sixteen are puts, one is a delete, one a get, one a flush, one a swap, four are steps of
-// conversion and five of merging. Half of the swaps are of the key's own value.
+// Runs the event of this number. Of sixteen three are puts, one is a delete, one a get, one a
+// flush, one a swap, four are steps of conversion and five of merging. Half of the swaps compare
+// with the key's own value.
 fn step<D: Disk>(
     rt: &impl Abort,
     alloc: Global,
@@ -143,7 +145,7 @@ fn has_entries<D: Disk>(
     Ok(())
 }
 
-// Two thousand events, with a look at all entries behind every fiftieth.
+// Runs two thousand events, and compares all entries after every fiftieth.
 fn run<D: Disk>(rt: &impl Abort, alloc: Global, core: &mut Core<D>) -> Result<(), Fail> {
     let mut map = BTreeMap::new(alloc);
     let mut number = 1;
@@ -153,7 +155,7 @@ fn run<D: Disk>(rt: &impl Abort, alloc: Global, core: &mut Core<D>) -> Result<()
     Ok(())
 }
 
-// The fifty events behind this number, and a look at all entries.
+// Runs the fifty events after this number, and compares all entries.
 fn fifty<D: Disk>(
     rt: &impl Abort,
     alloc: Global,
@@ -169,7 +171,8 @@ fn fifty<D: Disk>(
     Ok(number)
 }
 
-// On the way logs were frozen, converted and merged again and again: each time the manifest took its next generation.
+// All replies are those of a plain map. The generation of the manifest shows that logs were frozen,
+// converted and merged many times.
 #[test]
 fn answers_as_a_plain_map(rt: HostRuntime) -> Result<(), Fail> {
     let geometry = Geometry::new(2, 4, 8, 3, 3, 200).ok().ok_or("in limits")?;

@@ -1,5 +1,5 @@
-// Many lives of pseudo-random events on one disk, of either version, each stopped at a pseudo-random call with a pseudo-random fill,
-// beside a plain map.
+// Many lives of pseudo-random events on one disk, of either version. Each crashes at a
+// pseudo-random call with a pseudo-random fill, and is compared with a plain map.
 
 use super::{generation_of, key_of, next};
 use silt_device::{Disk, Fill, Geometry, MemDisk, Stop, Stoppable};
@@ -12,10 +12,10 @@ use std::collections::BTreeMap;
 use std::process::Abort;
 use std::test::Fail;
 
-// How many keys the events name.
+// The number of keys in the events.
 const KEYS: usize = 10;
 
-// How many lives there are, and how many events a life has at most.
+// The number of lives, and the most events of one life.
 const LIVES: u32 = 100;
 
 const EVENTS: u32 = 120;
@@ -23,8 +23,8 @@ const EVENTS: u32 = 120;
 // The value of each key, 0 for none.
 type Values = [u16; KEYS];
 
-// The values that a stop may leave: those after the acknowledged commands, and those after each command accepted since, the last of
-// which are what gets answer.
+// The values that a crash may leave: those after the acknowledged commands, and those after each
+// command accepted since. The gets of this life see the last ones.
 type Kept = Vec<Values>;
 
 fn fill_of(number: u8) -> Fill {
@@ -37,7 +37,7 @@ fn fill_of(number: u8) -> Fill {
     }
 }
 
-// A stop for each life: at one of its first calls, at its end, or past it.
+// A crash for each life: at one of its first calls, at its end, or past it.
 fn random_stops(alloc: Global, seed: u32) -> Result<Vec<Stop>, AllocError> {
     let mut stops = Vec::new(alloc);
     let mut number = seed;
@@ -52,7 +52,7 @@ fn random_stops(alloc: Global, seed: u32) -> Result<Vec<Stop>, AllocError> {
     Ok(stops)
 }
 
-// The values in a list of entries, which has no others.
+// The values in a list of entries, which has no other keys.
 fn values_of(rt: &impl Abort, entries: &BTreeMap<Key, Value>) -> Values {
     let mut values = [0; KEYS];
     let mut known = 0usize;
@@ -70,7 +70,7 @@ fn now(kept: &[Values]) -> Values {
     kept.last().copied().unwrap_or([0; KEYS])
 }
 
-// A command was accepted that gives a key this value, 0 for none.
+// Records that an accepted command gave a key this value, 0 for none.
 fn accept(kept: &mut Kept, place: u8, value: u16) -> Result<(), AllocError> {
     let mut values = now(kept);
     if let Some(old) = values.get_mut(place as usize) {
@@ -80,7 +80,7 @@ fn accept(kept: &mut Kept, place: u8, value: u16) -> Result<(), AllocError> {
     Ok(())
 }
 
-// Puts a value. Says whether the life goes on, as all of these do.
+// Puts a value. Like all calls here it returns whether the life goes on.
 fn put<D: Disk>(
     rt: &impl Abort,
     alloc: Global,
@@ -102,13 +102,15 @@ fn put<D: Disk>(
     }
 }
 
-// A swap that changes nothing has this reply only where it is due. The life goes on.
+// A swap that changes nothing got this reply, which has to be the one that is due. The life goes
+// on.
 fn goes_on(rt: &impl Abort, is_due: bool) -> bool {
     assert!(rt; is_due);
     true
 }
 
-// Swaps this value for a key's own if `own` is true and it has one, or else for one that no key has. Says whether the life goes on.
+// Swaps this value for a key's own if `own` is true and the key has one, or else for one that no
+// key has. Returns whether the life goes on.
 fn swap<D: Disk>(
     rt: &impl Abort,
     alloc: Global,
@@ -176,7 +178,7 @@ fn flush<D: Disk>(core: &mut Core<D>, kept: &mut Kept) -> Result<bool, Fail> {
     }
 }
 
-// A step of the background work.
+// The life goes on after this step of the background work unless the step failed with a fault.
 fn work<T: Drop, F: Drop>(done: Result<T, Refusal<F>>) -> Result<bool, Fail> {
     match done {
         Ok(_) => Ok(true),
@@ -185,8 +187,9 @@ fn work<T: Drop, F: Drop>(done: Result<T, Refusal<F>>) -> Result<bool, Fail> {
     }
 }
 
-// Does the event of this number: five of sixteen are puts, one is a delete, one a get, one a flush, one a swap, three are steps of
-// conversion and four of merging. Most of the swaps are of the key's own value.
+// Runs the event of this number. Of sixteen five are puts, one is a delete, one a get, one a flush,
+// one a swap, three are steps of conversion and four of merging. Most of the swaps compare with the
+// key's own value.
 fn step<D: Disk>(
     rt: &impl Abort,
     alloc: Global,
@@ -219,7 +222,8 @@ fn is_failed<D: Disk>(alloc: Global, core: &Core<D>) -> bool {
     matches!(core.entries(alloc), Err(Refusal::Failed))
 }
 
-// What the opening found is one of the values that may be kept, and those alone stand from now on.
+// The opening found one of the sets of values that a crash may leave. From now on only that one
+// counts.
 fn take_up<D: Disk>(
     rt: &impl Abort,
     alloc: Global,
@@ -233,7 +237,8 @@ fn take_up<D: Disk>(
     Ok(())
 }
 
-// The events of a life from this number on, until one is refused with a fault. A life without one has at its end the entries of the map.
+// Runs events of a life from this number on, until one is refused with a fault. If none is, the
+// store ends with the values of the map.
 fn events<D: Disk>(
     rt: &impl Abort,
     alloc: Global,
@@ -253,7 +258,7 @@ fn events<D: Disk>(
     Ok(number)
 }
 
-// The events of a life whose store is opened.
+// Runs the events of a life whose store is open.
 fn lived<D: Disk>(
     rt: &impl Abort,
     alloc: Global,
@@ -265,7 +270,7 @@ fn lived<D: Disk>(
     events(rt, alloc, core, kept, number)
 }
 
-// A life, and the stop that ends it.
+// Runs a life, and crashes the disk.
 fn life(
     rt: &impl Abort,
     alloc: Global,
@@ -288,7 +293,7 @@ fn life(
     }
 }
 
-// All lives on this disk, whose store has no entries.
+// Runs all lives on this disk, whose store has no entries.
 fn lives(rt: &impl Abort, alloc: Global, mut disk: MemDisk, seed: u32) -> Result<MemDisk, Fail> {
     let mut kept = Vec::new(alloc);
     kept.push([0; KEYS])?;
@@ -301,7 +306,7 @@ fn lives(rt: &impl Abort, alloc: Global, mut disk: MemDisk, seed: u32) -> Result
     Ok(disk)
 }
 
-// A new disk of this geometry and this version that is stopped so.
+// A new disk of this geometry and version with these crashes.
 fn stopping(
     alloc: Global,
     geometry: Geometry,
@@ -312,7 +317,8 @@ fn stopping(
     Ok(MemDisk::with_bytes(alloc, &bytes)?.arm(stops))
 }
 
-// All lives on such a disk. On the way logs were frozen, converted and merged: each time the manifest took its next generation.
+// Runs all lives on such a disk. The generation of the manifest shows that logs were frozen,
+// converted and merged many times.
 fn all_lives(
     rt: &impl Abort,
     alloc: Global,

@@ -11,7 +11,8 @@ use std::alloc::Global;
 use std::process::Abort;
 use std::test::Fail;
 
-// A key of these first bytes, of the bytes 0 and 1 its first bucket, of the bytes 2 and 3 its second.
+// A key with these first bytes. The bytes 0 and 1 give its first bucket, the bytes 2 and 3 its
+// second one.
 fn key_of(first: [u8; 5]) -> Key {
     let mut bytes = [0; 20];
     bytes[..5].copy_from_slice(&first);
@@ -37,8 +38,8 @@ fn find_all<D: Disk>(rt: &impl Abort, core: &Core<D>, keys: &[[u8; 5]]) {
     }
 }
 
-// Puts a value for each of these keys into a new store of two buckets and logs of eight rows, flushes, gets each, and returns what
-// a check of the device finds.
+// Puts a value for each of these keys into a new store of two buckets and logs of eight rows,
+// flushes, and gets each. Returns the report of a check.
 fn report_after(rt: &impl Abort, alloc: Global, keys: &[[u8; 5]]) -> Result<Report, Fail> {
     let mut core = opened_with(alloc, of_regions(8, 2, 2, 16)?)?;
     put_all(rt, alloc, &mut core, keys);
@@ -46,7 +47,7 @@ fn report_after(rt: &impl Abort, alloc: Global, keys: &[[u8; 5]]) -> Result<Repo
     Ok(check(alloc, &core.close()).ok().ok_or("is whole")?)
 }
 
-// The first log is frozen, and one row is in the next.
+// The first log is frozen, and the next one has one row.
 const FROZEN: Report = Report {
     generation: 1,
     active: 1,
@@ -55,7 +56,8 @@ const FROZEN: Report = Report {
     ..EMPTY
 };
 
-// Five keys of one bucket: the fifth finds no place, and the log is frozen with four rows. Nine keys of the same two buckets: eight fit.
+// Of five keys of one bucket the fifth finds no place, and the log is frozen with four rows. Of
+// nine keys of the same two buckets eight fit.
 #[test]
 fn reports_a_log_of_one_bucket_and_one_of_two(rt: HostRuntime) -> Result<(), Fail> {
     let one = [1u8, 2, 3, 4, 5].map(|first| [first, 0, 0, 0, 0]);
@@ -88,7 +90,8 @@ fn put_five<D: Disk>(rt: &impl Abort, alloc: Global, core: &mut Core<D>) {
 const OF_NO_ENTRIES: &[u8] =
     b"\xda\x39\xa3\xee\x5e\x6b\x4b\x0d\x32\x55\xbf\xef\x95\x60\x18\x90\xaf\xd8\x07\x09";
 
-// Slot 1 is open with generation 1, log 1 active and log 0 frozen, and no hash stores: their digests are zeros.
+// Slot 1 is open with generation 1, log 1 active, log 0 frozen, and no hash stores, whose digests
+// are zeros.
 fn has_frozen(rt: &impl Abort, shown: &[u8]) {
     let body =
         b"\xa7\x80\x00\x00\x00\x00\x00\x00\x01\x00\x00\x00\x01\x00\x00\x00\x01\x00\x00\x00\x00";

@@ -56,7 +56,7 @@ fn flushed(alloc: Global) -> Result<MemFile, Fail> {
     Ok(core.close().into_file())
 }
 
-// The values of both keys, of the store that is opened again in a file with these bytes.
+// Opens the store in a file with these bytes, and returns the values of both keys.
 fn found(alloc: Global, bytes: Vec<u8>) -> Result<[Option<[u8; 2]>; 2], Fail> {
     let folder = MemFolder::new(alloc, bytes);
     let disk = RandomAccessDisk::open(&folder, "disk")?;
@@ -64,7 +64,8 @@ fn found(alloc: Global, bytes: Vec<u8>) -> Result<[Option<[u8; 2]>; 2], Fail> {
     Ok([value_of(&core, 1)?, value_of(&core, 2)?])
 }
 
-// A stop that leaves none of the pending bytes leaves the value that was flushed.
+// After a crash that leaves none of the pending bytes, the store has the flushed value and not the
+// other one.
 #[test]
 fn a_file_that_behaves_keeps_what_was_flushed(rt: HostRuntime) -> Result<(), Fail> {
     let bytes = flushed(rt.alloc())?.after_stop()?;

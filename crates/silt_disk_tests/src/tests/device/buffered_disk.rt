@@ -1,4 +1,5 @@
-// What no clause says of a disk that buffers: how often it calls the inner disk, and what that one holds meanwhile.
+// A disk that buffers: how often it calls the inner disk, and which bytes the inner disk has
+// meanwhile.
 use super::{Step, do_all, four_at, write_at};
 use silt_device::{BufferedDisk, Call, Disk, FaultDisk, MemDisk, Stoppable};
 use std::alloc::Global;
@@ -7,8 +8,9 @@ use std::test::Fail;
 
 const LEN: u64 = 24;
 
-// Writes one after the other: two that are buffered, one that fills the room, one that finds none, one elsewhere, one over what is
-// buffered, one longer than the room, one behind it, and one of no bytes.
+// Writes in turn: two that are buffered, one that fills the room, one that finds no room, one
+// elsewhere, one over buffered bytes, one longer than the room, one right after it, and one of no
+// bytes.
 const WRITES: [(u64, &[u8]); 9] = [
     (4, &[0x11, 0x12, 0x13]),
     (7, &[0x21, 0x22]),
@@ -26,7 +28,7 @@ fn write_within<D: Disk>(disk: &mut D, at: u64, bytes: &[u8]) -> bool {
     disk.len() == LEN && write_at(disk, at, bytes)
 }
 
-// The four bytes from a place on, if the disk has LEN bytes and gives them.
+// The four bytes from a place on, if the disk has LEN bytes and the read succeeds.
 fn four_within<D: Disk>(disk: &D, at: u64) -> Option<[u8; 4]> {
     if disk.len() != LEN {
         return None;
@@ -34,7 +36,7 @@ fn four_within<D: Disk>(disk: &D, at: u64) -> Option<[u8; 4]> {
     four_at(disk, at)
 }
 
-// The bytes from a place on to the end.
+// The bytes from a place to the end of the disk.
 fn tail_of<D: Disk>(disk: &D, at: u64) -> Option<[u8; 24]> {
     let mut read = [0; 24];
     if disk.len() != LEN || at > LEN {
@@ -45,7 +47,7 @@ fn tail_of<D: Disk>(disk: &D, at: u64) -> Option<[u8; 24]> {
     Some(read)
 }
 
-// The first place from which two disks do not read alike: four bytes, or all to the end.
+// The first place from which two disks return different bytes, either four or all to the end.
 fn first_difference<A: Disk, B: Disk>(one: &A, other: &B) -> Option<u64> {
     (0..=LEN).find(|&place| {
         tail_of(one, place) != tail_of(other, place) || four_at(one, place) != four_at(other, place)
@@ -57,7 +59,7 @@ fn buffered(alloc: Global, call: Call, number: u64) -> Result<BufferedDisk<Fault
     Ok(BufferedDisk::with_room(alloc, disk, 8)?)
 }
 
-// All these writes to two disks, which read alike behind each; and a sync of the first.
+// Makes these writes to two disks, which return the same bytes after each, and syncs the first one.
 fn write_to_both<A: Disk, B: Disk>(
     rt: &impl Abort,
     disk: &mut A,
@@ -73,13 +75,14 @@ fn write_to_both<A: Disk, B: Disk>(
     assert!(rt; disk.sync().is_ok());
 }
 
-// What two disks show, of which the first is stopped.
+// After a crash of the first disk both have the same bytes.
 fn show_alike(rt: &impl Abort, disk: BufferedDisk<FaultDisk>, plain: &MemDisk) {
     let left = disk.into_inner().into_disk().restart();
     assert_eq!(rt; left.shown(), plain.shown());
 }
 
-// Each read, whether it begins before, in or behind what is buffered, gives what a disk gives that buffers nothing.
+// Each read returns what a disk without a buffer returns, whether it begins before, in or after the
+// buffered bytes.
 #[test]
 fn it_shows_what_was_written(rt: HostRuntime) -> Result<(), Fail> {
     let mut plain = MemDisk::new(rt.alloc(), 24)?;
@@ -89,8 +92,8 @@ fn it_shows_what_was_written(rt: HostRuntime) -> Result<(), Fail> {
     Ok(())
 }
 
-// Which write of the inner disk fails, how many of the writes then do, and whether the sync is answered Ok: the nine writes cost
-// five of the inner disk, and the sync the sixth.
+// Which write of the inner disk fails, how many of the nine writes then fail, and whether the sync
+// succeeds. The nine writes make five writes of the inner disk, and the sync makes the sixth.
 const FAILURES: [(u64, u32, bool); 7] = [
     (1, 1, true),
     (2, 1, true),
@@ -112,7 +115,8 @@ fn count_failed<D: Disk>(disk: &mut D, writes: &[(u64, &[u8])]) -> u32 {
     failed
 }
 
-// How many of the writes fail if this one of the inner disk does, and whether the sync is answered Ok.
+// How many of the nine writes fail if this write of the inner disk does, and whether the sync
+// succeeds.
 fn answered(alloc: Global, number: u64) -> Result<(u32, bool), Fail> {
     let mut disk = buffered(alloc, Call::Write, number)?;
     let failed = count_failed(&mut disk, &WRITES);
@@ -137,8 +141,8 @@ const FIRST_WRITE_FAILS: [Step; 5] = [
     Step::Sync(true),
 ];
 
-// If the buffered bytes cannot be written, they are still shown, and the next sync writes them. The write that is refused is
-// pending: a stop may leave anything in its range.
+// If the buffered bytes cannot be written, reads still return them, and the next sync writes them.
+// The range of the refused write is pending: a crash may leave any bytes there.
 #[test]
 fn a_failed_write_keeps_what_is_buffered(rt: HostRuntime) -> Result<(), Fail> {
     let mut disk = buffered(rt.alloc(), Call::Write, 1)?;
@@ -148,14 +152,14 @@ fn a_failed_write_keeps_what_is_buffered(rt: HostRuntime) -> Result<(), Fail> {
     Ok(())
 }
 
-// One write before a sync, and one behind it.
+// One write before a sync, and one after it.
 const ONE_SYNCED: [Step; 3] = [
     Step::Write(0, &[0x11], true),
     Step::Sync(true),
     Step::Write(1, &[0x12], true),
 ];
 
-// What was buffered and not synced a stop takes away.
+// A crash loses the bytes that were buffered and not synced.
 #[test]
 fn a_stop_forgets_what_is_buffered(rt: HostRuntime) -> Result<(), Fail> {
     let mut disk = BufferedDisk::new(rt.alloc(), MemDisk::new(rt.alloc(), 24)?)?;
@@ -173,7 +177,7 @@ const FIRST_READ_FAILS: [Step; 4] = [
     Step::Read(5, Some([0x12, 0x13, 0x14, 0])),
 ];
 
-// Bytes that are buffered are read with no call of the inner disk, and others with one.
+// A read of buffered bytes makes no call of the inner disk. Any other read makes one.
 #[test]
 fn buffered_bytes_are_read_without_a_call(rt: HostRuntime) -> Result<(), Fail> {
     let mut disk = buffered(rt.alloc(), Call::Read, 1)?;

@@ -1,5 +1,5 @@
-// What no clause says of a disk in a file: the bytes that the file holds, and which errors it gives. Each test has a folder or a
-// file of its own, in the folder that it runs in, and takes it away at its end.
+// Disks in files: the bytes of the file, and the errors of each call. Each test uses a folder or
+// file of its own in the current folder, and removes it at the end.
 use super::{FIRST, SECOND, Step, first_wrong, four_at};
 use silt_device::{Disk, DiskSource, FileDisk, FileDisks, MemDisk, NamedDisk, write_synced};
 use std::alloc::{AllocError, Global};
@@ -7,7 +7,7 @@ use std::fs::{self, File};
 use std::io::{self, ErrorKind};
 use std::test::Fail;
 
-// Makes a folder, without what an earlier run left in it.
+// Makes an empty folder, and removes what an earlier run left in it.
 fn make_folder(runtime: &HostRuntime, name: &str) -> io::Result<()> {
     if fs::exists(runtime, name)? {
         fs::remove_dir_all(runtime, name)?;
@@ -23,14 +23,16 @@ fn len_of(answer: io::Result<FileDisk>) -> Result<u64, ErrorKind> {
     }
 }
 
-// Behind FIRST at 1 of a disk of nine bytes: SECOND over its end and one byte at the disk's, and a sync.
+// The calls after the write of FIRST at place 1 of a disk of nine bytes. They write SECOND over its
+// end, write the last byte of the disk, and sync.
 const PARTS: [Step; 3] = [
     Step::Write(3, &SECOND, true),
     Step::Write(8, &[0x31], true),
     Step::Sync(true),
 ];
 
-// Writes FIRST with its sync by one call, and then the parts behind it. Whether all that was done.
+// Writes FIRST and syncs by one call, and then makes these calls. Returns whether all of them
+// succeeded.
 fn write_parts<D: Disk>(disk: &mut D) -> bool {
     if disk.len() != 9 {
         return false;
@@ -48,7 +50,7 @@ fn nine_of<D: Disk>(disk: &D) -> Option<[u8; 9]> {
     Some(read)
 }
 
-// A disk of nine bytes that is made and written so: what it then has.
+// Makes a disk of nine bytes, makes these writes, and returns its bytes.
 fn written(rt: &HostRuntime) -> io::Result<Option<[u8; 9]>> {
     let mut disk = FileDisk::create(rt, "kept/disk", 9)?;
     Ok(if write_parts(&mut disk) {
@@ -58,13 +60,14 @@ fn written(rt: &HostRuntime) -> io::Result<Option<[u8; 9]>> {
     })
 }
 
-// The length of that disk, opened again, and its last four bytes.
+// Opens that disk again, and returns its length and its last four bytes.
 fn kept(rt: &HostRuntime) -> io::Result<(u64, Option<[u8; 4]>)> {
     let disk = FileDisk::open(rt, "kept/disk")?;
     Ok((disk.len(), four_at(&disk, 5)))
 }
 
-// What was written stands there on a second disk in the same file, and places that were never written hold zeros.
+// A second disk in the same file has the bytes that were written, and zeros where nothing was
+// written.
 #[test]
 fn a_file_keeps_what_was_written(rt: HostRuntime) -> Result<(), Fail> {
     const WRITTEN: [u8; 9] = [0, 0x11, 0x12, 0x23, 0x24, 0x25, 0, 0, 0x31];
@@ -81,7 +84,7 @@ fn holds(rt: &HostRuntime, path: &str, bytes: &[u8]) -> io::Result<bool> {
     Ok(fs::read(rt, path)?.as_slice() == bytes)
 }
 
-// Lengths that are asked for one after the other, and the bytes that the file then has.
+// The lengths of disks that are made one after the other, and the bytes of the file after each.
 const LENGTHS: [(u64, &[u8]); 5] = [
     (4, &FIRST),
     (6, &[0x11, 0x12, 0x13, 0x14, 0, 0]),
@@ -90,7 +93,8 @@ const LENGTHS: [(u64, &[u8]); 5] = [
     (0, &[]),
 ];
 
-// The first of these lengths that a disk is not made with, that its file does not have the bytes of, or that it is not opened with.
+// The first length that fails: no disk is made with it, the file has other bytes, or the disk that
+// is opened has another length.
 fn other_length(rt: &HostRuntime, path: &str, lengths: &[(u64, &[u8])]) -> io::Result<Option<u64>> {
     for (len, held) in lengths {
         let made = len_of(FileDisk::create(rt, path, *len));
@@ -103,7 +107,7 @@ fn other_length(rt: &HostRuntime, path: &str, lengths: &[(u64, &[u8])]) -> io::R
     Ok(None)
 }
 
-// A file that is there keeps its bytes up to the length asked for, and grows by zeros.
+// An existing file keeps its bytes up to the new length, and grows by zeros.
 #[test]
 fn create_gives_the_length(rt: HostRuntime) -> Result<(), Fail> {
     make_folder(&rt, "sized")?;
@@ -113,7 +117,7 @@ fn create_gives_the_length(rt: HostRuntime) -> Result<(), Fail> {
     Ok(())
 }
 
-// The folder of a bare name is the one that the test runs in.
+// A bare name is a path in the current folder.
 #[test]
 fn a_bare_name_is_a_path(rt: HostRuntime) -> Result<(), Fail> {
     assert_eq!(rt; len_of(FileDisk::create(&rt, "bare_name_disk", 1)), Ok(1));
@@ -121,7 +125,7 @@ fn a_bare_name_is_a_path(rt: HostRuntime) -> Result<(), Fail> {
     Ok(())
 }
 
-// Paths at which no disk of such a length is made, and why.
+// Paths and lengths for which no disk is made, and the error.
 const NOT_MADE: [(&str, u64, ErrorKind); 4] = [
     ("wrong/folder/disk", 8, ErrorKind::NotFound),
     ("", 8, ErrorKind::NotFound),
@@ -129,7 +133,7 @@ const NOT_MADE: [(&str, u64, ErrorKind); 4] = [
     ("wrong/disk", 1 << 63, ErrorKind::InvalidInput),
 ];
 
-// The first of these at which a disk is made, or another error is returned.
+// The first of these paths for which a disk is made or the error is another one.
 fn made_at<'a>(rt: &HostRuntime, paths: &[(&'a str, u64, ErrorKind)]) -> Option<&'a str> {
     for (path, len, kind) in paths {
         if len_of(FileDisk::create(rt, path, *len)) != Err(*kind) {
@@ -139,7 +143,8 @@ fn made_at<'a>(rt: &HostRuntime, paths: &[(&'a str, u64, ErrorKind)]) -> Option<
     None
 }
 
-// What an opening of a path with no file returns, and whether there is one then; and what an opening of a folder returns.
+// The error of opening a path with no file, and whether there is a file afterwards; and the error
+// of opening a folder.
 fn opened_wrong(
     rt: &HostRuntime,
 ) -> io::Result<(Result<u64, ErrorKind>, bool, Result<u64, ErrorKind>)> {
@@ -163,7 +168,7 @@ fn a_path_with_no_file_is_an_error(rt: HostRuntime) -> Result<(), Fail> {
     Ok(())
 }
 
-// The kind of the fault of a read of the four bytes from a place on, if the disk has as many.
+// The kind of the error of a read of four bytes from a place on, if the disk has as many.
 fn read_fault(disk: &FileDisk, at: u64) -> Option<ErrorKind> {
     if at > disk.len() || disk.len() - at < 4 {
         return None;
@@ -174,7 +179,7 @@ fn read_fault(disk: &FileDisk, at: u64) -> Option<ErrorKind> {
     }
 }
 
-// The number of the fault of a write of SECOND at the front, if the disk has room for it.
+// The number of the error of a write of SECOND at the front, if the disk has room for it.
 fn write_fault(disk: &mut FileDisk) -> Option<i32> {
     if disk.len() < 3 {
         return None;
@@ -185,7 +190,7 @@ fn write_fault(disk: &mut FileDisk) -> Option<i32> {
     }
 }
 
-// The kind of the fault of a sync.
+// The kind of the error of a sync.
 fn sync_fault(disk: &mut FileDisk) -> Option<ErrorKind> {
     match disk.sync() {
         Ok(()) => None,
@@ -193,14 +198,15 @@ fn sync_fault(disk: &mut FileDisk) -> Option<ErrorKind> {
     }
 }
 
-// A disk of eight bytes whose file is cut to FIRST: a read of these, and the fault of one behind them.
+// A disk of eight bytes whose file is cut to FIRST: what a read of these bytes returns, and the
+// error of a read past them.
 fn cut_short(rt: &HostRuntime) -> io::Result<(Option<[u8; 4]>, Option<ErrorKind>)> {
     let disk = FileDisk::create(rt, "cut/disk", 8)?;
     fs::write(rt, "cut/disk", FIRST.as_slice())?;
     Ok((four_at(&disk, 0), read_fault(&disk, 1)))
 }
 
-// A read fails if somebody cut the file short.
+// A read past the end fails if somebody has cut the file short.
 #[test]
 fn a_read_behind_the_end_fails(rt: HostRuntime) -> Result<(), Fail> {
     make_folder(&rt, "cut")?;
@@ -211,7 +217,8 @@ fn a_read_behind_the_end_fails(rt: HostRuntime) -> Result<(), Fail> {
     Ok(())
 }
 
-// A disk that is read alone: the fault of a write, whether a sync is done behind it, and what is read then.
+// A disk that is opened for reading only: the error of a write, whether a sync then succeeds, and
+// what a read returns.
 fn read_alone(rt: &HostRuntime, path: &str) -> io::Result<(Option<i32>, bool, Option<[u8; 4]>)> {
     let mut disk = FileDisk::open_shared(rt, path)?;
     let fault = write_fault(&mut disk);
@@ -219,7 +226,7 @@ fn read_alone(rt: &HostRuntime, path: &str) -> io::Result<(Option<i32>, bool, Op
     Ok((fault, is_synced, four_at(&disk, 0)))
 }
 
-// A write fails if the file was opened for reading, and then the disk is read and synced as before.
+// A write fails if the file was opened for reading only. Reads and syncs still succeed.
 #[test]
 fn a_write_to_what_is_read_alone_fails(rt: HostRuntime) -> Result<(), Fail> {
     make_folder(&rt, "read")?;
@@ -230,7 +237,7 @@ fn a_write_to_what_is_read_alone_fails(rt: HostRuntime) -> Result<(), Fail> {
     Ok(())
 }
 
-// A sync fails if there is nothing to sync.
+// A sync fails if the system has nothing to sync: here the file is a null device.
 #[test]
 fn a_sync_of_no_file_fails(rt: HostRuntime) -> Result<(), Fail> {
     let mut disk = FileDisk::open_shared(&rt, "/dev/null")?;
@@ -239,7 +246,8 @@ fn a_sync_of_no_file_fails(rt: HostRuntime) -> Result<(), Fail> {
     Ok(())
 }
 
-// What each kind of opening gives: to own the file, to give it two bytes, and to read it alone.
+// What each way of opening returns: as owner, as owner with a length of two bytes, and for reading
+// only.
 fn openings(rt: &HostRuntime, path: &str) -> [Result<u64, ErrorKind>; 3] {
     [
         len_of(FileDisk::open(rt, path)),
@@ -250,7 +258,7 @@ fn openings(rt: &HostRuntime, path: &str) -> [Result<u64, ErrorKind>; 3] {
 
 const BUSY: Result<u64, ErrorKind> = Err(ErrorKind::WouldBlock);
 
-// What they give while a disk is there: one that is made with a length, or else one that is opened.
+// What they return while a disk owns the file. That one was made with a length, or else opened.
 fn beside_owner(rt: &HostRuntime, made: Option<u64>) -> io::Result<[Result<u64, ErrorKind>; 3]> {
     let _owner = match made {
         Some(len) => FileDisk::create(rt, "owned/disk", len)?,
@@ -259,7 +267,8 @@ fn beside_owner(rt: &HostRuntime, made: Option<u64>) -> io::Result<[Result<u64, 
     Ok(openings(rt, "owned/disk"))
 }
 
-// While a disk is there, no other open of its file gets a disk that could change it, and nothing in the file is changed.
+// While a disk owns the file, nobody else can open the file, and a refused opening changes nothing
+// in it.
 #[test]
 fn a_file_has_one_owner(rt: HostRuntime) -> Result<(), Fail> {
     make_folder(&rt, "owned")?;
@@ -271,7 +280,8 @@ fn a_file_has_one_owner(rt: HostRuntime) -> Result<(), Fail> {
     Ok(())
 }
 
-// What they give while another disk reads the file alone, and what a write and reads of that one then return.
+// What they return while another disk has the file open for reading only, and what a write and a
+// read of that one then return.
 fn beside_reader(
     rt: &HostRuntime,
 ) -> io::Result<([Result<u64, ErrorKind>; 3], Option<i32>, Option<[u8; 4]>)> {
@@ -281,7 +291,7 @@ fn beside_reader(
     Ok((answers, fault, four_at(&first, 0)))
 }
 
-// Who only reads shares the file with others that do, and keeps an owner out.
+// Disks that only read share a file, and keep an owner out.
 #[test]
 fn readers_share_a_file(rt: HostRuntime) -> Result<(), Fail> {
     make_folder(&rt, "shared")?;
@@ -295,7 +305,8 @@ fn readers_share_a_file(rt: HostRuntime) -> Result<(), Fail> {
     Ok(())
 }
 
-// The length of the disk that a source opens, or finds and gives a length. None: it gives none.
+// The length of the disk that a source opens, or finds and gives a length. None if it returns no
+// disk.
 fn len_from<S: DiskSource>(alloc: Global, source: S, path: &str, made: Option<u64>) -> Option<u64> {
     let disk = match made {
         Some(len) => S::resize(alloc, source.find(path).ok()?, len),
@@ -309,10 +320,11 @@ fn named_disk(alloc: Global) -> Result<NamedDisk<MemDisk>, AllocError> {
     Ok(NamedDisk::new(String::from_str(alloc, "disk")?, MemDisk::new(alloc, 4)?))
 }
 
-// What a path is asked for, and what it gives.
+// A path, the length to give its disk, and the length of the disk. A first none opens the disk, a
+// second none says that there is no disk.
 type Asked<'a> = (&'a str, Option<u64>, Option<u64>);
 
-// Of a folder with no file.
+// The folder has no file at first.
 const OF_FILES: [Asked; 4] = [
     ("source/disk", None, None),
     ("source/disk", Some(7), Some(7)),
@@ -328,7 +340,7 @@ const OF_A_NAME: [Asked; 5] = [
     ("disks", Some(4), None),
 ];
 
-// The first of these paths at which a source of files gives another disk, and the first at which a source of a named disk does.
+// The first of these paths for which a source of files returns another disk.
 fn files_differ<'a>(rt: &HostRuntime, asked: &[Asked<'a>]) -> Option<&'a str> {
     for (path, made, given) in asked {
         if len_from(rt.alloc(), FileDisks::new(rt), path, *made) != *given {
@@ -347,7 +359,8 @@ fn a_name_differs<'a>(alloc: Global, asked: &[Asked<'a>]) -> Result<Option<&'a s
     Ok(None)
 }
 
-// A source of files gives the disk of the path, and one of a named disk gives it under its name and at its length alone.
+// A source of files returns the disk of the path. A source of a named disk returns it only under
+// its name and with its length.
 #[test]
 fn a_source_gives_the_disk_of_its_path(rt: HostRuntime) -> Result<(), Fail> {
     make_folder(&rt, "source")?;

@@ -1,4 +1,5 @@
-// Damaged devices of version 1, without digests: what is found in each, and of several damages the first.
+// Damaged devices of version 1, without digests: what is found in each, and which of several
+// damages is reported.
 
 use super::{
     CHARGE, HEADER, LENGTH, NO_SLOT, SLOT_0, SLOT_1, SORTED_DIGEST, find_each_byte, find_each_cut,
@@ -29,21 +30,21 @@ fn put_two<D: Disk>(rt: &impl Abort, alloc: Global, core: &mut Core<D>) {
     assert_eq!(rt; core.flush().ok(), Some(2));
 }
 
-// The bytes of a small store with two rows that a flush answered.
+// The bytes of a small store with two acknowledged rows.
 fn image(rt: &impl Abort, alloc: Global) -> Result<Vec<u8>, Fail> {
     let mut core = opened_with(alloc, small()?)?;
     put_two(rt, alloc, &mut core);
     as_version_1(alloc, core.close().shown())
 }
 
-// The numbers of that store.
+// What a check reports of that store.
 const TWO_ROWS: Report = Report {
     active_rows: 2,
     charge: 2,
     ..EMPTY_OLD
 };
 
-// One byte of it is changed.
+// Single changed bytes of that device, and what is then found.
 const BYTES: [(usize, u8, Found); 49] = [
     // the header's gate, the magic bytes and the version
     (0, 0x00, Err(NotFormatted)),
@@ -70,9 +71,10 @@ const BYTES: [(usize, u8, Found); 49] = [
     (33, 2, Err(HEADER)),
     (28, 3, Err(LENGTH)),
     (32, 1, Err(LENGTH)),
-    // manifest slot 0: its gate, generation, active log, count of frozen logs, count of hash stores, sorted region and count
+    // manifest slot 0: gate, generation, active log, count of frozen logs, count of hash stores,
+    // sorted region and count
     (4096, 0x00, Err(NO_SLOT)),
-    // the bit that says that digests follow, which are zeros
+    // the bit that says that digests follow; they are zeros
     (4097, 0x80, Err(SORTED_DIGEST)),
     (
         4097,
@@ -123,14 +125,14 @@ const BYTES: [(usize, u8, Found); 49] = [
             ..TWO_ROWS
         }),
     ),
-    // two sorted entries, whose keys are zeros both, and more than there is room for
+    // two sorted entries, both with keys of zeros, and more entries than there is room for
     (4216, 2, Err(Damaged(Sorted(1)))),
     (4216, 9, Err(SLOT_0)),
     (4217, 1, Ok(TWO_ROWS)),
-    // slot 1: of generation 0, which is not its own
+    // slot 1 with generation 0, which belongs into slot 0
     (8192, 0xA7, Err(SLOT_1)),
     (8192, 0xFF, Ok(TWO_ROWS)),
-    // the rows: their gates at 12,288, and their kinds at 16,384 and each 23 bytes on
+    // the rows: their gates from 12,288 on, and their kinds from 16,384 on, 23 bytes apart
     (16_384, 3, Err(Damaged(Log { region: 0, row: 0 }))),
     (16_407, 0, Err(Damaged(Log { region: 0, row: 1 }))),
     (16_407, 255, Err(Damaged(Log { region: 0, row: 1 }))),
@@ -145,12 +147,13 @@ const BYTES: [(usize, u8, Found); 49] = [
             ..EMPTY_OLD
         }),
     ),
-    // more puts than sorted entries
+    // more puts than there may be sorted entries
     (36, 1, Err(CHARGE)),
     (36, 2, Ok(TWO_ROWS)),
 ];
 
-// The first bytes of that device and a byte more, as many as this, with another number of buckets in two.
+// Devices of this length: the first bytes of that one and a byte more. Two of them have another
+// number of buckets.
 const CUTS: [(usize, Changes, Finding); 8] = [
     (0, &[], NotFormatted),
     (36, &[], NotFormatted),
@@ -162,7 +165,7 @@ const CUTS: [(usize, Changes, Finding); 8] = [
     (45_057, &[(20, 3)], HEADER),
 ];
 
-// Bytes of it that are changed one after the other.
+// Bytes of that device that are changed one after the other, and what is found each time.
 const IN_TURN: [(usize, u8, Finding); 7] = [
     (36, 1, CHARGE),
     (16_407, 3, Damaged(Log { region: 0, row: 1 })),
@@ -180,8 +183,8 @@ fn finds_each_damaged_byte(rt: HostRuntime) -> Result<(), Fail> {
     find_each_byte(&rt, rt.alloc(), &whole, &BYTES)
 }
 
-// A device of another length than its header says, and one that is shorter than a header. Bad numbers decide before the length; of several
-// damages the first decides.
+// A device of another length than its header says, or shorter than a header. Bad numbers are found
+// before the length. Of several damages the first in the order is reported.
 #[test]
 fn finds_another_length_and_the_first_damage(rt: HostRuntime) -> Result<(), Fail> {
     let mut bytes = image(&rt, rt.alloc())?;
@@ -191,9 +194,10 @@ fn finds_another_length_and_the_first_damage(rt: HostRuntime) -> Result<(), Fail
     find_in_turn(&rt, rt.alloc(), &mut bytes, &IN_TURN)
 }
 
-// A device of two buckets and logs of eight rows, all of whose parts have something. The active log has the keys 1 to 4, which fill a bucket,
-// and behind a closed gate key 5, of the same bucket; log 1 is frozen and has key 0. Hash store 0 has the keys 0 and 1, and a mark in slot 4;
-// hash store 1 is older and empty; three sorted entries rise.
+// A device of two buckets and logs of eight rows, with something in each part. The active log has
+// the keys 1 to 4, which fill a bucket, and after a closed gate key 5 of the same bucket. Log 1 is
+// frozen and has key 0. Hash store 0 has the keys 0 and 1, and a mark in slot 4. Hash store 1 is
+// older and empty. There are three sorted entries, whose keys rise.
 const WHOLE: Changes = &[
     (4112, 1),
     (4116, 1),
@@ -225,7 +229,7 @@ const WHOLE: Changes = &[
     (36_886, 2),
     (36_908, 2),
     (36_927, 1),
-    // values, at which no opening looks
+    // values, which no opening reads
     (16_406, 9),
     (28_694, 9),
     (28_717, 9),
@@ -233,7 +237,7 @@ const WHOLE: Changes = &[
     (36_907, 9),
 ];
 
-// The numbers of that store.
+// What a check reports of that store.
 const OF_WHOLE: Report = Report {
     active_rows: 4,
     frozen: 1,
@@ -245,7 +249,7 @@ const OF_WHOLE: Report = Report {
     ..EMPTY_OLD
 };
 
-// Changes of that device, and what is found behind them.
+// Changes of that device, and what is found after them.
 type Plant<'a> = (Changes<'a>, Finding);
 
 // One finding each, in the order in which an opening looks for them.
@@ -276,7 +280,7 @@ const PLANTS: [Plant; 22] = [
     (&[(36, 9)], CHARGE),
 ];
 
-// No slot is open. This is found behind what is looked for in slot 1, and before all that the slots name.
+// No slot is open. That is found after damage in slot 1, and before damage in what the slots name.
 const CLOSED: Changes = &[(4096, 0x00)];
 
 // The bytes of that device.
@@ -285,7 +289,7 @@ fn planted(alloc: Global) -> Result<Vec<u8>, Fail> {
     changed(alloc, &empty, WHOLE)
 }
 
-// What is found of this plant, the one at this place of the list, where no slot is open.
+// What is found if no slot is open and this plant, with this place in the list, is there too.
 fn left_of(plant: Plant, index: usize) -> Finding {
     if index < 7 || plant.1 == SLOT_1 {
         return plant.1;
@@ -293,7 +297,7 @@ fn left_of(plant: Plant, index: usize) -> Finding {
     NO_SLOT
 }
 
-// What is found of this plant, the one at this place of the list, on a device that is one byte short.
+// What is found if this plant, with this place in the list, is on a device that is one byte short.
 fn found_short(plant: Plant, index: usize) -> Finding {
     if index < 6 {
         return plant.1;
@@ -301,7 +305,7 @@ fn found_short(plant: Plant, index: usize) -> Finding {
     LENGTH
 }
 
-// This is found behind the changes of a plant and these.
+// This is found after both lists of changes.
 fn finds(
     rt: &impl Abort,
     alloc: Global,
@@ -314,7 +318,7 @@ fn finds(
     Ok(())
 }
 
-// This is found where each of these plants stands behind those changes.
+// The finding of the first plant is reported if any of these other plants is there too.
 fn find_first(
     rt: &impl Abort,
     alloc: Global,
@@ -328,7 +332,8 @@ fn find_first(
     Ok(())
 }
 
-// Each finding alone, and of each two the one that is looked for first. With no slot open, what the slots name is not looked at, nor is slot 0.
+// Each damage is found alone, and of each two damages the first in the order is reported. If no
+// slot is open, neither slot 0 nor what the slots name is looked at.
 #[test]
 fn finds_the_first_of_each_two(rt: HostRuntime) -> Result<(), Fail> {
     let whole = planted(rt.alloc())?;
@@ -350,7 +355,7 @@ fn find_all_first(
     Ok(())
 }
 
-// The same on a device that is one byte short: the header is looked at before, and all else is not.
+// If the device is one byte short, only damage of the header is found before that.
 #[test]
 fn finds_a_short_device_behind_its_header(rt: HostRuntime) -> Result<(), Fail> {
     let mut whole = planted(rt.alloc())?;

@@ -1,4 +1,5 @@
-// What is found where a store has another digest than the manifest says, and which form of a slot is taken on a device of which version.
+// Digests: what is found if a store has another digest than the manifest says, and which slots need
+// digests on which version of a device.
 
 use super::{CHARGE, Case, SLOT_0, SLOT_1, SORTED_DIGEST, look_at_each, looked_changed};
 use crate::tests::{Changes, Found};
@@ -42,8 +43,9 @@ fn put_and_convert<D: Disk>(rt: &impl Abort, alloc: Global, core: &mut Core<D>, 
     convert(rt, alloc, core);
 }
 
-// A device with logs of one row. Key 1 was merged into sorted region 1. Then key 2 became hash store 0, and key 3 hash store 1, which is the
-// newest. Key 4 waits in log 1. Slot 1 of the manifest rules, with generation 7; generation 6 has log 0 frozen in the place of hash store 1.
+// A device with logs of one row. Key 1 was merged into sorted region 1. Key 2 is in hash store 0,
+// and key 3 in hash store 1, the newest. Key 4 waits in log 1. Slot 1 of the manifest is current,
+// with generation 7. In generation 6 log 0 is frozen in place of hash store 1.
 fn with_three_stores(rt: &impl Abort, alloc: Global) -> Result<MemDisk, Fail> {
     let mut core = opened_with(alloc, of_regions(1, 2, 2, 4)?)?;
     put_one(rt, alloc, &mut core, 1);
@@ -72,28 +74,31 @@ const OF_THREE_OLD_STORES: Report = Report {
     ..OF_THREE_STORES
 };
 
-// A byte of the value of an entry, of a row of the older hash store, and of a row of the newest one.
+// Changes of one byte each: in the value of an entry, of a row of the older hash store, and of a
+// row of the newest one.
 const ENTRY: Changes = &[(40_981, 9)];
 
 const OLDER_ROW: Changes = &[(28_694, 9)];
 
 const NEWEST_ROW: Changes = &[(32_790, 9)];
 
-// The first slot of the older hash store, and the second slot of each, is of an unknown kind.
+// Slots of an unknown kind: the first one of the older hash store, and the second one of each.
 const OLDER_SLOT_0: Changes = &[(28_672, 3)];
 
 const OLDER_SLOT_1: Changes = &[(28_695, 3)];
 
 const NEWEST_SLOT_1: Changes = &[(32_791, 3)];
 
-// The header has version 1. The current slot, and the other one, says that no digests follow.
+// The header has version 1. The current slot says that no digests follow, and so does the other
+// slot.
 const OLD: Changes = &[(12, 1)];
 
 const SHORT: Changes = &[(8193, 0x00)];
 
 const OTHER_SHORT: Changes = &[(4097, 0x00)];
 
-// A digest is looked at behind the slots or entries of its store, and before the next store.
+// A digest is compared after the slots or entries of its own store are looked at, and before the
+// next store.
 const OF_DIGESTS: [Case; 11] = [
     (&[], Ok(OF_THREE_STORES)),
     (&[OLDER_ROW], Err(OLDER)),
@@ -115,8 +120,9 @@ const OF_DIGESTS: [Case; 11] = [
     (&[&[(36, 1)]], Err(CHARGE)),
 ];
 
-// A device of version 2 has digests in each slot that is open. One of version 1 has them or none, and then none is compared, whatever
-// stands there. The layout is told by the slot that rules.
+// On a device of version 2 each open slot has digests. On one of version 1 it may have none. Then
+// none is compared, whatever is there, and the layout that is reported follows from the current
+// slot.
 const OF_VERSIONS: [Case; 9] = [
     (&[SHORT], Err(SLOT_1)),
     (&[OTHER_SHORT], Err(SLOT_0)),
@@ -153,7 +159,8 @@ fn compares_digests(rt: HostRuntime) -> Result<(), Fail> {
     look_at_each(&rt, rt.alloc(), disk.shown(), &OF_VERSIONS)
 }
 
-// The same device without digests. Of the digests that a slot then says it has, all zeros, only those of the current slot are compared.
+// The same device without digests. If a slot then says that it has digests, they are zeros. They
+// are compared only if the slot is current.
 const OF_VERSION_1: [Case; 5] = [
     (&[], Ok(OF_THREE_OLD_STORES)),
     (&[NEWEST_ROW, OLDER_ROW, ENTRY], Ok(OF_THREE_OLD_STORES)),
@@ -169,8 +176,9 @@ fn compares_no_digests_on_old_devices(rt: HostRuntime) -> Result<(), Fail> {
     look_at_each(&rt, rt.alloc(), &whole, &OF_VERSION_1)
 }
 
-// The digests of the current slot and what is behind them: where they begin, how many bytes follow, and what is found where one of these
-// is another. Digests past the two hash stores are not looked at, nor are those of the other slot.
+// The digests of the current slot: where each field begins, its length, and what is found if one of
+// its bytes is another. Nothing compares the digests past the two hash stores, nor those of the
+// other slot.
 const FIELDS: [(usize, usize, Found); 6] = [
     (8313, 20, Err(NEWEST)),
     (8333, 20, Err(OLDER)),
@@ -180,7 +188,7 @@ const FIELDS: [(usize, usize, Found); 6] = [
     (4217, 340, Ok(OF_THREE_STORES)),
 ];
 
-// What is found where the lowest bit of this byte is the other one.
+// What is found if the lowest bit of this byte is flipped.
 fn looked_flipped(
     rt: &impl Abort,
     alloc: Global,
@@ -217,7 +225,7 @@ fn compares_each_byte_of_a_digest(rt: HostRuntime) -> Result<(), Fail> {
     find_each_field(&rt, rt.alloc(), disk.shown())
 }
 
-// The digests of the two hash stores are exchanged: the first one that is compared is that of the newest.
+// Exchanges the digests of the two hash stores. That of the newest one is compared first.
 fn exchange_digests(rt: &impl Abort, whole: &mut [u8]) {
     assert_eq!(rt; whole.len(), 45_056);
     for place in 8313..8333usize {

@@ -1,4 +1,4 @@
-// Crafted images, and what stands in each. They are of version 1, so that no digest is compared.
+// Crafted images, and what is found in each. They are of version 1, so that no digest is compared.
 
 use super::{CHARGE, Case, LENGTH, SLOT_1, find_in_turn, look_at_each, look_at_small};
 use crate::tests::{Changes, EMPTY, EMPTY_OLD, small_blank};
@@ -24,8 +24,8 @@ fn has_its_header(rt: &impl Abort, whole: &[u8]) {
     assert!(rt; whole.starts_with(header));
 }
 
-// One finding at each of three places of a store without rows: slot 1 is open with generation 0, two sorted entries have one key, and the
-// gate of a log's first row is open with kind 3.
+// A store without rows, with one damage at each of three places. Slot 1 is open with generation 0,
+// two sorted entries have the same key, or the gate of a log's first row is open with kind 3.
 const CRAFTED: [Case; 3] = [
     (&[&[(8192, 0xA7)]], Err(SLOT_1)),
     (&[&[(4216, 2)]], Err(Damaged(Sorted(1)))),
@@ -35,7 +35,7 @@ const CRAFTED: [Case; 3] = [
     ),
 ];
 
-// At two more the last byte is gone, and all bytes are zeros.
+// Two more damages: the last byte is missing, and all bytes are zeros.
 #[test]
 fn finds_crafted_damage(rt: HostRuntime) -> Result<(), Fail> {
     let mut whole = small_blank(&rt, rt.alloc())?;
@@ -69,7 +69,8 @@ const OF_THREE_ROWS: Report = Report {
     ..EMPTY_OLD
 };
 
-// A row behind a closed gate is not there, and one behind a gate past it does not come back.
+// The rows of a log end at the first closed gate. A row after that does not count, though its gate
+// is open.
 const CUT_OFF: Changes = &[
     (12_288, 0xA7),
     (12_290, 0xA7),
@@ -78,8 +79,8 @@ const CUT_OFF: Changes = &[
     (16_430, 3),
 ];
 
-// Hash store 0 has its slots at 28,672, of 23 bytes each, the first four of them in bucket 0. Here it has two puts in that bucket,
-// and in slot 4 a delete of a key that belongs into bucket 1.
+// The slots of hash store 0 begin at 28,672, with 23 bytes each, and the first four of them are
+// bucket 0. Here that bucket has two puts, and slot 4 has a delete of a key of bucket 1.
 const HASHED_ROWS: Changes = &[
     (4144, 1),
     (28_672, 1),
@@ -89,7 +90,7 @@ const HASHED_ROWS: Changes = &[
     (28_766, 1),
 ];
 
-// The rows of all logs are counted, but those that a closed gate cuts off, and those of a hash store.
+// The rows of all logs and of a hash store count, but not those after a closed gate.
 const ROWS: [Case; 3] = [
     (&[THREE_ROWS], Ok(OF_THREE_ROWS)),
     (
@@ -111,13 +112,14 @@ const ROWS: [Case; 3] = [
     ),
 ];
 
-// Hash store 1, which has its slots at 32,768, is the newest, and hash store 0 the one behind it.
+// Hash store 1, whose slots begin at 32,768, is the newest. Hash store 0 comes after it.
 const TWO_HASHED: Changes = &[(4144, 2), (4148, 1)];
 
-// A slot of each is damaged.
+// Both hash stores have a damaged slot.
 const BOTH_DAMAGED: Changes = &[(28_672, 3), (32_929, 3)];
 
-// A put in each of the eight slots of hash store 1. Its key begins with the number of the slot, and belongs into the slot's bucket.
+// Each of the eight slots of hash store 1 has a put. Its key begins with the number of the slot and
+// belongs into that slot's bucket.
 const EIGHT_HASHED: Changes = &[
     (32_768, 1),
     (32_791, 1),
@@ -145,7 +147,7 @@ const PUT_HASHED: Changes = &[(28_741, 1), (28_742, 3)];
 
 const DELETE_HASHED: Changes = &[(28_741, 2)];
 
-// The numbers of eight puts in the newest hash store.
+// What a check reports if the newest hash store has eight puts.
 const OF_EIGHT_HASHED: Report = Report {
     hashes: 2,
     hash_rows: 8,
@@ -153,8 +155,8 @@ const OF_EIGHT_HASHED: Report = Report {
     ..EMPTY_OLD
 };
 
-// The newest hash store is looked at first. Eight puts in it are as many as the store may hold. One in the older one is too many, a delete
-// is not.
+// The newest hash store is looked at first. The store may have as many as eight puts. With one more
+// in the older hash store there are too many, but a delete there does not count.
 const HASHED: [Case; 5] = [
     (
         &[TWO_HASHED, BOTH_DAMAGED],
@@ -175,8 +177,9 @@ const HASHED: [Case; 5] = [
     ),
 ];
 
-// Sorted region 0 has its entries at 36,864 and region 1 at 40,960, 22 bytes each: a key and its value. Here the keys of three
-// entries of region 0 rise: the first two in their first byte, the last two in their last one.
+// The entries of sorted region 0 begin at 36,864 and those of region 1 at 40,960, with 22 bytes
+// each: a key and its value. Here the keys of three entries of region 0 rise. The first two differ
+// in their first byte, the last two in their last one.
 const THREE_ENTRIES: Changes = &[
     (4216, 3),
     (36_864, 1),
@@ -191,12 +194,13 @@ const OF_THREE_ENTRIES: Report = Report {
     ..EMPTY_OLD
 };
 
-// Sorted region 1 is named, and has three entries that rise where region 0 has none.
+// The manifest names sorted region 1. Its three entries rise, and those of region 0 do not.
 const OTHER_REGION: Changes = &[(4212, 1)];
 
 const OTHER_ENTRIES: Changes = &[(40_982, 1), (41_004, 2), (36_886, 0)];
 
-// Each entry counts as a put, beside those in the logs and the hash stores. The entries are those of the region that the manifest names.
+// Each entry counts as a put, like those in the logs and the hash stores. The entries are in the
+// region that the manifest names.
 const SORTED: [Case; 5] = [
     (&[THREE_ENTRIES], Ok(OF_THREE_ENTRIES)),
     (
@@ -224,7 +228,7 @@ const SORTED: [Case; 5] = [
     ),
 ];
 
-// Eight entries whose keys rise in their first byte, and the numbers of their store.
+// Eight entries whose keys rise in their first byte, and what a check reports of their store.
 const EIGHT_ENTRIES: Changes = &[
     (4216, 8),
     (36_886, 1),
@@ -247,8 +251,9 @@ const PUT_LOGGED: Changes = &[(12_288, 0xA7), (16_384, 1)];
 
 const DELETE_LOGGED: Changes = &[(16_384, 2)];
 
-// An entry is damaged if it is not above the one before it, and the first of these decides. With eight entries that rise the store is
-// full: a put in the log is too many, a delete is not. Entries that do not rise are found before the charge.
+// An entry is damaged if its key is not above the one before it, and the first such entry is
+// reported. Eight entries fill the store, so a put in the log is too many, and a delete is not.
+// Damaged entries are found before the number of puts.
 const RISING: [Case; 7] = [
     (
         &[THREE_ENTRIES, &[(36_864, 5), (36_886, 4), (36_908, 3)]],
@@ -316,11 +321,12 @@ fn finds_a_crowded_log(rt: HostRuntime) -> Result<(), Fail> {
     look_at_each(&rt, rt.alloc(), &whole, &CROWDED)
 }
 
-// Bytes that are changed one after the other behind these changes of an empty store. What is found first decides.
+// Changes of an empty store, and bytes that are then changed one after the other. Each time the
+// first damage in the order is reported.
 type Turns<'a> = (&'a [Changes<'a>], &'a [(usize, u8, Finding)]);
 
 const TURNS: [Turns; 3] = [
-    // the charge; kinds of rows, and the gate of the first one, behind which none is looked at
+    // the number of puts; kinds of rows; the gate of the first row, after which no row counts
     (
         &[THREE_ROWS],
         &[
@@ -331,8 +337,8 @@ const TURNS: [Turns; 3] = [
             (12_288, 0xFF, Damaged(Log { region: 1, row: 0 })),
         ],
     ),
-    // a row of an unknown kind, then one in another bucket than its key's, then one with the key of an earlier slot; and the logs are looked
-    // at before
+    // a row of an unknown kind, then one in another bucket than its key's, then one with the key of
+    // an earlier slot. The logs are looked at before that.
     (
         &[HASHED_ROWS],
         &[
@@ -345,8 +351,8 @@ const TURNS: [Turns; 3] = [
             (12_288, 0xA7, Damaged(Log { region: 0, row: 0 })),
         ],
     ),
-    // two keys are equal, whatever the values are; then one lies below the key before it; then an earlier one does; and the hash stores and
-    // the logs are looked at before
+    // two keys are equal, whatever their values; then one is below the key before it; then an
+    // earlier one is. The hash stores and the logs are looked at before that.
     (
         &[HASHED_ROWS, THREE_ENTRIES],
         &[
