@@ -1,4 +1,5 @@
-// Disks in memory: their geometries and versions, empty stores on them, stops, and bytes with some of them changed.
+// Disks in memory: their geometries and versions, empty stores on them, crashes at chosen calls,
+// and changed bytes.
 
 use silt_device::{Disk, Fill, Geometry, MemDisk, Stop};
 use silt_disk::Version;
@@ -8,7 +9,7 @@ use silt_store_set::Core;
 use std::alloc::{AllocError, Global};
 use std::test::Fail;
 
-/// All that a stop may leave in the pending places of a disk in memory.
+/// What a crash may leave in the pending places of a disk in memory.
 pub const FILLS: [Fill; 5] = [Fill::Old, Fill::New, Fill::Zero, Fill::Ones, Fill::Mix];
 
 /// The length of a device of the small geometry.
@@ -28,7 +29,7 @@ pub fn of_regions(
     )
 }
 
-/// The geometry of the small rows: values of two bytes, two buckets, four rows a log.
+/// The small geometry: values of two bytes, two buckets, four rows a log.
 pub fn small() -> Result<Geometry, Fail> {
     of_regions(4, 2, 2, 8)
 }
@@ -44,7 +45,7 @@ pub fn formatted(alloc: Global) -> Result<MemDisk, Fail> {
     formatted_with(alloc, small()?)
 }
 
-/// A formatted disk of the small rows, but with values of this length.
+/// A disk with an empty store of the small geometry, but with values of this length.
 pub fn of_values(alloc: Global, value_len: u32) -> Result<MemDisk, Fail> {
     let geometry = Geometry::new(value_len, 2, 4, 2, 2, 8)
         .ok()
@@ -108,10 +109,11 @@ const SLOTS_AT: [usize; 2] = [4096, 8192];
 // Where a slot has its digests.
 const DIGESTS_AT: usize = 121;
 
-// The bytes of a slot that count.
+// How many bytes of a slot count.
 const SLOT_LEN: usize = 461;
 
-// Makes an open slot one without digests: the bit that says that they follow, and they, are zeros.
+// Takes the digests from a slot that is open: it clears the bit that says that they follow, and the
+// digests.
 fn drop_digests(bytes: &mut [u8], at: usize) -> Result<(), Fail> {
     let slot = bytes
         .get_mut(at..at.saturating_add(SLOT_LEN))
@@ -123,7 +125,7 @@ fn drop_digests(bytes: &mut [u8], at: usize) -> Result<(), Fail> {
     Ok(())
 }
 
-/// The bytes of this device as one of version 1: it has no digests.
+/// The bytes of this device changed into one of version 1, without digests.
 pub fn as_version_1(alloc: Global, bytes: &[u8]) -> Result<Vec<u8>, Fail> {
     let mut old = changed(alloc, bytes, &[(VERSION_AT, 1)])?;
     for at in SLOTS_AT {
@@ -132,7 +134,7 @@ pub fn as_version_1(alloc: Global, bytes: &[u8]) -> Result<Vec<u8>, Fail> {
     Ok(old)
 }
 
-/// The bytes of this device as one of this version.
+/// The bytes of this device changed into one of this version.
 pub fn as_version(alloc: Global, bytes: &[u8], version: Version) -> Result<Vec<u8>, Fail> {
     match version {
         Version::One => as_version_1(alloc, bytes),

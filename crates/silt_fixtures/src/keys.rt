@@ -1,4 +1,4 @@
-// Keys that are told by one byte.
+// Keys that differ in their first byte only.
 ghost use Rattle.std.specs.Prelude.{◌≡◌, ◌∷◌, replicate};
 
 use silt_frame::Key;

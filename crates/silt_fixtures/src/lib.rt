@@ -1,7 +1,8 @@
-//! What tests of several crates begin with: geometries, keys, empty stores on disks in memory of both versions, stops, bytes that are
-//! changed, entries beside a plain map, and a wait with an end.
+//! What tests of several crates need. There are geometries, keys, empty stores on disks in memory of
+//! both versions, crashes, and changed bytes. Entries are compared with a plain map, and waits end.
 //!
-//! `key` is told exactly. Of disks no clause says more than that they are made or not: tests compare what stands on them.
+//! The contract of `key` is exact. The contracts of disks only say that a disk is made or is not:
+//! tests compare what is on it.
 #![tactic(auto)]
 
 mod disks;
