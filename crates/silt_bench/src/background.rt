@@ -1,4 +1,4 @@
-// Who does the work in the background, as the writer sees it.
+// The background work, as the writer sees it.
 
 use crate::error::BenchError;
 use crate::turns::Turns;
@@ -30,7 +30,7 @@ fn finish_beside<D: Disk, T: Trace, N: DeskId, R: Wait + Clock>(
     }
 }
 
-/// Who does a store's work in the background.
+/// How a store's background work is done.
 #[derive(Drop)]
 pub enum Background {
     /// The writer, between two groups of puts.

@@ -36,7 +36,7 @@ pub enum BenchError {
     Words,
     /// The store refused a call.
     Refused(Call),
-    /// A look did not find what is there, or found what is not.
+    /// A get did not find the value that was put, or found a value of an absent key.
     Wrong,
     /// The clock, a file or the output failed.
     System(io::Error),

@@ -5,7 +5,8 @@ use std::alloc::Global;
 use std::fmt;
 use std::fs::{self, Files};
 
-// How often `of` goes into the product of `count` and `times`, as far as 64 bits reach. 0 if `of` is 0.
+// The product of `count` and `times` divided by `of`, or the greatest number of 64 bits if that is
+// less. 0 if `of` is 0.
 fn quotient(count: u64, times: u32, of: u64) -> u64
     ensures { 0 < of → result ≡ min (count * times / of) (2 ^ 64 - 1) }
 {
@@ -20,14 +21,14 @@ fn quotient(count: u64, times: u32, of: u64) -> u64
     }
 }
 
-/// How many there were a second, if this many took this many nanoseconds. 0 if no time passed.
+/// The rate a second of this many in this many nanoseconds. 0 if no time passed.
 pub fn a_second(count: u64, nanos: u64) -> u64
     ensures { 0 < nanos → result ≡ min (count * 1000000000 / nanos) (2 ^ 64 - 1) }
 {
     quotient(count, 1_000_000_000, nanos)
 }
 
-/// A number of thousandths, written with its point.
+/// A number in thousandths, which prints with a decimal point.
 #[derive(Clone, Copy)]
 pub struct Thousandths(pub u64);
 
@@ -48,7 +49,8 @@ impl fmt::Display for Thousandths {
     }
 }
 
-/// The memory that this process has resident, or had at most, in kibibytes: 0 if the system does not say.
+/// The memory that is resident now, and the most that was, in kibibytes. 0 if the system does not
+/// report it.
 #[derive(Clone, Copy)]
 pub struct Memory {
     pub resident: u64,
@@ -69,7 +71,7 @@ pub fn memory_of_process<R: Files>(rt: &R, alloc: Global) -> Memory {
     }
 }
 
-// The number behind a name at the head of a line, 0 if there is none.
+// The number after this name in a text of lines, 0 if no line begins with the name.
 fn number_of(text: &str, name: &str) -> u64 {
     for line in text.lines() {
         if let Some(rest) = line.strip_prefix(name) {

@@ -53,7 +53,7 @@ pub fn grow<D: Disk, R: Threads + Wait + Clock + Print + Sync>(
     )
 }
 
-/// The same for a small store in memory, without rates.
+/// Does the same with a small store in memory, and prints no rates.
 pub fn grow_small<R: Threads + Wait + Clock + Print + Sync>(
     rt: &R,
     alloc: Global,

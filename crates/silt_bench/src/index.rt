@@ -41,8 +41,8 @@ fn place_of(index: &MarkedTrie, keys: &[Key], key: &Key) -> Option<usize> {
     }
 }
 
-/// Looks for this many present and absent keys by an index and by a search among the keys, and prints how many there
-/// are of each.
+/// Looks for this many present and absent keys by an index and by a search among the keys. Prints
+/// how many of each the index finds.
 ///
 /// # Errors
 ///

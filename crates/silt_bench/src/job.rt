@@ -3,7 +3,7 @@ ghost use Rattle.std.specs.Prelude.{◌<◌};
 
 use silt_device::Geometry;
 
-/// How the store's work in the background is done.
+/// How the background work of a store is done.
 #[derive(Clone, Copy)]
 pub enum Work {
     /// On the writer's thread, between its groups.
@@ -50,7 +50,7 @@ pub fn job_of(words: &[String]) -> Option<Job> {
     }
 }
 
-// The way of working that the fourth word names.
+// How the background work is done, which the fourth word says.
 fn work_of(words: &[String]) -> Option<Work> {
     match words.get(3)?.as_str() {
         "turns" => Some(Work::Turns),

@@ -1,4 +1,5 @@
-// The keys of the bench: spread as digests are, and each made of its number. The other stores are asked for the same ones.
+// The keys of the bench. They are spread as digests are, and each is made from a number. The
+// benches of other stores use the same keys.
 ghost use Rattle.std.specs.Prelude.{◌≡◌, ◌<◌, ◌%◌};
 
 use silt_frame::Key;
@@ -30,7 +31,7 @@ pub fn byte_of(number: u64) -> u8
     (number % 251) as u8
 }
 
-/// A number below `count`, another one for each turn of a thread: 0 if there is none below.
+/// A number below `count`, which differs from one turn of a thread to the next. 0 if `count` is 0.
 pub fn pick(turn: u64, thread: u64, count: u64) -> u64
     ensures { 0 < count → result < count }
 {

@@ -1,4 +1,4 @@
-// Looks at a store that threads share, side by side.
+// Gets at a store that threads share, made by several threads at once.
 
 use crate::error::BenchError;
 use crate::figures::a_second;
@@ -103,7 +103,7 @@ pub fn count_reads<D: Disk, T: Trace, N: DeskId, R: Wait>(
     Ok(reads.load(Ordering::SeqCst).wrapping_sub(before))
 }
 
-// So many looks by each of four threads: whether each found what is there.
+// This many looks by each of four threads. Returns whether each one found what was put.
 fn four_look<D: Disk, T: Trace + Send + Sync, N: DeskId + Send + Sync, R: Threads + Wait + Sync>(
     rt: &R,
     shared: &Shared<D, T, N>,
@@ -119,7 +119,7 @@ fn four_look<D: Disk, T: Trace + Send + Sync, N: DeskId + Send + Sync, R: Thread
     first && second
 }
 
-// So many looks by each of two threads: whether each found what is there.
+// This many looks by each of two threads. Returns whether each one found what was put.
 fn two_look<D: Disk, T: Trace + Send + Sync, N: DeskId + Send + Sync, R: Threads + Wait + Sync>(
     rt: &R,
     shared: &Shared<D, T, N>,
@@ -136,7 +136,7 @@ fn two_look<D: Disk, T: Trace + Send + Sync, N: DeskId + Send + Sync, R: Threads
     first && second
 }
 
-// So many looks of one thread: whether each found what is there.
+// This many looks by one thread. Returns whether each one found what was put.
 fn look_all<D: Disk, T: Trace, N: DeskId, R: Wait>(
     rt: &R,
     shared: &Shared<D, T, N>,
@@ -157,7 +157,7 @@ fn look_all<D: Disk, T: Trace, N: DeskId, R: Wait>(
     true
 }
 
-// Whether one look finds what is there.
+// Whether one look finds what was put, or nothing if the key is absent.
 fn is_right<D: Disk, T: Trace, N: DeskId>(
     desk: &Desk<D, T, N>,
     looks: Looks,

@@ -10,8 +10,8 @@
 //! - `silt_bench index KEYS GETS` measures only the index of a sorted store.
 //! - `silt_bench counts` prints counts and no times: each look at an index beside a search among the keys, and the growth of a small store.
 //!
-//! Nothing is proved of times. It is proved that a counting disk behaves as the disk that it counts for, and what the sums of
-//! a figure are.
+//! No times are proved. The contracts say that a counting disk behaves as the disk that it counts
+//! for, and what the sums of a figure are.
 #![tactic(auto)]
 
 mod background;
@@ -85,7 +85,7 @@ fn grow_file<
     grow(rt, alloc, disk, plan, Detail::Rates)
 }
 
-// Prints what can be counted, which is the same on each machine.
+// Prints the counts, which are the same on each machine.
 fn tell_counts<R: Threads + Wait + Clock + Print + Sync>(
     rt: &R,
     alloc: Global,

@@ -1,4 +1,4 @@
-// Fills, reads and opens a store again, and prints how long that took.
+// Fills a store, reads it, opens it again, and prints how long that took.
 ghost use Rattle.std.specs.Prelude.{◌≡◌};
 
 use crate::background::Background;
@@ -31,7 +31,7 @@ pub const NAMES: &str =
 /// The most looks that are counted.
 const COUNTED: u64 = 100_000;
 
-/// What was seen of a store while it was shared.
+/// What was measured while threads shared the store.
 #[derive(Clone, Copy)]
 struct Seen {
     filled: Filled,
@@ -42,7 +42,8 @@ struct Seen {
     memory: Memory,
 }
 
-/// The reads that were counted: those of an opening, and those of so many looks.
+/// The counted reads: those of an opening, and those of this many looks each at present and at
+/// absent keys.
 #[derive(Clone, Copy)]
 struct Counted {
     opening: u64,
@@ -51,8 +52,8 @@ struct Counted {
     absent: u64,
 }
 
-/// Fills a store on this disk as planned, reads it, takes it up again, once by the clock and once with its reads counted, and prints one
-/// line of numbers behind their names.
+/// Fills a store on this disk as planned and reads it. Opens it again twice, once to measure the
+/// time and once to count the reads. Prints a line of names and a line of numbers.
 pub fn measure<D: Disk, R: Threads + Wait + Clock + Print + Files + Sync>(
     rt: &R,
     alloc: Global,
@@ -75,7 +76,7 @@ pub fn measure<D: Disk, R: Threads + Wait + Clock + Print + Files + Sync>(
     tell(rt, plan, &seen, open, &counted)
 }
 
-// Fills a new store and looks at it from a desk, and gives its disk back.
+// Fills a new store at a desk and measures looks at it. Returns its disk and the measures.
 fn see<D: Disk, N: DeskId + Send + Sync, R: Threads + Wait + Clock + Files + Sync>(
     rt: &R,
     alloc: Global,
@@ -97,7 +98,7 @@ fn see<D: Disk, N: DeskId + Send + Sync, R: Threads + Wait + Clock + Files + Syn
     }
 }
 
-// Fills a store as planned, and looks at it.
+// Fills a store as planned, and measures looks at it.
 fn fill_and_look<
     D: Disk,
     T: Trace + Send + Sync,
@@ -119,7 +120,7 @@ fn fill_and_look<
     look(rt, alloc, shared, plan, filled)
 }
 
-// The seats of a desk that has three.
+// The three seats of a desk.
 fn three_of<N: DeskId>(seats: Vec<Seat<N>>) -> Option<(Seat<N>, Seat<N>, Seat<N>)> {
     let mut seats = seats;
     let third = seats.pop()?;
@@ -128,7 +129,7 @@ fn three_of<N: DeskId>(seats: Vec<Seat<N>>) -> Option<(Seat<N>, Seat<N>, Seat<N>
     Some((first, second, third))
 }
 
-// Fills a store on this thread, with its work in the background between the groups.
+// Fills a store on this thread, which also does the background work, between the groups.
 fn fill_by_turns<D: Disk, T: Trace, N: DeskId, R: Wait + Clock>(
     rt: &R,
     alloc: Global,
@@ -141,7 +142,7 @@ fn fill_by_turns<D: Disk, T: Trace, N: DeskId, R: Wait + Clock>(
     fill_all(rt, alloc, shared, &mut writer, plan)
 }
 
-// Looks at a store that was filled.
+// Measures looks at a store that is filled.
 fn look<
     D: Disk,
     T: Trace + Send + Sync,
@@ -166,7 +167,7 @@ fn look<
     })
 }
 
-// How many nanoseconds it takes to open the store on a disk, which is given back.
+// How many nanoseconds it takes to open the store on a disk. The disk is returned too.
 fn open_by_clock<D: Disk, R: Clock>(
     rt: &R,
     alloc: Global,
@@ -192,7 +193,7 @@ fn count_opened<D: Disk, R: Wait>(
     count_seated::<_, Brand, _>(rt, alloc, core, &reads, plan, Blank::new(3), Blank::new(3))
 }
 
-// The same for a store that was just opened.
+// Counts the reads of looks at a store that was just opened.
 fn count_seated<D: Disk, N: DeskId, R: Wait>(
     rt: &R,
     alloc: Global,

@@ -1,13 +1,13 @@
-// How long calls took.
+// How long single calls took.
 ghost use Rattle.std.specs.Prelude.{◌≡◌, ◌<◌, max};
 
 use std::io;
 use std::time::{Clock, Instant};
 
-/// How many classes of call lengths there are.
+/// The number of bins.
 const BINS: usize = 4096;
 
-/// How many calls took how long, and how many nanoseconds the longest one took.
+/// How many calls took how long, and the nanoseconds of the longest one.
 #[derive(Drop)]
 pub struct Pauses {
     counts: [u32; BINS],
@@ -43,7 +43,7 @@ fn micros_of(bin: usize) -> u64
 }
 
 impl Pauses {
-    /// No call was made yet.
+    /// No calls yet.
     pub fn new() -> Pauses {
         Pauses {
             counts: [0; BINS],
@@ -96,7 +96,7 @@ pub struct Lap {
 }
 
 impl Lap {
-    /// It begins now.
+    /// A clock that starts now.
     pub fn new<R: Clock>(rt: &R) -> io::Result<Lap> {
         Ok(Lap {
             last: Instant::now(rt)?,

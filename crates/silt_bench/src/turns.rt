@@ -1,4 +1,4 @@
-// The work in the background, by turns on the writer's thread.
+// The background work in turns, on the writer's thread.
 ghost use Rattle.std.specs.Prelude.{◌≡◌, false, OnOk};
 ghost use Rattle.silt_store_set.specs.CoreState.{wants_convert, wants_merge};
 

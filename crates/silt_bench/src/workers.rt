@@ -1,4 +1,4 @@
-// A store is filled while two workers do its work in the background.
+// Fills a store while two workers do its background work.
 
 use crate::background::Background;
 use crate::error::BenchError;

@@ -1,4 +1,4 @@
-// A store is filled by one writer.
+// Fills a store by one writer.
 ghost use Rattle.std.specs.Prelude.{◌≡◌, length};
 
 use crate::background::Background;
@@ -18,10 +18,10 @@ use std::time::{Clock, Duration};
 /// How often a put is tried again if the store has no room for it.
 const MOST_TRIES: u32 = 2_000_000;
 
-/// How many puts' work is done before a put is tried again.
+/// The background work of this many puts is done before a put is tried again.
 const PUTS_IN_WAIT: u64 = 1000;
 
-/// What filling a store took: nanoseconds in all, and of single calls microseconds.
+/// The time that filling a store took: nanoseconds in all, and microseconds of single calls.
 #[derive(Clone, Copy)]
 pub struct Filled {
     pub nanos: u64,
@@ -31,7 +31,7 @@ pub struct Filled {
     pub flush_longest: u64,
 }
 
-/// The writer of a store, and who does the work in the background.
+/// The writer of a store, and how the background work is done.
 #[derive(Drop)]
 pub struct Writer<N: DeskId> {
     pub seat: Seat<N>,
@@ -51,7 +51,7 @@ impl<N: DeskId> Writer<N> {
         }
     }
 
-    // What filling took, so many nanoseconds in all.
+    // The times of a fill that took this many nanoseconds in all.
     fn filled(&self, nanos: u64) -> Filled {
         Filled {
             nanos,
@@ -63,7 +63,7 @@ impl<N: DeskId> Writer<N> {
     }
 }
 
-/// Puts the plan's keys, and sees all work in the background done.
+/// Puts the plan's keys, and finishes all background work.
 pub fn fill_all<D: Disk, T: Trace, N: DeskId, R: Wait + Clock>(
     rt: &R,
     alloc: Global,
@@ -79,8 +79,9 @@ pub fn fill_all<D: Disk, T: Trace, N: DeskId, R: Wait + Clock>(
     Ok(writer.filled(lap.turn(rt)?))
 }
 
-/// Puts the keys of the numbers from `first` up to `end`, in groups, with a flush and some work in the background behind each. What is
-/// done in the background on this thread is part of the next put's pause.
+/// Puts the keys of the numbers from `first` up to `end`, in groups, with a flush and some
+/// background work after each. If this thread does that work, its time counts in the pause of the
+/// next put.
 pub fn fill<D: Disk, T: Trace, N: DeskId, R: Wait + Clock>(
     rt: &R,
     alloc: Global,
@@ -122,7 +123,7 @@ fn put_group<D: Disk, T: Trace, N: DeskId, R: Wait + Clock>(
     Ok(())
 }
 
-// Puts a value, and waits for the work in the background if the store has no room for it.
+// Puts a value. While the store has no room for it, waits for the background work.
 fn put_patiently<D: Disk, T: Trace, N: DeskId, R: Wait + Clock>(
     rt: &R,
     alloc: Global,
