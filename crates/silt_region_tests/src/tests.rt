@@ -1,5 +1,5 @@
-// What no clause says, of each kind of region. This module has what several of them share: two geometries, a disk for
-// either, and keys whose buckets are known.
+// Tests of each kind of region. This module has what several of them need: two geometries, a disk
+// for either, and keys whose buckets are known.
 ghost use Rattle.std.specs.Prelude.{◌≡◌, IfOk};
 ghost use Rattle.silt_disk.specs.Disk.{size};
 ghost use Rattle.silt_device.specs.Fault.{fault_content};
@@ -50,7 +50,7 @@ fn blank(alloc: Global, len: usize) -> Result<MemDisk, AllocError>
     MemDisk::new(alloc, len)
 }
 
-// The disk, whose call of this kind and this number fails.
+// A disk of which the call of this kind and this number fails.
 fn with_fault(disk: MemDisk, call: Call, number: u64) -> FaultDisk
     ensures { size (fault_content result) ≡ size (memory_content disk) }
 {

@@ -1,5 +1,5 @@
-// What no clause says of a hash region: worked regions, that the calls that allocate succeed with ample memory, and how
-// many reads a look-up and a rebuild make.
+// Hash regions: worked regions, calls that allocate and succeed with enough memory, and how many
+// reads a look-up and a rebuild make.
 ghost use Rattle.std.specs.Prelude.{◌≡◌, ◌+◌, ◌*◌, ◌≤◌, ◌<◌, IfOk, IfSome};
 ghost use Rattle.silt_disk.specs.Disk.{size};
 ghost use Rattle.silt_disk.specs.Layout.{device_size};
@@ -14,7 +14,7 @@ use silt_log_store::LogStore;
 use std::alloc::Global;
 use std::test::Fail;
 
-// Writes the bytes of a row, its value this byte twice.
+// Writes the bytes of a row. Both bytes of its value are this one.
 fn write_row<D: Disk>(disk: &mut D, at: u64, kind: u8, key: &Key, value: u8) -> Result<(), D::Fault>
     requires small { at ≤ 28833 }
     requires size { 28856 ≤ size (D.content disk.old) }
@@ -51,7 +51,7 @@ fn log_row<D: Disk>(
     write_row(disk, 16_384 + u64::from(place) * 23, kind, key, value)
 }
 
-// The result of a rebuild: the numbers of rows and of puts, or why it was refused.
+// The result of a rebuild: the numbers of rows and of puts, or why it is refused.
 #[derive(Clone, Copy, Debug, PartialEq, Eq)]
 enum Outcome {
     Rebuilt(u32, u32),
@@ -73,7 +73,7 @@ fn rebuild_in<D: Disk>(alloc: Global, disk: &D, geometry: Geometry) -> Outcome
     }
 }
 
-// The result of a rebuild of that with eight rows a log.
+// The result of a rebuild of hash region 0 with eight rows a log.
 fn rebuild<D: Disk>(alloc: Global, disk: &D) -> Outcome
     requires { 45056 ≤ size (D.content disk.now) }
 {
@@ -121,7 +121,7 @@ fn hashes_empty_slots(rt: HostRuntime) -> Result<(), Fail> {
     Ok(())
 }
 
-// What it has of a key.
+// What the store on this disk has of a key.
 fn find<D: Disk>(alloc: Global, disk: &D, key: &Key) -> Option<Option<Found>>
     requires { 45056 ≤ size (D.content disk.now) }
 {
@@ -147,7 +147,7 @@ fn fill_three<D: Disk>(disk: &mut D) -> Result<(), D::Fault>
     Ok(())
 }
 
-// What there is of their keys, and of two others.
+// What the store has of the keys of these rows, and of two others.
 fn find_five<D: Disk>(alloc: Global, disk: &D) -> [Option<Option<Found>>; 5]
     requires { 45056 ≤ size (D.content disk.now) }
 {
@@ -214,7 +214,8 @@ fn reads_a_slot(rt: HostRuntime) -> Result<(), Fail> {
     Ok(())
 }
 
-// The results of rebuilds after an unknown kind in slot 7, a key twice in slot 6 and a row in no bucket of its key in slot 4.
+// The results of three rebuilds. Slot 7 gets an unknown kind, then slot 6 a key that slot 1 has,
+// then slot 4 a row in no bucket of its key.
 fn three_wrong_slots<D: Disk>(alloc: Global, disk: &mut D) -> Result<[Outcome; 3], D::Fault>
     requires { 45056 ≤ size (D.content disk.old) }
 {
@@ -227,7 +228,8 @@ fn three_wrong_slots<D: Disk>(alloc: Global, disk: &mut D) -> Result<[Outcome; 3
     Ok([unknown, twice, rebuild(alloc, disk)])
 }
 
-// The first slot in which something is wrong decides: an unknown kind, a row in no bucket of its key, a key twice.
+// A rebuild reports the first damaged slot: one with an unknown kind, with a row in no bucket of
+// its key, or with the key of an earlier slot.
 #[test]
 fn the_first_wrong_slot_decides(rt: HostRuntime) -> Result<(), Fail> {
     let mut disk = blank(rt.alloc(), LEN)?;
@@ -242,8 +244,8 @@ fn the_first_wrong_slot_decides(rt: HostRuntime) -> Result<(), Fail> {
     Ok(())
 }
 
-// The result of a rebuild of two rows that share their buckets, and whether a look-up of the second one succeeds, if
-// the read of this number fails.
+// The result of a rebuild of two rows that share their buckets, and whether a look-up of the second
+// one succeeds. The read of this number fails in either.
 fn rebuild_with_fault(alloc: Global, number: u64) -> Result<(Outcome, bool), Fail> {
     let mut disk = blank(alloc, LEN)?;
     fill_slot(&mut disk, 0, 1, &paired(1))?;
@@ -255,8 +257,8 @@ fn rebuild_with_fault(alloc: Global, number: u64) -> Result<(Outcome, bool), Fai
     ))
 }
 
-// A rebuild reads the eight slots together, and of the second row of two that share their buckets the head of the first again:
-// two reads. A look-up of the second makes two.
+// A rebuild makes two reads: of all eight slots, and of the head of the first of two rows that
+// share their buckets. A look-up of the second row makes two.
 #[test]
 fn a_failed_read_is_told(rt: HostRuntime) -> Result<(), Fail> {
     let failed = Outcome::Failed;
@@ -278,7 +280,7 @@ fn a_failed_read_is_told(rt: HostRuntime) -> Result<(), Fail> {
     Ok(())
 }
 
-// Writes the next slot, if there is one: how many reads failed, and how many writes.
+// Writes the next slot, if there is one. Returns how many reads and how many writes failed.
 fn run_step<D: Disk>(conversion: &mut Conversion, log: &LogStore, disk: &mut D) -> (u32, u32)
     requires shape { conversion.old.shape ≡ log.now.log.shape }
     requires size { device_size conversion.old.shape ≤ size (D.content disk.old) }
@@ -296,7 +298,7 @@ fn run_step<D: Disk>(conversion: &mut Conversion, log: &LogStore, disk: &mut D) 
     }
 }
 
-// Runs this many steps, and returns how many reads failed and how many writes.
+// Runs this many steps. Returns how many reads and how many writes failed.
 fn run_steps<D: Disk>(
     conversion: &mut Conversion,
     log: &LogStore,
@@ -353,7 +355,7 @@ fn convert_log<D: Disk>(alloc: Global, disk: &mut D, log: &LogStore) -> Option<C
     })
 }
 
-// The log 0 of eight rows that is on the disk.
+// The store of eight rows in log 0 of the disk.
 fn rebuilt_log<D: Disk>(alloc: Global, disk: &D) -> Option<LogStore>
     requires { 45056 ≤ size (D.content disk.now) }
     ensures { IfSome result (λ log. log.log.shape ≡ record { value_len = 2; buckets = 2; log_capacity = 8; logs = 2; hashes = 2; sorted_capacity = 16 }) }
@@ -367,7 +369,7 @@ fn rebuilt_log<D: Disk>(alloc: Global, disk: &D) -> Option<LogStore>
     }
 }
 
-// Converts it into hash region 0.
+// Converts log 0 into hash region 0.
 fn convert<D: Disk>(alloc: Global, disk: &mut D) -> Option<Converted>
     requires { 45056 ≤ size (D.content disk.old) }
     ensures { size (D.content disk.new) ≡ size (D.content disk.old) }
@@ -378,7 +380,7 @@ fn convert<D: Disk>(alloc: Global, disk: &mut D) -> Option<Converted>
     convert_log(alloc, disk, &log)
 }
 
-// The same, with the kind of its last row changed behind its back.
+// Converts log 0 into hash region 0, after the kind of its last row has changed on the disk only.
 fn convert_changed<D: Disk>(alloc: Global, disk: &mut D) -> Option<Converted>
     requires { 45056 ≤ size (D.content disk.old) }
     ensures { size (D.content disk.new) ≡ size (D.content disk.old) }
@@ -404,7 +406,7 @@ fn prepare<D: Disk>(disk: &mut D) -> Result<(), D::Fault>
     Ok(())
 }
 
-// A disk with these.
+// A disk with these rows.
 fn prepared(alloc: Global) -> Result<MemDisk, Fail>
     ensures { IfOk result (λ disk. size (memory_content disk) ≡ 45056) }
 {
@@ -413,7 +415,8 @@ fn prepared(alloc: Global) -> Result<MemDisk, Fail>
     Ok(disk)
 }
 
-// Each key's last row is in the slot that it has in the log's table, and the other slots are empty.
+// Each key's last row goes to the slot that it has in the log's table. The other slots become
+// empty.
 #[test]
 fn converts_a_log(rt: HostRuntime) -> Result<(), Fail> {
     let alloc = rt.alloc();
@@ -438,7 +441,8 @@ fn converts_a_log(rt: HostRuntime) -> Result<(), Fail> {
     Ok(())
 }
 
-// A row that is of an unknown kind when it is read is written as an empty slot, and is no put.
+// A row that has an unknown kind when it is read is written as an empty slot, and does not count as
+// a put.
 #[test]
 fn writes_no_row_of_an_unknown_kind(rt: HostRuntime) -> Result<(), Fail> {
     let alloc = rt.alloc();
@@ -459,8 +463,8 @@ fn writes_no_row_of_an_unknown_kind(rt: HostRuntime) -> Result<(), Fail> {
     Ok(())
 }
 
-// Converts log 0 if a call of this kind and this number fails: how many reads and writes of the steps failed, and how many puts
-// were counted.
+// Converts log 0 if a call of this kind and this number fails. Returns how many reads and writes of
+// the steps failed, and how many puts were counted.
 fn failed_steps(alloc: Global, call: Call, number: u64) -> Result<Option<((u32, u32), u32)>, Fail> {
     let mut disk = with_fault(prepared(alloc)?, call, number);
     let Some(converted) = convert(alloc, &mut disk) else {
@@ -472,8 +476,8 @@ fn failed_steps(alloc: Global, call: Call, number: u64) -> Result<Option<((u32, 
     Ok(Some((converted.failed, converted.puts)))
 }
 
-// A step after one that failed does what the failed one was to do, and counts its put once. The log's rebuild makes four reads, and there are two rows to
-// read and eight slots to write.
+// A step after a failed one does the same work, and counts its put once. The log's rebuild makes
+// four reads. The steps read two rows and write eight slots.
 #[test]
 fn goes_on_after_a_failed_step(rt: HostRuntime) -> Result<(), Fail> {
     for (call, number, failed) in [
@@ -500,7 +504,7 @@ fn rebuild_blank(alloc: Global, geometry: Geometry) -> Result<Outcome, Fail>
     Ok(rebuild_in(alloc, &disk, geometry))
 }
 
-// With ample memory a conversion of a log of any geometry begins, that of the most buckets too.
+// With enough memory a conversion begins even for the geometry with the most rows and buckets.
 #[test]
 fn the_largest_conversion_begins(rt: HostRuntime) -> Result<(), Fail> {
     let alloc = rt.alloc();

@@ -1,4 +1,4 @@
-// The header of a device, and how damage is reported: worked headers.
+// The header of a device, and how its damage is reported, on worked headers.
 
 use silt_device::{Geometry, HEADER_LEN, header_bytes};
 use silt_disk::{Version, version_of};

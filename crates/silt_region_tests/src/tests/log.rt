@@ -1,5 +1,5 @@
-// What no clause says of a log: the worked bytes, how many device calls an operation makes, and that the calls that
-// allocate succeed with ample memory.
+// Logs: the worked bytes, how many device calls an operation makes, and calls that allocate and
+// succeed with enough memory.
 ghost use Rattle.std.specs.Prelude.{◌≡◌, ◌≤◌, IfOk};
 ghost use Rattle.silt_disk.specs.Disk.{size};
 ghost use Rattle.silt_disk.specs.Layout.{device_size};
@@ -64,7 +64,8 @@ fn a_row_lies_on_the_device(rt: HostRuntime) -> Result<(), Fail> {
     Ok(())
 }
 
-// The K-th write or sync fails: the first two are of `prepare`, the next two of `append`, and three of `open_gates`.
+// The K-th write or sync fails. The first two are made by `prepare`, the next two by `append`, and
+// three by `open_gates`.
 #[test]
 fn calls_are_counted(rt: HostRuntime) -> Result<(), Fail> {
     for (k, want) in [
@@ -83,7 +84,7 @@ fn calls_are_counted(rt: HostRuntime) -> Result<(), Fail> {
     Ok(())
 }
 
-// Writes these first gates of log 0, and this body behind them.
+// Writes the first three gates of log 0 and the body of its first row.
 fn craft<D: Disk>(disk: &mut D, gates: &[u8; 3], body: &[u8; 23]) -> Result<(), D::Fault>
     requires { 45056 ≤ size (D.content disk.old) }
     ensures { size (D.content disk.new) ≡ size (D.content disk.old) }
@@ -94,7 +95,7 @@ fn craft<D: Disk>(disk: &mut D, gates: &[u8; 3], body: &[u8; 23]) -> Result<(), 
     Ok(())
 }
 
-// A disk with these, and zeros.
+// A disk with these gates and this body, and zeros elsewhere.
 fn crafted(alloc: Global, gates: &[u8; 3], body: &[u8; 23]) -> Result<MemDisk, Fail>
     ensures { IfOk result (λ disk. size (memory_content disk) ≡ 45056) }
 {
@@ -103,7 +104,7 @@ fn crafted(alloc: Global, gates: &[u8; 3], body: &[u8; 23]) -> Result<MemDisk, F
     Ok(disk)
 }
 
-// Scans a log: its rows, how many it has and how many are settled. None if that is refused.
+// Scans a log: its rows, how many it has and how many are settled. None if the scan is refused.
 fn scanned<D: Disk>(alloc: Global, log: &mut Log, disk: &D) -> Option<(Vec<Row>, (u32, u32))>
     requires { device_size log.old.shape ≤ size (D.content disk.now) }
     ensures { log.new.shape ≡ log.old.shape }
@@ -145,7 +146,7 @@ fn a_scan_ends_at_the_first_closed_gate(rt: HostRuntime) -> Result<(), Fail> {
     Ok(())
 }
 
-// With ample memory a log of any geometry is made, that of the most rows too.
+// With enough memory even a log with the most rows is made.
 #[test]
 fn the_longest_log_is_made(rt: HostRuntime) -> Result<(), Fail> {
     let alloc = rt.alloc();
@@ -180,7 +181,8 @@ fn seal<D: Disk>(alloc: Global, log: &mut Log, disk: &mut D) -> Option<bool>
     Some(log.seal(disk).is_ok())
 }
 
-// The same on a disk with these gates, whose K-th write or sync fails: the sync is the first. And whether these gates are then shown.
+// Scans and seals a log on a disk with these gates, whose K-th write or sync fails. The sync before
+// the scan is the first. Also returns whether the disk then shows the gates `left`.
 fn sealed(
     alloc: Global,
     gates: &[u8; 3],
@@ -193,7 +195,7 @@ fn sealed(
     Ok((ended, shows(&disk, 12_288, left)))
 }
 
-// A seal makes one write and one sync, or no call.
+// A seal makes one write and one sync, or no call. It never writes to the first closed gate.
 #[test]
 fn a_seal_leaves_the_first_closed_gate(rt: HostRuntime) -> Result<(), Fail> {
     let alloc = rt.alloc();

@@ -1,5 +1,5 @@
-// What no clause says of a log with the table of its keys: the worked sets of keys, that the calls that allocate
-// succeed with ample memory, and how many reads a look-up makes.
+// Logs with the table of their keys: the worked sets of keys, calls that allocate and succeed with
+// enough memory, and how many reads a look-up makes.
 ghost use Rattle.std.specs.Prelude.{◌≡◌, ◌≤◌, ◌<◌, OnOk, IfOk, IfSome, length};
 ghost use Rattle.silt_disk.specs.Disk.{size};
 ghost use Rattle.silt_disk.specs.Layout.{device_size};
@@ -53,7 +53,7 @@ fn crowd<D: Disk>(disk: &mut D, count: u8, pairs: bool) -> Result<(), D::Fault>
     Ok(())
 }
 
-// The result of a rebuild: the numbers of rows and of puts, or why it was refused.
+// The result of a rebuild: the numbers of rows and of puts, or why it is refused.
 #[derive(Clone, Copy, Debug, PartialEq, Eq)]
 enum Outcome {
     Rebuilt(u32, u32),
@@ -77,7 +77,7 @@ fn rebuild_in<D: Disk>(alloc: Global, disk: &D, geometry: Geometry) -> Outcome
     }
 }
 
-// The log 0 of eight rows that is on the disk.
+// The store of eight rows in log 0 of the disk.
 fn rebuilt<D: Disk>(alloc: Global, disk: &D) -> Option<LogStore>
     requires { 45056 ≤ size (D.content disk.now) }
     ensures { IfSome result (λ store. device_size store.log.shape ≤ size (D.content disk.now)) }
@@ -91,7 +91,7 @@ fn rebuilt<D: Disk>(alloc: Global, disk: &D) -> Option<LogStore>
     }
 }
 
-// The result of a rebuild of it.
+// The result of a rebuild of log 0 of eight rows.
 fn rebuild<D: Disk>(alloc: Global, disk: &D) -> Outcome
     requires { 45056 ≤ size (D.content disk.now) }
 {
@@ -101,7 +101,7 @@ fn rebuild<D: Disk>(alloc: Global, disk: &D) -> Outcome
     }
 }
 
-// Whether it can take a key.
+// Whether the log on this disk can take a key.
 fn can_take<D: Disk>(alloc: Global, disk: &D, key: &Key) -> Option<bool>
     requires { 45056 ≤ size (D.content disk.now) }
 {
@@ -111,7 +111,7 @@ fn can_take<D: Disk>(alloc: Global, disk: &D, key: &Key) -> Option<bool>
     store.can_take(disk, key).ok()
 }
 
-// What it has of a key.
+// What the log on this disk has of a key.
 fn find<D: Disk>(alloc: Global, disk: &D, key: &Key) -> Option<Option<Found>>
     requires { 45056 ≤ size (D.content disk.now) }
 {
@@ -183,7 +183,8 @@ fn eight_keys_of_two_buckets_fit(rt: HostRuntime) -> Result<(), Fail> {
     Ok(())
 }
 
-// Five keys of one bucket and a row of an unknown kind behind them; and then one of an unknown kind among them: the results of rebuilds.
+// The results of two rebuilds: of five keys of one bucket with a row of an unknown kind after them,
+// and of these with an unknown kind among them.
 fn two_wrong_rows<D: Disk>(alloc: Global, disk: &mut D) -> Result<(Outcome, Outcome), D::Fault>
     requires { 45056 ≤ size (D.content disk.old) }
 {
@@ -194,7 +195,7 @@ fn two_wrong_rows<D: Disk>(alloc: Global, disk: &mut D) -> Result<(Outcome, Outc
     Ok((crowded, rebuild(alloc, disk)))
 }
 
-// The first row at which something is wrong decides.
+// A rebuild reports the first row at which something is wrong.
 #[test]
 fn the_first_wrong_row_decides(rt: HostRuntime) -> Result<(), Fail> {
     let mut disk = blank(rt.alloc(), LEN)?;
@@ -209,7 +210,8 @@ fn found_with_fault(alloc: Global, number: u64) -> Result<bool, Fail> {
     Ok(find(alloc, &disk, &paired(2)).is_some())
 }
 
-// A rebuild of two rows makes three reads, and a look-up one for each candidate up to the one that has the key.
+// A rebuild of two rows makes three reads. A look-up makes one for each candidate, up to the one
+// that has the key.
 #[test]
 fn a_failed_read_is_told(rt: HostRuntime) -> Result<(), Fail> {
     for (number, want) in [(1, false), (3, false), (4, false), (5, false), (6, true)] {
@@ -228,7 +230,7 @@ fn rebuild_with_fault(alloc: Global, number: u64) -> Result<Outcome, Fail> {
     Ok(rebuild(alloc, &disk))
 }
 
-// A rebuild of two rows makes three reads, and the fault of each is returned as such.
+// A rebuild of two rows makes three reads, and returns the fault of each.
 #[test]
 fn a_failed_read_of_a_rebuild_is_told(rt: HostRuntime) -> Result<(), Fail> {
     let rebuilt = Outcome::Rebuilt(2, 2);
@@ -251,7 +253,7 @@ fn rebuild_blank(alloc: Global, geometry: Geometry) -> Result<Outcome, Fail>
     Ok(rebuild_in(alloc, &disk, geometry))
 }
 
-// With ample memory a store of any geometry is made, that of the most rows and buckets too, and rebuilt.
+// With enough memory even a store with the most rows and buckets is made and rebuilt.
 #[test]
 fn the_largest_store_is_made(rt: HostRuntime) -> Result<(), Fail> {
     let alloc = rt.alloc();
@@ -265,7 +267,7 @@ fn the_largest_store_is_made(rt: HostRuntime) -> Result<(), Fail> {
     Ok(())
 }
 
-// Takes a row if it can be taken: whether it was.
+// Takes a row if the log can take it. Returns whether it does.
 fn offer<D: Disk>(
     store: &mut LogStore,
     disk: &mut D,
@@ -289,7 +291,8 @@ fn offer<D: Disk>(
     }
 }
 
-// Puts a key, another of its buckets and the first again, and opens the gates.
+// Puts a key, deletes another one of the same buckets, puts the first one again, and opens the
+// gates.
 fn put_three<D: Disk>(store: &mut LogStore, disk: &mut D) -> Result<(), D::Fault>
     requires value { store.old.log.shape.value_len ≡ 2 }
     requires size { device_size store.old.log.shape ≤ size (D.content disk.old) }
@@ -316,8 +319,8 @@ fn find_first<D: Disk>(store: &LogStore, disk: &D) -> Option<(u32, [u8; 2])>
     Some((found.place, value))
 }
 
-// What a store that put three rows reports: how many puts it had before and after, how many rows it has, whether one of them waits, and
-// what is found of the first key.
+// What a store reports after three rows: its number of puts before and after, its number of rows,
+// whether one waits, and what is found of the first key.
 type Told = (u32, u32, u32, bool, Option<(u32, [u8; 2])>);
 
 // Prepares log 0 and puts three rows. None if memory runs out.
@@ -373,7 +376,8 @@ fn seal<D: Disk>(alloc: Global, disk: &mut D) -> Option<bool>
     Some(store.seal(disk).is_ok())
 }
 
-// The same on a disk with two open puts, a gate like this one behind closed ones, and a first write that fails.
+// Rebuilds and seals log 0 on a disk with two open puts and with this gate after closed ones. The
+// first write fails.
 fn sealed_with_fault(alloc: Global, gate: u8) -> Result<Option<bool>, Fail> {
     let mut disk = crowded(alloc, 2, true)?;
     write_gate(&mut disk, 5, gate)?;
@@ -381,7 +385,7 @@ fn sealed_with_fault(alloc: Global, gate: u8) -> Result<Option<bool>, Fail> {
     Ok(seal(alloc, &mut failing))
 }
 
-// A log with stale commit bytes is sealed by a write. One without is left alone.
+// A log with stale commit bytes is sealed by a write. Any other log takes no write.
 #[test]
 fn seals_a_stale_log(rt: HostRuntime) -> Result<(), Fail> {
     let alloc = rt.alloc();

@@ -1,5 +1,5 @@
-// What no clause says of the manifest: the layout's bytes, the damaged slots, the forms of slots on devices of either
-// version, a crash at each call of a write, and the first call of a write.
+// The manifest: the layout's bytes, damaged slots, and the forms of slots on devices of either
+// version. A crash comes at each call of a write, and the first call is looked at by itself.
 ghost use Rattle.std.specs.Prelude.{◌≡◌, ◌+◌, ◌≤◌, ◌<◌, ◌↔◌, IsTrue, IfSome, OnOk};
 ghost use Rattle.silt_disk.specs.Disk.{Rests, size};
 ghost use Rattle.silt_manifest.specs.Standing.{IsNext, Rules};
@@ -22,7 +22,7 @@ const FILLS: [Fill; 5] = [Fill::Old, Fill::New, Fill::Zero, Fill::Ones, Fill::Mi
 // The header and the two slots.
 const LEN: usize = 12_288;
 
-// The bytes of a slot that count: the gate, the body, and the digests, or else zeros.
+// The bytes of a slot that count: the gate, the body, and the digests or zeros.
 type Slot = [u8; 461];
 
 // Values of 2 bytes, 2 buckets, logs of 4 rows, 2 logs, 2 hash regions and 8 sorted entries.
@@ -35,12 +35,13 @@ fn large(rt: &impl Abort) -> Geometry {
     Geometry::new(2, 2, 4, 8, 16, 8).expect(rt, "the numbers are within their limits")
 }
 
-// A device of version 1 with these slots, and with two lives: one that no call stops, and this one.
+// A device of version 1 with these slots and two lives. The first one is not interrupted, the
+// second one ends with this crash.
 fn device(alloc: Global, first: &Slot, second: &Slot, stop: Stop) -> Result<MemDisk, AllocError> {
     device_as(alloc, 1, (first, second), stop)
 }
 
-// A device so whose header has this number as its version.
+// The same with a header that has this number as its version.
 fn device_as(
     alloc: Global,
     number: u8,
@@ -65,7 +66,7 @@ const NEVER: Stop = Stop {
     fill: Fill::Old,
 };
 
-// A slot with this gate and this generation below 256, and else zeros.
+// A slot with this gate, this generation below 256, and zeros elsewhere.
 fn slot_of(gate: u8, generation: u8) -> Slot {
     let mut slot = [0; 461];
     slot[0] = gate;
@@ -73,7 +74,7 @@ fn slot_of(gate: u8, generation: u8) -> Slot {
     slot
 }
 
-// The version of a device, by its header, if that can be read.
+// The version in the header of a device, if it can be read.
 fn version_on<D: Disk>(disk: &D) -> Option<Version>
     requires { 37 ≤ size (D.content disk.now) }
     ensures { IfSome result (λ version. IsTrue (D.content disk.now).honest → version ≡ version_of (header_of (D.content disk.now).shown)) }
@@ -85,7 +86,7 @@ fn version_on<D: Disk>(disk: &D) -> Option<Version>
     }
 }
 
-// What the slots of a disk of this length hold: the current record, or the damage.
+// The current record in the slots of a disk of this length, or the damage.
 fn current<D: Disk>(disk: &D, geometry: Geometry) -> Option<Result<Body, Damage>> {
     if disk.len() != LEN as u64 {
         return None;
@@ -110,7 +111,8 @@ fn said<D: Disk>(disk: &D, geometry: Geometry) -> Option<Digests> {
     }
 }
 
-// Whether a body may be the next one: it has the next generation, and is well formed in the slot that does not rule.
+// Whether a body may be the next one: it has the next generation, and is well formed for the slot
+// that is not current.
 fn is_next(manifest: &Manifest, next: &Body) -> bool
     ensures { IsTrue result ↔ IsNext manifest.now next.now }
 {
@@ -119,7 +121,8 @@ fn is_next(manifest: &Manifest, next: &Body) -> bool
         && next.is_well_formed(&manifest.geometry(), (generation % 2) as u32)
 }
 
-// Digests: as many hash stores as there may be have each its number, from 1 on, in all bytes.
+// Digests for the most hash stores that there may be. All bytes of each digest are its number, from
+// 1 on.
 fn some_digests() -> Digests {
     let mut hashed = [Digest([0; 20]); 16];
     for k in 0..16usize {
@@ -131,7 +134,7 @@ fn some_digests() -> Digests {
     }
 }
 
-// Writes them into a slot, and the bit that says that they follow.
+// Writes these digests into a slot, and sets the bit that says that they follow.
 fn put_digests(slot: &mut Slot) {
     slot[1] |= 0x80;
     for k in 0..16usize {
@@ -218,7 +221,7 @@ fn write_slots<D: Disk>(disk: &mut D) -> Result<(), D::Fault>
     Ok(())
 }
 
-// The body of this generation, with a number of entries that distinguishes it from others.
+// A body of this generation. Its number of entries distinguishes it from others.
 fn body_of(generation: u64) -> Body {
     let mut body = Body::first();
     body.generation = generation;
@@ -227,7 +230,7 @@ fn body_of(generation: u64) -> Body {
     body
 }
 
-// What the slots of a device with these first bytes hold.
+// The current record on a device with these slots, or the damage.
 fn current_of(
     alloc: Global,
     geometry: Geometry,
@@ -262,7 +265,8 @@ fn finds_the_damaged_slot(rt: HostRuntime) -> Result<(), Fail> {
     Ok(())
 }
 
-// A slot without digests, with a well-formed body. One byte can break each rule of it.
+// A slot without digests, with a well-formed body. A change of one byte can break each rule of
+// well-formed bodies.
 fn good_slot() -> Slot {
     let mut good = slot_of(0xA7, 0);
     good[12] = 1;
@@ -274,7 +278,7 @@ fn good_slot() -> Slot {
     good
 }
 
-// What is read if this byte is at this place.
+// The current record, or the damage, if this byte of that slot is changed.
 fn current_changed(
     alloc: Global,
     geometry: Geometry,
@@ -288,7 +292,7 @@ fn current_changed(
     current_of(alloc, geometry, &slot, &slot_of(0, 0))
 }
 
-// Each rule of what is well formed, one at a time.
+// Each rule of well-formed bodies is broken, one at a time.
 #[test]
 fn refuses_each_fault_of_a_body(rt: HostRuntime) -> Result<(), Fail> {
     let geometry = small(&rt);
@@ -337,7 +341,7 @@ fn the_greater_generation_rules(rt: HostRuntime) -> Result<(), Fail> {
     Ok(())
 }
 
-// The slot of the last generation but one, of the first body else, without digests.
+// A slot with the first body, but of the generation before the last one, without digests.
 fn last_but_one() -> Slot {
     let mut slot = slot_of(0xA7, 0xFE);
     slot[1] = 0x7F;
@@ -359,7 +363,7 @@ fn greatest() -> Body {
     body
 }
 
-// Its slot.
+// The slot with the greatest body and the digests.
 fn greatest_slot() -> Slot {
     let mut slot = last_but_one();
     slot[8] = 0xFF;
@@ -378,7 +382,8 @@ fn greatest_slot() -> Slot {
     slot
 }
 
-// The device after the greatest body was written, and whether it was, and its bytes are shown.
+// The device after a write of the greatest body, whether the write succeeded, and whether the disk
+// shows its bytes.
 fn write_greatest(alloc: Global, geometry: Geometry) -> Result<(MemDisk, bool, bool), Fail> {
     let mut disk = device(alloc, &last_but_one(), &slot_of(0, 0), NEVER)?.restart();
     let done = write_next(&mut disk, geometry, greatest());
@@ -392,7 +397,7 @@ fn reads_back(rt: &impl Abort, disk: &MemDisk, geometry: Geometry) {
     assert!(rt; said(disk, geometry) == Some(some_digests()));
 }
 
-// Also a device of version 1 is given digests.
+// A write has the layout's bytes, and reads back. It has digests on a device of version 1 too.
 #[test]
 fn writes_the_layouts_bytes(rt: HostRuntime) -> Result<(), Fail> {
     let (disk, done, is_shown) = write_greatest(rt.alloc(), large(&rt))?;
@@ -401,8 +406,8 @@ fn writes_the_layouts_bytes(rt: HostRuntime) -> Result<(), Fail> {
     Ok(())
 }
 
-// What is current on a device whose header has this version, and whose first slot, open and of generation 0, has this
-// byte behind its gate; and whether there are digests.
+// The current record, or the damage, on a device of this version, and whether there are digests.
+// The first slot is open with generation 0, and has this byte after its gate.
 fn current_as(
     alloc: Global,
     geometry: Geometry,
@@ -414,7 +419,7 @@ fn current_as(
     Ok((current(&disk, geometry), said(&disk, geometry).is_some()))
 }
 
-// With digests and without on a device of version 1, and with digests alone on one of version 2.
+// A slot may have digests or none on a device of version 1. On one of version 2 it needs them.
 #[test]
 fn takes_the_forms_of_its_version(rt: HostRuntime) -> Result<(), Fail> {
     let geometry = small(&rt);
@@ -430,7 +435,7 @@ fn takes_the_forms_of_its_version(rt: HostRuntime) -> Result<(), Fail> {
     Ok(())
 }
 
-// The two slots, if this generation is current and the other slot has this gate, the first slot in front.
+// The two slots in their order, if this generation is current and the other slot has this gate.
 fn slots_of(old: u8, spare: u8) -> (Slot, Slot) {
     let current_slot = slot_of(0xA7, old);
     let spare_slot = slot_of(spare, old.wrapping_sub(1));
@@ -441,7 +446,8 @@ fn slots_of(old: u8, spare: u8) -> (Slot, Slot) {
     }
 }
 
-// Whether the next body was written on a device with these slots before this stop, and what is current after it.
+// Whether a write of the next body on a device with these slots ends before this crash, and what is
+// current after the crash.
 fn stopped_write(
     alloc: Global,
     geometry: Geometry,
@@ -454,13 +460,13 @@ fn stopped_write(
     Ok((done, current(&disk.restart(), geometry)))
 }
 
-// Whether a stop at the call that writes a gate leaves the gate written.
+// Whether a crash at the call that writes a gate leaves the gate written.
 fn keeps_the_gate(fill: Fill) -> bool {
     fill == Fill::New || fill == Fill::Mix
 }
 
-// From each state of the slots, a stop at each of the six calls, with every fill. The fifth writes the gate, at an even
-// offset.
+// From each state of the slots a crash at each of the six calls, with every fill, leaves the old
+// body or the new one. The fifth call writes the gate, at an even offset.
 #[test]
 fn each_stop_leaves_the_old_or_the_new_body(rt: HostRuntime) -> Result<(), Fail> {
     let alloc = rt.alloc();
@@ -484,7 +490,7 @@ fn each_stop_leaves_the_old_or_the_new_body(rt: HostRuntime) -> Result<(), Fail>
     Ok(())
 }
 
-// Whether two bodies were written before this stop, and what is current after it.
+// Whether writes of two bodies end before this crash, and what is current after the crash.
 fn stopped_writes(
     alloc: Global,
     geometry: Geometry,
@@ -495,7 +501,7 @@ fn stopped_writes(
     Ok((done, current(&disk.restart(), geometry)))
 }
 
-// Which body is current after a stop at this call.
+// Which body is current after a crash at this call.
 fn left_of_two(k: u32, fill: Fill) -> Body {
     let is_kept = keeps_the_gate(fill);
     if k == 0 || k > 12 || (k >= 11 && is_kept) {
@@ -507,8 +513,8 @@ fn left_of_two(k: u32, fill: Fill) -> Body {
     Body::first()
 }
 
-// Two writes in one life, the first over a closed slot and the second over an open one, with a stop at each of the
-// twelve calls.
+// Two writes in one life, the first over a closed slot and the second over an open one. A crash at
+// each of the twelve calls leaves one of three bodies.
 #[test]
 fn each_stop_leaves_one_of_three_bodies(rt: HostRuntime) -> Result<(), Fail> {
     let geometry = small(&rt);
@@ -524,7 +530,7 @@ fn each_stop_leaves_one_of_three_bodies(rt: HostRuntime) -> Result<(), Fail> {
     Ok(())
 }
 
-// Writes in several lives: each in the slot of its generation.
+// In several lives each write goes to the slot of its generation.
 #[test]
 fn writes_in_turn(rt: HostRuntime) -> Result<(), Fail> {
     let geometry = small(&rt);
@@ -544,8 +550,8 @@ fn first_ones(disk: &MemDisk) -> (usize, Option<usize>) {
     (shown.len(), shown.iter().position(|byte| *byte == 0xFF))
 }
 
-// Whether the third body was written if the first call is stopped, how many bytes there are then, and the place that
-// the stop changed.
+// Crashes at the first call of a write of generation 3. Returns whether the write succeeds, how
+// many bytes the disk has, and the place that the crash changed.
 fn changed_place(
     alloc: Global,
     geometry: Geometry,
@@ -560,7 +566,7 @@ fn changed_place(
     Ok((done, first_ones(&disk.restart())))
 }
 
-// The first call goes to the gate if that is open, and else to the last place of the slot.
+// The first call writes to the gate if that is open, and else to the last place of the slot.
 #[test]
 fn the_first_call_spares_a_closed_gate(rt: HostRuntime) -> Result<(), Fail> {
     let geometry = small(&rt);
@@ -573,7 +579,8 @@ fn the_first_call_spares_a_closed_gate(rt: HostRuntime) -> Result<(), Fail> {
     Ok(())
 }
 
-// A device with these slots, on which the first body was written up to this stop, and whether it was written.
+// A device with these slots after a write of the first body that this crash may interrupt, and
+// whether the write succeeds.
 fn first_written(
     alloc: Global,
     first: &Slot,
@@ -588,8 +595,8 @@ fn first_written(
     Ok((disk, done))
 }
 
-// Whether the first body was written over two old ones before this stop, what is current after it, and whether its
-// bytes and the digests' are shown then.
+// Writes the first body over two old ones, with this crash. Returns whether the write ends before
+// it, what is current after it, and whether the disk then has the body and the digests.
 fn stopped_first(
     alloc: Global,
     geometry: Geometry,
@@ -602,8 +609,8 @@ fn stopped_first(
     Ok((done, current(&disk, geometry), shows(&disk, 4096, &slot)))
 }
 
-// Over two old bodies, a stop at each of the eight calls, with every fill. The seventh writes the gate, at an even
-// offset.
+// The first body is written over two old ones, with a crash at each of the eight calls and with
+// every fill. It is current from the call on that writes its gate: the seventh, at an even offset.
 #[test]
 fn the_first_body_rules_once_it_is_written(rt: HostRuntime) -> Result<(), Fail> {
     let geometry = small(&rt);
@@ -625,7 +632,7 @@ fn the_first_body_rules_once_it_is_written(rt: HostRuntime) -> Result<(), Fail> 
     Ok(())
 }
 
-// The first write's zero goes to the gate of slot 0 though that is closed.
+// The first write of the first body goes to the gate of slot 0, though that is closed.
 #[test]
 fn the_first_body_begins_at_its_gate(rt: HostRuntime) -> Result<(), Fail> {
     let closed = slot_of(0, 0);
@@ -639,15 +646,16 @@ fn the_first_body_begins_at_its_gate(rt: HostRuntime) -> Result<(), Fail> {
     Ok(())
 }
 
-// Whether the first body was written before a stop at this call, and whether slot 0 has this gate then.
+// Whether a write of the first body ends before a crash at this call, and whether slot 0 then shows
+// this gate.
 fn has_gate(alloc: Global, k: u32, gate: u8) -> Result<(bool, bool), Fail> {
     let stop = Stop { k, fill: Fill::Old };
     let (disk, done) = first_written(alloc, &slot_of(0xA7, 4), &slot_of(0xA7, 5), stop)?;
     Ok((done, shows(&disk, 4096, &[gate])))
 }
 
-// The gate of slot 0, which is open at first, behind each of the six calls that write the first body: a zero from the first one
-// on, and open from the fifth one on.
+// The gate of slot 0 is open before the first body is written. Of the six calls that write it, the
+// first one closes the gate with a zero, and the fifth one opens it.
 #[test]
 fn the_first_gate_is_closed_by_a_zero(rt: HostRuntime) -> Result<(), Fail> {
     for (k, gate) in [
@@ -664,14 +672,14 @@ fn the_first_gate_is_closed_by_a_zero(rt: HostRuntime) -> Result<(), Fail> {
     Ok(())
 }
 
-// Whether the manifest is read if the read of this number fails.
+// Whether the manifest can be read if the read of this number fails.
 fn reads_with_fault(alloc: Global, geometry: Geometry, number: u64) -> Result<bool, Fail> {
     let disk = device(alloc, &slot_of(0xA7, 0), &slot_of(0, 0), NEVER)?.restart();
     let disk = FaultDisk::new(disk, Call::Read, number);
     Ok(current(&disk, geometry).is_some())
 }
 
-// Whether the next body is written if a call of this kind and this number fails.
+// Whether a write of the next body succeeds if a call of this kind and this number fails.
 fn writes_with_fault(
     alloc: Global,
     geometry: Geometry,
@@ -683,7 +691,8 @@ fn writes_with_fault(
     Ok(write_next(&mut disk, geometry, body_of(1)))
 }
 
-// The fault of each read, that of the header before them, and of each of the six calls, is handed on.
+// The fault of each read is returned, that of the header too, and the fault of each of the six
+// calls of a write.
 #[test]
 fn hands_on_each_fault(rt: HostRuntime) -> Result<(), Fail> {
     let geometry = small(&rt);

@@ -1,5 +1,5 @@
-// What no clause says of a merge: a worked one, that the calls that allocate succeed with ample memory, and how many
-// reads and writes the steps make.
+// Merges: a worked one, calls that allocate and succeed with enough memory, and how many reads and
+// writes the steps make.
 ghost use Rattle.std.specs.Prelude.{◌≡◌, ◌+◌, ◌*◌, ◌≤◌, ◌<◌, length, IfOk};
 ghost use Rattle.std.specs.List.{All};
 ghost use Rattle.silt_disk.specs.Disk.{size};
@@ -20,8 +20,8 @@ use std::test::Fail;
 mod many;
 mod pieces;
 
-// Values of two bytes, two buckets and eight rows a log, and at most eight entries. Hash region 0 begins at 28,672 and hash region 1 at 32,768, sorted region 0
-// at 36,864 and sorted region 1 at 40,960.
+// Values of two bytes, two buckets, eight rows a log, and at most this many entries. The hash
+// regions begin at 28,672 and 32,768, the sorted regions at 36,864 and 40,960.
 fn small(sorted_capacity: u32) -> Result<Geometry, BadGeometry>
     requires { sorted_capacity ≤ 8 }
     ensures { IfOk result (λ geometry. geometry ≡ record { value_len = 2; buckets = 2; log_capacity = 8; logs = 2; hashes = 2; sorted_capacity = sorted_capacity }) }
@@ -97,7 +97,7 @@ fn fill_sorted<D: Disk>(disk: &mut D) -> Result<(), D::Fault>
     Ok(())
 }
 
-// All of these.
+// Writes all of these rows and entries.
 fn fill_all<D: Disk>(disk: &mut D) -> Result<(), D::Fault>
     requires { 45056 ≤ size (D.content disk.old) }
     ensures { size (D.content disk.new) ≡ size (D.content disk.old) }
@@ -108,7 +108,7 @@ fn fill_all<D: Disk>(disk: &mut D) -> Result<(), D::Fault>
     Ok(())
 }
 
-// A disk with all of these.
+// A disk with all of these rows and entries.
 fn filled(alloc: Global) -> Result<MemDisk, Fail>
     ensures { IfOk result (λ disk. size (memory_content disk) ≡ 45056) }
 {
@@ -117,7 +117,7 @@ fn filled(alloc: Global) -> Result<MemDisk, Fail>
     Ok(disk)
 }
 
-// What the steps of a merge came to: how many were taken, and how many reads and writes failed.
+// How many steps a merge took, and how many of their reads and writes failed.
 #[derive(Clone, Copy, Debug, PartialEq, Eq)]
 struct Outcome {
     steps: u32,
@@ -186,8 +186,9 @@ fn run_steps<D: Disk>(
     all
 }
 
-// Merges hash region 0, the newest store, hash region 1, and this many entries of sorted region 0 into sorted region 1,
-// in this many tries. Returns what the steps returned, and the new store, or None if they did not finish the merge.
+// Merges hash region 0, the newest store, hash region 1, and this many entries of sorted region 0
+// into sorted region 1, in this many tries. Returns the outcome of the steps and the new store, or
+// None if the merge is not done by then.
 fn merge_stores<D: Disk>(
     alloc: Global,
     disk: &mut D,
@@ -213,7 +214,8 @@ fn merge_stores<D: Disk>(
     Some((outcome, store))
 }
 
-// The same of four entries, in 30 tries: what the steps came to, and how many entries the new store has.
+// Merges with four entries, in 30 tries: the outcome of the steps, and how many entries the new
+// store has.
 fn merge_all<D: Disk>(alloc: Global, disk: &mut D, geometry: Geometry) -> Option<(Outcome, u32)>
     requires hashes { geometry.hashes ≡ 2 }
     requires capacity { 4 ≤ geometry.sorted_capacity }
@@ -224,7 +226,7 @@ fn merge_all<D: Disk>(alloc: Global, disk: &mut D, geometry: Geometry) -> Option
     Some((outcome, store.len()))
 }
 
-// A merge of all that is filled in, with room for eight entries.
+// Merges all of these rows and entries, with room for eight entries.
 fn merge_small<D: Disk>(alloc: Global, disk: &mut D) -> Option<(Outcome, u32)>
     requires { 45056 ≤ size (D.content disk.old) }
     ensures { size (D.content disk.new) ≡ size (D.content disk.old) }
@@ -250,7 +252,7 @@ fn entry<D: Disk>(disk: &D, place: u32) -> Option<(u8, u8, u8)>
     Some((entry[0], entry[19], entry[21]))
 }
 
-// The first six of them.
+// The first six entries of sorted region 1.
 fn six_entries<D: Disk>(disk: &D) -> [Option<(u8, u8, u8)>; 6]
     requires { 45056 ≤ size (D.content disk.now) }
 {
@@ -264,7 +266,8 @@ fn six_entries<D: Disk>(disk: &D) -> [Option<(u8, u8, u8)>; 6]
     ]
 }
 
-// The entries that a merge makes: a put decides over older rows and entries, and a key whose newest row is a delete is left out.
+// The entries that a merge makes. A put replaces older rows and entries, and a key whose newest row
+// is a delete is left out.
 const MERGED: [Option<(u8, u8, u8)>; 6] = [
     Some((10, 0, 3)),
     Some((15, 0, 8)),
@@ -274,7 +277,7 @@ const MERGED: [Option<(u8, u8, u8)>; 6] = [
     Some((0, 0, 0)),
 ];
 
-// What the steps came to if none failed.
+// The outcome of this many steps, none of which failed.
 fn smooth(steps: u32) -> Outcome {
     Outcome {
         steps,
@@ -283,7 +286,7 @@ fn smooth(steps: u32) -> Outcome {
     }
 }
 
-// There are 16 slots and 7 keys.
+// The merge takes 23 steps: there are 16 slots and 7 keys.
 #[test]
 fn merges_two_hash_stores_and_a_sorted_store(rt: HostRuntime) -> Result<(), Fail> {
     let alloc = rt.alloc();
@@ -296,7 +299,7 @@ fn merges_two_hash_stores_and_a_sorted_store(rt: HostRuntime) -> Result<(), Fail
     Ok(())
 }
 
-// The fifth entry finds no place in a region of four, and its key is decided all the same.
+// A region of four has no place for the fifth entry. The merge still takes the step for its key.
 #[test]
 fn leaves_out_what_finds_no_place(rt: HostRuntime) -> Result<(), Fail> {
     let alloc = rt.alloc();
@@ -310,7 +313,8 @@ fn leaves_out_what_finds_no_place(rt: HostRuntime) -> Result<(), Fail> {
     Ok(())
 }
 
-// An entry whose key is not above the last one that was decided is passed over: here the third one, 12 after 30.
+// The merge passes over an entry whose key is not above the last one that was decided. Here that is
+// the third entry, with key 12 after key 30.
 #[test]
 fn passes_over_what_does_not_rise(rt: HostRuntime) -> Result<(), Fail> {
     let alloc = rt.alloc();
@@ -324,14 +328,15 @@ fn passes_over_what_does_not_rise(rt: HostRuntime) -> Result<(), Fail> {
     Ok(())
 }
 
-// A key that a merge keeps takes its 20 bytes.
+// A key that a merge keeps in memory takes 20 bytes.
 #[test]
 fn a_key_takes_twenty_bytes(rt: HostRuntime) -> Result<(), Fail> {
     assert_eq!(rt; size_of::<Key>(), 20);
     Ok(())
 }
 
-// Merges if a call of this kind and this number fails: what the steps came to, and the last entry.
+// Merges if a call of this kind and this number fails: the outcome of the steps, and the last
+// entry.
 fn merge_with_fault(
     alloc: Global,
     call: Call,
@@ -344,9 +349,11 @@ fn merge_with_fault(
     Ok(Some((outcome, entry(&disk, 4))))
 }
 
-// A step after one that failed does what the failed one was to do. The rebuilds make 11 reads; the steps read the 8 slots of each store and the 4
-// entries by one read each, and the 3 values of the rows that are written, so read 17 is the last one, and they write 5 entries. Read 18 is that
-// of the last entry afterwards. The step that reads the entries reads the first of the values too: if that fails, read 16 is of the entries again.
+// A step after a failed one does the same work. The rebuilds make 11 reads. The steps read the 8
+// slots of each store and the 4 entries by one read each, and the 3 values of the rows that they
+// write. So read 17 is their last one. They write 5 entries. Read 18 is that of the last entry
+// afterwards. The step that reads the entries also reads the first of the values. If that fails,
+// read 16 is of the entries again.
 #[test]
 fn goes_on_after_a_failed_step(rt: HostRuntime) -> Result<(), Fail> {
     for (call, number, reads, writes) in [

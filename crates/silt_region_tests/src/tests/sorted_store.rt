@@ -1,4 +1,4 @@
-// What no clause says of a sorted region: worked entries, and how many reads a call makes.
+// Sorted regions: worked entries, and how many reads a call makes.
 ghost use Rattle.std.specs.Prelude.{◌≡◌, ◌≤◌, ◌<◌, IfOk};
 ghost use Rattle.silt_disk.specs.Disk.{size};
 ghost use Rattle.silt_disk.specs.Layout.{device_size};
@@ -48,7 +48,7 @@ fn fill<D: Disk>(disk: &mut D, count: u8) -> Result<(), D::Fault>
     Ok(())
 }
 
-// The result of a rebuild: the number of entries, or why it was refused.
+// The result of a rebuild: the number of entries, or why it is refused.
 #[derive(Clone, Copy, Debug, PartialEq, Eq)]
 enum Outcome {
     Rebuilt(u32),
@@ -77,7 +77,7 @@ fn rebuild_in<D: Disk>(
     }
 }
 
-// The same with four rows a log and eight sorted entries.
+// The result of a rebuild with four rows a log and eight sorted entries.
 fn rebuild<D: Disk>(alloc: Global, disk: &D, region: u32, count: u32) -> Outcome
     requires region { region < 2 }
     requires count { count ≤ 8 }
@@ -89,8 +89,8 @@ fn rebuild<D: Disk>(alloc: Global, disk: &D, region: u32, count: u32) -> Outcome
     }
 }
 
-// The place of a key among the first entries of region 1, by an index that was rebuilt. None if a read fails or memory
-// runs out.
+// Rebuilds the index of the first entries of region 1, and returns the place of a key by it. None
+// if a read fails or memory runs out.
 fn find_in<D: Disk>(
     alloc: Global,
     disk: &D,
@@ -107,7 +107,7 @@ fn find_in<D: Disk>(
     store.find(disk, key).ok()
 }
 
-// The same with four rows a log and eight sorted entries.
+// The place of a key with four rows a log and eight sorted entries.
 fn find<D: Disk>(alloc: Global, disk: &D, count: u32, key: &Key) -> Option<Option<u32>>
     requires count { count ≤ 8 }
     requires size { 45056 ≤ size (D.content disk.now) }
@@ -128,7 +128,8 @@ fn filled(alloc: Global, count: u8) -> Result<MemDisk, Fail>
     Ok(disk)
 }
 
-// The first of eight places whose key is not found there, or of whose neighbours, one before it and one behind it, one is found.
+// The first of eight places at which the store does not find its key, or finds the neighbour before
+// or after that key.
 fn first_wrong<D: Disk>(alloc: Global, disk: &D) -> Option<u8>
     requires { 45056 ≤ size (D.content disk.now) }
 {
@@ -166,7 +167,7 @@ fn found_among(alloc: Global, count: u32, first: u8) -> Result<Option<Option<u32
     Ok(find(alloc, &disk, count, &key(first, 0)))
 }
 
-// The index of no entries, of one and of two names their keys and no other.
+// An index of no entries, of one or of two finds their keys and no other.
 #[test]
 fn finds_among_few(rt: HostRuntime) -> Result<(), Fail> {
     for (count, first, want) in [
@@ -204,7 +205,7 @@ fn rising<D: Disk>(
     ))
 }
 
-// The bytes after the first decide if the first are alike.
+// If the first bytes of two keys are alike, the next ones decide.
 #[test]
 fn keys_rise_by_their_bytes(rt: HostRuntime) -> Result<(), Fail> {
     let mut disk = blank(rt.alloc(), LEN)?;
@@ -214,8 +215,8 @@ fn keys_rise_by_their_bytes(rt: HostRuntime) -> Result<(), Fail> {
     Ok(())
 }
 
-// The results of rebuilds of six entries and of four, with the fifth below the fourth, and of six with the key of the
-// second in the third too.
+// The results of three rebuilds: of six entries with the fifth below the fourth, of the first four,
+// and of six with equal second and third keys.
 fn falling<D: Disk>(alloc: Global, disk: &mut D) -> Result<[Outcome; 3], D::Fault>
     requires { 45056 ≤ size (D.content disk.old) }
 {
@@ -227,7 +228,8 @@ fn falling<D: Disk>(alloc: Global, disk: &mut D) -> Result<[Outcome; 3], D::Faul
     Ok([fifth, four, rebuild(alloc, disk, 1, 6)])
 }
 
-// An entry with the key before it is no better than one with a lower key; the first such entry decides.
+// The first entry whose key is not above the key before it is damaged. An equal key is damage as a
+// lower one is.
 #[test]
 fn the_first_entry_that_does_not_rise_decides(rt: HostRuntime) -> Result<(), Fail> {
     let mut disk = blank(rt.alloc(), LEN)?;
@@ -242,7 +244,8 @@ fn the_first_entry_that_does_not_rise_decides(rt: HostRuntime) -> Result<(), Fai
     Ok(())
 }
 
-// The result of a rebuild of this many entries of region 0 if only region 1 has some, and whether they are none.
+// The result of a rebuild of this many entries of region 0 if only region 1 has entries, and
+// whether the number is 0.
 fn rebuild_other(alloc: Global, count: u32) -> Result<(Outcome, bool), Fail>
     requires { count ≤ 8 }
 {
@@ -251,7 +254,7 @@ fn rebuild_other(alloc: Global, count: u32) -> Result<(Outcome, bool), Fail>
     Ok((rebuild(alloc, &disk, 0, count), is_empty))
 }
 
-// A region of zeros has equal keys: two of its entries are refused, one or none is not.
+// A region of zeros has equal keys. Two of its entries are damage, one or none is not.
 #[test]
 fn a_blank_region_has_at_most_one_entry(rt: HostRuntime) -> Result<(), Fail> {
     for (count, want) in [

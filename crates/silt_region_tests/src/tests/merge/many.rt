@@ -1,4 +1,4 @@
-// A merge of some hundred keys, whose finished store finds each of them by one read.
+// A merge of some hundred keys. The finished store finds each of them by one read.
 ghost use Rattle.std.specs.Prelude.{◌≡◌, ◌+◌, ◌≤◌, ◌<◌, IfOk};
 ghost use Rattle.silt_disk.specs.Disk.{size};
 ghost use Rattle.silt_disk.specs.Layout.{device_size};
@@ -21,7 +21,8 @@ fn wide() -> Result<Geometry, BadGeometry>
     Geometry::new(2, 128, 4, 2, 2, 400)
 }
 
-// The key of this number: they rise, and slot `number` is in one of its buckets. The last byte distinguishes keys that no store has.
+// The key of this number. The keys rise, and slot `number` is in one of the key's buckets. The last
+// byte makes keys that no store has.
 fn numbered(number: u16, last: u8) -> Key
     requires { number < 300 }
 {
@@ -32,7 +33,7 @@ fn numbered(number: u16, last: u8) -> Key
     Key(bytes)
 }
 
-// The row of a key in the newest store: 1 is a put, 2 a delete, 0 none.
+// The kind of a key's row in the newest store: 1 is a put, 2 a delete, 0 no row.
 fn newest_kind(number: u16) -> u8 {
     if number % 3 == 0 {
         return 1;
@@ -40,13 +41,13 @@ fn newest_kind(number: u16) -> u8 {
     if number % 7 == 1 { 2 } else { 0 }
 }
 
-// The row of a key in the older store.
+// The kind of a key's row in the older store.
 fn older_kind(number: u16) -> u8 {
     if number % 2 == 0 { 1 } else { 0 }
 }
 
-// Which value a key has after the merge: 1 from the newest store, 2 from the older one, 3 from the old entries, which
-// have each fifth key.
+// The value of a key after the merge: 1 from the newest store, 2 from the older one, 3 from the old
+// entries. Each fifth key has an old entry.
 fn merged_value(number: u16) -> Option<u8> {
     match (newest_kind(number), older_kind(number)) {
         (1, _) => Some(1),
@@ -73,7 +74,7 @@ fn fill_rows<D: Disk>(disk: &mut D, number: u16) -> Result<(), D::Fault>
     Ok(())
 }
 
-// Writes the entry at a place of sorted region 0: that of each fifth key.
+// Writes the entry at a place of sorted region 0. Each fifth key has one.
 fn fill_fifth<D: Disk>(disk: &mut D, place: u16) -> Result<(), D::Fault>
     requires place { place < 60 }
     requires size { 77824 ≤ size (D.content disk.old) }
@@ -110,7 +111,8 @@ fn merge_many<D: Disk>(alloc: Global, disk: &mut D, geometry: Geometry) -> Optio
     Some(store)
 }
 
-// The last byte of the value of two that a store on this disk finds for a key, none if it finds none.
+// The last byte of the value that a store on this disk finds for a key, or none if it finds no
+// value.
 fn found_value<D: Disk>(store: &SortedStore, disk: &D, key: &Key) -> Option<Option<u8>> {
     let geometry = store.geometry();
     if geometry.value_len() != 2 || geometry.size() > disk.len() {
@@ -124,7 +126,8 @@ fn found_value<D: Disk>(store: &SortedStore, disk: &D, key: &Key) -> Option<Opti
     Some(Some(value[1]))
 }
 
-// The first key of whose number the store finds another value than the merge is to give it, or whose neighbour, which no store has, it finds.
+// The number of the first key for which the store finds another value than the merge should give,
+// or finds a neighbour that no store has.
 fn first_wrong<D: Disk>(store: &SortedStore, disk: &D) -> Option<u16> {
     for number in 0..KEYS {
         if found_value(store, disk, &numbered(number, 0)) != Some(merged_value(number)) {
@@ -192,7 +195,7 @@ fn missed_with_fault(alloc: Global, number: u64) -> Result<Option<u16>, Fail> {
     Ok(first_missed(&store, &disk))
 }
 
-// As many reads as there are keys find them all, and the last one finds the last key, 298.
+// As many reads as there are keys find them all. The last read finds the last key, 298.
 #[test]
 fn each_look_up_after_a_merge_makes_one_read(rt: HostRuntime) -> Result<(), Fail> {
     for (further, want) in [(0, Some(298)), (1, None)] {

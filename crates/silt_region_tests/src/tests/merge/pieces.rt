@@ -1,4 +1,4 @@
-// Slots and entries that are read together: how many reads they take. One read is of at most 64 KiB.
+// How many reads the slots and entries take that are read together. One read takes at most 64 KiB.
 ghost use Rattle.std.specs.Prelude.{◌≡◌, ◌≤◌, ◌<◌, IfOk};
 ghost use Rattle.silt_disk.specs.Disk.{size};
 ghost use Rattle.silt_disk.specs.Layout.{device_size};
@@ -32,8 +32,9 @@ fn fill_long<D: Disk>(disk: &mut D, geometry: Geometry) -> Result<(), D::Fault>
     Ok(())
 }
 
-// Merges two hash regions and this many entries of sorted region 0 into sorted region 1, in this many tries. Returns
-// what the steps returned, and the place of the last key in the new store, or None if they did not finish the merge.
+// Merges two hash regions and this many entries of sorted region 0 into sorted region 1, in this
+// many tries. Returns the outcome of the steps and the place of the last key in the new store, or
+// None if the merge is not done by then.
 fn merge_long<D: Disk>(
     alloc: Global,
     disk: &mut D,
@@ -53,7 +54,7 @@ fn merge_long<D: Disk>(
     Some((outcome, found))
 }
 
-// The same if a call of this kind and this number fails.
+// Merges this many entries if a call of this kind and this number fails.
 fn merges_with_fault(
     alloc: Global,
     count: u8,
@@ -69,8 +70,9 @@ fn merges_with_fault(
     Ok(merge_long(alloc, &mut disk, geometry, count, 33 + u32::from(count)))
 }
 
-// One read of at most 65,536 bytes is of 15 slots or of 15 entries, so the 16 slots of each of the two regions are two reads, in their rebuilds and in the
-// steps, and twenty entries are two; then the last key is found by one. A read that failed is made again.
+// One read takes at most 65,536 bytes, which are 15 slots or 15 entries. So the 16 slots of each
+// region take two reads, in its rebuild and in the steps, and twenty entries take two. Then one
+// read finds the last key. A failed read is made again.
 #[test]
 fn reads_slots_and_entries_in_pieces(rt: HostRuntime) -> Result<(), Fail> {
     for (call, number, count, reads, writes) in [

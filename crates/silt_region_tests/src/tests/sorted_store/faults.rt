@@ -1,4 +1,5 @@
-// How many reads a rebuild and a look-up make: the failed read of each number, and whether it is returned.
+// How many reads a rebuild and a look-up make. The read of each number fails, and a call that makes
+// it returns the fault.
 ghost use Rattle.std.specs.Prelude.{◌≡◌, ◌<◌, ◌≤◌, IfOk};
 ghost use Rattle.silt_disk.specs.Disk.{size};
 ghost use Rattle.silt_device.specs.Memory.{memory_content};
@@ -25,8 +26,9 @@ fn rebuilds_with_fault(alloc: Global, count: u32, number: u64) -> Result<Outcome
     Ok(rebuild(alloc, &disk, 1, count))
 }
 
-// Behind the one read of the rebuild a present key is looked for by one read, and so is an absent one with the first byte of a
-// present one. With a first byte that no key has it is looked for by none.
+// After the one read of the rebuild a look-up of a present key makes one read. So does that of an
+// absent key with the first byte of a present one. If no key has its first byte, the look-up makes
+// none.
 #[test]
 fn a_failed_read_of_a_look_up_is_told(rt: HostRuntime) -> Result<(), Fail> {
     for (number, first, second, want) in [
@@ -109,7 +111,7 @@ fn rebuild_long<D: Disk>(alloc: Global, disk: &D, count: u32) -> Outcome
     }
 }
 
-// The place of a key among twenty long entries.
+// The place of a key among the twenty long entries.
 fn find_long<D: Disk>(alloc: Global, disk: &D, key: &Key) -> Option<Option<u32>>
     requires { 270336 ≤ size (D.content disk.now) }
 {
@@ -119,7 +121,7 @@ fn find_long<D: Disk>(alloc: Global, disk: &D, key: &Key) -> Option<Option<u32>>
     }
 }
 
-// A disk with the twenty.
+// A disk with the twenty long entries.
 fn filled_long(alloc: Global) -> Result<MemDisk, Fail>
     ensures { IfOk result (λ disk. size (memory_content disk) ≡ 270336) }
 {
@@ -155,8 +157,8 @@ fn a_rebuild_reads_in_chunks(rt: HostRuntime) -> Result<(), Fail> {
     Ok(())
 }
 
-// The results of rebuilds of all entries, and of those before this place, if the entry at the place has the key that
-// ends with this byte.
+// The results of two rebuilds if the entry at this place has the key that ends with this byte: of
+// all entries, and of those before the place.
 fn rebuilds_changed(alloc: Global, place: u32, byte: u8) -> Result<(Outcome, Outcome), Fail>
     requires { place < 20 }
 {
@@ -168,7 +170,8 @@ fn rebuilds_changed(alloc: Global, place: u32, byte: u8) -> Result<(Outcome, Out
     ))
 }
 
-// Equal and falling keys are refused at the first place, at the ends of a read too: entry 14 ends the first one.
+// The first equal or falling key is damage, at the ends of a read too: entry 14 is the last one of
+// the first read.
 #[test]
 fn a_rebuild_refuses_at_the_borders_of_chunks(rt: HostRuntime) -> Result<(), Fail> {
     for (place, byte) in [
@@ -201,7 +204,8 @@ fn first_missed<D: Disk>(alloc: Global, disk: &D) -> Option<u8>
     None
 }
 
-// Keys that agree in all but their last bits differ, behind each read of a rebuild.
+// Look-ups find keys that differ only in their last bits, whichever read of the rebuild they are
+// in.
 #[test]
 fn finds_keys_that_differ_in_the_last_bits(rt: HostRuntime) -> Result<(), Fail> {
     let alloc = rt.alloc();

@@ -41,7 +41,7 @@ fn one_a_group(alloc: Global) -> Result<Vec<Key>, AllocError>
     Ok(keys)
 }
 
-// 2,000 keys that rise, by gaps from a simple generator: they fill the lower half of all first bytes.
+// 2,000 keys that rise by pseudo-random gaps. They fill the lower half of all first bytes.
 fn spread(alloc: Global) -> Result<Vec<Key>, AllocError>
     ensures { IfOk result (λ keys. length keys.items ≡ 2000) }
 {
@@ -58,7 +58,8 @@ fn spread(alloc: Global) -> Result<Vec<Key>, AllocError>
     Ok(keys)
 }
 
-// The first of all keys whose look-up does not return its place, or their number if no store is made.
+// The first of all keys whose look-up does not return its place, or the number of keys if no store
+// is made.
 fn first_missed<D: Disk>(alloc: Global, disk: &D, geometry: Geometry, keys: &[Key]) -> Option<usize>
     requires count { length keys.now ≤ geometry.sorted_capacity }
     requires size { device_size geometry ≤ size (D.content disk.now) }
@@ -85,7 +86,7 @@ fn written(alloc: Global, keys: &[Key]) -> Result<MemDisk, Fail>
     Ok(disk)
 }
 
-// The first of 256 keys whose look-up does not return its place if the read of this number fails.
+// The first of 256 keys whose look-up does not return its place, if the read of this number fails.
 fn missed_with_fault(alloc: Global, number: u64) -> Result<Option<usize>, Fail> {
     let geometry = wide()?;
     let keys = one_a_group(alloc)?;
@@ -93,7 +94,7 @@ fn missed_with_fault(alloc: Global, number: u64) -> Result<Option<usize>, Fail> 
     Ok(first_missed(alloc, &disk, geometry, &keys))
 }
 
-// With one key in each group the rebuild makes one read, and then each look-up one.
+// With one key in each group the rebuild makes one read, and then each look-up makes one.
 #[test]
 fn each_look_up_makes_one_read(rt: HostRuntime) -> Result<(), Fail> {
     for (number, want) in [
@@ -131,7 +132,8 @@ fn turned(key: &Key, at: usize) -> Key
     Key(bytes)
 }
 
-// How many of these keys and of their neighbours, five for each, are looked for as by a plain search.
+// For how many of these keys and their neighbours, five of each, a look-up returns what a plain
+// search does.
 fn count_agreeing<D: Disk>(alloc: Global, disk: &D, geometry: Geometry, keys: &[Key]) -> Option<u64>
     requires count { length keys.now ≤ geometry.sorted_capacity }
     requires size { device_size geometry ≤ size (D.content disk.now) }
@@ -150,7 +152,7 @@ fn count_agreeing<D: Disk>(alloc: Global, disk: &D, geometry: Geometry, keys: &[
     Some(count)
 }
 
-// 2,000 keys, and 10,000 that differ from one of them in one bit.
+// Tries 2,000 keys, and 10,000 others that differ from one of them in one bit.
 #[test]
 fn finds_what_a_plain_search_finds(rt: HostRuntime) -> Result<(), Fail> {
     let alloc = rt.alloc();

@@ -40,7 +40,8 @@ fn reads_values_and_entries(rt: HostRuntime) -> Result<(), Fail> {
     Ok(())
 }
 
-// What a get of a key among eight entries fills these two bytes with, if one has it. None if a read fails.
+// The result of a get of a key among eight entries, and the two bytes of its buffer afterwards.
+// None if a read fails.
 fn get<D: Disk>(alloc: Global, disk: &D, key: &Key) -> Option<(bool, [u8; 2])>
     requires { 45056 ≤ size (D.content disk.now) }
 {
@@ -55,8 +56,8 @@ fn get<D: Disk>(alloc: Global, disk: &D, key: &Key) -> Option<(bool, [u8; 2])>
     Some((found, value))
 }
 
-// The first of eight places whose value its key does not get, or at which a get of one of its neighbours finds
-// something.
+// The first of eight places for which a get of its key returns another value, or a get of one of
+// its neighbours finds a value.
 fn first_wrong<D: Disk>(alloc: Global, disk: &D) -> Option<u8>
     requires { 45056 ≤ size (D.content disk.now) }
 {
@@ -72,7 +73,7 @@ fn first_wrong<D: Disk>(alloc: Global, disk: &D) -> Option<u8>
     None
 }
 
-// A get of an absent key leaves the buffer as it was, whether the index names a place or none.
+// A get of an absent key does not change the buffer, whether the index names a place or none.
 #[test]
 fn gets_the_value_of_each_key(rt: HostRuntime) -> Result<(), Fail> {
     let disk = filled(rt.alloc(), 8)?;
@@ -82,7 +83,7 @@ fn gets_the_value_of_each_key(rt: HostRuntime) -> Result<(), Fail> {
     Ok(())
 }
 
-// The store that is encoded of keys looks for them in the entries that it is given.
+// A store that is encoded from keys looks for them in the entries that it is given.
 #[test]
 fn encodes_the_index_of_keys(rt: HostRuntime) -> Result<(), Fail> {
     let geometry = four_rows()?;
@@ -145,7 +146,8 @@ fn gets_long(alloc: Global, value_len: u32, number: u64) -> Result<Option<bool>,
     Ok(gets_single(alloc, &disk, geometry, &value, &mut out))
 }
 
-// Behind the one read of the rebuild an entry of 512 bytes is one read, and one of 513 bytes is two.
+// After the one read of the rebuild a get of an entry of 512 bytes makes one read, and one of 513
+// bytes makes two.
 #[test]
 fn a_failed_read_of_a_get_is_told(rt: HostRuntime) -> Result<(), Fail> {
     for (value_len, number, want) in [
