@@ -1,4 +1,4 @@
-// What no contract says of desk and inbox.
+// What no contract says of a desk and an inbox.
 
 mod desk;
 mod inbox;

@@ -1,5 +1,5 @@
-// What no contract says of a desk: that calls succeed if they may, what one thread does between the steps of another, and
-// what many threads find that call at once.
+// Desks: calls that may succeed do succeed, one thread's calls come between the steps of another,
+// and many threads call at once.
 ghost use Rattle.std.specs.Prelude.{◌≡◌};
 
 mod converter;
@@ -101,7 +101,7 @@ fn seated<D: Disk, N: DeskId>(
     }
 }
 
-// Two seats of those that there are, the last one last.
+// The last two of these seats, in their order.
 fn pop_two<N: DeskId>(seats: &mut Vec<Seat<N>>) -> Option<(Seat<N>, Seat<N>)> {
     let second = seats.pop()?;
     let first = seats.pop()?;

@@ -1,5 +1,5 @@
-// What no contract says of an inbox: that jobs and replies cross threads, and that each call that takes memory succeeds if
-// there is enough.
+// Inboxes: jobs and replies cross threads, and each call that takes memory succeeds if there is
+// enough.
 ghost use Rattle.std.specs.Prelude.{◌≡◌, IfSome, true};
 ghost use Rattle.silt_inbox.specs.Answers.{is_allowed};
 ghost use Rattle.silt_inbox.specs.declared.answered.EventKind.TheVariants as kind;
@@ -17,7 +17,7 @@ use std::test::Fail;
 use std::thread;
 use std::thread::Threads;
 
-/// A job, with the way for its reply.
+/// A job, and the channel for its reply.
 #[derive(Drop)]
 struct Job {
     number: u64,
@@ -35,7 +35,8 @@ fn push(rt: &impl Abort, queue: &mut Queue<u64>, job: u64) -> Result<(), Fail> {
     Ok(())
 }
 
-// It passes whichever one request for memory is refused, and also if none is.
+// A queue returns its jobs in order. The test passes whichever one request for memory is refused,
+// and also if none is.
 #[test]
 fn a_queue_keeps_the_order(rt: HostRuntime) -> Result<(), Fail> {
     let mut queue = Queue::new(rt.alloc());
@@ -112,7 +113,7 @@ fn ask<P: InboxId, R: Wait>(
     acknowledged(rt, &from) == Some(number)
 }
 
-/// Asks five times, and closes the inbox. Returns how often a reply came.
+/// Asks five times, and closes the inbox. Returns how often the right reply came.
 fn ask_five<P: InboxId, R: Wait>(
     rt: &R,
     alloc: Global,
@@ -143,7 +144,8 @@ fn run_both<P: InboxId + Send + Sync, R: Threads + Wait + Sync>(
     )
 }
 
-/// Without the feeder the inbox is not tallied, with it five jobs were put and taken.
+/// Without the feeder the inbox cannot be tallied. With it the tally shows that five jobs were put
+/// and taken.
 fn tallies<P: InboxId, R: Wait + Abort>(
     rt: &R,
     inbox: &Inbox<Job, P>,
@@ -187,7 +189,7 @@ fn answers_five_jobs(rt: HostRuntime) -> Result<(), Fail> {
     five_jobs::<Brand, _>(&rt, rt.alloc(), Blank::new(1), Blank::new(1))
 }
 
-/// Puts a job, once more if it is handed back because memory ran out.
+/// Puts a job, and once more if it is handed back because memory ran out.
 fn put_again<P: InboxId, R: Wait + Abort>(
     rt: &R,
     inbox: &Inbox<u64, P>,
@@ -205,7 +207,7 @@ fn put_again<P: InboxId, R: Wait + Abort>(
     Ok(())
 }
 
-/// A closed inbox hands a job back, and gives those that wait.
+/// A closed inbox hands a new job back. The jobs that wait in it can still be taken.
 fn closes<P: InboxId, R: Wait + Abort>(
     rt: &R,
     inbox: &Inbox<u64, P>,
@@ -222,7 +224,7 @@ fn closes<P: InboxId, R: Wait + Abort>(
     Ok(())
 }
 
-/// And is tallied then.
+/// The closed inbox is tallied.
 fn closed_inbox<P: InboxId, R: Wait + Abort>(
     rt: &R,
     alloc: Global,

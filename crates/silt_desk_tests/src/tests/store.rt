@@ -1,4 +1,4 @@
-// A store goes to another thread, and comes back.
+// A store moves to another thread and back.
 
 use silt_device::MemDisk;
 use silt_fixtures::{key, opened};

@@ -73,7 +73,7 @@ fn call_beside<D: Disk, N: DeskId, R: Wait + Clock>(
     }
 }
 
-/// The worker and another thread, until both are done.
+/// Runs the worker and another thread, until both are done.
 fn run_both<D: Disk, N: DeskId + Send + Sync, R: Threads + Wait + Clock + Sync>(
     rt: &R,
     alloc: Global,
@@ -93,7 +93,8 @@ fn run_both<D: Disk, N: DeskId + Send + Sync, R: Threads + Wait + Clock + Sync>(
     )
 }
 
-/// The replies to another thread while the worker is held, and whether the worker was freed in time and woke the other one.
+/// The replies to another thread while the worker is held, whether the worker was freed in time,
+/// and whether it woke the other worker.
 fn beside_held<D: Disk, N: DeskId + Send + Sync, R: Threads + Wait + Clock + Sync>(
     rt: &R,
     alloc: Global,
@@ -114,7 +115,7 @@ fn beside_held<D: Disk, N: DeskId + Send + Sync, R: Threads + Wait + Clock + Syn
     Ok((seen, in_time, matches!(others.try_recv(rt), Ok(Wake::Go))))
 }
 
-/// The worker is held before its second step until another thread's calls have their replies.
+/// Another thread's calls get their replies while the worker is held before its second step.
 fn held_between_steps<D: Disk, N: DeskId + Send + Sync, R: Threads + Wait + Clock + Abort + Sync>(
     rt: &R,
     alloc: Global,

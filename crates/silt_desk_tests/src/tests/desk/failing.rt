@@ -1,4 +1,4 @@
-// A worker whose step fails waits, as one that has nothing to do.
+// A worker whose step fails waits, as a worker does that has nothing to do.
 ghost use Rattle.std.specs.Prelude.{◌≡◌};
 
 use crate::tests::desk::{get, put_five, settle_two, two_seats};
@@ -26,7 +26,7 @@ fn is_failed<D: Disk, N: DeskId>(
     assert!(rt; matches!(got, Some(Err(Refusal::Failed))));
 }
 
-// The worker waits, and is stopped by its first message, without one of its own.
+// The worker waits, sends no message of its own, and stops at its first message.
 fn waits<D: Disk, N: DeskId, R: Wait + Abort>(
     rt: &R,
     alloc: Global,
@@ -65,7 +65,8 @@ fn failed_step<D: Disk, N: DeskId, R: Wait + Abort>(
 #[test]
 fn a_failed_step_waits(rt: HostRuntime) -> Result<(), Fail> {
     let alloc = rt.alloc();
-    // five puts make fifteen writes, the last one of them with its freeze seven
+    // Five puts make fifteen writes. Seven of these are made by the last put, which freezes the
+    // log.
     let disk = FaultDisk::new(formatted(alloc)?, Call::Write, 16);
     let core = opened_on(alloc, disk)?;
     failed_step::<_, Brand, _>(&rt, alloc, core, Blank::new(2), Blank::new(2))

@@ -1,4 +1,4 @@
-// Two seats and three calls.
+// A desk with two seats and a record of three calls.
 ghost use Rattle.std.specs.Prelude.{◌≡◌};
 
 use crate::tests::desk::{get, look, put, two_seats};
@@ -35,7 +35,7 @@ fn answers_three<D: Disk, N: DeskId, R: Wait + Abort>(
     Ok(())
 }
 
-// At a desk for three calls.
+// Makes the calls at a desk that records three.
 fn three_calls<D: Disk, N: DeskId, R: Wait + Abort>(
     rt: &R,
     alloc: Global,
@@ -53,7 +53,7 @@ fn three_calls<D: Disk, N: DeskId, R: Wait + Abort>(
     settles(rt, alloc, &shared, first, second)
 }
 
-// With one seat the desk is not settled, with both it reports three calls and one accepted command.
+// With one seat the desk cannot settle. With both it reports three calls and one accepted command.
 fn settles<D: Disk, N: DeskId, R: Wait + Abort>(
     rt: &R,
     alloc: Global,

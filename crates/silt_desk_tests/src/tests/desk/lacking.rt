@@ -49,7 +49,7 @@ impl<T: Trace> Trace for Lacking<T> {
     }
 }
 
-// Whether a call is refused because memory ran out.
+// Whether a call is refused for lack of memory.
 fn lacks<A: Drop, F: Drop>(answer: Result<A, Refusal<F>>) -> bool {
     matches!(answer, Err(Refusal::NoMemory))
 }
@@ -75,7 +75,7 @@ fn seven_calls<D: Disk, T: Trace, N: DeskId>(
     ]
 }
 
-// All seven calls are refused, and a look finds nothing done.
+// All seven calls are refused. A look shows that none of them did anything.
 fn refuses_seven<D: Disk, N: DeskId, R: Abort>(
     rt: &R,
     alloc: Global,
@@ -91,7 +91,7 @@ fn refuses_seven<D: Disk, N: DeskId, R: Abort>(
     Ok(())
 }
 
-// At a desk whose trace finds no memory.
+// Makes the calls at a desk whose trace never finds memory.
 fn refuses_all<D: Disk, N: DeskId, R: Abort>(
     rt: &R,
     alloc: Global,
@@ -131,7 +131,8 @@ fn new_trace<D: Disk>(alloc: Global, core: &Core<D>) -> Option<(u64, usize)> {
     Some((trace.count(), trace.calls().len()))
 }
 
-// If memory runs out for a trace, the trace is refused and the store is as it was. Then one with room for three calls is made.
+// If memory runs out for a trace, the trace is refused and the store does not change. Then a trace
+// with room for three calls is made.
 fn lacks_places<D: Disk, R: Abort>(rt: &R, alloc: Global, core: &mut Core<D>) {
     assert_eq!(rt; core.delete(alloc, &key(1)).ok(), Some(1));
     for most in [u64::MAX, 1 << 62, 1 << 58] {

@@ -1,6 +1,7 @@
-// Calls at a desk that are refused a request for memory: nothing is done and nothing is recorded, and a second try has the
-// call's own reply. The test passes whichever one request of the desk's calls is refused, and also if none is;
-// docs/contributing.md says how each is refused in turn.
+// Calls at a desk that are refused a request for memory. A refused call does nothing and is not
+// recorded, and a second try gets its own reply. The test passes whichever one request of the
+// desk's calls is refused, and also if none is. docs/contributing.md says how to refuse each in
+// turn.
 ghost use Rattle.std.specs.Prelude.{◌≡◌, [], IfSome};
 ghost use Rattle.silt_desk.specs.Seeing.{seen};
 ghost use Rattle.silt_desk.specs.Traces.{IsHistory};
@@ -17,8 +18,8 @@ use std::process::Abort;
 use std::sync::ledger::Blank;
 use std::test::Fail;
 
-/// A call at a desk. A number says which key and which value it has. A swap puts the value of its second number in the
-/// place of the key's first value.
+/// A call at a desk. Its number gives the key and the value. A swap replaces the key's first value
+/// by the value of its second number.
 #[derive(Clone, Copy)]
 enum Call {
     Put(u8),
@@ -56,7 +57,7 @@ fn counted<F: Drop>(answer: Result<u64, Refusal<F>>) -> Told {
     }
 }
 
-// The reply to a step in the background.
+// The reply to a step of the background work.
 fn stepped<F: Drop>(answer: Result<Progress, Refusal<F>>) -> Told {
     match answer {
         Ok(progress) => Told::Step(progress),
@@ -136,8 +137,9 @@ fn ask<D: Disk, N: DeskId>(
     }
 }
 
-// The call of this turn, and its reply: five puts, of which the last freezes the full log, a flush, a conversion of nine
-// steps, a merge of thirteen, five gets, and two swaps of the fourth key, of which the second one differs.
+// The call of this turn and its reply. Five puts come first, the last of which freezes the full
+// log, and a flush. Then come a conversion of nine steps, a merge of thirteen, and five gets. Two
+// swaps of the fourth key come last, and the second one differs.
 fn call_of(turn: u8) -> (Call, Told) {
     match turn {
         1..=5 => (Call::Put(turn), Told::Count(u64::from(turn))),
@@ -158,8 +160,8 @@ fn has_fourth<D: Disk, N: DeskId>(desk: &Desk<D, Kept, N>, value: [u8; 2], count
     look(desk, &key(4), &mut out) == Some((count, true)) && out == value
 }
 
-// Whether a look finds that the call of this turn did nothing: no earlier turn puts a key of this number, and a swap leaves
-// its key's value.
+// Whether a look shows that the call of this turn did nothing. No earlier turn puts a key of this
+// number, and after a refused swap its key has its old value.
 fn did_nothing<D: Disk, N: DeskId>(desk: &Desk<D, Kept, N>, turn: u8) -> bool {
     match turn {
         34 => has_fourth(desk, [0, 4], 5),
@@ -188,7 +190,7 @@ fn ask_again<D: Disk, N: DeskId>(
     told
 }
 
-// All calls.
+// Makes all calls and compares their replies.
 fn ask_all<D: Disk, N: DeskId>(
     rt: &impl Abort,
     alloc: Global,
@@ -201,7 +203,7 @@ fn ask_all<D: Disk, N: DeskId>(
     }
 }
 
-// Room for forty calls of this store.
+// A trace with room for forty calls of this store.
 fn kept_once<D: Disk>(alloc: Global, core: &Core<D>) -> Option<Kept>
     ensures history { IfSome result (λ kept. IsHistory kept (seen D.Disk core.now)) }
     ensures calls { IfSome result (λ kept. kept.calls ≡ []) }
@@ -212,7 +214,7 @@ fn kept_once<D: Disk>(alloc: Global, core: &Core<D>) -> Option<Kept>
     }
 }
 
-// The same, with a second try if memory is refused.
+// The same trace, with a second try if memory is refused.
 fn kept_again<D: Disk>(alloc: Global, core: &Core<D>) -> Option<Kept>
     ensures history { IfSome result (λ kept. IsHistory kept (seen D.Disk core.now)) }
     ensures calls { IfSome result (λ kept. kept.calls ≡ []) }
@@ -224,7 +226,7 @@ fn kept_again<D: Disk>(alloc: Global, core: &Core<D>) -> Option<Kept>
     }
 }
 
-// All calls that were done are recorded, each once.
+// The desk records each call that succeeded, once.
 fn records_each<D: Disk, N: DeskId>(
     rt: &impl Abort,
     alloc: Global,
@@ -261,7 +263,7 @@ fn is_swap(call: &RecordedCall, new_value: [u8; 2]) -> bool {
     }
 }
 
-// The same at a desk with its seat.
+// Makes the calls at this desk with its seat.
 fn records_all<D: Disk, N: DeskId>(
     rt: &impl Abort,
     alloc: Global,
@@ -271,7 +273,7 @@ fn records_all<D: Disk, N: DeskId>(
     records_each(rt, alloc, &mut desk, seats)
 }
 
-// In this trace nothing is recorded.
+// The trace has recorded nothing.
 fn is_blank(rt: &impl Abort, trace: &Kept) {
     assert_eq!(rt;
         (trace.count(), trace.opening().len(), trace.calls().len()),
@@ -279,7 +281,7 @@ fn is_blank(rt: &impl Abort, trace: &Kept) {
     );
 }
 
-// Of this store and its trace nothing is done and nothing recorded.
+// The store has done nothing, and its trace has recorded nothing.
 fn is_unused<D: Disk>(rt: &impl Abort, not_made: &NotMade<D, Kept>) {
     assert_eq!(rt;
         (not_made.core.count(), not_made.trace.calls().len()),
@@ -287,7 +289,7 @@ fn is_unused<D: Disk>(rt: &impl Abort, not_made: &NotMade<D, Kept>) {
     );
 }
 
-// A store that gets no desk is handed back. At a desk all calls that were done are recorded.
+// If no desk is made, the store is returned. Else the desk records all calls that succeeded.
 fn records_what_is_done<D: Disk, N: DeskId, R: Abort>(
     rt: &R,
     alloc: Global,

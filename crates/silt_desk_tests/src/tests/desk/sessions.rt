@@ -1,4 +1,4 @@
-// Four threads call at once beside both workers, and a plain map does again what they recorded.
+// Four threads and both workers call at once, and a plain map repeats the calls that were recorded.
 ghost use Rattle.std.specs.Prelude.{◌≡◌};
 
 mod swaps;
@@ -48,7 +48,7 @@ fn turn<D: Disk, N: DeskId, R: Wait>(
     let _ = shared.write(rt).delete(alloc, seat, &other);
 }
 
-/// Turns of one thread, which wakes the workers now and then.
+/// Runs the turns of one thread, which wakes the workers now and then.
 fn session<D: Disk, N: DeskId, R: Wait>(
     rt: &R,
     alloc: Global,
@@ -116,7 +116,7 @@ struct SeatedWorker<N: DeskId> {
     other: Sender<Wake>,
 }
 
-/// Both workers until they are stopped.
+/// Runs both workers until they are stopped.
 fn both_workers<D: Disk, N: DeskId + Send + Sync, R: Threads + Wait + Sync>(
     rt: &R,
     alloc: Global,
@@ -152,7 +152,8 @@ fn both_workers<D: Disk, N: DeskId + Send + Sync, R: Threads + Wait + Sync>(
     )
 }
 
-/// What the calls make of these entries, done one after the other; None if a get or a swap had another reply.
+/// The entries after these calls, made one after the other on these entries. None if a get or a
+/// swap had another reply.
 fn replayed(
     alloc: Global,
     opening: &BTreeMap<Key, Value>,
@@ -170,7 +171,7 @@ fn replayed(
     Ok(Some(map))
 }
 
-/// Does an accepted swap again; false if the key has another value than the old one.
+/// Repeats an accepted swap. Returns false if the key has another value than the old one.
 fn swapped_again(
     map: &mut BTreeMap<Key, [u8; 2]>,
     key: &Key,
@@ -184,7 +185,8 @@ fn swapped_again(
     Ok(true)
 }
 
-/// Does one call again; false if it is a get that finds another value, or a swap with another reply.
+/// Repeats one call. Returns false for a get that finds another value, and for a swap with another
+/// reply.
 fn done_again(map: &mut BTreeMap<Key, [u8; 2]>, call: &RecordedCall) -> Result<bool, AllocError> {
     match (&call.event, &call.reply) {
         (Event::Put(key, value), Reply::Accepted(_)) => {
@@ -203,7 +205,7 @@ fn done_again(map: &mut BTreeMap<Key, [u8; 2]>, call: &RecordedCall) -> Result<b
     }
 }
 
-/// Two seats come back.
+/// Gives two seats back.
 fn push_two<N: DeskId>(
     seats: &mut Vec<Seat<N>>,
     two: (Seat<N>, Seat<N>),
@@ -213,7 +215,7 @@ fn push_two<N: DeskId>(
     Ok(())
 }
 
-/// Four of them.
+/// The last four of these seats.
 fn pop_four<N: DeskId>(seats: &mut Vec<Seat<N>>) -> Option<(Seat<N>, Seat<N>, Seat<N>, Seat<N>)> {
     let (a, b) = pop_two(seats)?;
     let (c, d) = pop_two(seats)?;
@@ -227,7 +229,7 @@ fn channel(alloc: Global) -> Result<(Receiver<Wake>, Sender<Wake>, Sender<Wake>)
     Ok((from, wakes, other))
 }
 
-/// The sessions and the workers at once, at seats that are handed out.
+/// Runs the sessions and the workers at once, with these seats.
 fn run_seated<D: Disk, N: DeskId + Send + Sync, R: Threads + Wait + Sync>(
     rt: &R,
     alloc: Global,
@@ -253,7 +255,7 @@ fn run_seated<D: Disk, N: DeskId + Send + Sync, R: Threads + Wait + Sync>(
     ))
 }
 
-/// The sessions and the workers at once. All seats come back.
+/// Runs the sessions and the workers at once, and gives all seats back.
 fn run_all<D: Disk, N: DeskId + Send + Sync, R: Threads + Wait + Sync>(
     rt: &R,
     alloc: Global,
@@ -270,7 +272,7 @@ fn run_all<D: Disk, N: DeskId + Send + Sync, R: Threads + Wait + Sync>(
     Ok(seats)
 }
 
-/// The workers in one thread, and the sessions in another.
+/// Runs the workers in one thread, and the sessions in another.
 fn run_both<D: Disk, N: DeskId + Send + Sync, R: Threads + Wait + Sync>(
     rt: &R,
     alloc: Global,
@@ -292,7 +294,8 @@ fn run_both<D: Disk, N: DeskId + Send + Sync, R: Threads + Wait + Sync>(
     )
 }
 
-/// The store's entries at the end are what the recorded calls make of those at the opening, and as many calls are settled as recorded.
+/// The recorded calls turn the entries at the opening into those at the end. The desk settles as
+/// many calls as it recorded.
 fn many_calls<D: Disk, N: DeskId + Send + Sync, R: Threads + Wait + Abort + Sync>(
     rt: &R,
     alloc: Global,
@@ -315,7 +318,7 @@ fn many_calls<D: Disk, N: DeskId + Send + Sync, R: Threads + Wait + Abort + Sync
     ends_as_replayed(rt, alloc, desk)
 }
 
-/// What the recorded calls of a desk make of the entries at its opening.
+/// The entries that the recorded calls of a desk make of those at its opening.
 fn replayed_by<D: Disk, N: DeskId>(
     alloc: Global,
     desk: &Desk<D, Kept, N>,

@@ -1,4 +1,4 @@
-// Workers do each step that the store wants, and record no other call.
+// Workers take each step of the background work that there is, and record no other call.
 ghost use Rattle.std.specs.Prelude.{◌≡◌};
 
 use crate::tests::desk::{put_five, settle_two, two_seats};
@@ -20,7 +20,7 @@ enum Worker {
     Merger,
 }
 
-// A worker until there is nothing for it to do, and whether it woke the other one.
+// Runs a worker until there is nothing for it to do. Returns whether it woke the other one.
 fn works<D: Disk, N: DeskId, R: Wait>(
     rt: &R,
     alloc: Global,
@@ -38,7 +38,8 @@ fn works<D: Disk, N: DeskId, R: Wait>(
     Ok((seat, matches!(others.try_recv(rt), Ok(Wake::Go))))
 }
 
-// Each worker twice, the converter first: if there is something to do it wakes the other one.
+// Runs each worker twice, the converter first. A worker that had something to do wakes the other
+// one.
 fn work_in_turn<D: Disk, N: DeskId, R: Wait + Abort>(
     rt: &R,
     alloc: Global,

@@ -5,7 +5,7 @@ use silt_desk::{Wake, Wakes};
 use std::sync::Wait;
 use std::test::Fail;
 
-// How many messages wait for a worker, and whether the first one is that it goes on.
+// How many messages wait for a worker, and whether the first one is `Go`.
 fn heard<R: Wait>(rt: &R, worker: &Receiver<Wake>) -> (usize, bool) {
     let count = worker.len();
     (count, worker.try_recv(rt) == Ok(Wake::Go))

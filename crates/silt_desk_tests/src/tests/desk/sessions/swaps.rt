@@ -1,4 +1,4 @@
-// Four threads count up one value by compare and swap: no step of theirs is lost.
+// Four threads count up one value by compare and swap, and none of their steps is lost.
 ghost use Rattle.std.specs.Prelude.{◌≡◌};
 
 use crate::tests::desk::sessions::{ends_as_replayed, pop_four, push_two};
@@ -15,7 +15,7 @@ use std::sync::{RwLock, Wait};
 use std::test::Fail;
 use std::thread::Threads;
 
-// The number behind this one, in two bytes.
+// The next number, in two bytes.
 fn next(number: [u8; 2]) -> [u8; 2] {
     u16::from_be_bytes(number).wrapping_add(1).to_be_bytes()
 }
@@ -29,7 +29,8 @@ fn counted<D: Disk, N: DeskId>(desk: &Desk<D, Kept, N>) -> Option<[u8; 2]> {
     }
 }
 
-// Looks, and swaps in the next number, each under a guard of its own. Whether the swap is accepted.
+// Looks, and swaps in the next number, each under a guard of its own. Returns whether the swap is
+// accepted.
 fn step<D: Disk, N: DeskId, R: Wait>(
     rt: &R,
     alloc: Global,
@@ -63,7 +64,7 @@ fn count_up<D: Disk, N: DeskId, R: Wait>(
     seat
 }
 
-// Two threads at once.
+// Two threads count at once.
 fn two_count<D: Disk, N: DeskId + Send + Sync, R: Threads + Wait + Sync>(
     rt: &R,
     alloc: Global,
@@ -79,7 +80,7 @@ fn two_count<D: Disk, N: DeskId + Send + Sync, R: Threads + Wait + Sync>(
     )
 }
 
-// Four threads at once.
+// Four threads count at once.
 fn four_count<D: Disk, N: DeskId + Send + Sync, R: Threads + Wait + Sync>(
     rt: &R,
     alloc: Global,
@@ -95,7 +96,7 @@ fn four_count<D: Disk, N: DeskId + Send + Sync, R: Threads + Wait + Sync>(
     )
 }
 
-// The key gets its first value, and then four threads count. All seats come back.
+// Puts the first value of the key. Then four threads count, and all seats come back.
 fn count_all<D: Disk, N: DeskId + Send + Sync, R: Threads + Wait + Sync>(
     rt: &R,
     alloc: Global,
@@ -110,7 +111,8 @@ fn count_all<D: Disk, N: DeskId + Send + Sync, R: Threads + Wait + Sync>(
     Ok(seats)
 }
 
-// At the end the value is four hundred, after as many swaps and one put. The recorded calls make the same of a plain map.
+// At the end the value is four hundred, after one put and four hundred swaps. A plain map has the
+// same entries after the recorded calls.
 fn counts_to_400<D: Disk, N: DeskId + Send + Sync, R: Threads + Wait + Abort + Sync>(
     rt: &R,
     alloc: Global,
