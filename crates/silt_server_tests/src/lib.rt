@@ -1,6 +1,6 @@
 //! Tests of the server: what its clients see.
 //!
-//! What no clause says stands here, seen from outside through the public calls.
+//! They show what no contract says, through the public calls.
 #![tactic(auto)]
 
 #[cfg(test)]

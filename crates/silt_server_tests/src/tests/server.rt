@@ -1,4 +1,4 @@
-// What no contract says of a server: the replies to a client over a socket, and what threads do at the same time.
+// Servers: the replies to a client over a socket, and what threads do at the same time.
 
 mod broken;
 mod crowd;
@@ -51,7 +51,7 @@ impl<R: Clock> Listens for Patient<'_, R> {
     }
 }
 
-// This many sessions and recorded calls, and no end of a silent connection.
+// Limits of this many sessions and recorded calls. A silent connection is never ended.
 fn limits_of(sessions: u32, audit: Option<u64>) -> Limits {
     Limits {
         sessions,
@@ -60,7 +60,7 @@ fn limits_of(sessions: u32, audit: Option<u64>) -> Limits {
     }
 }
 
-/// What a server and its clients gave.
+/// What a server and its clients return.
 #[derive(Drop)]
 struct Ended<D: Disk, X: Drop> {
     pub disk: D,
@@ -69,7 +69,8 @@ struct Ended<D: Disk, X: Drop> {
     pub got: X,
 }
 
-// A server of this many sessions in one thread, and its clients in another, until both are done.
+// Runs a server of this many sessions in one thread, and its clients in another, until both are
+// done.
 fn serve_beside<
     D: Disk,
     G: Gate + Sync,
@@ -111,10 +112,10 @@ fn serve_beside<
     })
 }
 
-/// What clients got, the server's status, and what it wrote.
+/// What the clients got, the server's status, and what it printed.
 type Served<X> = (X, u8, Vec<u8>);
 
-// The same, if nobody looks at the store afterwards.
+// Runs a server and its clients as `serve_beside` does, and drops the store.
 fn served<
     D: Disk,
     G: Gate + Sync,
@@ -139,7 +140,7 @@ fn asked<
     })
 }
 
-// A connection that waits for a reply, or until it has written, for at most half a minute.
+// A connection whose reads and writes wait for at most half a minute.
 fn connected<R: Net<Stream = TcpStream>>(rt: &R, addr: SocketAddr) -> io::Result<TcpStream> {
     let stream = TcpStream::connect(rt, addr)?;
     stream.set_read_timeout(Some(Duration::from_secs(30)))?;
@@ -162,7 +163,8 @@ fn ask<R: Net<Stream = TcpStream>>(
     Ok(got)
 }
 
-// The next line of the server, with its line feed, or what there is of it when the connection ends.
+// The next line of the server with its line feed, or the part of it that came before the connection
+// ended.
 fn read_line(alloc: Global, stream: &mut TcpStream) -> io::Result<Vec<u8>> {
     let mut line = Vec::new(alloc);
     let mut byte = [0u8; 1];

@@ -1,4 +1,5 @@
-// Clients that send no well-formed line, do not end what they begin, or reset their connection: the next one is served.
+// Clients that send no well-formed line, send half a line, or reset their connection. The server
+// still serves the next one.
 
 use crate::tests::Open;
 use crate::tests::server::{ask_line, asked, connected, served};
@@ -18,7 +19,7 @@ fn line_of(alloc: Global, byte: u8, len: usize) -> io::Result<Vec<u8>> {
     Ok(line)
 }
 
-// Lines that are too long, bad, or of a bad key, and one that is well formed.
+// Lines that are too long, malformed, or have a bad key, and one that is well formed.
 fn broken_lines(alloc: Global) -> io::Result<Vec<u8>> {
     let mut lines = line_of(alloc, b'x', 16_601)?;
     lines.extend_from_slice(line_of(alloc, b'x', 16_600)?.as_slice())?;

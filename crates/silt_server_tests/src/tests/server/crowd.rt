@@ -1,4 +1,4 @@
-// As many sessions as there may be, and one more; and as many that send nothing.
+// As many sessions as a server allows and one more, and as many that send nothing.
 
 use crate::tests::Open;
 use crate::tests::server::{ask_line, connected, served};
@@ -9,7 +9,7 @@ use std::test::Fail;
 use std::time::{Clock, Duration};
 use std::{io, thread};
 
-/// What the sixty-fifth reads.
+/// The line that the sixty-fifth connection reads.
 const BUSY: &[u8] = b"busy: 64 connections are served already\n";
 
 // Sixty-four connections that send one line each, so that each has its slot.

@@ -27,7 +27,8 @@ fn reads_a_write_back(rt: HostRuntime) -> Result<(), Fail> {
     Ok(())
 }
 
-// A disk whose fourth write or sync, the first sync of the first flush, fails, and all after it.
+// A disk whose fourth write or sync fails, and all calls after it. The fourth is the first sync of
+// the first flush.
 fn failing(alloc: Global) -> Result<MemDisk, Fail> {
     let mut stops = Vec::new(alloc);
     stops.push(Stop {
@@ -56,7 +57,7 @@ const FIVE_PUTS: &[u8] = b"put 0100000000000000000000000000000000000000 0001\n\
     put 0400000000000000000000000000000000000000 0004\n\
     put 0500000000000000000000000000000000000000 0005\n";
 
-// What the server of these and its client gave, and the report of the store.
+// What the server and its client returned after the five puts, and the report of the store.
 fn five_put<
     D: Disk,
     R: Net<Listener = TcpListener, Stream = TcpStream> + Clock + Threads + Wait + Sync,
@@ -69,8 +70,9 @@ fn five_put<
     Ok(((got, ended.status, ended.written), report))
 }
 
-// Five puts, of which the fifth freezes a log of four rows: it is converted in nine steps, and merged in thirteen. With the five puts
-// and their flushes these are thirty-two calls.
+// The fifth put freezes a log of four rows. The server finishes the background work: a conversion
+// of nine steps, and a merge of thirteen. With the five puts and their flushes these are thirty-two
+// calls.
 #[test]
 fn finishes_what_is_wanted(rt: HostRuntime) -> Result<(), Fail> {
     let alloc = rt.alloc();

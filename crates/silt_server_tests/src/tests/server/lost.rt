@@ -1,4 +1,5 @@
-// A session whose reply did not come: nothing more is sent to it, because the command may have been done.
+// A session that gets no reply to a command ends, and its client is sent nothing more: the command
+// may have been done.
 
 use silt_event::{Event, Reply};
 use silt_server::{AskBy, Asking, Client, Outlet};
@@ -19,7 +20,7 @@ fn both_ends<R: Net<Listener = TcpListener, Stream = TcpStream>>(
     Ok((near, far))
 }
 
-// A session on this end of a connection, whose events go this way.
+// How a session ends at this end of a connection if its events are asked in this way.
 fn end_of<A: Asking>(alloc: Global, stream: &TcpStream, asking: A, lines: &[u8]) -> SessionEnd
     requires { A.can_ask asking }
 {
@@ -30,7 +31,7 @@ fn end_of<A: Asking>(alloc: Global, stream: &TcpStream, asking: A, lines: &[u8])
     session(alloc, 2, &mut reader, &mut outlet, &mut client)
 }
 
-// How the session ends, and what the other end of the connection was sent by then.
+// How the session ends, and the bytes that the other end of the connection got.
 fn sent<A: Asking, R: Net<Listener = TcpListener, Stream = TcpStream>>(
     rt: &R,
     alloc: Global,

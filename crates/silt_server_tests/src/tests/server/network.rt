@@ -1,4 +1,5 @@
-// A network that fails: before the port is known, while the server waits for a connection, and if there is no network.
+// A network that fails: before the port is known, while the server waits for a connection, or from
+// the start.
 
 use crate::tests::server::limits_of;
 use crate::tests::{Open, opened};
@@ -37,7 +38,8 @@ fn is_empty<D: Disk>(alloc: Global, disk: &D) -> Option<bool> {
     Some((report.generation, report.active_rows, report.charge) == (0, 0, 0))
 }
 
-// Serves the store on this disk at a port to which nobody can connect: the status, what was written, and whether the store is empty.
+// Serves the store on this disk at a port to which nobody can connect. Returns the status, what was
+// printed, and whether the store is empty.
 fn serve_deaf<D: Disk, R: Threads + Wait + Sync>(
     rt: &R,
     alloc: Global,
@@ -80,7 +82,7 @@ fn tells_that_nobody_can_connect(rt: HostRuntime) -> Result<(), Fail> {
     Ok(())
 }
 
-// The same if there is no network.
+// The status, what was printed, and whether the store is empty, if there is no network.
 fn refuse<D: Disk>(alloc: Global, disk: D) -> Result<(u8, Vec<u8>, Option<bool>), Fail> {
     let core = opened(alloc, disk)?;
     let mut written = Vec::new(alloc);

@@ -1,5 +1,5 @@
-// Sixty-four sessions at once: each gets the replies of a plain map of its own, all calls are recorded, and what was
-// acknowledged is found again.
+// Sixty-four sessions at once. Each gets the replies of a plain map of its own, all calls are
+// recorded, and the store has what was acknowledged.
 
 mod kept;
 
@@ -29,7 +29,7 @@ struct Session {
 }
 
 impl Session {
-    // Asks the command of a round: puts, deletes and gets by turns.
+    // Sends the command of a round: puts, deletes, gets and flushes in turn.
     fn ask(&mut self, alloc: Global, round: u32) -> io::Result<()> {
         let number = self.number;
         let low = round % 256;
@@ -44,7 +44,8 @@ impl Session {
         self.stream.write_all(line.as_bytes())
     }
 
-    // Whether the round's command has the reply of a plain map. A refused command changes nothing.
+    // Whether the reply to the round's command is that of a plain map. A refused command changes
+    // nothing.
     fn is_answered(&mut self, alloc: Global, round: u32) -> io::Result<bool> {
         let line = read_line(alloc, &mut self.stream)?;
         let is_accepted = line.as_slice().starts_with(b"accepted ");
@@ -79,7 +80,7 @@ fn is_full(line: &[u8]) -> bool {
 /// What the sessions found.
 #[derive(Clone, Copy, Debug)]
 struct Found {
-    // How many commands had another reply than they should.
+    // How many commands got a wrong reply.
     pub wrong: u32,
     // How many keys have a value at the end.
     pub keys: u32,
@@ -125,7 +126,8 @@ fn ask_all<R: Net<Stream = TcpStream>>(
     Ok(Found { wrong, keys })
 }
 
-// What all sessions found on a server of this disk, its status, and how many entries the store then has.
+// What all sessions found at a server of this disk, its status, and how many entries the store has
+// afterwards.
 fn ask_beside<
     D: Disk,
     R: Net<Listener = TcpListener, Stream = TcpStream> + Clock + Threads + Wait + Sync,
@@ -151,7 +153,7 @@ fn count_entries<D: Disk>(alloc: Global, disk: D) -> Result<u64, Fail> {
     Ok(entries.len() as u64)
 }
 
-// The store that the server left has as many keys as its clients had given values.
+// At the end the store has exactly as many keys as its clients have given values to.
 #[test]
 fn many_sessions(rt: HostRuntime) -> Result<(), Fail> {
     let alloc = rt.alloc();

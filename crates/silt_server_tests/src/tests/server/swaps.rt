@@ -1,5 +1,5 @@
-// Swaps in a batch, and in the lines of a session. What differs is no command: no flush settles it, and none that is refused
-// makes it unsettled.
+// Swaps in a batch, and in the lines of a session. A swap that differs is no command: no flush
+// settles it, and no refused flush makes it unsettled.
 ghost use Rattle.std.specs.Prelude.{◌≡◌};
 
 use crate::tests::server::asked;
@@ -28,7 +28,7 @@ fn swap_of(alloc: Global, old: &[u8], new: &[u8]) -> Result<Request, AllocError>
     Ok(Request::Swap(key(1), old, new))
 }
 
-// A job with this request. Nobody hears its reply.
+// Adds a job with this request. Nobody receives its reply.
 fn push_job(alloc: Global, jobs: &mut Vec<Job>, request: Request) -> Result<(), AllocError> {
     let (to, _) = crossbeam_channel::bounded(alloc, 1)?;
     jobs.push(Job::new(request, to))?;
@@ -48,7 +48,7 @@ fn six_jobs(alloc: Global) -> Result<Vec<Job>, AllocError> {
     Ok(jobs)
 }
 
-/// What a job got.
+/// The reply to a job.
 #[derive(Clone, Copy, PartialEq)]
 enum Got {
     Accepted(u64),
@@ -71,7 +71,7 @@ fn got_of(reply: Reply<()>) -> Got {
     }
 }
 
-// What a job got.
+// The reply to this job.
 fn got_by(job: Job) -> Got {
     let Job {
         request: _,
@@ -85,7 +85,7 @@ fn got_by(job: Job) -> Got {
     }
 }
 
-// What each job got, in order.
+// The reply to each job, in order.
 fn all_got(alloc: Global, jobs: Vec<Job>) -> Result<Vec<Got>, AllocError> {
     let mut all = Vec::new(alloc);
     for job in jobs {
@@ -94,7 +94,7 @@ fn all_got(alloc: Global, jobs: Vec<Job>) -> Result<Vec<Got>, AllocError> {
     Ok(all)
 }
 
-// What the six jobs get in one batch at a desk of this store.
+// The replies to the six jobs, which a desk of this store serves as one batch.
 fn serve_six<D: Disk, N: DeskId, R: Wait>(
     rt: &R,
     alloc: Global,
@@ -134,8 +134,9 @@ fn settles_a_swap(rt: HostRuntime) -> Result<(), Fail> {
     Ok(())
 }
 
-// A disk whose first sync of the first flush fails, and all calls after it: the flush follows the three writes of each of two
-// rows.
+// A disk whose seventh write or sync fails, and all calls after it. The seventh writes the gates in
+// the first flush. Before it come the opening's sync, two writes for each of two rows, and the
+// flush's first sync.
 fn failing(alloc: Global) -> Result<MemDisk, Fail> {
     let mut stops = Vec::new(alloc);
     stops.push(Stop {

@@ -1,4 +1,4 @@
-// A plain map does again what the calls of many sessions were recorded as.
+// A plain map repeats the recorded calls of many sessions.
 ghost use Rattle.std.specs.Prelude.{◌≡◌, []};
 ghost use Rattle.silt_desk.specs.Seeing.{seen};
 ghost use Rattle.silt_desk.specs.Traces.{IsHistory};
@@ -25,7 +25,8 @@ use std::test::Fail;
 use std::thread::{self, Threads};
 use std::time::Clock;
 
-/// A map of one thread, how many commands it has accepted, and how many of its calls had another reply than its own.
+/// A map of one thread, how many commands it has accepted, and how many calls had another reply
+/// than the map's.
 #[derive(Drop)]
 struct Again {
     map: BTreeMap<Key, [u8; 2]>,
@@ -34,7 +35,8 @@ struct Again {
 }
 
 impl Again {
-    // Does one call again, and returns whether it had the reply of a plain map. A refused call and a step change nothing.
+    // Repeats one call. Returns whether it had the reply of a plain map. A refused call and a step
+    // change nothing.
     fn does(&mut self, call: &RecordedCall) -> Result<bool, AllocError> {
         match (&call.event, &call.reply) {
             (Event::Put(key, value), Reply::Accepted(number)) => {
@@ -64,14 +66,14 @@ impl Again {
         }
     }
 
-    // A command more, which should have this number.
+    // Counts one more command, and returns whether it has this number.
     fn is_next(&mut self, number: u64) -> bool {
         self.accepted = self.accepted.wrapping_add(1);
         self.accepted == number
     }
 }
 
-/// All calls again, on a map that is empty at first.
+/// Repeats all calls, on a map that is empty at first.
 fn replayed(alloc: Global, calls: &[RecordedCall]) -> Result<Again, AllocError> {
     let mut again = Again {
         map: BTreeMap::new(alloc),
@@ -91,7 +93,7 @@ fn replayed(alloc: Global, calls: &[RecordedCall]) -> Result<Again, AllocError> 
 struct Told {
     // How many calls are recorded.
     calls: u64,
-    // How many of them had another reply than a plain map's.
+    // How many of them had another reply than that of a plain map.
     wrong: u64,
     // How many commands were accepted.
     accepted: u64,
@@ -99,7 +101,7 @@ struct Told {
     ends_alike: bool,
 }
 
-/// What the record of a desk shows, of which this many calls are done again, and the store behind it.
+/// What a record of this many calls shows once they are repeated, and how the store ends.
 fn tell_of<D: Disk>(alloc: Global, core: &Core<D>, again: &Again, calls: u64) -> Option<Told> {
     let entries = core.entries(alloc).ok()?;
     Some(Told {
@@ -110,14 +112,15 @@ fn tell_of<D: Disk>(alloc: Global, core: &Core<D>, again: &Again, calls: u64) ->
     })
 }
 
-/// What the record of a desk shows.
+/// What the record of a desk shows once its calls are repeated.
 fn tell<D: Disk, N: DeskId>(alloc: Global, desk: Desk<D, Kept, N>) -> Option<Told> {
     let calls = desk.trace().calls().len() as u64;
     let again = replayed(alloc, desk.trace().calls()).ok()?;
     tell_of(alloc, &desk.into_core(), &again, calls)
 }
 
-/// Serves a store whose calls are kept, and returns what its record shows, with the status. The blanks become the ledgers.
+/// Serves a store and records all calls. Returns what the record shows, and the status. The blanks
+/// become the ledgers.
 fn serve_recorded<
     L: Listens,
     D: Disk,
@@ -152,7 +155,7 @@ fn serve_recorded<
     Some((told, status.ok()?))
 }
 
-/// The same of an empty store.
+/// Serves and records in the same way, on an empty store.
 fn serve_kept<L: Listens, R: Threads + Wait + Sync>(
     rt: &R,
     alloc: Global,
@@ -178,7 +181,7 @@ fn serve_kept<L: Listens, R: Threads + Wait + Sync>(
     )
 }
 
-/// A server of sixty-four sessions, which ask at once, and what its record shows.
+/// Runs a server of sixty-four sessions, which ask at once. Returns what its record shows.
 fn serve_all<R: Net<Listener = TcpListener, Stream = TcpStream> + Clock + Threads + Wait + Sync>(
     rt: &R,
     alloc: Global,
