@@ -1,6 +1,6 @@
 // A log region as the store holds it in memory, and the calls that change it.
-ghost use Rattle.std.specs.Prelude.{vec_len, ◌≡◌, ◌==◌, ◌+◌, ◌-◌, ◌<◌, ◌≤◌, ◌++◌, length, drop, replicate, nat_lt, false, IsTrue, IfOk, IfErr, OnOk, OnErr, MatchResult};
-ghost use Rattle.silt_disk.specs.Disk.{ChangesWithin, CountsFault, GaveAny, LeavesOnly, Rests, Writes, size};
+ghost use Rattle.std.specs.Prelude.{vec_len, ◌≡◌, ◌==◌, ◌+◌, ◌-◌, ◌<◌, ◌≤◌, ◌++◌, length, drop, replicate, nat_lt, cond, false, IsTrue, IfOk, IfErr, OnOk, OnErr, MatchResult};
+ghost use Rattle.silt_disk.specs.Disk.{ChangesWithin, Costs, CountsFault, GaveAny, LeavesOnly, Rests, Writes, size};
 ghost use Rattle.silt_disk.specs.Layout.{device_size, gates_at, row_len};
 ghost use Rattle.silt_frame.specs.Gate.{gate_open};
 ghost use Rattle.silt_frame.specs.Frame.{head_bytes};
@@ -127,7 +127,7 @@ impl Log {
         self.geometry
     }
 
-    /// Closes all gates of the region, and syncs. Then the log has no rows.
+    /// Closes all gates of the region, and syncs. Then the log has no rows. Costs one write and one sync.
     ///
     /// # Errors
     ///
@@ -140,6 +140,7 @@ impl Log {
         ensures rests { OnOk result (Rests (D.content disk.new)) }
         ensures ok { OnOk result (Empties (D.content disk.new) self.old self.new) }
         ensures err { OnErr result (self.new ≡ self.old) }
+        ensures made { Costs D.writes D.syncs 1 1 disk.old disk.new result }
         ensures failures { MatchResult result (λ _. D.failures disk.new ≡ D.failures disk.old) (CountsFault D.failures D.gave disk.old disk.new) }
     {
         let at = self.geometry.gates_at(self.region);
@@ -150,7 +151,8 @@ impl Log {
         Ok(())
     }
 
-    /// Writes a row after the others: the head, then the value. Its gate stays closed. A delete's value is zeros.
+    /// Writes a row after the others: the head, then the value. Its gate stays closed. A delete's value is zeros. Costs two writes and
+    /// no sync.
     ///
     /// # Errors
     ///
@@ -173,6 +175,7 @@ impl Log {
         ensures images { LeavesOnly (D.content disk.new) (λ image. log_rows self.old.shape self.old.region image ≡ settled_rows (D.content disk.old) self.old) }
         ensures ok { OnOk result (Appends (stored_row kind key.now value.now) (D.content disk.old) (D.content disk.new) self.old self.new) }
         ensures err { OnErr result (KeepsRows (D.content disk.old) (D.content disk.new) self.old self.new) }
+        ensures made { Costs D.writes D.syncs 2 0 disk.old disk.new result }
         ensures failures { MatchResult result (λ _. D.failures disk.new ≡ D.failures disk.old) (CountsFault D.failures D.gave disk.old disk.new) }
     {
         let at = self.body_at(self.used);
@@ -197,6 +200,7 @@ impl Log {
         ensures rests { OnOk result (Rests (D.content disk.new)) }
         ensures ok { OnOk result (OpensGates (D.content disk.old) (D.content disk.new) self.old self.new) }
         ensures err { OnErr result (OpensSome (D.content disk.old) (D.content disk.new) self.old self.new) }
+        ensures made { Costs D.writes D.syncs 1 2 disk.old disk.new result }
         ensures failures { MatchResult result (λ _. D.failures disk.new ≡ D.failures disk.old) (CountsFault D.failures D.gave disk.old disk.new) }
     {
         let at = self.geometry.gates_at(self.region) + u64::from(self.settled);
@@ -225,6 +229,7 @@ impl Log {
         ensures rests { OnOk result (Rests (D.content disk.new)) }
         ensures ok { OnOk result (Seals (D.content disk.old) (D.content disk.new) self.old self.new) }
         ensures err { OnErr result ((self.new ≡ self.old) × IsTrue self.old.stale) }
+        ensures made { Costs D.writes D.syncs (cond self.old.stale 1 0) (cond self.old.stale 1 0) disk.old disk.new result }
         ensures failures { MatchResult result (λ _. D.failures disk.new ≡ D.failures disk.old) (CountsFault D.failures D.gave disk.old disk.new) }
     {
         if !self.stale {
