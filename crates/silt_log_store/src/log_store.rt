@@ -1,10 +1,10 @@
 // A log region with the table of its keys and the number of its puts, and the calls that change it.
-ghost use Rattle.std.specs.Prelude.{◌≡◌, ◌==◌, ◌↔◌, ◌+◌, ◌-◌, ◌<◌, ◌≤◌, ◌++◌, ℕ, [], ◌∷◌, length, replicate, nat_lt, false, true, IsTrue, IsSome, IfSome, None};
+ghost use Rattle.std.specs.Prelude.{◌≡◌, ◌==◌, ◌↔◌, ◌+◌, ◌-◌, ◌<◌, ◌≤◌, ◌++◌, ℕ, [], ◌∷◌, length, replicate, nat_lt, cond, false, true, IsTrue, IsSome, IfSome, None};
 ghost use Rattle.std.specs.Prelude.{IsOkAnd, IfOk, IfErr, OnOk, OnErr, MatchResult};
 ghost use Rattle.std.specs.List.{list_all};
 ghost use Rattle.silt_cuckoo.specs.Slots.{empty_slots, entry_at};
 ghost use Rattle.silt_cuckoo.specs.Index.{index_of_keys};
-ghost use Rattle.silt_disk.specs.Disk.{Content, ChangesWithin, CountsFault, GaveAny, LeavesOnly, Rests, Writes, size};
+ghost use Rattle.silt_disk.specs.Disk.{Content, ChangesWithin, Costs, CountsFault, GaveAny, LeavesOnly, Rests, Writes, size};
 ghost use Rattle.silt_disk.specs.Layout.{device_size, gates_at, row_len};
 ghost use Rattle.silt_frame.specs.Gate.{gate_open};
 ghost use Rattle.silt_frame.specs.Frame.{head_bytes};
@@ -133,7 +133,7 @@ impl LogStore {
     }
 
     /// Closes all gates of the region, and syncs. Then the store has no rows. The table must be empty and no put counted, as in a new
-    /// store.
+    /// store. Costs one write and one sync.
     ///
     /// # Errors
     ///
@@ -148,6 +148,7 @@ impl LogStore {
         ensures rests { OnOk result (Rests (D.content disk.new)) }
         ensures ok { OnOk result (EmptiesStore (D.content disk.new) self.old self.new) }
         ensures err { OnErr result (self.new ≡ self.old) }
+        ensures made { Costs D.writes D.syncs 1 1 disk.old disk.new result }
         ensures failures { MatchResult result (λ _. D.failures disk.new ≡ D.failures disk.old) (CountsFault D.failures D.gave disk.old disk.new) }
     {
         self.log.prepare(disk)?;
@@ -170,6 +171,7 @@ impl LogStore {
         ensures rests { OnOk result (Rests (D.content disk.new)) }
         ensures ok { OnOk result (OpensStore (D.content disk.old) (D.content disk.new) self.old self.new) }
         ensures err { OnErr result (OpensSomeOfStore (D.content disk.old) (D.content disk.new) self.old self.new) }
+        ensures made { Costs D.writes D.syncs 1 2 disk.old disk.new result }
         ensures failures { MatchResult result (λ _. D.failures disk.new ≡ D.failures disk.old) (CountsFault D.failures D.gave disk.old disk.new) }
     {
         self.log.open_gates(disk)?;
@@ -196,6 +198,7 @@ impl LogStore {
         ensures rests { OnOk result (Rests (D.content disk.new)) }
         ensures ok { OnOk result (SealsStore (D.content disk.old) (D.content disk.new) self.old self.new) }
         ensures err { OnErr result ((self.new ≡ self.old) × IsTrue self.old.log.stale) }
+        ensures made { Costs D.writes D.syncs (cond self.old.log.stale 1 0) (cond self.old.log.stale 1 0) disk.old disk.new result }
         ensures failures { MatchResult result (λ _. D.failures disk.new ≡ D.failures disk.old) (CountsFault D.failures D.gave disk.old disk.new) }
     {
         self.log.seal(disk)?;
@@ -331,7 +334,7 @@ impl LogStore {
 
     /// Takes a row after the others: reads the head of each candidate of its key, writes the row with its gate closed, enters the key
     /// into the table, and counts a put. A delete's value is zeros. It allocates no memory. A store with no rows takes a row of any
-    /// key, and reads nothing for it.
+    /// key, and reads nothing for it. Costs two writes and no sync.
     ///
     /// # Errors
     ///
@@ -355,6 +358,7 @@ impl LogStore {
         ensures can { OnOk result (CanTake (D.content disk.old) self.old key.now.0) }
         ensures ok { OnOk result (TakesRow (stored_row kind key.now value.now) (D.content disk.old) (D.content disk.new) self.old self.new) }
         ensures puts { OnOk result (self.new.puts ≡ self.old.puts + puts_of kind) }
+        ensures made { Costs D.writes D.syncs 2 0 disk.old disk.new result }
         ensures failures { OnOk result (D.failures disk.new ≡ D.failures disk.old) }
         ensures kept { OnErr result (self.new ≡ self.old) }
         ensures err { IfErr result (FailsTake D.Disk disk.old disk.new self.old self.new key.now.0) }
@@ -411,6 +415,7 @@ impl LogStore {
         ensures ok { OnOk result (TakesRow (stored_row kind key.now value.now) (D.content disk.old) (D.content disk.new) self.old self.new) }
         ensures puts { OnOk result (self.new.puts ≡ self.old.puts + puts_of kind) }
         ensures err { OnErr result (KeepsStore (D.content disk.old) (D.content disk.new) self.old self.new) }
+        ensures made { Costs D.writes D.syncs 2 0 disk.old disk.new result }
         ensures failures { MatchResult result (λ _. D.failures disk.new ≡ D.failures disk.old) (CountsFault D.failures D.gave disk.old disk.new) }
     {
         let _capacity = self.log.capacity(); // fits its word, and so does the count of the puts
