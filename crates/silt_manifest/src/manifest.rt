@@ -1,6 +1,6 @@
 // The manifest in memory, and the calls that read and write it.
 ghost use Rattle.std.specs.Prelude.{◌≡◌, ◌+◌, ◌<◌, ◌≤◌, ◌↔◌, IsTrue, Some, None, true, false, IfOk, IfErr, OnOk, OnErr, MatchResult};
-ghost use Rattle.silt_disk.specs.Disk.{ChangesWithin, CountsFault, GaveAny, LeavesOnly, Rests, Shows, size};
+ghost use Rattle.silt_disk.specs.Disk.{ChangesWithin, Costs, CountsFault, GaveAny, LeavesOnly, Rests, Shows, size};
 ghost use Rattle.silt_disk.specs.Header.{header_of, version_of};
 ghost use Rattle.silt_disk.specs.Layout.{slot_at, sector};
 ghost use Rattle.silt_manifest.specs.Body.{is_well_formed};
@@ -182,6 +182,7 @@ impl Manifest {
         ensures rests { OnOk result (Rests (D.content disk.new)) }
         ensures state { OnOk result (self.new ≡ record self.old { spare_closed = true; prepared = Some (long_record next digests) }) }
         ensures unchanged { OnErr result (self.new ≡ self.old) }
+        ensures made { Costs D.writes D.syncs 2 2 disk.old disk.new result }
         ensures failures { MatchResult result (λ _. D.failures disk.new ≡ D.failures disk.old) (CountsFault D.failures D.gave disk.old disk.new) }
     {
         let _limits = self.geometry.logs(); // at most eight
@@ -213,6 +214,7 @@ impl Manifest {
         ensures new { OnOk result (Some (current_record self.new) ≡ self.old.prepared) }
         ensures state { OnOk result ((self.new.shape ≡ self.old.shape) × (self.new.spare_closed ≡ false) × (self.new.prepared ≡ None)) }
         ensures unchanged { OnErr result (self.new ≡ self.old) }
+        ensures made { Costs D.writes D.syncs 1 1 disk.old disk.new result }
         ensures failures { MatchResult result (λ _. D.failures disk.new ≡ D.failures disk.old) (CountsFault D.failures D.gave disk.old disk.new) }
     {
         let Some(next) = self.prepared else {
@@ -241,6 +243,7 @@ pub fn write_first<D: Disk>(disk: &mut D, digests: &Digests) -> Result<(), D::Fa
     ensures changes { ChangesWithin (slot_at 0) sector (D.content disk.old) (D.content disk.new) }
     ensures rules { OnOk result (LeavesOnly (D.content disk.new) (IsFirst digests.now)) }
     ensures rests { OnOk result (Rests (D.content disk.new)) }
+    ensures made { Costs D.writes D.syncs 3 3 disk.old disk.new result }
     ensures failures { MatchResult result (λ _. D.failures disk.new ≡ D.failures disk.old) (CountsFault D.failures D.gave disk.old disk.new) }
 {
     write_gate(disk, 0, GATE_CLOSED)?;

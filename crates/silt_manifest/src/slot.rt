@@ -1,6 +1,6 @@
 // The two slots of a manifest.
 ghost use Rattle.std.specs.Prelude.{◌≡◌, ◌+◌, ◌<◌, ◌≤◌, true, false, Some, [], ◌∷◌, IfOk, IfErr, IfSome, IfNone, OnOk, MatchResult};
-ghost use Rattle.silt_disk.specs.Disk.{ChangesWithin, CountsFault, GaveAny, Rests, Shows, Writes, size};
+ghost use Rattle.silt_disk.specs.Disk.{ChangesWithin, Costs, CountsFault, GaveAny, Rests, Shows, Writes, size};
 ghost use Rattle.silt_disk.specs.Layout.{slot_at, sector};
 ghost use Rattle.silt_manifest.specs.Body.{FitsSlot};
 ghost use Rattle.silt_manifest.specs.Digests.{FitsDigests, record_bytes, record_of};
@@ -136,6 +136,7 @@ pub(crate) fn write_gate<D: Disk>(disk: &mut D, slot: u32, gate: u8) -> Result<(
     ensures changes { ChangesWithin (slot_at slot) 1 (D.content disk.old) (D.content disk.new) }
     ensures written { OnOk result (Writes (slot_at slot) (gate ∷ []) (D.content disk.old) (D.content disk.new)) }
     ensures rests { OnOk result (Rests (D.content disk.new)) }
+    ensures made { Costs D.writes D.syncs 1 1 disk.old disk.new result }
     ensures failures { MatchResult result (λ _. D.failures disk.new ≡ D.failures disk.old) (CountsFault D.failures D.gave disk.old disk.new) }
 {
     write_synced(disk, slot_start(slot), &[gate])?;
@@ -167,6 +168,7 @@ pub(crate) fn write_record<D: Disk>(
     ensures changes { ChangesWithin (slot_at slot + 1) 460 (D.content disk.old) (D.content disk.new) }
     ensures written { OnOk result (Writes (slot_at slot + 1) bytes.now (D.content disk.old) (D.content disk.new)) }
     ensures rests { OnOk result (Rests (D.content disk.new)) }
+    ensures made { Costs D.writes D.syncs 1 1 disk.old disk.new result }
     ensures failures { MatchResult result (λ _. D.failures disk.new ≡ D.failures disk.old) (CountsFault D.failures D.gave disk.old disk.new) }
 {
     write_synced(disk, slot_start(slot) + 1, bytes)?;

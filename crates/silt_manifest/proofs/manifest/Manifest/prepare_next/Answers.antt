@@ -1,5 +1,7 @@
-use Rattle.std.proofs.Common.{◌+◌, length, refl, sym, ap, subst, ◌∙◌, arith}
+use Rattle.std.proofs.Common.{◌+◌, length, refl, sym, ap, subst, ◌∙◌, rules, arith}
+use Rattle.silt_disk.specs.Disk.{MakesAtMost}
 use Rattle.silt_disk.specs.Layout.{InLimits, slot_at}
+use Rattle.silt_disk.proofs.Costs.{made_both, most_both, most_more}
 use Rattle.silt_disk.proofs.Laws.{changes_wider, changes_joined}
 use Rattle.silt_manifest.specs.Body.{FitsSlot}
 use Rattle.silt_manifest.specs.Digests.{FitsDigests}
@@ -67,3 +69,16 @@ returns-clause-ready g c =
       prepared = prepared_state m c.self.inside.geometry c.self.inside.current c.args.next c.self.inside.digests c.args.digests _
           (sym (ap (λ state. state.shape) c.self.view_is)) (sym (ap (λ state. state.current) c.self.view_is)) (sym (ap (λ state. state.digests) c.self.view_is)) c.requires.next fits fits_digests ready;
     }
+
+pub returns-in_err-write_synced-clause-made : goal.returns-in_err-write_synced-clause-made
+returns-in_err-write_synced-clause-made g c =
+    let most : MakesAtMost g.D.Disk.writes g.D.Disk.syncs 2 2 c.args.disk.now c.write_synced.new.disk = most_more c.in_err-write_synced.ensures.made (omega arith) (omega arith) in
+    search (rules, most)
+
+pub returns-in_err-write_record-clause-made : goal.returns-in_err-write_record-clause-made
+returns-in_err-write_record-clause-made g c =
+    let most : MakesAtMost g.D.Disk.writes g.D.Disk.syncs 2 2 c.args.disk.now c.write_record.new.disk = most_both c.write_synced.new.disk c.in_ok-write_synced.ensures.made c.in_err-write_record.ensures.made (omega arith) (omega arith) in
+    search (rules, most)
+
+pub returns-clause-made : goal.returns-clause-made
+returns-clause-made g c = made_both c.write_synced.new.disk c.in_ok-write_synced.ensures.made c.in_ok-write_record.ensures.made refl refl
