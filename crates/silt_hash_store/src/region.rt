@@ -1,6 +1,6 @@
 // A hash region on a device: the offsets of its slots, and how to read or write one.
 ghost use Rattle.std.specs.Prelude.{◌≡◌, ◌+◌, ◌*◌, ◌<◌, ◌≤◌, ◌^◌, length, drop, slice_index, IsTrue, IfOk, IfErr, OnOk, MatchResult};
-ghost use Rattle.silt_disk.specs.Disk.{ChangesWithin, CountsFault, GaveAny, size};
+ghost use Rattle.silt_disk.specs.Disk.{ChangesWithin, Costs, CountsFault, GaveAny, size};
 ghost use Rattle.silt_disk.specs.Layout.{device_size, row_len};
 ghost use Rattle.silt_hash_store.specs.Lookup.{IsRowAt};
 ghost use Rattle.silt_hash_store.specs.Slots.{HeadSays, HoldsSlots, hash_slot_at, slot_row};
@@ -167,7 +167,7 @@ impl HashRegion {
         Ok(())
     }
 
-    /// Writes the bytes of a row into a slot.
+    /// Writes the bytes of a row into a slot, in one write.
     ///
     /// # Errors
     ///
@@ -179,6 +179,7 @@ impl HashRegion {
         ensures size { size (D.content disk.new) ≡ size (D.content disk.old) }
         ensures changes { ChangesWithin (hash_slot_at self.now.geometry self.now.number slot) (row_len self.now.geometry) (D.content disk.old) (D.content disk.new) }
         ensures written { IsTrue (D.content disk.old).honest → OnOk result (slot_row self.now.geometry self.now.number (D.content disk.new).shown slot ≡ row_of row.now) }
+        ensures made { Costs D.writes D.syncs 1 0 disk.old disk.new result }
         ensures failures { MatchResult result (λ _. D.failures disk.new ≡ D.failures disk.old) (CountsFault D.failures D.gave disk.old disk.new) }
     {
         disk.write(self.slot_at(slot), row)?;
