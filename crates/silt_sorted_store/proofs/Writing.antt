@@ -1,12 +1,14 @@
 -- The disk after the write of an entry.
-use Rattle.std.proofs.Common.{◌≡◌, ℕ, ◌+◌, ◌*◌, ◌<◌, ◌≤◌, Bool, true, false, IsTrue, List, [], ◌∷◌, ◌++◌, length, take, slice_range, sym, subst, ap, ◌∙◌, arith, append-nil}
+use Rattle.std.proofs.Common.{◌≡◌, ℕ, ◌+◌, ◌*◌, ◌<◌, ◌≤◌, ◌&&◌, nat_lt, Bool, true, false, cond, IsTrue, List, [], ◌∷◌, ◌++◌, length, take, slice_range, sym, subst, ap, ◌∙◌, arith, append-nil}
+use Rattle.std.proofs.lemmas.Bool.{le-ltb, lt-ltb}
 use Rattle.std.proofs.lemmas.List.{length-append, take-append-le, take_all}
-use Rattle.silt_disk.specs.Disk.{ChangesWithin, Content, Tears, Writes, size, splice}
+use Rattle.silt_disk.specs.Disk.{ChangesWithin, Content, Makes, Tears, Writes, size, splice}
 use Rattle.silt_disk.specs.Layout.{Shape, device_size, entry_len, sorted_at}
+use Rattle.silt_disk.proofs.Costs.{none_made}
 use Rattle.silt_disk.proofs.Images.{splice_slice, within_wider, write_within}
 use Rattle.silt_sorted_store.specs.State.{sorted_rows, sorted_entry_at}
 use Rattle.silt_frame.specs.Rows.{entry_row, StoredRow}
-use Rattle.silt_sorted_store.specs.Region.{due_rows}
+use Rattle.silt_sorted_store.specs.Region.{due_rows, is_written}
 use Rattle.silt_sorted_store.proofs.Elsewhere.{entries_before, entries_inside, entry_bytes, entry_more}
 use Rattle.silt_sorted_store.proofs.Entries.{entry_count, part_inside}
 
@@ -60,3 +62,30 @@ module _ (s : Shape) (region place : ℕ) where
         ∙ ap (λ l. l ++ entry_row (entry_bytes s region new.shown place) ∷ []) (entries_kept there below fits honest)
         ∙ ap (λ b. sorted_rows s region place old.shown ++ entry_row b ∷ []) shown
         ∙ sym (ap (λ d. take s.sorted_capacity (sorted_rows s region place old.shown ++ due_rows d bytes)) is ∙ take_all s.sorted_capacity rows whole)
+
+-- an entry that is not due is not written
+pub not_due : (due : Bool) (place capacity : ℕ) → due ≡ false → is_written due place capacity ≡ false
+not_due due place capacity none = ap (λ d. d && nat_lt place capacity) none
+
+-- nor one that the region has no place for
+pub not_there : (due : Bool) (place capacity : ℕ) → due ≡ true → place ≡ capacity → is_written due place capacity ≡ false
+not_there due place capacity is full = ap (λ d. d && nat_lt place capacity) is ∙ le-ltb place capacity (omega (arith, full))
+
+-- one that is due is written if there is a place for it
+pub due_there : (due : Bool) (place capacity : ℕ) → due ≡ true → place < capacity → is_written due place capacity ≡ true
+due_there due place capacity is below = ap (λ d. d && nat_lt place capacity) is ∙ lt-ltb place capacity below
+
+-- the number of entries after an entry that is not written, and after one that is
+pub none_counted : (written : Bool) (place : ℕ) → written ≡ false → place ≡ place + cond written 1 0
+none_counted written place none = subst (λ w. place ≡ place + cond w 1 0) (sym none) (omega arith)
+
+pub one_counted : (written : Bool) (place : ℕ) → written ≡ true → place + 1 ≡ place + cond written 1 0
+one_counted written place one = subst (λ w. place + 1 ≡ place + cond w 1 0) (sym one) (omega arith)
+
+-- the writes of an entry that is not written, and of one that is
+module _ {D : Type 0} {writes_of syncs_of : D → ℕ} where
+  pub none_costs : {old : D} (written : Bool) → written ≡ false → Makes writes_of syncs_of (cond written 1 0) 0 old old
+  none_costs {old} written none = subst (λ w. Makes writes_of syncs_of (cond w 1 0) 0 old old) (sym none) none_made
+
+  pub one_costs : {old new : D} (written : Bool) → written ≡ true → Makes writes_of syncs_of 1 0 old new → Makes writes_of syncs_of (cond written 1 0) 0 old new
+  one_costs {old} {new} written one made = subst (λ w. Makes writes_of syncs_of (cond w 1 0) 0 old new) (sym one) made

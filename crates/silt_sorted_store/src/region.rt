@@ -1,9 +1,9 @@
 // A sorted region on a device: the offsets of its entries, and how to write one.
-ghost use Rattle.std.specs.Prelude.{◌≡◌, ◌+◌, ◌*◌, ◌<◌, ◌≤◌, ◌^◌, ◌++◌, length, take, IsTrue, IfOk, MatchResult};
-ghost use Rattle.silt_disk.specs.Disk.{ChangesWithin, CountsFault, size};
+ghost use Rattle.std.specs.Prelude.{◌≡◌, ◌+◌, ◌*◌, ◌<◌, ◌≤◌, ◌^◌, ◌++◌, cond, length, take, IsTrue, IfOk, MatchResult};
+ghost use Rattle.silt_disk.specs.Disk.{ChangesWithin, CountsFault, Makes, MakesAtMost, size};
 ghost use Rattle.silt_disk.specs.Layout.{device_size, entry_len, sorted_at};
 ghost use Rattle.silt_sorted_store.specs.State.{sorted_rows, sorted_entry_at};
-ghost use Rattle.silt_sorted_store.specs.Region.{due_rows};
+ghost use Rattle.silt_sorted_store.specs.Region.{due_rows, is_written};
 
 use silt_disk::{Disk, Geometry};
 
@@ -27,6 +27,7 @@ impl SortedRegion {
     }
 
     /// Writes the bytes of an entry at a place, if there are any to write and the region has the place. Returns the new number of entries.
+    /// Costs one write for an entry that is written, and else none.
     ///
     /// # Errors
     ///
@@ -49,6 +50,9 @@ impl SortedRegion {
         ensures written { IsTrue (D.content disk.old).honest → IfOk result (λ count. sorted_rows self.now.geometry self.now.number count (D.content disk.new).shown
             ≡ take self.now.geometry.sorted_capacity (sorted_rows self.now.geometry self.now.number place (D.content disk.old).shown ++ due_rows is_due entry.now)) }
         ensures most { IfOk result (λ count. count ≤ self.now.geometry.sorted_capacity) }
+        ensures count { IfOk result (λ count. count ≡ place + cond (is_written is_due place self.now.geometry.sorted_capacity) 1 0) }
+        ensures made { MatchResult result (λ _. Makes D.writes D.syncs (cond (is_written is_due place self.now.geometry.sorted_capacity) 1 0) 0 disk.old disk.new)
+            (λ _. MakesAtMost D.writes D.syncs 1 0 disk.old disk.new) }
         ensures failures { MatchResult result (λ _. D.failures disk.new ≡ D.failures disk.old) (CountsFault D.failures D.gave disk.old disk.new) }
     {
         if !is_due {
