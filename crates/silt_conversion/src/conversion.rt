@@ -1,7 +1,7 @@
 // A log's rows, written into a hash region slot by slot.
 ghost use Rattle.std.specs.Prelude.{◌≡◌, ◌==◌, ◌+◌, ◌*◌, ◌<◌, ◌≤◌, ◌^◌, true, false, [], ◌∷◌, filter, Some, length, replicate, None, IsTrue, IfOk, IfErr, IfSome, OnOk, OnErr, MatchResult};
 ghost use Rattle.sha1.specs.Sha1.{Holds};
-ghost use Rattle.silt_disk.specs.Disk.{Content, ChangesWithin, CountsFault, GaveAny, size};
+ghost use Rattle.silt_disk.specs.Disk.{Content, ChangesWithin, Costs, CountsFault, GaveAny, size};
 ghost use Rattle.silt_disk.specs.Layout.{device_size, row_len};
 ghost use Rattle.silt_conversion.specs.Conversion.{converted_row, converted_rows, with_entry};
 ghost use Rattle.silt_frame.specs.Rows.{put_count, has_known_kind, row_of};
@@ -179,6 +179,7 @@ impl Conversion {
 
     /// Writes the next slot: reads the row that belongs there, if there is one, and writes its bytes, or zeros. It also writes zeros
     /// for a row of an unknown kind. Only a disk that is not honest (does not obey the crash model) shows one. It allocates no memory.
+    /// Costs one write and no sync.
     ///
     /// # Errors
     ///
@@ -193,6 +194,7 @@ impl Conversion {
         ensures err { OnErr result (self.new ≡ self.old) }
         ensures written { IsFrozenStore (D.content disk.old) log.now → HasWritten (D.content disk.old) log.now self.old → HasWritten (D.content disk.new) log.now self.new }
         ensures frozen { IsFrozenStore (D.content disk.old) log.now → IsFrozenStore (D.content disk.new) log.now }
+        ensures made { Costs D.writes D.syncs 1 0 disk.old disk.new result }
         ensures failures { MatchResult result (λ _. D.failures disk.new ≡ D.failures disk.old) (FailsStep (GaveAny D.gave) (CountsFault D.failures D.gave disk.old disk.new) disk.old disk.new) }
     {
         let slot = self.next;

@@ -2,6 +2,7 @@ use Rattle.std.proofs.Common.{◌≡◌, IsTrue, drop, length, ap, sym, ◌∙�
 use Rattle.std.proofs.lemmas.List.{take_at}
 use Rattle.silt_cuckoo.specs.Slots.{entry_at}
 use Rattle.silt_disk.specs.Layout.{Shape}
+use Rattle.silt_disk.proofs.Costs.{most_none}
 use Rattle.silt_frame.specs.Rows.{row_of}
 use Rattle.silt_log.specs.State.{all_rows}
 use Rattle.silt_log_store.specs.State.{IsFrozenStore}
@@ -65,3 +66,6 @@ returns-clause-frozen g c =
     let same = rw (← c.self.view_is) at c.requires.shape in
     let fits = rw (← c.self.view_is) at c.requires.size in
     frozen_kept _ _ c.args.log.now conversion c.read_due.ensures.held.bounds same fits c.write_slot.ensures.changes
+
+pub returns-in-Err-clause-made : goal.returns-in-Err-clause-made
+returns-in-Err-clause-made g c = most_none
