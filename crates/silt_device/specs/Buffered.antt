@@ -8,6 +8,7 @@ use Rattle.std.proofs.lemmas.List.FromFn.{length-map-range_with_len, get_or-map-
 use Rattle.silt_disk.specs.Disk.{Content, GaveAny, size, within}
 use Rattle.silt_disk.specs.declared.disk.Call.{Call}
 use Rattle.silt_device.specs.declared.buffered_disk.BufferFault.{BufferFault}
+use Rattle.silt_device.specs.declared.calls.Calls.{Calls}
 
 -- Adjacent bytes that wait to be written, where they begin, and the room of the buffer. If there are none, the place means nothing.
 pub record BufferedBytes : Type 0 where
@@ -15,11 +16,11 @@ pub record BufferedBytes : Type 0 where
   pub bytes : List ℕ
   pub room : ℕ
 
--- a disk with the waiting bytes, and how many of its writes and syncs have failed
+-- a disk with the waiting bytes, and how many writes and syncs were asked of both together
 pub record BufferedState (D : Type 0) : Type 0 where
   pub inner : D
   pub buffer : BufferedBytes
-  pub failures : ℕ
+  pub calls : Calls
 
 -- the waiting bytes lie within the inner disk
 abbrev pub HasPlaces : {D : Type 0} → (D → Content) → D → BufferedBytes → Type 0
@@ -92,7 +93,7 @@ buffered_content content disk = content_over disk.buffer (content disk.inner)
 -- the fault has its call, its range, the disk's number of failures at that time, and a fault that the inner disk gave
 abbrev pub buffered_gave : {D F : Type 0} → (D → F → Call → ℕ → ℕ → Type 0) → BufferedState D → BufferFault F → Call → ℕ → ℕ → Type 0
 buffered_gave {D} gave disk fault call at count =
-    (fault.call ≡ call) × (fault.at ≡ at) × (fault.count ≡ count) × (fault.failures ≡ disk.failures) × ((inner : D) × GaveAny gave inner fault.inner)
+    (fault.call ≡ call) × (fault.at ≡ at) × (fault.count ≡ count) × (fault.failures ≡ disk.calls.failures) × ((inner : D) × GaveAny gave inner fault.inner)
 
 -- whether the buffer has all of this many bytes from this place on
 abbrev pub holds : BufferedBytes → ℕ → ℕ → Bool

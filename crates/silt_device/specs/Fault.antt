@@ -1,7 +1,7 @@
 -- The content of a disk with a fault.
 use Rattle.std.specs.Prelude.{◌≡◌, ℕ, ◌-◌, Bool, true, false, if◌then◌else◌}
 use Rattle.silt_disk.specs.Disk.{Content}
-use Rattle.silt_device.specs.Memory.{memory_content, memory_gave}
+use Rattle.silt_device.specs.Memory.{memory_content, memory_failures, memory_gave, memory_syncs, memory_writes}
 use Rattle.silt_disk.specs.declared.disk.Call.{Call}
 use Rattle.silt_disk.specs.declared.disk.Call.TheVariants.{Read, Write, Sync}
 use Rattle.silt_device.specs.declared.fault.FaultDisk.{FaultDisk}
@@ -13,7 +13,15 @@ fault_content disk = memory_content disk.disk
 
 -- its count of failures, with the chosen call's own
 abbrev pub fault_failures : FaultDisk → ℕ
-fault_failures disk = disk.disk.failures
+fault_failures disk = memory_failures disk.disk
+
+-- its count of writes, with the chosen call if it is one
+abbrev pub fault_writes : FaultDisk → ℕ
+fault_writes disk = memory_writes disk.disk
+
+-- the same of syncs
+abbrev pub fault_syncs : FaultDisk → ℕ
+fault_syncs disk = memory_syncs disk.disk
 
 -- a fault of the disk in memory
 abbrev pub fault_gave : FaultDisk → MemFault → Call → ℕ → ℕ → Type 0

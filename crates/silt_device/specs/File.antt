@@ -6,14 +6,16 @@ use Rattle.silt_disk.specs.Disk.{Content, Settles, size}
 use Rattle.silt_disk.specs.declared.disk.Call.{Call}
 use Rattle.std.specs.declared.fs.File.{File}
 use Rattle.silt_assumption.specs.Files.{system_content, unpromised}
+use Rattle.silt_device.specs.Calls.{no_calls}
 use Rattle.silt_device.specs.System.{Resizes}
+use Rattle.silt_device.specs.declared.calls.Calls.{Calls}
 use Rattle.silt_device.specs.declared.file.FileFault.{FileFault}
 
--- an open file, the length of the disk in it, and how many of the disk's writes and syncs have failed
+-- an open file, the length of the disk in it, and how many writes and syncs the disk was asked for
 pub record FileState (F : Type 0) : Type 0 where
   pub file : F
   pub len : ℕ
-  pub failures : ℕ
+  pub calls : Calls
 
 -- the content of a file, if the file behaves; else a content of this length that promises nothing
 abbrev pub kept_content : Content → ℕ → Content
@@ -27,19 +29,27 @@ random_access_content content disk = kept_content (content disk.file) disk.len
 abbrev pub file_content : FileState File → Content
 file_content = random_access_content system_content
 
+-- how many writes the disk was asked for
+abbrev pub file_writes : {F : Type 0} → FileState F → ℕ
+file_writes disk = disk.calls.writes
+
+-- how many syncs
+abbrev pub file_syncs : {F : Type 0} → FileState F → ℕ
+file_syncs disk = disk.calls.syncs
+
 -- a file that behaves has this length
 abbrev pub HasLength : Content → ℕ → Type 0
 HasLength file len = IsTrue file.honest → size file ≡ len
 
 -- the fault has its call, its range and the disk's number of failures at that time
 abbrev pub file_gave : {F : Type 0} → FileState F → FileFault → Call → ℕ → ℕ → Type 0
-file_gave disk fault call at count = (fault.call ≡ call) × (fault.at ≡ at) × (fault.count ≡ count) × (fault.failures ≡ disk.failures)
+file_gave disk fault call at count = (fault.call ≡ call) × (fault.at ≡ at) × (fault.count ≡ count) × (fault.failures ≡ disk.calls.failures)
 
--- a disk of this length, whose content is its file's if the file behaves, and on which no call has failed
+-- a disk of this length, whose content is its file's if the file behaves, and which was asked for no write and no sync
 pub record IsOpened {F : Type 0} (content : F → Content) (count : ℕ) (disk : FileState F) : Type 0 where
   pub bytes : size (random_access_content content disk) ≡ count
   pub same : IsTrue (content disk.file).honest → random_access_content content disk ≡ content disk.file
-  pub failures : disk.failures ≡ 0
+  pub calls : disk.calls ≡ no_calls
 
 -- a disk in a file that was found, locked and synced, of the length that the system reported: the file's bytes are settled
 pub record IsOpenedFile {F : Type 0} (content : F → Content) (found : F → Type 0) (locked : F → F → Type 0) (measured : F → Metadata → Type 0) (synced : F → F → Type 0)

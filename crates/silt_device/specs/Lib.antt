@@ -1,3 +1,4 @@
+pub mod Calls
 pub mod Fault
 pub mod File
 pub mod Buffered

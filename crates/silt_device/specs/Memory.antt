@@ -1,6 +1,7 @@
 -- The content of a disk in memory.
 use Rattle.std.specs.Prelude.{◌≡◌, ℕ, List, [], true, false, get_or}
 use Rattle.silt_disk.specs.Disk.{Content, Rests}
+use Rattle.silt_device.specs.Calls.{no_calls}
 use Rattle.silt_device.specs.Lives.{filled, next_life}
 use Rattle.silt_disk.specs.declared.disk.Call.{Call}
 use Rattle.silt_device.specs.declared.memory.MemDisk.{MemDisk}
@@ -19,13 +20,25 @@ memory_content disk = record {
 
 -- the fault has its call, its range and the disk's number of failures at that time
 abbrev pub memory_gave : MemDisk → MemFault → Call → ℕ → ℕ → Type 0
-memory_gave disk fault call at count = (fault.call ≡ call) × (fault.at ≡ at) × (fault.count ≡ count) × (fault.failures ≡ disk.failures)
+memory_gave disk fault call at count = (fault.call ≡ call) × (fault.at ≡ at) × (fault.count ≡ count) × (fault.failures ≡ disk.calls.failures)
 
--- the disk shows these bytes, nothing is pending, no call has failed, and none will
+-- how many writes it was asked for
+abbrev pub memory_writes : MemDisk → ℕ
+memory_writes disk = disk.calls.writes
+
+-- how many syncs
+abbrev pub memory_syncs : MemDisk → ℕ
+memory_syncs disk = disk.calls.syncs
+
+-- how many of both have failed
+abbrev pub memory_failures : MemDisk → ℕ
+memory_failures disk = disk.calls.failures
+
+-- the disk shows these bytes, nothing is pending, it was asked for no write and no sync, and none will fail
 pub record IsFresh (bytes : List ℕ) (disk : MemDisk) : Type 0 where
   pub shown : disk.shown.items ≡ bytes
   pub rests : Rests (memory_content disk)
-  pub failures : disk.failures ≡ 0
+  pub calls : disk.calls ≡ no_calls
   pub lives : disk.lives ≡ next_life []
 
 -- this image has, at each pending place of the disk, the byte that the fill of its life leaves there

@@ -1,7 +1,9 @@
 // A disk that buffers adjacent writes for another disk.
 ghost use Rattle.std.specs.Prelude.{◌≡◌, ◌+◌, ◌≤◌, ◌%◌, ◌^◌, ◌==◌, IfOk, OnOk, IfErr, MatchResult, IsTrue, length, []};
 ghost use Rattle.silt_disk.specs.Disk.{GaveAny, Stays, Tears, Writes, size};
+ghost use Rattle.silt_device.specs.Calls.{no_calls};
 
+use crate::calls::Calls;
 use crate::write_buffer::WriteBuffer;
 use silt_disk::{Call, Disk, Stoppable};
 use std::alloc::{AllocError, Global};
@@ -33,16 +35,16 @@ impl<F> BufferFault<F> {
 }
 
 // Counts a failed write or sync, modulo 2^64, and wraps the fault of the inner disk.
-fn count_fault<F>(failures: &mut u64, call: Call, at: u64, count: u64, inner: F) -> BufferFault<F>
-    ensures counted { failures.new ≡ (failures.old + 1) % 2 ^ 64 }
-    ensures fault { result ≡ record { call = call; at = at; count = count; failures = failures.new; inner = inner } }
+fn count_fault<F>(calls: &mut Calls, call: Call, at: u64, count: u64, inner: F) -> BufferFault<F>
+    ensures counted { calls.new ≡ record calls.old { failures = (calls.old.failures + 1) % 2 ^ 64 } }
+    ensures fault { result ≡ record { call = call; at = at; count = count; failures = calls.new.failures; inner = inner } }
 {
-    *failures = failures.wrapping_add(1);
+    calls.count_failure();
     BufferFault {
         call,
         at,
         count,
-        failures: *failures,
+        failures: calls.failures(),
         inner,
     }
 }
@@ -70,7 +72,7 @@ impl<F: Error> Error for BufferFault<F> {}
 pub struct BufferedDisk<D: Disk> {
     inner: D,
     buffer: WriteBuffer,
-    failures: u64,
+    calls: Calls,
 }
 
 impl<D: Disk> Model for BufferedDisk<D> {
@@ -78,7 +80,7 @@ impl<D: Disk> Model for BufferedDisk<D> {
 
     ghost Value = { BufferedState D };
 
-    ghost view = { λ a. record { inner = a.inner; buffer = a.buffer; failures = a.failures } };
+    ghost view = { λ a. record { inner = a.inner; buffer = a.buffer; calls = a.calls } };
 
     ghost invariant = { λ a. HasPlaces D.content a.inner a.buffer };
 }
@@ -90,7 +92,7 @@ impl<D: Disk> BufferedDisk<D> {
     ///
     /// Out of memory: the buffer could not be allocated.
     pub fn new(alloc: Global, inner: D) -> Result<Self, AllocError>
-        ensures { IfOk result (λ disk. disk ≡ record { inner = inner; buffer = record { at = 0; bytes = []; room = 65536 }; failures = 0 }) }
+        ensures { IfOk result (λ disk. disk ≡ record { inner = inner; buffer = record { at = 0; bytes = []; room = 65536 }; calls = no_calls }) }
     {
         BufferedDisk::with_room(alloc, inner, ROOM)
     }
@@ -101,12 +103,12 @@ impl<D: Disk> BufferedDisk<D> {
     ///
     /// Out of memory: the buffer could not be allocated.
     pub fn with_room(alloc: Global, inner: D, room: usize) -> Result<Self, AllocError>
-        ensures { IfOk result (λ disk. disk ≡ record { inner = inner; buffer = record { at = 0; bytes = []; room = room }; failures = 0 }) }
+        ensures { IfOk result (λ disk. disk ≡ record { inner = inner; buffer = record { at = 0; bytes = []; room = room }; calls = no_calls }) }
     {
         Ok(BufferedDisk {
             inner,
             buffer: WriteBuffer::new(alloc, room)?,
-            failures: 0,
+            calls: Calls::none(),
         })
     }
 
@@ -125,7 +127,11 @@ impl<D: Disk> Disk for BufferedDisk<D> {
 
     ghost content = { buffered_content D.content };
 
-    ghost failures = { λ disk. disk.failures };
+    ghost failures = { λ disk. disk.calls.failures };
+
+    ghost writes = { λ disk. disk.calls.writes };
+
+    ghost syncs = { λ disk. disk.calls.syncs };
 
     ghost gave = { buffered_gave D.gave };
 
@@ -151,7 +157,7 @@ impl<D: Disk> Disk for BufferedDisk<D> {
                 call: Call::Read,
                 at,
                 count,
-                failures: self.failures,
+                failures: self.calls.failures(),
                 inner,
             }),
         }
@@ -161,6 +167,7 @@ impl<D: Disk> Disk for BufferedDisk<D> {
     fn write(&mut self, at: u64, buf: &[u8]) -> Result<(), BufferFault<D::Fault>> {
         let _size = self.inner.len();
         let count = buf.len() as u64;
+        self.calls.count_write();
         if self.buffer.takes(at, buf.len()) {
             self.buffer.append(at, buf);
             return Ok(());
@@ -168,13 +175,13 @@ impl<D: Disk> Disk for BufferedDisk<D> {
         if self.buffer.is_empty() {
             return match self.inner.write(at, buf) {
                 Ok(()) => Ok(()),
-                Err(inner) => Err(count_fault(&mut self.failures, Call::Write, at, count, inner)),
+                Err(inner) => Err(count_fault(&mut self.calls, Call::Write, at, count, inner)),
             };
         }
         if let Err(inner) = self.inner.write(self.buffer.at(), self.buffer.bytes()) {
             // The bytes go to the inner disk all the same, so that their range is pending there.
             let _ = self.inner.write(at, buf);
-            return Err(count_fault(&mut self.failures, Call::Write, at, count, inner));
+            return Err(count_fault(&mut self.calls, Call::Write, at, count, inner));
         }
         self.buffer.empty();
         if self.buffer.takes(at, buf.len()) {
@@ -183,26 +190,27 @@ impl<D: Disk> Disk for BufferedDisk<D> {
         }
         match self.inner.write(at, buf) {
             Ok(()) => Ok(()),
-            Err(inner) => Err(count_fault(&mut self.failures, Call::Write, at, count, inner)),
+            Err(inner) => Err(count_fault(&mut self.calls, Call::Write, at, count, inner)),
         }
     }
 
     #[tactic(auto, using(crate::proofs::Waiting::size_over))]
     fn sync(&mut self) -> Result<(), BufferFault<D::Fault>> {
         let size = self.inner.len();
+        self.calls.count_sync();
         if !self.buffer.is_empty() {
             if let Err(inner) = self.inner.write(self.buffer.at(), self.buffer.bytes()) {
-                return Err(count_fault(&mut self.failures, Call::Sync, 0, size, inner));
+                return Err(count_fault(&mut self.calls, Call::Sync, 0, size, inner));
             }
             self.buffer.empty();
             return match self.inner.sync() {
                 Ok(()) => Ok(()),
-                Err(inner) => Err(count_fault(&mut self.failures, Call::Sync, 0, size, inner)),
+                Err(inner) => Err(count_fault(&mut self.calls, Call::Sync, 0, size, inner)),
             };
         }
         match self.inner.sync() {
             Ok(()) => Ok(()),
-            Err(inner) => Err(count_fault(&mut self.failures, Call::Sync, 0, size, inner)),
+            Err(inner) => Err(count_fault(&mut self.calls, Call::Sync, 0, size, inner)),
         }
     }
 }
@@ -214,7 +222,7 @@ impl<D: Stoppable> Stoppable for BufferedDisk<D> {
         BufferedDisk {
             inner: self.inner.restart(),
             buffer: self.buffer,
-            failures: self.failures,
+            calls: self.calls,
         }
     }
 }

@@ -28,7 +28,7 @@ impl FaultDisk {
     /// Wraps a disk so that the `number`-th call of this kind fails, counted from 1. With 0 no call fails.
     pub fn new(disk: MemDisk, call: Call, number: u64) -> Self
         ensures content { fault_content result ≡ memory_content disk }
-        ensures failures { result.disk.failures ≡ disk.failures }
+        ensures calls { result.disk.calls ≡ disk.calls }
         ensures lives { result.disk.lives ≡ disk.lives }
         ensures named { (result.call ≡ call) × (result.left ≡ number) × (result.number ≡ number) }
     {
@@ -67,15 +67,19 @@ impl FaultDisk {
 impl Disk for FaultDisk {
     ghost use Rattle.std.specs.Prelude.{MatchResult, OnOk, OnErr, IsErr, IfErr, slice_range, ◌≢◌};
     ghost use Rattle.silt_disk.specs.declared.disk.Call.TheVariants.{Read, Write, Sync};
-    ghost use Rattle.silt_disk.specs.Disk.{Tears, Settles, Stays, splice};
+    ghost use Rattle.silt_disk.specs.Disk.{Makes, Tears, Settles, Stays, splice};
     ghost use Rattle.silt_device.specs.Lives.{is_stopped, plan_after_call};
-    ghost use Rattle.silt_device.specs.Fault.{fault_content, fault_failures, fault_gave, IsNamed, left_after};
+    ghost use Rattle.silt_device.specs.Fault.{fault_content, fault_failures, fault_gave, fault_syncs, fault_writes, IsNamed, left_after};
 
     type Fault = MemFault;
 
     ghost content = { fault_content };
 
     ghost failures = { fault_failures };
+
+    ghost writes = { fault_writes };
+
+    ghost syncs = { fault_syncs };
 
     ghost gave = { fault_gave };
 
@@ -99,6 +103,7 @@ impl Disk for FaultDisk {
 
     fn write(&mut self, at: u64, buf: &[u8]) -> Result<(), MemFault>
         requires { at + length buf.now ≤ length self.old.disk.shown.items }
+        ensures made { Makes fault_writes fault_syncs 1 0 self.old self.new }
         ensures torn { Tears at (length buf.now) (fault_content self.old) (fault_content self.new) }
         ensures written { OnOk result (self.new.disk.shown.items ≡ splice at buf.now self.old.disk.shown.items) }
         ensures named { IsNamed Write self.old → IsErr result }
@@ -118,6 +123,7 @@ impl Disk for FaultDisk {
     }
 
     fn sync(&mut self) -> Result<(), MemFault>
+        ensures made { Makes fault_writes fault_syncs 0 1 self.old self.new }
         ensures settled { OnOk result (Settles (fault_content self.old) (fault_content self.new)) }
         ensures unchanged { OnErr result (Stays (fault_content self.old) (fault_content self.new)) }
         ensures named { IsNamed Sync self.old → IsErr result }

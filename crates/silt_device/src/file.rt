@@ -1,6 +1,7 @@
 // A disk in a file, read and written at offsets.
 ghost use Rattle.std.specs.Prelude.{◌≡◌, ◌≤◌, ◌^◌, ◌+◌, ◌%◌, IfOk, OnOk, IsErr};
 
+use crate::calls::Calls;
 use crate::system::{FileSystem, RandomAccessFile};
 use silt_disk::{Call, CallAt, Disk};
 use std::error::Error;
@@ -51,15 +52,15 @@ impl Error for FileFault {}
 /// A disk in a file. Its length never changes.
 ///
 /// It obeys the crash model if its file does: then its content is the file's, and each clause of `Disk` follows. Whatever the
-/// file does, the length stays, and the clauses name the system calls that were made, with their offsets and bytes. Failed writes
-/// and syncs are counted, and each fault is this disk's own, for the call that failed. That a file of the system behaves is an
-/// assumption. It is false if the system, after a failed sync, still shows bytes that it will never write. The lock is advisory:
-/// it keeps out only those who ask for it, as each disk here does.
+/// file does, the length stays, and the clauses name the system calls that were made, with their offsets and bytes. Writes
+/// and syncs are counted, and so are those that failed. Each fault is this disk's own, for the call that failed. That a file of the
+/// system behaves is an assumption. It is false if the system, after a failed sync, still shows bytes that it will never write. The
+/// lock is advisory: it keeps out only those who ask for it, as each disk here does.
 #[derive(Drop)]
 pub struct RandomAccessDisk<F: RandomAccessFile = File> {
     file: F,
     len: u64,
-    failures: u64,
+    calls: Calls,
 }
 
 impl<F: RandomAccessFile> Model for RandomAccessDisk<F> {
@@ -67,7 +68,7 @@ impl<F: RandomAccessFile> Model for RandomAccessDisk<F> {
 
     ghost Value = { FileState F };
 
-    ghost view = { λ a. record { file = a.file; len = a.len; failures = a.failures } };
+    ghost view = { λ a. record { file = a.file; len = a.len; calls = a.calls } };
 
     ghost invariant = { λ a. HasLength (F.content a.file) a.len };
 }
@@ -181,7 +182,7 @@ impl<F: RandomAccessFile> RandomAccessDisk<F> {
         RandomAccessDisk {
             file,
             len,
-            failures: 0,
+            calls: Calls::none(),
         }
     }
 
@@ -201,20 +202,20 @@ impl<F: RandomAccessFile> RandomAccessDisk<F> {
             call,
             at,
             count,
-            failures: self.failures,
+            failures: self.calls.failures(),
             error,
         }
     }
 
     // Counts a failed write or sync, modulo 2^64, and makes its fault.
     fn fail(&mut self, call: Call, at: u64, count: u64, error: io::Error) -> FileFault
-        ensures counted { self.new.failures ≡ (self.old.failures + 1) % 2 ^ 64 }
+        ensures counted { self.new.calls ≡ record self.old.calls { failures = (self.old.calls.failures + 1) % 2 ^ 64 } }
         ensures len { self.new.len ≡ self.old.len }
         ensures file { self.new.file ≡ self.old.file }
         ensures gave { file_gave self.new result call at count }
         ensures error { result.error ≡ error }
     {
-        self.failures = self.failures.wrapping_add(1);
+        self.calls.count_failure();
         self.fault(call, at, count, error)
     }
 }
@@ -222,14 +223,18 @@ impl<F: RandomAccessFile> RandomAccessDisk<F> {
 impl<F: RandomAccessFile + Send + Sync> Disk for RandomAccessDisk<F> {
     ghost use Rattle.std.specs.Prelude.{OnOk, OnErr, IfErr, IsTrue, MatchResult, length, slice_range};
     ghost use Rattle.silt_disk.specs.declared.disk.Call.TheVariants.{Read, Write, Sync};
-    ghost use Rattle.silt_disk.specs.Disk.{Tears, Writes, Settles, Stays, size};
-    ghost use Rattle.silt_device.specs.File.{random_access_content, file_gave};
+    ghost use Rattle.silt_disk.specs.Disk.{Makes, Tears, Writes, Settles, Stays, size};
+    ghost use Rattle.silt_device.specs.File.{file_gave, file_syncs, file_writes, random_access_content};
 
     type Fault = FileFault;
 
     ghost content = { random_access_content F.content };
 
-    ghost failures = { λ disk. disk.failures };
+    ghost failures = { λ disk. disk.calls.failures };
+
+    ghost writes = { file_writes };
+
+    ghost syncs = { file_syncs };
 
     ghost gave = { file_gave };
 
@@ -255,14 +260,16 @@ impl<F: RandomAccessFile + Send + Sync> Disk for RandomAccessDisk<F> {
         requires { at + length buf.now ≤ size (random_access_content F.content self.old) }
         ensures len { self.new.len ≡ self.old.len }
         ensures size { size (random_access_content F.content self.new) ≡ size (random_access_content F.content self.old) }
+        ensures made { Makes file_writes file_syncs 1 0 self.old self.new }
         ensures torn { Tears at (length buf.now) (random_access_content F.content self.old) (random_access_content F.content self.new) }
         ensures written { OnOk result (Writes at buf.now (random_access_content F.content self.old) (random_access_content F.content self.new)) }
         ensures wrote { OnOk result (F.written_at self.old.file at buf.now self.new.file) }
         ensures not_wrote { OnErr result (F.not_written_at self.old.file at buf.now self.new.file) }
-        ensures failures { MatchResult result (λ _. self.new.failures ≡ self.old.failures)
-            (λ fault. (self.new.failures ≡ (self.old.failures + 1) % 2 ^ 64)
+        ensures failures { MatchResult result (λ _. self.new.calls.failures ≡ self.old.calls.failures)
+            (λ fault. (self.new.calls.failures ≡ (self.old.calls.failures + 1) % 2 ^ 64)
             × file_gave self.new fault Write at (length buf.now)) }
     {
+        self.calls.count_write();
         match self.file.write_whole_at(buf, at) {
             Ok(()) => Ok(()),
             Err(error) => Err(self.fail(Call::Write, at, buf.len() as u64, error)),
@@ -273,14 +280,16 @@ impl<F: RandomAccessFile + Send + Sync> Disk for RandomAccessDisk<F> {
         ensures len { self.new.len ≡ self.old.len }
         ensures size { size (random_access_content F.content self.new) ≡ size (random_access_content F.content self.old) }
         ensures all { size (random_access_content F.content self.new) ≡ self.new.len }
+        ensures made { Makes file_writes file_syncs 0 1 self.old self.new }
         ensures settled { OnOk result (Settles (random_access_content F.content self.old) (random_access_content F.content self.new)) }
         ensures unchanged { OnErr result (Stays (random_access_content F.content self.old) (random_access_content F.content self.new)) }
         ensures synced { OnOk result (F.data_synced self.old.file self.new.file) }
         ensures not_synced { OnErr result (F.not_data_synced self.old.file self.new.file) }
-        ensures failures { MatchResult result (λ _. self.new.failures ≡ self.old.failures)
-            (λ fault. (self.new.failures ≡ (self.old.failures + 1) % 2 ^ 64)
+        ensures failures { MatchResult result (λ _. self.new.calls.failures ≡ self.old.calls.failures)
+            (λ fault. (self.new.calls.failures ≡ (self.old.calls.failures + 1) % 2 ^ 64)
             × file_gave self.new fault Sync 0 (size (random_access_content F.content self.new))) }
     {
+        self.calls.count_sync();
         match self.file.settle_data() {
             Ok(()) => Ok(()),
             Err(error) => Err(self.fail(Call::Sync, 0, self.len, error)),

@@ -14,6 +14,7 @@
 #![tactic(auto)]
 
 mod buffered_disk;
+mod calls;
 mod fault;
 mod file;
 mod life;

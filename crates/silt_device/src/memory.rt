@@ -1,8 +1,9 @@
 // A disk in memory that can crash at a chosen write or sync, and then has a possible crash image.
 ghost use Rattle.std.specs.Prelude.{◌≡◌, ◌+◌, ◌≤◌, ◌%◌, ◌^◌, ◌||◌, ℕ, true, false, length, get_or, slice_range};
-ghost use Rattle.silt_disk.specs.Disk.{splice, within};
+ghost use Rattle.silt_disk.specs.Disk.{Makes, splice, within};
 ghost use Rattle.silt_device.specs.Lives.{filled};
 
+use crate::calls::Calls;
 use crate::life::{Fill, Lives, Stop, filled_byte};
 use crate::marks::Marks;
 use silt_disk::{Call, CallAt, Disk, Stoppable};
@@ -40,7 +41,7 @@ pub struct MemDisk {
     shown: Vec<u8>,
     settled: Vec<u8>,
     pending: Marks,
-    failures: u64,
+    calls: Calls,
     lives: Lives,
     ghost sizes: { length shown.items ≡ length settled.items },
     ghost pending_size: { length pending ≡ length shown.items },
@@ -90,7 +91,7 @@ fn fill_pending(shown: &mut [u8], settled: &[u8], pending: &[bool], fill: Fill)
 impl MemDisk {
     ghost use Rattle.std.specs.Prelude.{IfOk, replicate};
     ghost use Rattle.silt_disk.specs.Disk.{Stays, Restarts, Settles, Tears};
-    ghost use Rattle.silt_device.specs.Memory.{memory_content, memory_gave, IsFresh, IsFilled};
+    ghost use Rattle.silt_device.specs.Memory.{memory_content, memory_failures, memory_gave, memory_syncs, memory_writes, IsFresh, IsFilled};
     ghost use Rattle.silt_device.specs.Lives.{next_life, plan_after_call};
 
     /// A disk of zeros, of this length in bytes, on which no call fails.
@@ -101,7 +102,7 @@ impl MemDisk {
             shown: vec![in alloc; 0u8; len]?,
             settled: vec![in alloc; 0u8; len]?,
             pending: Marks::new(alloc, len)?,
-            failures: 0,
+            calls: Calls::none(),
             lives: Lives::endless(alloc),
         })
     }
@@ -128,7 +129,7 @@ impl MemDisk {
     pub fn arm(mut self, stops: Vec<Stop>) -> Self
         ensures content { Stays (memory_content self) (memory_content result) }
         ensures lives { result.lives ≡ next_life stops.items }
-        ensures failures { result.failures ≡ self.failures }
+        ensures calls { result.calls ≡ self.calls }
     {
         self.lives = Lives::new(stops);
         self
@@ -142,40 +143,44 @@ impl MemDisk {
             call,
             at,
             count: count as u64,
-            failures: self.failures,
+            failures: self.calls.failures(),
         }
     }
 
     // Counts a failed write or sync, modulo 2^64, and makes its fault.
     fn fail(&mut self, call: Call, at: u64, count: usize) -> MemFault
-        ensures counted { self.new ≡ record self.old { failures = (self.old.failures + 1) % 2 ^ 64 } }
+        ensures counted { self.new ≡ record self.old { calls = record self.old.calls { failures = (self.old.calls.failures + 1) % 2 ^ 64 } } }
         ensures gave { memory_gave self.new result call at count }
     {
-        self.failures = self.failures.wrapping_add(1);
+        self.calls.count_failure();
         self.fault(call, at, count)
     }
 
-    // Refuses a write: it shows nothing new, and counts as one call of the life.
+    // Refuses a write: it shows nothing new, and counts as a write and as one call of the life.
     pub(crate) fn refuse_write(&mut self, at: u64, count: usize) -> MemFault
         requires { at + count ≤ length self.old.shown.items }
         ensures shown { self.new.shown.items ≡ self.old.shown.items }
         ensures torn { Tears at count (memory_content self.old) (memory_content self.new) }
         ensures lives { self.new.lives ≡ plan_after_call self.old.lives }
-        ensures failures { self.new.failures ≡ (self.old.failures + 1) % 2 ^ 64 }
+        ensures made { Makes memory_writes memory_syncs 1 0 self.old self.new }
+        ensures failures { memory_failures self.new ≡ (memory_failures self.old + 1) % 2 ^ 64 }
         ensures gave { memory_gave self.new result Call.Write at count }
     {
+        self.calls.count_write();
         self.pending.mark(at as usize, count);
         self.lives.count_call();
         self.fail(Call::Write, at, count)
     }
 
-    // Refuses a sync: it settles nothing, and counts as one call of the life.
+    // Refuses a sync: it settles nothing, and counts as a sync and as one call of the life.
     pub(crate) fn refuse_sync(&mut self) -> MemFault
         ensures content { Stays (memory_content self.old) (memory_content self.new) }
         ensures lives { self.new.lives ≡ plan_after_call self.old.lives }
-        ensures failures { self.new.failures ≡ (self.old.failures + 1) % 2 ^ 64 }
+        ensures made { Makes memory_writes memory_syncs 0 1 self.old self.new }
+        ensures failures { memory_failures self.new ≡ (memory_failures self.old + 1) % 2 ^ 64 }
         ensures gave { memory_gave self.new result Call.Sync 0 (length self.new.shown.items) }
     {
+        self.calls.count_sync();
         self.lives.count_call();
         let count = self.shown.len();
         self.fail(Call::Sync, 0, count)
@@ -185,7 +190,7 @@ impl MemDisk {
     fn settle(&mut self)
         ensures content { Settles (memory_content self.old) (memory_content self.new) }
         ensures lives { self.new.lives ≡ self.old.lives }
-        ensures failures { self.new.failures ≡ self.old.failures }
+        ensures calls { self.new.calls ≡ self.old.calls }
     {
         let (from, to) = self.pending.range();
         settle_range(&mut self.settled, &self.shown, from, to);
@@ -197,7 +202,7 @@ impl MemDisk {
         ensures content { Restarts (memory_content self.old) (memory_content self.new) }
         ensures filled { IsFilled self.old self.new.shown.items }
         ensures lives { self.new.lives ≡ self.old.lives }
-        ensures failures { self.new.failures ≡ self.old.failures }
+        ensures calls { self.new.calls ≡ self.old.calls }
     {
         fill_pending(
             &mut self.shown,
@@ -214,13 +219,17 @@ impl Disk for MemDisk {
     ghost use Rattle.silt_disk.specs.declared.disk.Call.TheVariants.{Read, Write, Sync};
     ghost use Rattle.silt_disk.specs.Disk.{Tears, Writes, Settles, Stays};
     ghost use Rattle.silt_device.specs.Lives.{is_stopped, plan_after_call};
-    ghost use Rattle.silt_device.specs.Memory.{memory_content, memory_gave};
+    ghost use Rattle.silt_device.specs.Memory.{memory_content, memory_failures, memory_gave, memory_syncs, memory_writes};
 
     type Fault = MemFault;
 
     ghost content = { memory_content };
 
-    ghost failures = { λ disk. disk.failures };
+    ghost failures = { memory_failures };
+
+    ghost writes = { memory_writes };
+
+    ghost syncs = { memory_syncs };
 
     ghost gave = { memory_gave };
 
@@ -245,14 +254,16 @@ impl Disk for MemDisk {
     // A write that fails shows its bytes too.
     fn write(&mut self, at: u64, buf: &[u8]) -> Result<(), MemFault>
         requires { at + length buf.now ≤ length self.old.shown.items }
+        ensures made { Makes memory_writes memory_syncs 1 0 self.old self.new }
         ensures torn { Tears at (length buf.now) (memory_content self.old) (memory_content self.new) }
         ensures written { self.new.shown.items ≡ splice at buf.now self.old.shown.items }
         ensures lives { self.new.lives ≡ plan_after_call self.old.lives }
         ensures fails { IsErr result ↔ IsTrue (is_stopped self.new.lives.life) }
-        ensures failures { MatchResult result (λ _. self.new.failures ≡ self.old.failures)
-            (λ fault. (self.new.failures ≡ (self.old.failures + 1) % 2 ^ 64)
+        ensures failures { MatchResult result (λ _. memory_failures self.new ≡ memory_failures self.old)
+            (λ fault. (memory_failures self.new ≡ (memory_failures self.old + 1) % 2 ^ 64)
             × memory_gave self.new fault Write at (length buf.now)) }
     {
+        self.calls.count_write();
         overwrite(&mut self.shown, &mut self.pending, at as usize, buf);
         if self.lives.count_call() {
             return Err(self.fail(Call::Write, at, buf.len()));
@@ -261,14 +272,16 @@ impl Disk for MemDisk {
     }
 
     fn sync(&mut self) -> Result<(), MemFault>
+        ensures made { Makes memory_writes memory_syncs 0 1 self.old self.new }
         ensures settled { OnOk result (Settles (memory_content self.old) (memory_content self.new)) }
         ensures unchanged { OnErr result (Stays (memory_content self.old) (memory_content self.new)) }
         ensures lives { self.new.lives ≡ plan_after_call self.old.lives }
         ensures fails { IsErr result ↔ IsTrue (is_stopped self.new.lives.life) }
-        ensures failures { MatchResult result (λ _. self.new.failures ≡ self.old.failures)
-            (λ fault. (self.new.failures ≡ (self.old.failures + 1) % 2 ^ 64)
+        ensures failures { MatchResult result (λ _. memory_failures self.new ≡ memory_failures self.old)
+            (λ fault. (memory_failures self.new ≡ (memory_failures self.old + 1) % 2 ^ 64)
             × memory_gave self.new fault Sync 0 (length self.new.shown.items)) }
     {
+        self.calls.count_sync();
         if self.lives.count_call() {
             let count = self.shown.len();
             return Err(self.fail(Call::Sync, 0, count));
@@ -281,13 +294,14 @@ impl Disk for MemDisk {
 impl Stoppable for MemDisk {
     ghost use Rattle.silt_disk.specs.Disk.{Restarts};
     ghost use Rattle.silt_device.specs.Lives.{next_life};
-    ghost use Rattle.silt_device.specs.Memory.{memory_content, IsFilled};
+    ghost use Rattle.silt_device.specs.Memory.{memory_content, memory_failures, memory_syncs, memory_writes, IsFilled};
 
     fn restart(mut self) -> Self
         ensures content { Restarts (memory_content self) (memory_content result) }
         ensures filled { IsFilled self result.shown.items }
         ensures lives { result.lives ≡ next_life self.lives.to_come }
-        ensures failures { result.failures ≡ self.failures }
+        ensures failures { memory_failures result ≡ memory_failures self }
+        ensures made { Makes memory_writes memory_syncs 0 0 self result }
     {
         self.stop();
         self.lives.begin_next();

@@ -122,7 +122,11 @@ impl Disk for FileDisk {
 
     ghost content = { λ disk. buffered_content file_content disk.inner };
 
-    ghost failures = { λ disk. disk.inner.failures };
+    ghost failures = { λ disk. disk.inner.calls.failures };
+
+    ghost writes = { λ disk. disk.inner.calls.writes };
+
+    ghost syncs = { λ disk. disk.inner.calls.syncs };
 
     ghost gave = { λ disk. buffered_gave file_gave disk.inner };
 
