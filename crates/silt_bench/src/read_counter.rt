@@ -28,6 +28,10 @@ impl<D: Disk> Disk for CountingDisk<'_, D> {
 
     ghost failures = { λ c. D.failures c.disk };
 
+    ghost writes = { λ c. D.writes c.disk };
+
+    ghost syncs = { λ c. D.syncs c.disk };
+
     ghost gave = { λ c fault call at count. D.gave c.disk fault call at count };
 
     fn len(&self) -> u64 {

@@ -5,7 +5,7 @@ use Rattle.std.specs.List.{slice_get}
 use Rattle.std.specs.Io.KnownBytes.{Appends, Consumes, IsAtEnd}
 use Rattle.std.specs.declared.alloc.Global.{Global}
 use Rattle.silt_disk.specs.Layout.{InLimits, Shape}
-use Rattle.silt_device.specs.Memory.{memory_content, memory_gave}
+use Rattle.silt_device.specs.Memory.{memory_content, memory_failures, memory_gave, memory_syncs, memory_writes}
 use Rattle.silt_disk.specs.declared.disk.Disk.{Ghosts}
 use Rattle.silt_device.specs.declared.life.Stop.{Stop as StopOf}
 use Rattle.silt_device.specs.declared.memory.MemDisk.{MemDisk}
@@ -162,7 +162,7 @@ script_text lives marks = opening_text (slice_get lives 0) ++ marks_text lives s
 
 -- the facts of a disk in memory
 abbrev pub memory_facts : Ghosts MemDisk MemFault
-memory_facts = record { content = memory_content; failures = λ disk. disk.failures; gave = memory_gave }
+memory_facts = record { content = memory_content; failures = memory_failures; writes = memory_writes; syncs = memory_syncs; gave = memory_gave }
 
 -- The lives and their replies are a history from the empty map. They ran on a new store of this shape, armed with these stops.
 abbrev pub RunsLives : Shape → List StopOf → List (Vec EventOf Global) → List (LifeReply MemFault) → Type 0

@@ -1,6 +1,6 @@
 // Files as disks that keep which of their calls failed.
 ghost use Rattle.std.specs.Prelude.{◌≡◌, ◌+◌, ◌%◌, ◌^◌, ◌≤◌, Some, None, IfErr, MatchResult, OnErr, OnOk, length};
-ghost use Rattle.silt_disk.specs.Disk.{Settles, Stays, Tears, Writes, size};
+ghost use Rattle.silt_disk.specs.Disk.{Makes, Settles, Stays, Tears, Writes, size};
 ghost use Rattle.silt_disk.specs.declared.disk.Call.TheVariants.{Write, Sync};
 
 use crate::failure::{Failure, Watched};
@@ -39,7 +39,11 @@ impl<N: Notes + Send + Sync + Drop> Disk for WatchedFile<'_, N> {
 
     ghost content = { λ watched. buffered_content file_content watched.disk.inner };
 
-    ghost failures = { λ watched. watched.disk.inner.failures };
+    ghost failures = { λ watched. watched.disk.inner.calls.failures };
+
+    ghost writes = { λ watched. watched.disk.inner.calls.writes };
+
+    ghost syncs = { λ watched. watched.disk.inner.calls.syncs };
 
     ghost gave = { λ watched. buffered_gave file_gave watched.disk.inner };
 
@@ -63,10 +67,11 @@ impl<N: Notes + Send + Sync + Drop> Disk for WatchedFile<'_, N> {
     fn write(&mut self, at: u64, buf: &[u8]) -> Result<(), FileFault>
         requires { at + length buf.now ≤ size (buffered_content file_content self.old.disk.inner) }
         ensures size { size (buffered_content file_content self.new.disk.inner) ≡ size (buffered_content file_content self.old.disk.inner) }
+        ensures made { Makes (λ watched. watched.disk.inner.calls.writes) (λ watched. watched.disk.inner.calls.syncs) 1 0 self.old self.new }
         ensures torn { Tears at (length buf.now) (buffered_content file_content self.old.disk.inner) (buffered_content file_content self.new.disk.inner) }
         ensures written { OnOk result (Writes at buf.now (buffered_content file_content self.old.disk.inner) (buffered_content file_content self.new.disk.inner)) }
-        ensures failures { MatchResult result (λ _. self.new.disk.inner.failures ≡ self.old.disk.inner.failures)
-            (λ fault. (self.new.disk.inner.failures ≡ (self.old.disk.inner.failures + 1) % 2 ^ 64)
+        ensures failures { MatchResult result (λ _. self.new.disk.inner.calls.failures ≡ self.old.disk.inner.calls.failures)
+            (λ fault. (self.new.disk.inner.calls.failures ≡ (self.old.disk.inner.calls.failures + 1) % 2 ^ 64)
             × buffered_gave file_gave self.new.disk.inner fault Write at (length buf.now)) }
         ensures last { IfErr result (λ fault. self.new.last ≡ Some (record { call = record { call = fault.inner.call; at = fault.inner.at }; error = fault.inner.error })) }
     {
@@ -78,10 +83,11 @@ impl<N: Notes + Send + Sync + Drop> Disk for WatchedFile<'_, N> {
 
     fn sync(&mut self) -> Result<(), FileFault>
         ensures size { size (buffered_content file_content self.new.disk.inner) ≡ size (buffered_content file_content self.old.disk.inner) }
+        ensures made { Makes (λ watched. watched.disk.inner.calls.writes) (λ watched. watched.disk.inner.calls.syncs) 0 1 self.old self.new }
         ensures settled { OnOk result (Settles (buffered_content file_content self.old.disk.inner) (buffered_content file_content self.new.disk.inner)) }
         ensures unchanged { OnErr result (Stays (buffered_content file_content self.old.disk.inner) (buffered_content file_content self.new.disk.inner)) }
-        ensures failures { MatchResult result (λ _. self.new.disk.inner.failures ≡ self.old.disk.inner.failures)
-            (λ fault. (self.new.disk.inner.failures ≡ (self.old.disk.inner.failures + 1) % 2 ^ 64)
+        ensures failures { MatchResult result (λ _. self.new.disk.inner.calls.failures ≡ self.old.disk.inner.calls.failures)
+            (λ fault. (self.new.disk.inner.calls.failures ≡ (self.old.disk.inner.calls.failures + 1) % 2 ^ 64)
             × buffered_gave file_gave self.new.disk.inner fault Sync 0 (size (buffered_content file_content self.new.disk.inner))) }
         ensures last { IfErr result (λ fault. self.new.last ≡ Some (record { call = record { call = fault.inner.call; at = fault.inner.at }; error = fault.inner.error })) }
     {

@@ -65,6 +65,10 @@ impl<D: Disk> Disk for Meeting<'_, D> {
 
     ghost failures = { λ m. D.failures m.disk };
 
+    ghost writes = { λ m. D.writes m.disk };
+
+    ghost syncs = { λ m. D.syncs m.disk };
+
     ghost gave = { λ m fault call at count. D.gave m.disk fault call at count };
 
     fn len(&self) -> u64 {

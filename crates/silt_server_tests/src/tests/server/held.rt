@@ -66,6 +66,10 @@ impl<D: Disk> Disk for Marked<'_, D> {
 
     ghost failures = { λ m. D.failures m.disk };
 
+    ghost writes = { λ m. D.writes m.disk };
+
+    ghost syncs = { λ m. D.syncs m.disk };
+
     ghost gave = { λ m fault call at count. D.gave m.disk fault call at count };
 
     fn len(&self) -> u64 {
