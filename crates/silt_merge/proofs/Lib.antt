@@ -10,5 +10,6 @@ pub mod Reading
 pub mod Sounding
 pub mod Kept
 pub mod Keys
+pub mod Making
 pub mod Stepping
 pub mod Viewing

@@ -1,9 +1,9 @@
 // A merge of hash stores and a sorted store, step by step.
-ghost use Rattle.std.specs.Prelude.{◌≡◌, ◌≢◌, ◌==◌, ◌+◌, ◌*◌, ◌<◌, ◌≤◌, ◌^◌, ◌↔◌, ℕ, List, [], Option, true, false, Some};
+ghost use Rattle.std.specs.Prelude.{◌≡◌, ◌≢◌, ◌==◌, ◌+◌, ◌*◌, ◌-◌, ◌<◌, ◌≤◌, ◌^◌, ◌↔◌, ℕ, List, [], Option, true, false, Some};
 ghost use Rattle.std.specs.Prelude.{None, cond, length, take, IsTrue, IfOk, IfErr, IfSome, IsSomeAnd, OnOk, OnErr, MatchResult, is_some, nat_lt, slice_index, vec_capacity, vec_len};
 ghost use Rattle.std.specs.List.{All};
 ghost use Rattle.std.specs.Str.{bytes_eq};
-ghost use Rattle.silt_disk.specs.Disk.{Content, ChangesWithin, CountsFault, GaveAny, size};
+ghost use Rattle.silt_disk.specs.Disk.{Content, ChangesWithin, CountsFault, GaveAny, Makes, MakesAtMost, size};
 ghost use Rattle.silt_disk.specs.Layout.{Shape, device_size, entry_len, sorted_at, sorted_size};
 ghost use Rattle.silt_frame.specs.declared.key.Key.{Key};
 ghost use Rattle.silt_hash_store.specs.State.{HashState};
@@ -377,6 +377,7 @@ impl Merge {
         ensures err { OnErr result (self.new ≡ self.old) }
         ensures rises { LastRises self.old self.new }
         ensures merged { (sorted : SortedState) → HasMerged (D.content disk.now) stores.now sorted self.old → HasMerged (D.content disk.now) stores.now sorted self.new }
+        ensures unwritten { self.new.written ≡ self.old.written }
         ensures failures { IfErr result (FailsMerge (GaveAny D.gave) (λ fault. ⊥) (TakesMemory (D.content disk.now) stores.now self.old) disk.now disk.now) }
     {
         let row = match stores[self.store as usize].row_at(disk, self.slot) {
@@ -402,6 +403,7 @@ impl Merge {
         ensures err { OnErr result (self.new ≡ self.old) }
         ensures rises { LastRises self.old self.new }
         ensures merged { (sorted : SortedState) → HasMerged (D.content disk.now) stores.now sorted self.old → HasMerged (D.content disk.now) stores.now sorted self.new }
+        ensures unwritten { self.new.written ≡ self.old.written }
         ensures failures { IfErr result (FailsMerge (GaveAny D.gave) (λ fault. ⊥) (TakesMemory (D.content disk.now) stores.now self.old) disk.now disk.now) }
     {
         let is_read = match self.read_slots(stores, disk) {
@@ -512,6 +514,8 @@ impl Merge {
         ensures err { OnErr result (self.new ≡ self.old) }
         ensures rises { LastRises self.old self.new }
         ensures merged { HasMerged (D.content disk.old) stores.now sorted.now self.old → HasMerged (D.content disk.new) stores.now sorted.now self.new }
+        ensures grew { (self.old.written ≤ self.new.written) × (self.new.written ≤ self.old.written + 1) }
+        ensures made { MatchResult result (λ _. Makes D.writes D.syncs (self.new.written - self.old.written) 0 disk.old disk.new) (λ _. MakesAtMost D.writes D.syncs 1 0 disk.old disk.new) }
         ensures failures { MatchResult result (λ _. D.failures disk.new ≡ D.failures disk.old) (FailsMerge (GaveAny D.gave) (CountsFault D.failures D.gave disk.old disk.new) ⊥ disk.old disk.new) }
     {
         let next = next_entry(sorted, &self.ahead, self.passed, &mut self.made);
@@ -561,6 +565,8 @@ impl Merge {
         ensures err { OnErr result (self.new ≡ self.old) }
         ensures rises { LastRises self.old self.new }
         ensures merged { HasMerged (D.content disk.old) stores.now sorted.now self.old → HasMerged (D.content disk.new) stores.now sorted.now self.new }
+        ensures grew { (self.old.written ≤ self.new.written) × (self.new.written ≤ self.old.written + 1) }
+        ensures made { MatchResult result (λ _. Makes D.writes D.syncs (self.new.written - self.old.written) 0 disk.old disk.new) (λ _. MakesAtMost D.writes D.syncs 1 0 disk.old disk.new) }
         ensures failures { MatchResult result (λ _. D.failures disk.new ≡ D.failures disk.old) (FailsMerge (GaveAny D.gave) (CountsFault D.failures D.gave disk.old disk.new) ⊥ disk.old disk.new) }
     {
         let is_read = match self.read_ahead(sorted, disk) {
@@ -577,8 +583,8 @@ impl Merge {
     }
 
     /// Takes the next step: gathers one slot, or decides one key. It makes at most two reads and then at most one write, of one
-    /// entry, and allocates memory for at most one row. Slots and entries are read once, in pieces of at most 64 KiB. If the step that
-    /// read a piece fails, the piece is read again.
+    /// entry, and no sync, and allocates memory for at most one row. Slots and entries are read once, in pieces of at most 64 KiB. If
+    /// the step that read a piece fails, the piece is read again.
     ///
     /// Pass the present stores, from the newest. The last of them must be those that the merge took. Newer ones may have come before
     /// them.
@@ -607,6 +613,9 @@ impl Merge {
         ensures rises { LastRises self.old self.new }
         ensures merged { HasMerged (D.content disk.old) (oldest_stores self.old.stores stores.now) sorted.now self.old
             → HasMerged (D.content disk.new) (oldest_stores self.old.stores stores.now) sorted.now self.new }
+        ensures gathers { self.old.store < self.old.stores → self.new.written ≡ self.old.written }
+        ensures grew { (self.old.written ≤ self.new.written) × (self.new.written ≤ self.old.written + 1) }
+        ensures made { MatchResult result (λ _. Makes D.writes D.syncs (self.new.written - self.old.written) 0 disk.old disk.new) (λ _. MakesAtMost D.writes D.syncs 1 0 disk.old disk.new) }
         ensures failures { MatchResult result (λ _. D.failures disk.new ≡ D.failures disk.old)
             (FailsMerge (GaveAny D.gave) (CountsFault D.failures D.gave disk.old disk.new) (TakesMemory (D.content disk.old) (oldest_stores self.old.stores stores.now) self.old) disk.old disk.new) }
     {

@@ -1,6 +1,7 @@
-use Rattle.std.proofs.Common.{◌≡◌, ◌+◌, ◌*◌, subst}
-use Rattle.silt_disk.specs.Disk.{ChangesWithin}
+use Rattle.std.proofs.Common.{◌≡◌, ◌+◌, ◌-◌, ◌*◌, ◌≤◌, subst}
+use Rattle.silt_disk.specs.Disk.{ChangesWithin, Makes}
 use Rattle.silt_disk.specs.Layout.{entry_len, sorted_at}
+use Rattle.silt_disk.proofs.Costs.{most_none}
 use Rattle.silt_sorted_store.specs.State.{sorted_entry_at}
 use Rattle.silt_merge.specs.State.{LastRises, MergeState, steps_of}
 use Rattle.silt_merge.proofs.merge.Merge.decide.Goals as goal
@@ -27,3 +28,14 @@ returns-in-Ok-decide_next-clause-merged g c = λ is. c.decide_next.ensures.merge
 
 pub returns-in-Ok-decide_next-clause-failures : goal.returns-in-Ok-decide_next-clause-failures
 returns-in-Ok-decide_next-clause-failures g c = c.in-Ok-decide_next.ensures.failures
+
+pub returns-in-Ok-decide_next-clause-grew : goal.returns-in-Ok-decide_next-clause-grew
+returns-in-Ok-decide_next-clause-grew g c =
+    subst (λ (m : MergeState). (m.written ≤ c.decide_next.new.self.written) × (c.decide_next.new.self.written ≤ m.written + 1)) c.in-Ok.ensures.state c.decide_next.ensures.grew
+
+pub returns-in-Ok-decide_next-clause-made : goal.returns-in-Ok-decide_next-clause-made
+returns-in-Ok-decide_next-clause-made g c =
+    subst (λ (m : MergeState). Makes g.D.Disk.writes g.D.Disk.syncs (c.decide_next.new.self.written - m.written) 0 c.args.disk.now c.decide_next.new.disk) c.in-Ok.ensures.state c.in-Ok-decide_next.ensures.made
+
+pub returns-in-Err-clause-made : goal.returns-in-Err-clause-made
+returns-in-Err-clause-made g c = most_none

@@ -1,4 +1,4 @@
-use Rattle.std.proofs.Common.{◌≡◌, ◌++◌, ◌+◌, ◌*◌, ◌<◌, ℕ, nat_lt, IsTrue, List, Some, drop, length, take, inr, ap, sym, subst, ◌∙◌, arith}
+use Rattle.std.proofs.Common.{◌≡◌, ◌++◌, ◌+◌, ◌*◌, ◌<◌, ℕ, nat_lt, IsTrue, List, Some, drop, length, take, inr, ap, refl, sym, subst, ◌∙◌, arith}
 use Rattle.std.specs.List.{All}
 use Rattle.std.proofs.lemmas.List.{take_at}
 use Rattle.silt_disk.specs.Layout.{Shape}
@@ -14,6 +14,8 @@ use Rattle.sha1.specs.Sha1.{Holds}
 use Rattle.silt_merge.specs.declared.source.Source.{Source}
 use Rattle.silt_merge.proofs.Choosing.{offered}
 use Rattle.silt_merge.proofs.Ending.{held_with, merged_behind, merged_stays, merged_step, offered_inside}
+use Rattle.silt_disk.proofs.Costs.{most_none}
+use Rattle.silt_merge.proofs.Making.{grown, made_added, made_none, stayed}
 use Rattle.silt_merge.proofs.Reading.{each_source}
 use Rattle.silt_merge.proofs.Viewing.{state_of}
 use Rattle.silt_merge.proofs.merge.Merge.decide_next.Goals as goal
@@ -120,3 +122,40 @@ pub invariant_of-self-in-Ok : goal.invariant_of-self-in-Ok
 invariant_of-self-in-Ok g c =
     let merge : MergeState = state_of c.self.inside in
     (held_with merge merge.slots merge.ahead c.hash_written.new.hasher c.self.invariant.0, c.self.invariant.1, c.self.invariant.2, c.self.invariant.3, c.self.invariant.4, c.self.invariant.5)
+
+pub returns-then-is_behind-clause-grew : goal.returns-then-is_behind-clause-grew
+returns-then-is_behind-clause-grew g c =
+    let merge : MergeState = state_of c.self.inside in
+    rw (← c.self.view_is) (stayed merge.written c.pass_entry.new.self.written (ap (λ (m : MergeState). m.written) c.pass_entry.ensures.state))
+
+pub returns-then-is_behind-clause-made : goal.returns-then-is_behind-clause-made
+returns-then-is_behind-clause-made g c =
+    let merge : MergeState = state_of c.self.inside in
+    rw (← c.self.view_is) (made_none merge.written c.pass_entry.new.self.written (ap (λ (m : MergeState). m.written) c.pass_entry.ensures.state))
+
+pub returns-in_default-clause-grew : goal.returns-in_default-clause-grew
+returns-in_default-clause-grew g c =
+    let merge : MergeState = state_of c.self.inside in
+    rw (← c.self.view_is) (stayed merge.written merge.written refl)
+
+pub returns-in_default-clause-made : goal.returns-in_default-clause-made
+returns-in_default-clause-made g c =
+    let merge : MergeState = state_of c.self.inside in
+    rw (← c.self.view_is) (made_none merge.written merge.written refl)
+
+pub returns-in-Err-clause-made : goal.returns-in-Err-clause-made
+returns-in-Err-clause-made g c = most_none
+
+pub returns-in-Err-write_due-clause-made : goal.returns-in-Err-write_due-clause-made
+returns-in-Err-write_due-clause-made g c = c.in-Err-write_due.ensures.made
+
+pub returns-clause-grew : goal.returns-clause-grew
+returns-clause-grew g c =
+    let merge : MergeState = state_of c.self.inside in
+    rw (← c.self.view_is) (grown (nat_lt c.len-written.result c.in-Ok.count) merge.written c.mark_decided.new.self.written (ap (λ (m : MergeState). m.written) c.mark_decided.ensures.state))
+
+pub returns-clause-made : goal.returns-clause-made
+returns-clause-made g c =
+    let merge : MergeState = state_of c.self.inside in
+    rw (← c.self.view_is)
+    (made_added _ c.len-written.result c.in-Ok.count merge.written c.mark_decided.new.self.written c.len-written.ensures c.in-Ok.ensures.count (ap (λ (m : MergeState). m.written) c.mark_decided.ensures.state) c.in-Ok.ensures.made)

@@ -1,4 +1,4 @@
-use Rattle.std.proofs.Common.{◌≡◌, ◌+◌, ◌*◌, get_or, refl, sym, subst, ap, arith}
+use Rattle.std.proofs.Common.{◌≡◌, ◌+◌, ◌*◌, get_or, refl, sym, subst, ap, ◌∙◌, arith}
 use Rattle.silt_merge.specs.Merging.{HasMerged}
 use Rattle.silt_merge.specs.Rows.{regions_of}
 use Rattle.silt_merge.specs.State.{MergeState, slot_after, steps_of}
@@ -23,3 +23,6 @@ returns-in-Ok-take_row-clause-ok g c = subst (λ (m : MergeState). steps_of c.ta
 
 pub returns-in-Err-take_row-clause-held : goal.returns-in-Err-take_row-clause-held
 returns-in-Err-take_row-clause-held g c = c.gather_head.ensures.held
+
+pub returns-in-Ok-take_row-clause-unwritten : goal.returns-in-Ok-take_row-clause-unwritten
+returns-in-Ok-take_row-clause-unwritten g c = ap (λ (m : MergeState). m.written) c.in-Ok-take_row.ensures.state ∙ ap (λ (m : MergeState). m.written) c.in-Ok.ensures.state
