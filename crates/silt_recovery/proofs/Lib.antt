@@ -10,4 +10,5 @@ pub mod EntrySearches
 pub mod Examinations
 pub mod Shown
 pub mod Takings
+pub mod OpeningCosts
 pub mod Reports

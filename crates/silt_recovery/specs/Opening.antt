@@ -1,12 +1,14 @@
 -- What an opening finds on a device, and what it leaves.
-use Rattle.std.specs.Prelude.{◌≡◌, ◌⊎◌, ℕ, IsTrue, List, All, length, sum_by, None, Ok}
-use Rattle.silt_disk.specs.Disk.{Content, Left, LeavesOnly, Rests, size}
+use Rattle.std.specs.Prelude.{◌≡◌, ◌⊎◌, ℕ, Bool, false, cond, IsTrue, List, All, length, sum_by, None, Result, Ok, Err}
+use Rattle.silt_disk.specs.Disk.{Content, Left, LeavesOnly, Makes, MakesAtMost, Rests, size}
 use Rattle.silt_disk.specs.Layout.{InLimits, device_size}
 use Rattle.silt_hash_store.specs.State.{IsHashStore}
 use Rattle.silt_disk.specs.Header.{shape_of}
 use Rattle.silt_image.specs.Meaning.{AreDigestsOf, IsGood, IsSound, StandsFor, charge_of, image_map, report_of}
 use Rattle.silt_log.specs.Parts.{known_rows}
+use Rattle.silt_log.specs.Rows.{has_stale_gate}
 use Rattle.silt_image.specs.Stores.{Stores, image_digests, image_stores}
+use Rattle.silt_event.specs.declared.damage.Finding.{Finding}
 use Rattle.silt_event.specs.declared.report.Report.{Report}
 use Rattle.silt_manifest.specs.Standing.{Rules}
 use Rattle.silt_standing.specs.Standing.{IsQuiet, SameDisk}
@@ -88,3 +90,24 @@ pub record TakesUp (old new : Content) (s : TiersState) : Type 0 where
   pub good : IsTrue old.honest → IsGood old.shown
   pub has_shape : IsTrue old.honest → s.manifest.shape ≡ shape_of old.shown
   pub has_map : IsTrue old.honest → base_map new s ≡ image_map old.shown
+
+-- whether the active log of these stores has an open gate past its first closed one
+abbrev pub are_stale : List ℕ → Result Stores Finding → Bool
+are_stale image (Ok stores) = has_stale_gate stores.shape stores.body.active image
+are_stale image (Err finding) = false
+
+-- whether the active log of an image has an open gate past its first closed one
+unfoldable pub has_stale_log : List ℕ → Bool
+has_stale_log image = are_stale image (image_stores image)
+
+-- What an opening costs: one sync, and one write and one more sync if it closed gates. On an honest disk it did exactly if the active
+-- log had an open gate past its first closed one.
+pub record CostsOpening {D : Type 0} (content : D → Content) (writes_of syncs_of : D → ℕ) (old new : D) : Type 0 where
+  pub stale : Bool
+  pub is : IsTrue (content old).honest → stale ≡ has_stale_log (content old).shown
+  pub made : Makes writes_of syncs_of (cond stale 1 0) (cond stale 2 1) old new
+
+-- What a refused opening costs: one sync; if a device call failed, at most one write and two syncs.
+abbrev pub CostsRefusal : {D F : Type 0} → (D → ℕ) → (D → ℕ) → D → D → OpenError F → Type 0
+CostsRefusal writes_of syncs_of old new (Device fault) = MakesAtMost writes_of syncs_of 1 2 old new
+CostsRefusal writes_of syncs_of old new error = Makes writes_of syncs_of 0 1 old new

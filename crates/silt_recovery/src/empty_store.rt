@@ -1,7 +1,7 @@
 // The empty store that a device is given.
 ghost use Rattle.std.specs.Prelude.{◌≡◌, [], ◌≤◌, ◌+◌, false, slice_range, length, IsTrue, OnOk, OnErr, IfErr, MatchResult};
 ghost use Rattle.std.specs.FinMap.{empty};
-ghost use Rattle.silt_disk.specs.Disk.{GaveAny, LeavesOnly, size};
+ghost use Rattle.silt_disk.specs.Disk.{Costs, GaveAny, LeavesOnly, Makes, MakesAtMost, size};
 ghost use Rattle.silt_disk.specs.Layout.{InLimits, device_size};
 ghost use Rattle.silt_image.specs.Meaning.{StandsFor, entries_digest};
 ghost use Rattle.silt_recovery.specs.Format.{FormatCause, IsHalfFormatted};
@@ -18,7 +18,7 @@ use std::alloc::Global;
 
 /// Makes an empty store of this geometry, and gives the device back. What the device held is lost. The header's gate,
 /// its commit byte, is closed first and opened last. So a device whose formatting was interrupted by a crash holds no
-/// store, or the empty one.
+/// store, or the empty one. It costs eight writes and seven syncs.
 ///
 /// # Errors
 ///
@@ -29,6 +29,7 @@ pub fn format<D: Disk>(alloc: Global, mut disk: D, geometry: Geometry) -> Result
     ensures size { OnOk result (size (D.content disk) ≡ device_size geometry) }
     ensures images { MatchResult result (λ new. LeavesOnly (D.content new) (StandsFor geometry empty)) (λ fault. LeavesOnly (D.content fault.disk) (IsHalfFormatted (D.content disk) geometry)) }
     ensures same { MatchResult result (λ new. SameDisk (D.content disk) (D.content new)) (λ fault. SameDisk (D.content disk) (D.content fault.disk)) }
+    ensures made { MatchResult result (λ new. Makes D.writes D.syncs 8 7 disk new) (λ fault. MakesAtMost D.writes D.syncs 8 7 disk fault.disk) }
     ensures cause { IfErr result (λ fault. FormatCause D.content (GaveAny D.gave) geometry disk fault.disk fault.error) }
 {
     if disk.len() != geometry.size() {
@@ -70,6 +71,7 @@ fn write_store<D: Disk>(disk: &mut D, log: &mut Log, geometry: &Geometry) -> Res
     ensures same { SameDisk (D.content disk.old) (D.content disk.new) }
     ensures images { OnOk result (LeavesOnly (D.content disk.new) (StandsFor geometry.now empty)) }
     ensures stopped { OnErr result (LeavesOnly (D.content disk.new) (IsHalfFormatted (D.content disk.old) geometry.now)) }
+    ensures made { Costs D.writes D.syncs 8 7 disk.old disk.new result }
     ensures fault { IfErr result (GaveAny D.gave disk.new) }
 {
     write_synced(disk, 0, &[GATE_CLOSED])?;

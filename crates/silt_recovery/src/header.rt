@@ -1,6 +1,6 @@
 // The header of a device: its gate, and the six numbers behind it.
 ghost use Rattle.std.specs.Prelude.{◌≡◌, ◌∷◌, ◌≤◌, IsTrue, IfOk, IfErr, OnOk, Ok, Err};
-ghost use Rattle.silt_disk.specs.Disk.{ChangesWithin, GaveAny, LeavesOnly, Rests, size};
+ghost use Rattle.silt_disk.specs.Disk.{ChangesWithin, Costs, GaveAny, LeavesOnly, Rests, size};
 ghost use Rattle.silt_disk.specs.Layout.{device_size};
 ghost use Rattle.silt_frame.specs.Gate.{gate_open};
 ghost use Rattle.silt_disk.specs.Header.{header_bytes, header_of, version_of};
@@ -73,6 +73,7 @@ pub fn write_header<D: Disk>(disk: &mut D, geometry: &Geometry) -> Result<(), D:
     ensures header { IsTrue (D.content disk.new).honest → OnOk result (header_of (D.content disk.new).shown ≡ gate_open ∷ header_bytes geometry.now) }
     ensures stopped { LeavesOnly (D.content disk.new) (HasHeaderOrNone geometry.now) }
     ensures rests { OnOk result (Rests (D.content disk.new)) }
+    ensures made { Costs D.writes D.syncs 2 2 disk.old disk.new result }
     ensures fault { IfErr result (GaveAny D.gave disk.new) }
 {
     let header = header_bytes(geometry);

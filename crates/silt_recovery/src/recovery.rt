@@ -1,7 +1,7 @@
 // The opening of a device after a crash.
 ghost use Rattle.std.specs.Prelude.{◌≡◌, ◌≤◌, vec_capacity, IsTrue, IfOk, IfErr, MatchResult};
 ghost use Rattle.silt_disk.specs.Disk.{GaveAny};
-ghost use Rattle.silt_recovery.specs.Opening.{IsUnwrittenUnlessFailed, LeavesNoOther, TakesUp, held_stores};
+ghost use Rattle.silt_recovery.specs.Opening.{CostsOpening, CostsRefusal, IsUnwrittenUnlessFailed, LeavesNoOther, TakesUp, held_stores};
 ghost use Rattle.silt_recovery.specs.Refusals.{IsFound, IsRefusedLook};
 ghost use Rattle.silt_standing.specs.Standing.{SameDisk};
 
@@ -18,7 +18,8 @@ pub struct Opened<D: Disk> {
 }
 
 /// Opens a device: settles what it shows, examines it, and, if a gate of the active log past its first closed one is
-/// open, closes these gates. The stores represent the map of what was shown, and no row waits.
+/// open, closes these gates. The stores represent the map of what was shown, and no row waits. It costs one sync, and one
+/// write and one more sync if it closes gates.
 ///
 /// # Errors
 ///
@@ -29,6 +30,7 @@ pub fn open<D: Disk>(alloc: Global, mut disk: D) -> Result<Opened<D>, OpenFault<
     ensures ok { IfOk result (λ opened. TakesUp (D.content disk) (D.content opened.disk) (held_stores opened.held)) }
     ensures room { IfOk result (λ opened. (7 ≤ vec_capacity opened.held.frozen) × (16 ≤ vec_capacity opened.held.hashes)) }
     ensures same { MatchResult result (λ opened. SameDisk (D.content disk) (D.content opened.disk)) (λ fault. SameDisk (D.content disk) (D.content fault.disk)) }
+    ensures made { MatchResult result (λ opened. CostsOpening D.content D.writes D.syncs disk opened.disk) (λ fault. CostsRefusal D.writes D.syncs disk fault.disk fault.error) }
     ensures cause { IfErr result (λ fault. IsRefusedLook
         (λ finding. IsTrue (D.content disk).honest → IsFound (D.content disk).shown finding)
         (GaveAny D.gave fault.disk) fault.error) }
@@ -46,6 +48,7 @@ fn take_up<D: Disk>(alloc: Global, disk: &mut D) -> Result<Holding, OpenError<D:
     ensures ok { IfOk result (λ held. TakesUp (D.content disk.old) (D.content disk.new) (held_stores held)) }
     ensures room { IfOk result (λ held. (7 ≤ vec_capacity held.frozen) × (16 ≤ vec_capacity held.hashes)) }
     ensures same { SameDisk (D.content disk.old) (D.content disk.new) }
+    ensures made { MatchResult result (λ _. CostsOpening D.content D.writes D.syncs disk.old disk.new) (CostsRefusal D.writes D.syncs disk.old disk.new) }
     ensures cause { IfErr result (IsRefusedLook
         (λ finding. IsTrue (D.content disk.old).honest → IsFound (D.content disk.old).shown finding)
         (GaveAny D.gave disk.new)) }

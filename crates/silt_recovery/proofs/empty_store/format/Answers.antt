@@ -1,3 +1,4 @@
+use Rattle.silt_disk.proofs.Costs.{most_none}
 use Rattle.silt_recovery.proofs.HalfFormats.{left_so}
 use Rattle.silt_recovery.proofs.empty_store.format.Goals as goal
 
@@ -6,3 +7,9 @@ returns-then-len-size-clause-images g c = left_so c.args.geometry (g.D.Disk.cont
 
 pub returns-in_default-clause-images : goal.returns-in_default-clause-images
 returns-in_default-clause-images g c = left_so c.args.geometry (g.D.Disk.content c.args.disk)
+
+pub returns-then-len-size-clause-made : goal.returns-then-len-size-clause-made
+returns-then-len-size-clause-made g c = most_none
+
+pub returns-in_default-clause-made : goal.returns-in_default-clause-made
+returns-in_default-clause-made g c = most_none

@@ -1,5 +1,6 @@
-use Rattle.std.proofs.Common.{◌≡◌, ◌∙◌, ℕ, [], ◌∷◌, subst, arith}
-use Rattle.silt_disk.specs.Disk.{ChangesWithin, LeavesOnly, Writes}
+use Rattle.std.proofs.Common.{◌≡◌, ◌∙◌, ℕ, [], ◌∷◌, refl, subst, arith, rules}
+use Rattle.silt_disk.specs.Disk.{ChangesWithin, LeavesOnly, Makes, MakesAtMost, Writes}
+use Rattle.silt_disk.proofs.Costs.{made_both, most_both, most_made, most_more}
 use Rattle.silt_disk.specs.Layout.{gates_at}
 use Rattle.silt_log.specs.Rows.{log_rows}
 use Rattle.silt_log.specs.State.{LogState}
@@ -78,3 +79,46 @@ returns-clause-images g c =
     let size4 = c.write_first.ensures.size ∙ size3 in
     formatted c.args.geometry.now c.empty_digests-digests.result c3 (g.D.Disk.content c.write_first.new.disk) (g.D.Disk.content c.write_header.new.disk) c.requires.limits c.empty_digests-digests.ensures size3 size4 (c.write_header.ensures.size ∙ size4)
     rows c.write_first.ensures.changes c.in_ok-write_first.ensures.rules c.write_header.ensures.changes c.in_ok-write_header.ensures.header c.in_ok-write_header.ensures.rests
+
+pub returns-in_err-write_synced-clause-made : goal.returns-in_err-write_synced-clause-made
+returns-in_err-write_synced-clause-made g c =
+    let most : MakesAtMost g.D.Disk.writes g.D.Disk.syncs 8 7 c.args.disk.now c.write_synced.new.disk = most_more c.in_err-write_synced.ensures.made (omega arith) (omega arith) in
+    search (rules, most)
+
+pub returns-in_err-write-clause-made : goal.returns-in_err-write-clause-made
+returns-in_err-write-clause-made g c =
+    let one : Makes g.D.Disk.writes g.D.Disk.syncs 1 1 c.args.disk.now c.write_synced.new.disk = c.in_ok-write_synced.ensures.made in
+    let most : MakesAtMost g.D.Disk.writes g.D.Disk.syncs 8 7 c.args.disk.now c.write.new.self = most_made (made_both c.write_synced.new.disk one c.write.ensures.made refl refl) (omega arith) (omega arith) in
+    search (rules, most)
+
+pub returns-in_err-prepare-clause-made : goal.returns-in_err-prepare-clause-made
+returns-in_err-prepare-clause-made g c =
+    let one : Makes g.D.Disk.writes g.D.Disk.syncs 1 1 c.args.disk.now c.write_synced.new.disk = c.in_ok-write_synced.ensures.made in
+    let two : Makes g.D.Disk.writes g.D.Disk.syncs 2 1 c.args.disk.now c.write.new.self = made_both c.write_synced.new.disk one c.write.ensures.made refl refl in
+    let most : MakesAtMost g.D.Disk.writes g.D.Disk.syncs 8 7 c.args.disk.now c.prepare.new.disk = most_both c.write.new.self two c.in_err-prepare.ensures.made (omega arith) (omega arith) in
+    search (rules, most)
+
+pub returns-in_err-write_first-clause-made : goal.returns-in_err-write_first-clause-made
+returns-in_err-write_first-clause-made g c =
+    let one : Makes g.D.Disk.writes g.D.Disk.syncs 1 1 c.args.disk.now c.write_synced.new.disk = c.in_ok-write_synced.ensures.made in
+    let two : Makes g.D.Disk.writes g.D.Disk.syncs 2 1 c.args.disk.now c.write.new.self = made_both c.write_synced.new.disk one c.write.ensures.made refl refl in
+    let three : Makes g.D.Disk.writes g.D.Disk.syncs 3 2 c.args.disk.now c.prepare.new.disk = made_both c.write.new.self two c.in_ok-prepare.ensures.made refl refl in
+    let most : MakesAtMost g.D.Disk.writes g.D.Disk.syncs 8 7 c.args.disk.now c.write_first.new.disk = most_both c.prepare.new.disk three c.in_err-write_first.ensures.made (omega arith) (omega arith) in
+    search (rules, most)
+
+pub returns-in_err-write_header-clause-made : goal.returns-in_err-write_header-clause-made
+returns-in_err-write_header-clause-made g c =
+    let one : Makes g.D.Disk.writes g.D.Disk.syncs 1 1 c.args.disk.now c.write_synced.new.disk = c.in_ok-write_synced.ensures.made in
+    let two : Makes g.D.Disk.writes g.D.Disk.syncs 2 1 c.args.disk.now c.write.new.self = made_both c.write_synced.new.disk one c.write.ensures.made refl refl in
+    let three : Makes g.D.Disk.writes g.D.Disk.syncs 3 2 c.args.disk.now c.prepare.new.disk = made_both c.write.new.self two c.in_ok-prepare.ensures.made refl refl in
+    let four : Makes g.D.Disk.writes g.D.Disk.syncs 6 5 c.args.disk.now c.write_first.new.disk = made_both c.prepare.new.disk three c.in_ok-write_first.ensures.made refl refl in
+    let most : MakesAtMost g.D.Disk.writes g.D.Disk.syncs 8 7 c.args.disk.now c.write_header.new.disk = most_both c.write_first.new.disk four c.in_err-write_header.ensures.made (omega arith) (omega arith) in
+    search (rules, most)
+
+pub returns-clause-made : goal.returns-clause-made
+returns-clause-made g c =
+    let one : Makes g.D.Disk.writes g.D.Disk.syncs 1 1 c.args.disk.now c.write_synced.new.disk = c.in_ok-write_synced.ensures.made in
+    let two : Makes g.D.Disk.writes g.D.Disk.syncs 2 1 c.args.disk.now c.write.new.self = made_both c.write_synced.new.disk one c.write.ensures.made refl refl in
+    let three : Makes g.D.Disk.writes g.D.Disk.syncs 3 2 c.args.disk.now c.prepare.new.disk = made_both c.write.new.self two c.in_ok-prepare.ensures.made refl refl in
+    let four : Makes g.D.Disk.writes g.D.Disk.syncs 6 5 c.args.disk.now c.write_first.new.disk = made_both c.prepare.new.disk three c.in_ok-write_first.ensures.made refl refl in
+    made_both c.write_first.new.disk four c.in_ok-write_header.ensures.made refl refl

@@ -1,5 +1,6 @@
-use Rattle.std.proofs.Common.{List, ℕ, sym, ◌∙◌, ap, subst, arith}
-use Rattle.silt_disk.specs.Disk.{Writes, splice}
+use Rattle.std.proofs.Common.{List, ℕ, refl, sym, ◌∙◌, ap, subst, arith, rules}
+use Rattle.silt_disk.specs.Disk.{MakesAtMost, Writes, splice}
+use Rattle.silt_disk.proofs.Costs.{made_both, most_both, most_more}
 use Rattle.silt_disk.proofs.Laws.{changes_joined, changes_wider}
 use Rattle.silt_disk.specs.Header.{header_bytes}
 use Rattle.silt_recovery.proofs.Formats.{gated}
@@ -41,3 +42,16 @@ returns-in_err-write_synced-2-clause-changes g c = changes_joined 1 _ 0 1 0 37 _
 
 pub returns-clause-changes : goal.returns-clause-changes
 returns-clause-changes g c = changes_joined 1 _ 0 1 0 37 _ _ _ c.write_synced.ensures.changes c.write_synced-2.ensures.changes (omega arith) (omega arith) (omega arith) (omega arith)
+
+pub returns-in_err-write_synced-clause-made : goal.returns-in_err-write_synced-clause-made
+returns-in_err-write_synced-clause-made g c =
+    let most : MakesAtMost g.D.Disk.writes g.D.Disk.syncs 2 2 c.args.disk.now c.write_synced.new.disk = most_more c.in_err-write_synced.ensures.made (omega arith) (omega arith) in
+    search (rules, most)
+
+pub returns-in_err-write_synced-2-clause-made : goal.returns-in_err-write_synced-2-clause-made
+returns-in_err-write_synced-2-clause-made g c =
+    let most : MakesAtMost g.D.Disk.writes g.D.Disk.syncs 2 2 c.args.disk.now c.write_synced-2.new.disk = most_both c.write_synced.new.disk c.in_ok-write_synced.ensures.made c.in_err-write_synced-2.ensures.made (omega arith) (omega arith) in
+    search (rules, most)
+
+pub returns-clause-made : goal.returns-clause-made
+returns-clause-made g c = made_both c.write_synced.new.disk c.in_ok-write_synced.ensures.made c.in_ok-write_synced-2.ensures.made refl refl
