@@ -1,4 +1,5 @@
 mod Files
+mod Gathering
 mod Marked
 mod ToCome
 mod Waiting

@@ -5,7 +5,7 @@ use Rattle.std.proofs.Common.{sym, ◌∙◌, inl, inr, arith}
 use Rattle.std.proofs.lemmas.Bool.{cases_lt, cond-true, cond-false}
 use Rattle.std.proofs.lemmas.List.{get_or_past}
 use Rattle.std.proofs.lemmas.List.FromFn.{length-map-range_with_len, get_or-map-range_with_len}
-use Rattle.silt_disk.specs.Disk.{Content, GaveAny, size, within}
+use Rattle.silt_disk.specs.Disk.{Content, GaveAny, Makes, size, within}
 use Rattle.silt_disk.specs.declared.disk.Call.{Call}
 use Rattle.silt_device.specs.declared.buffered_disk.BufferFault.{BufferFault}
 use Rattle.silt_device.specs.declared.calls.Calls.{Calls}
@@ -37,6 +37,46 @@ grown g at bytes = record { at = at - length g.bytes; bytes = g.bytes ++ bytes; 
 -- the buffer without bytes
 abbrev pub emptied : BufferedBytes → BufferedBytes
 emptied g = record g { bytes = [] }
+
+-- how many writes the waiting bytes will take: one, if there are any
+abbrev pub owed : BufferedBytes → ℕ
+owed g = cond (length g.bytes == 0) 0 1
+
+-- the waiting bytes after a write that returns Ok: with the new ones, if they continue them; else the new ones alone, if there is
+-- room; else none
+abbrev pub waiting_after : BufferedBytes → ℕ → List ℕ → BufferedBytes
+waiting_after g at bytes = cond (takes g at (length bytes)) (grown g at bytes) (cond (takes (emptied g) at (length bytes)) (grown (emptied g) at bytes) (emptied g))
+
+-- how many writes such a write passes to the inner disk: none, if its bytes continue the waiting ones; else one for those that
+-- wait, and one for its own if there is no room for them
+abbrev pub passed : BufferedBytes → ℕ → ℕ → ℕ
+passed g at count = cond (takes g at count) 0 (owed g + cond (takes (emptied g) at count) 0 1)
+
+-- how many writes the disk was asked for
+abbrev pub buffered_writes : {D : Type 0} → BufferedState D → ℕ
+buffered_writes disk = disk.calls.writes
+
+-- how many syncs
+abbrev pub buffered_syncs : {D : Type 0} → BufferedState D → ℕ
+buffered_syncs disk = disk.calls.syncs
+
+module _ {D : Type 0} (writes_of syncs_of : D → ℕ) where
+  -- a write of these bytes that returns Ok
+  pub record PassesOn (at : ℕ) (bytes : List ℕ) (old new : BufferedState D) : Type 0 where
+    pub waiting : new.buffer ≡ waiting_after old.buffer at bytes
+    pub made : Makes writes_of syncs_of (passed old.buffer at (length bytes)) 0 old.inner new.inner
+
+  -- a sync that returns Ok: the waiting bytes were written, and then came one sync
+  pub record WritesOut (old new : BufferedState D) : Type 0 where
+    pub none : new.buffer ≡ emptied old.buffer
+    pub made : Makes writes_of syncs_of (owed old.buffer) 1 old.inner new.inner
+
+  -- From the old state to the new one the inner disk made no more than this many writes, if the write that the waiting bytes will
+  -- take is added to both sides, and exactly this many syncs.
+  pub record Gathers (w s : ℕ) (old new : BufferedState D) : Type 0 where
+    pub made : ℕ
+    pub fewer : made + owed new.buffer ≤ w + owed old.buffer
+    pub makes : Makes writes_of syncs_of made s old.inner new.inner
 
 -- whether the byte of a place is waiting
 abbrev pub waits : BufferedBytes → ℕ → Bool

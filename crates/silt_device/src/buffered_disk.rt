@@ -66,6 +66,10 @@ impl<F: Error> Error for BufferFault<F> {}
 /// be written, they stay buffered, so what is shown stays, and the call returns the fault. The bytes of a write that fails so go
 /// to the inner disk all the same, so that their range is pending there.
 ///
+/// A write that continues the buffered bytes costs no call of the inner disk. Over any calls the inner disk is asked for no more
+/// writes than this one, but for one more for each call that fails. A sync that returns Ok is one sync of the inner disk, behind at
+/// most one write.
+///
 /// It is proved that this is a disk as good as the inner one. What is shown, the possible crash images and the counts follow from
 /// the inner disk's contract alone, whether that disk obeys the crash model or not.
 #[derive(Drop)]
@@ -121,7 +125,10 @@ impl<D: Disk> BufferedDisk<D> {
 }
 
 impl<D: Disk> Disk for BufferedDisk<D> {
-    ghost use Rattle.silt_device.specs.Buffered.{buffered_content, buffered_gave};
+    ghost use Rattle.std.specs.Prelude.{OnErr, ◌⊎◌};
+    ghost use Rattle.silt_disk.specs.declared.disk.Call.TheVariants.{Write, Sync};
+    ghost use Rattle.silt_disk.specs.Disk.{Makes, Settles};
+    ghost use Rattle.silt_device.specs.Buffered.{buffered_content, buffered_gave, buffered_syncs, buffered_writes, Gathers, PassesOn, WritesOut};
 
     type Fault = BufferFault<D::Fault>;
 
@@ -129,9 +136,9 @@ impl<D: Disk> Disk for BufferedDisk<D> {
 
     ghost failures = { λ disk. disk.calls.failures };
 
-    ghost writes = { λ disk. disk.calls.writes };
+    ghost writes = { buffered_writes };
 
-    ghost syncs = { λ disk. disk.calls.syncs };
+    ghost syncs = { buffered_syncs };
 
     ghost gave = { buffered_gave D.gave };
 
@@ -164,7 +171,18 @@ impl<D: Disk> Disk for BufferedDisk<D> {
     }
 
     #[tactic(auto, using(crate::proofs::Waiting::size_over, crate::proofs::Waiting::grown_places))]
-    fn write(&mut self, at: u64, buf: &[u8]) -> Result<(), BufferFault<D::Fault>> {
+    fn write(&mut self, at: u64, buf: &[u8]) -> Result<(), BufferFault<D::Fault>>
+        requires { at + length buf.now ≤ size (buffered_content D.content self.old) }
+        ensures size { size (buffered_content D.content self.new) ≡ size (buffered_content D.content self.old) }
+        ensures made { Makes buffered_writes buffered_syncs 1 0 self.old self.new }
+        ensures torn { Tears at (length buf.now) (buffered_content D.content self.old) (buffered_content D.content self.new) }
+        ensures written { OnOk result (Writes at buf.now (buffered_content D.content self.old) (buffered_content D.content self.new)) }
+        ensures passes { OnOk result (PassesOn D.writes D.syncs at buf.now self.old self.new) }
+        ensures gathers { MatchResult result (λ _. Gathers D.writes D.syncs 1 0 self.old self.new) (λ _. Gathers D.writes D.syncs 2 0 self.old self.new) }
+        ensures failures { MatchResult result (λ _. self.new.calls.failures ≡ self.old.calls.failures)
+            (λ fault. (self.new.calls.failures ≡ (self.old.calls.failures + 1) % 2 ^ 64)
+            × buffered_gave D.gave self.new fault Write at (length buf.now)) }
+    {
         let _size = self.inner.len();
         let count = buf.len() as u64;
         self.calls.count_write();
@@ -195,7 +213,17 @@ impl<D: Disk> Disk for BufferedDisk<D> {
     }
 
     #[tactic(auto, using(crate::proofs::Waiting::size_over))]
-    fn sync(&mut self) -> Result<(), BufferFault<D::Fault>> {
+    fn sync(&mut self) -> Result<(), BufferFault<D::Fault>>
+        ensures size { size (buffered_content D.content self.new) ≡ size (buffered_content D.content self.old) }
+        ensures made { Makes buffered_writes buffered_syncs 0 1 self.old self.new }
+        ensures settled { OnOk result (Settles (buffered_content D.content self.old) (buffered_content D.content self.new)) }
+        ensures unchanged { OnErr result (Stays (buffered_content D.content self.old) (buffered_content D.content self.new)) }
+        ensures gathers { MatchResult result (λ _. WritesOut D.writes D.syncs self.old self.new)
+            (λ _. Gathers D.writes D.syncs 1 0 self.old self.new ⊎ Gathers D.writes D.syncs 0 1 self.old self.new) }
+        ensures failures { MatchResult result (λ _. self.new.calls.failures ≡ self.old.calls.failures)
+            (λ fault. (self.new.calls.failures ≡ (self.old.calls.failures + 1) % 2 ^ 64)
+            × buffered_gave D.gave self.new fault Sync 0 (size (buffered_content D.content self.new))) }
+    {
         let size = self.inner.len();
         self.calls.count_sync();
         if !self.buffer.is_empty() {
@@ -216,8 +244,18 @@ impl<D: Disk> Disk for BufferedDisk<D> {
 }
 
 impl<D: Stoppable> Stoppable for BufferedDisk<D> {
+    ghost use Rattle.silt_disk.specs.Disk.{Makes, Restarts};
+    ghost use Rattle.silt_device.specs.Buffered.{buffered_content, buffered_syncs, buffered_writes, emptied, Gathers};
+
     #[tactic(auto, using(crate::proofs::Waiting::size_over, crate::proofs::Waiting::restarts_over))]
-    fn restart(mut self) -> Self {
+    fn restart(mut self) -> Self
+        ensures size { size (buffered_content D.Disk.content result) ≡ size (buffered_content D.Disk.content self) }
+        ensures content { Restarts (buffered_content D.Disk.content self) (buffered_content D.Disk.content result) }
+        ensures failures { result.calls.failures ≡ self.calls.failures }
+        ensures made { Makes buffered_writes buffered_syncs 0 0 self result }
+        ensures none { result.buffer ≡ emptied self.buffer }
+        ensures gathers { Gathers D.Disk.writes D.Disk.syncs 0 0 self result }
+    {
         self.buffer.empty();
         BufferedDisk {
             inner: self.inner.restart(),

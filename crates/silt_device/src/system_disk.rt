@@ -1,5 +1,5 @@
 // A disk in a file of the system.
-ghost use Rattle.std.specs.Prelude.{⊤, ◌≡◌, ◌≤◌, ◌^◌, IfOk, OnOk, IsErr};
+ghost use Rattle.std.specs.Prelude.{⊤, ◌≡◌, ◌≤◌, ◌^◌, ◌+◌, ◌%◌, IfOk, OnOk, IsErr};
 
 use crate::buffered_disk::{BufferFault, BufferedDisk};
 use crate::file::{FileFault, RandomAccessDisk};
@@ -115,8 +115,11 @@ impl FileDisk {
 }
 
 impl Disk for FileDisk {
-    ghost use Rattle.silt_device.specs.File.{file_content, file_gave};
-    ghost use Rattle.silt_device.specs.Buffered.{buffered_content, buffered_gave};
+    ghost use Rattle.std.specs.Prelude.{length, MatchResult, OnErr, ◌⊎◌};
+    ghost use Rattle.silt_disk.specs.declared.disk.Call.TheVariants.{Write, Sync};
+    ghost use Rattle.silt_disk.specs.Disk.{Makes, Settles, Stays, Tears, Writes, size};
+    ghost use Rattle.silt_device.specs.File.{file_content, file_gave, file_syncs, file_writes};
+    ghost use Rattle.silt_device.specs.Buffered.{buffered_content, buffered_gave, Gathers, PassesOn, WritesOut};
 
     type Fault = BufferFault<FileFault>;
 
@@ -138,11 +141,33 @@ impl Disk for FileDisk {
         self.inner.read(at, buf)
     }
 
-    fn write(&mut self, at: u64, buf: &[u8]) -> Result<(), BufferFault<FileFault>> {
+    fn write(&mut self, at: u64, buf: &[u8]) -> Result<(), BufferFault<FileFault>>
+        requires { at + length buf.now ≤ size (buffered_content file_content self.old.inner) }
+        ensures size { size (buffered_content file_content self.new.inner) ≡ size (buffered_content file_content self.old.inner) }
+        ensures made { Makes (λ disk. disk.inner.calls.writes) (λ disk. disk.inner.calls.syncs) 1 0 self.old self.new }
+        ensures torn { Tears at (length buf.now) (buffered_content file_content self.old.inner) (buffered_content file_content self.new.inner) }
+        ensures written { OnOk result (Writes at buf.now (buffered_content file_content self.old.inner) (buffered_content file_content self.new.inner)) }
+        ensures passes { OnOk result (PassesOn file_writes file_syncs at buf.now self.old.inner self.new.inner) }
+        ensures gathers { MatchResult result (λ _. Gathers file_writes file_syncs 1 0 self.old.inner self.new.inner)
+            (λ _. Gathers file_writes file_syncs 2 0 self.old.inner self.new.inner) }
+        ensures failures { MatchResult result (λ _. self.new.inner.calls.failures ≡ self.old.inner.calls.failures)
+            (λ fault. (self.new.inner.calls.failures ≡ (self.old.inner.calls.failures + 1) % 2 ^ 64)
+            × buffered_gave file_gave self.new.inner fault Write at (length buf.now)) }
+    {
         self.inner.write(at, buf)
     }
 
-    fn sync(&mut self) -> Result<(), BufferFault<FileFault>> {
+    fn sync(&mut self) -> Result<(), BufferFault<FileFault>>
+        ensures size { size (buffered_content file_content self.new.inner) ≡ size (buffered_content file_content self.old.inner) }
+        ensures made { Makes (λ disk. disk.inner.calls.writes) (λ disk. disk.inner.calls.syncs) 0 1 self.old self.new }
+        ensures settled { OnOk result (Settles (buffered_content file_content self.old.inner) (buffered_content file_content self.new.inner)) }
+        ensures unchanged { OnErr result (Stays (buffered_content file_content self.old.inner) (buffered_content file_content self.new.inner)) }
+        ensures gathers { MatchResult result (λ _. WritesOut file_writes file_syncs self.old.inner self.new.inner)
+            (λ _. Gathers file_writes file_syncs 1 0 self.old.inner self.new.inner ⊎ Gathers file_writes file_syncs 0 1 self.old.inner self.new.inner) }
+        ensures failures { MatchResult result (λ _. self.new.inner.calls.failures ≡ self.old.inner.calls.failures)
+            (λ fault. (self.new.inner.calls.failures ≡ (self.old.inner.calls.failures + 1) % 2 ^ 64)
+            × buffered_gave file_gave self.new.inner fault Sync 0 (size (buffered_content file_content self.new.inner))) }
+    {
         self.inner.sync()
     }
 }

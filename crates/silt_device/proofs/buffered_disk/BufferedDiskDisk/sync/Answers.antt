@@ -1,5 +1,7 @@
-use Rattle.std.proofs.Common.{rules, refl}
+use Rattle.std.proofs.Common.{rules, arith, refl, sym, ◌∙◌, inr}
+use Rattle.silt_disk.proofs.Costs.{made_both}
 use Rattle.silt_device.specs.Buffered.{emptied}
+use Rattle.silt_device.proofs.Gathering.{gathers_out, owed_some}
 use Rattle.silt_device.proofs.Waiting.{not_out_at, out_at, settles_over, stays_over, stays_settles, stays_twice}
 use Rattle.silt_device.proofs.buffered_disk.BufferedDiskDisk.sync.Goals as goal
 
@@ -18,3 +20,8 @@ returns-in-Err-sync-clause-unchanged g c =
 
 pub returns-in-Ok-sync-clause-settled : goal.returns-in-Ok-sync-clause-settled
 returns-in-Ok-sync-clause-settled g c = rw (← c.self.view_is) (settles_over c.self.inside.buffer _ _ (search rules) c.in-Ok-sync.ensures.settled)
+
+pub returns-in-Err-sync-clause-gathers : goal.returns-in-Err-sync-clause-gathers
+returns-in-Err-sync-clause-gathers g c =
+    let one = owed_some c.self.inside.buffer (sym c.is_empty.ensures ∙ c.if-not-is_empty.true) in
+    rw (← c.self.view_is) (inr (gathers_out _ _ 1 0 1 (made_both c.write.new.self c.write.ensures.made c.sync.ensures.made refl refl) c.empty.ensures (omega (arith, one))))

@@ -1,5 +1,7 @@
-use Rattle.std.proofs.Common.{rules, refl, ◌≡◌, ◌+◌, ◌≤◌, IsTrue, length, subst, sym, ◌∙◌}
+use Rattle.std.proofs.Common.{rules, arith, refl, ◌≡◌, ◌+◌, ◌≤◌, IsTrue, length, subst, sym, ◌∙◌}
 use Rattle.silt_disk.specs.Disk.{Stays, size}
+use Rattle.silt_disk.proofs.Costs.{made_both}
+use Rattle.silt_device.proofs.Gathering.{gathers_out, gathers_same, owed_some}
 use Rattle.silt_device.specs.Buffered.{content_over, buffered_content, takes}
 use Rattle.silt_device.proofs.Waiting.{fits_inner, grown_places, grown_tears, grown_writes, not_out_at, out_at, stays_tears, stays_writes, tears_over, writes_over}
 use Rattle.silt_device.proofs.buffered_disk.BufferedDiskDisk.write.Goals as goal
@@ -88,3 +90,17 @@ returns-in-Err-write-2-clause-torn g c =
     let inner = g.D.Disk.content c.write-2.new.self in
     let stays : Stays (content_over waiting before) (content_over c.empty.new.self inner) = rw (c.empty.ensures) (out_at waiting _ _ _ _ c.at.ensures c.bytes.ensures c.self.invariant c.write-2.ensures.torn c.in_default.ensures.written) in
     rw (← c.self.view_is) (stays_tears _ _ _ _ _ stays (tears_over c.empty.new.self _ _ _ _ c.write-3.ensures.torn))
+
+pub returns-in-Err-write-clause-gathers : goal.returns-in-Err-write-clause-gathers
+returns-in-Err-write-clause-gathers g c =
+    rw (← c.self.view_is) (gathers_same _ _ 2 2 0 (made_both c.write-2.new.self c.write-2.ensures.made c.write-in-Err-write.ensures.made refl refl) refl (omega arith))
+
+pub returns-in-Ok-write-clause-gathers : goal.returns-in-Ok-write-clause-gathers
+returns-in-Ok-write-clause-gathers g c =
+    let waiting = c.self.inside.buffer in
+    let one = owed_some waiting (sym c.is_empty.ensures ∙ c.if-is_empty.false) in
+    rw (← c.self.view_is) (gathers_out _ _ 2 1 0 (made_both c.write-2.new.self c.write-2.ensures.made c.write-3.ensures.made refl refl) c.empty.ensures (omega (arith, one)))
+
+pub returns-in-Err-write-2-clause-gathers : goal.returns-in-Err-write-2-clause-gathers
+returns-in-Err-write-2-clause-gathers g c =
+    rw (← c.self.view_is) (gathers_out _ _ 2 2 0 (made_both c.write-2.new.self c.write-2.ensures.made c.write-3.ensures.made refl refl) c.empty.ensures (omega arith))
