@@ -263,8 +263,8 @@ impl Disk for MemDisk {
             (λ fault. (memory_failures self.new ≡ (memory_failures self.old + 1) % 2 ^ 64)
             × memory_gave self.new fault Write at (length buf.now)) }
     {
-        self.calls.count_write();
         overwrite(&mut self.shown, &mut self.pending, at as usize, buf);
+        self.calls.count_write();
         if self.lives.count_call() {
             return Err(self.fail(Call::Write, at, buf.len()));
         }

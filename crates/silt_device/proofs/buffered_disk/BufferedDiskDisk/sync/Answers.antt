@@ -1,4 +1,4 @@
-use Rattle.std.proofs.Common.{rules, arith, refl, sym, ◌∙◌, inr}
+use Rattle.std.proofs.Common.{rules, arith, refl, inr}
 use Rattle.silt_disk.proofs.Costs.{made_both}
 use Rattle.silt_device.specs.Buffered.{emptied}
 use Rattle.silt_device.proofs.Gathering.{gathers_out, owed_some}
@@ -23,5 +23,5 @@ returns-in-Ok-sync-clause-settled g c = rw (← c.self.view_is) (settles_over c.
 
 pub returns-in-Err-sync-clause-gathers : goal.returns-in-Err-sync-clause-gathers
 returns-in-Err-sync-clause-gathers g c =
-    let one = owed_some c.self.inside.buffer (sym c.is_empty.ensures ∙ c.if-not-is_empty.true) in
+    let one = owed_some c.self.inside.buffer (search rules) in
     rw (← c.self.view_is) (inr (gathers_out _ _ 1 0 1 (made_both c.write.new.self c.write.ensures.made c.sync.ensures.made refl refl) c.empty.ensures (omega (arith, one))))

@@ -97,8 +97,7 @@ returns-in-Err-write-clause-gathers g c =
 
 pub returns-in-Ok-write-clause-gathers : goal.returns-in-Ok-write-clause-gathers
 returns-in-Ok-write-clause-gathers g c =
-    let waiting = c.self.inside.buffer in
-    let one = owed_some waiting (sym c.is_empty.ensures ∙ c.if-is_empty.false) in
+    let one = owed_some c.self.inside.buffer (search rules) in
     rw (← c.self.view_is) (gathers_out _ _ 2 1 0 (made_both c.write-2.new.self c.write-2.ensures.made c.write-3.ensures.made refl refl) c.empty.ensures (omega (arith, one)))
 
 pub returns-in-Err-write-2-clause-gathers : goal.returns-in-Err-write-2-clause-gathers
