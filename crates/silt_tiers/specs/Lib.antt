@@ -6,6 +6,7 @@ pub mod Entries
 pub mod Succession
 pub mod NextLog
 pub mod Conversion
+pub mod Costs
 pub mod Merge
 pub mod RowWrite
 pub mod Laws

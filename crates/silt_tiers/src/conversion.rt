@@ -1,9 +1,10 @@
 // The conversion of the oldest frozen log into a hash store, one slot a step.
 ghost use Rattle.std.specs.Prelude.{◌≡◌, ◌<◌, ◌*◌, ◌-◌, ◌^◌, [], length, false, true, None, IsSome, IsTrue, IfOk, IfErr, IfSome, IfNone, OnOk};
-ghost use Rattle.silt_disk.specs.Disk.{Rests};
+ghost use Rattle.silt_disk.specs.Disk.{Costs, Rests};
 ghost use Rattle.silt_tiers.specs.Calls.{BreaksOff, Works};
 ghost use Rattle.silt_tiers.specs.Conversion.{AreAllHashesNamed, ConvertErrorCause, Converts, EndsConversion, Finishes, HasConvertedRows, IsLowestFreeHash};
 ghost use Rattle.silt_tiers.specs.Conversion.{MayReplace, ReplacesOldest, convert_turn, converted_body, is_work};
+ghost use Rattle.silt_tiers.specs.Costs.{step_syncs, step_writes};
 ghost use Rattle.silt_event.specs.declared.progress.Progress.TheVariants.{Finished, Moved};
 ghost use Rattle.silt_standing.specs.State.{AreWhole, names_hash};
 ghost use Rattle.silt_standing.specs.Standing.{Stands, shown_stores};
@@ -106,6 +107,7 @@ impl Tiers {
         ensures converts { IfOk result (λ progress. Converts progress self.old self.new) }
         ensures moves { IfOk result (λ progress. progress ≡ Finished → ⊥) }
         ensures quiet { IfOk result (λ progress. is_work progress ≡ false → disk.new ≡ disk.old) }
+        ensures made { Costs D.writes D.syncs (step_writes (convert_turn self.old)) (step_syncs (convert_turn self.old)) disk.old disk.new result }
         ensures err { IfErr result (ConvertErrorCause D.Disk disk.old disk.new self.old self.new) }
     {
         let Some(oldest) = self.frozen.last() else {
@@ -131,6 +133,7 @@ impl Tiers {
         ensures works { Works D.Disk [] disk.old disk.new self.old self.new result }
         ensures converts { IfOk result (λ progress. Converts progress self.old self.new) }
         ensures moves { IfOk result (λ progress. progress ≡ Moved) }
+        ensures made { Costs D.writes D.syncs 1 0 disk.old disk.new result }
         ensures err { IfErr result (ConvertErrorCause D.Disk disk.old disk.new self.old self.new) }
     {
         let Some(conversion) = &mut self.converting else {
@@ -149,6 +152,7 @@ impl Tiers {
         ensures works { Works D.Disk [] disk.old disk.new self.now self.now result }
         ensures rests { OnOk result (Rests (D.content disk.new)) }
         ensures stores { OnOk result (IsTrue (D.content disk.old).honest → shown_stores (D.content disk.new) self.now ≡ shown_stores (D.content disk.old) self.now) }
+        ensures made { Costs D.writes D.syncs 0 1 disk.old disk.new result }
         ensures err { IfErr result (BreaksOff D.Disk disk.old disk.new self.now self.now) }
     {
         disk.sync()?;
@@ -189,6 +193,7 @@ impl Tiers {
         ensures works { Works D.Disk [] disk.old disk.new self.old self.new result }
         ensures finishes { OnOk result (Finishes self.old self.new) }
         ensures rows { OnOk result (IsTrue (D.content disk.old).honest → HasConvertedRows (D.content disk.old) (D.content disk.new) self.old self.new) }
+        ensures made { Costs D.writes D.syncs 3 4 disk.old disk.new result }
         ensures err { IfErr result (BreaksOff D.Disk disk.old disk.new self.old self.new) }
     {
         self.settle_work(disk)?;
@@ -207,6 +212,7 @@ impl Tiers {
         ensures works { Works D.Disk [] disk.old disk.new self.old self.new result }
         ensures converts { IfOk result (λ progress. Converts progress self.old self.new) }
         ensures rows { OnOk result (IsTrue (D.content disk.old).honest → HasConvertedRows (D.content disk.old) (D.content disk.new) self.old self.new) }
+        ensures made { Costs D.writes D.syncs 3 4 disk.old disk.new result }
         ensures err { IfErr result (ConvertErrorCause D.Disk disk.old disk.new self.old self.new) }
     {
         let current = self.manifest.current();
@@ -245,6 +251,7 @@ impl Tiers {
         ensures converts { IfOk result (λ progress. Converts progress self.old self.new) }
         ensures rows { IfOk result (λ progress. progress ≡ Finished → IsTrue (D.content disk.old).honest → HasConvertedRows (D.content disk.old) (D.content disk.new) self.old self.new) }
         ensures quiet { IfOk result (λ progress. is_work progress ≡ false → disk.new ≡ disk.old) }
+        ensures made { Costs D.writes D.syncs (step_writes (convert_turn self.old)) (step_syncs (convert_turn self.old)) disk.old disk.new result }
         ensures err { IfErr result (ConvertErrorCause D.Disk disk.old disk.new self.old self.new) }
     {
         let Some(conversion) = &self.converting else {

@@ -1,8 +1,10 @@
 // The merge of the hash stores and the sorted store into a new sorted store, one slot or one key a step.
-ghost use Rattle.std.specs.Prelude.{◌≡◌, ◌<◌, ◌≤◌, ◌-◌, ◌^◌, [], length, false, true, None, IsSome, IsTrue, IfOk, IfErr, IfSome, OnOk};
+ghost use Rattle.std.specs.Prelude.{◌≡◌, ◌<◌, ◌≤◌, ◌-◌, ◌^◌, [], length, false, true, None, IsSome, IsTrue, IfOk, IfErr, IfSome, OnOk, MatchResult};
+ghost use Rattle.silt_disk.specs.Disk.{Costs, MakesAtMost};
 ghost use Rattle.silt_event.specs.declared.progress.Progress.TheVariants.{Finished, Moved};
 ghost use Rattle.silt_tiers.specs.Calls.{BreaksOff, Works};
 ghost use Rattle.silt_tiers.specs.Conversion.{is_work};
+ghost use Rattle.silt_tiers.specs.Costs.{MakesStep, step_syncs, step_writes};
 ghost use Rattle.silt_tiers.specs.Digests.{merged_digests};
 ghost use Rattle.silt_tiers.specs.Merge.{EndsMerge, EndsMerged, HasMergedEntries, MayStandFor, MergeErrorCause, Merges, merge_turn, merged_body, puts_in, sorted_replaced};
 ghost use Rattle.silt_standing.specs.State.{AreWhole};
@@ -97,6 +99,7 @@ impl Tiers {
         ensures merges { IfOk result (λ progress. Merges progress self.old self.new) }
         ensures moves { IfOk result (λ progress. progress ≡ Finished → ⊥) }
         ensures quiet { IfOk result (λ progress. is_work progress ≡ false → disk.new ≡ disk.old) }
+        ensures made { MatchResult result (MakesStep D.Disk disk.old disk.new self.old self.new) (λ _. MakesAtMost D.writes D.syncs (step_writes (merge_turn self.old)) (step_syncs (merge_turn self.old)) disk.old disk.new) }
         ensures err { IfErr result (MergeErrorCause D.Disk disk.old disk.new self.old self.new) }
     {
         if self.hashes.is_empty() {
@@ -122,6 +125,7 @@ impl Tiers {
         ensures works { Works D.Disk [] disk.old disk.new self.old self.new result }
         ensures merges { IfOk result (λ progress. Merges progress self.old self.new) }
         ensures moves { IfOk result (λ progress. progress ≡ Moved) }
+        ensures made { MatchResult result (MakesStep D.Disk disk.old disk.new self.old self.new) (λ _. MakesAtMost D.writes D.syncs (step_writes (merge_turn self.old)) (step_syncs (merge_turn self.old)) disk.old disk.new) }
         ensures err { IfErr result (MergeErrorCause D.Disk disk.old disk.new self.old self.new) }
     {
         let Some(merge) = &mut self.merging else {
@@ -177,6 +181,7 @@ impl Tiers {
         ensures works { Works D.Disk [] disk.old disk.new self.old self.new result }
         ensures ends { OnOk result (EndsMerged self.old self.new) }
         ensures entries { OnOk result (IsTrue (D.content disk.old).honest → HasMergedEntries (D.content disk.old) (D.content disk.new) self.old self.new) }
+        ensures made { Costs D.writes D.syncs 3 4 disk.old disk.new result }
         ensures err { IfErr result (BreaksOff D.Disk disk.old disk.new self.old self.new) }
     {
         self.settle_work(disk)?;
@@ -198,6 +203,7 @@ impl Tiers {
         ensures merges { IfOk result (λ progress. Merges progress self.old self.new) }
         ensures entries { OnOk result (IsTrue (D.content disk.old).honest → HasMergedEntries (D.content disk.old) (D.content disk.new) self.old self.new) }
         ensures finishes { IfOk result (λ progress. progress ≡ Finished) }
+        ensures made { Costs D.writes D.syncs 3 4 disk.old disk.new result }
         ensures err { IfErr result (MergeErrorCause D.Disk disk.old disk.new self.old self.new) }
     {
         let current = self.manifest.current();
@@ -238,6 +244,7 @@ impl Tiers {
         ensures merges { IfOk result (λ progress. Merges progress self.old self.new) }
         ensures entries { IfOk result (λ progress. progress ≡ Finished → IsTrue (D.content disk.old).honest → HasMergedEntries (D.content disk.old) (D.content disk.new) self.old self.new) }
         ensures quiet { IfOk result (λ progress. is_work progress ≡ false → disk.new ≡ disk.old) }
+        ensures made { MatchResult result (MakesStep D.Disk disk.old disk.new self.old self.new) (λ _. MakesAtMost D.writes D.syncs (step_writes (merge_turn self.old)) (step_syncs (merge_turn self.old)) disk.old disk.new) }
         ensures err { IfErr result (MergeErrorCause D.Disk disk.old disk.new self.old self.new) }
     {
         let Some(merge) = &self.merging else {

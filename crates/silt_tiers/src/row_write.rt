@@ -1,5 +1,6 @@
 // A put or a delete as a whole: a row in the active log, which is frozen first if it cannot take the row.
-ghost use Rattle.std.specs.Prelude.{◌≡◌, ◌+◌, ◌≤◌, [], ◌∷◌, ◌++◌, length, IsTrue, IfOk, IfErr, OnOk, OnErr};
+ghost use Rattle.std.specs.Prelude.{◌≡◌, ◌+◌, ◌*◌, ◌≤◌, [], ◌∷◌, ◌++◌, length, IsTrue, IfOk, IfErr, OnOk, OnErr, MatchResult};
+ghost use Rattle.silt_disk.specs.Disk.{Costs, MakesAtMost};
 ghost use Rattle.silt_event.specs.Rows.{command_of};
 ghost use Rattle.silt_frame.specs.Rows.{stored_row, puts_of};
 ghost use Rattle.silt_log.specs.Rows.{IsValueOf};
@@ -7,6 +8,7 @@ ghost use Rattle.silt_log_store.specs.Calls.{IsFailedWrite};
 ghost use Rattle.silt_standing.specs.State.{AreWhole};
 ghost use Rattle.silt_standing.specs.Standing.{IsQuiet, Stands, waiting_commands};
 ghost use Rattle.silt_tiers.specs.Calls.{BreaksOff, StaysBehind, Works};
+ghost use Rattle.silt_tiers.specs.Costs.{MakesRow, freeze_syncs, freeze_writes, some_wait};
 ghost use Rattle.silt_tiers.specs.NextLog.{HasFrozen, IsEmptied, IsNextLog, NoNextCause, active_replaced};
 ghost use Rattle.silt_tiers.specs.RowWrite.{HasPlace, NeedsNext, TakeCause, TurnsFor, WriteCause, WritesKey};
 
@@ -60,6 +62,7 @@ impl Tiers {
         ensures converting { OnOk result (self.new.converting ≡ self.old.converting) }
         ensures merging { OnOk result (self.new.merging ≡ self.old.merging) }
         ensures current { OnOk result (WritesKey (D.content disk.old) (D.content disk.new) self.old self.new key.now.0 (command_of (stored_row kind key.now value.now))) }
+        ensures made { MatchResult result (λ _. MakesRow D.Disk disk.old disk.new self.old self.new) (λ _. MakesAtMost D.writes D.syncs (freeze_writes self.old) (freeze_syncs self.old) disk.old disk.new) }
         ensures err { IfErr result (WriteCause D.Disk disk.old disk.new self.old self.new key.now.0) }
     {
         match self.write_active(disk, kind, key, value) {
@@ -89,6 +92,7 @@ impl Tiers {
             → OnOk result (waiting_commands (D.content disk.new) self.new ≡ waiting_commands (D.content disk.old) self.old ++ command_of (stored_row kind key.now value.now) ∷ []) }
         ensures behind { OnOk result (StaysBehind self.old self.new) }
         ensures charge { OnOk result (self.new.charge ≡ self.old.charge + puts_of kind) }
+        ensures made { Costs D.writes D.syncs 2 0 disk.old disk.new result }
         ensures err { IfErr result (TakeCause D.Disk disk.old disk.new self.old self.new key.now.0) }
         ensures first { self.old.active.log.used ≡ 0 → IfErr result IsFailedWrite }
         ensures unchanged { OnErr result (self.new ≡ self.old) }
@@ -118,6 +122,7 @@ impl Tiers {
         ensures converting { OnOk result (self.new.converting ≡ self.old.converting) }
         ensures merging { OnOk result (self.new.merging ≡ self.old.merging) }
         ensures current { OnOk result (TurnsFor (D.content disk.old) (D.content disk.new) self.old self.new key.now.0 (command_of (stored_row kind key.now value.now))) }
+        ensures made { Costs D.writes D.syncs (freeze_writes self.old) (freeze_syncs self.old) disk.old disk.new result }
         ensures err { IfErr result (WriteCause D.Disk disk.old disk.new self.old self.new key.now.0) }
     {
         let next = match self.next_log(alloc) {
@@ -166,6 +171,7 @@ impl Tiers {
         ensures quiet { OnOk result (IsQuiet (D.content disk.new) self.new) }
         ensures behind { StaysBehind self.old self.new }
         ensures charge { self.new.charge ≡ self.old.charge }
+        ensures made { Costs D.writes D.syncs (some_wait self.old) (2 * some_wait self.old) disk.old disk.new result }
         ensures err { IfErr result (BreaksOff D.Disk disk.old disk.new self.old self.new) }
     {
         if !self.has_waiting() {
@@ -183,6 +189,7 @@ impl Tiers {
         ensures quiet { OnOk result (IsQuiet (D.content disk.new) self.now) }
         ensures emptied { OnOk result (IsEmptied (D.content disk.new) self.now next.new) }
         ensures next { next.new ≡ next.old }
+        ensures made { Costs D.writes D.syncs 1 1 disk.old disk.new result }
         ensures err { IfErr result (BreaksOff D.Disk disk.old disk.new self.now self.now) }
     {
         next.store.prepare(disk)?;
@@ -208,6 +215,7 @@ impl Tiers {
         requires next { IsNextLog self.old next }
         ensures works { Works D.Disk [] disk.old disk.new self.old self.new result }
         ensures frozen { OnOk result (HasFrozen next (D.content disk.new) self.old self.new) }
+        ensures made { Costs D.writes D.syncs (some_wait self.old + 4) (2 * some_wait self.old + 4) disk.old disk.new result }
         ensures err { IfErr result (BreaksOff D.Disk disk.old disk.new self.old self.new) }
     {
         self.settle(disk)?;

@@ -1,5 +1,6 @@
 // The stores of a device in memory, and their calls.
 ghost use Rattle.std.specs.Prelude.{vec_capacity, ◌≡◌, ◌<◌, ◌≤◌, [], nat_lt, None, IfOk, IfErr, OnOk};
+ghost use Rattle.silt_disk.specs.Disk.{Costs};
 
 use silt_conversion::Conversion;
 use silt_disk::{Disk, Geometry};
@@ -155,6 +156,7 @@ impl Tiers {
         ensures quiet { OnOk result (IsQuiet (D.content disk.new) self.new) }
         ensures behind { StaysBehind self.old self.new }
         ensures charge { self.new.charge ≡ self.old.charge }
+        ensures made { Costs D.writes D.syncs 1 2 disk.old disk.new result }
         ensures err { IfErr result (BreaksOff D.Disk disk.old disk.new self.old self.new) }
     {
         self.active.open_gates(disk)?;
@@ -176,6 +178,7 @@ impl Tiers {
         ensures failures { OnOk result (D.failures disk.new ≡ D.failures disk.old) }
         ensures ok { IfOk result (NowRules (D.content disk.old) (D.content disk.new) self.now next.now digests.now) }
         ensures map { OnOk result (Remaps [] (D.content disk.old) (D.content disk.new) self.now self.now) }
+        ensures made { Costs D.writes D.syncs 3 3 disk.old disk.new result }
         ensures err { IfErr result (BreaksOff D.Disk disk.old disk.new self.now self.now) }
     {
         let _sound = self.manifest.current(); // the next body is well formed as it is

@@ -1,4 +1,4 @@
-use Rattle.std.proofs.Common.{◌≡◌, ◌-◌, List, [], length, None, refl, ap, sym, ◌∙◌, subst, arith}
+use Rattle.std.proofs.Common.{◌≡◌, ◌-◌, List, [], length, None, refl, ap, sym, ◌∙◌, subst, arith, rules}
 use Rattle.std.specs.Prelude.{slice_get}
 use Rattle.std.specs.Option.{option_copied}
 use Rattle.silt_disk.specs.Layout.{InLimits, Shape, device_size}
@@ -11,6 +11,10 @@ use Rattle.silt_tiers.proofs.ConvertSteps.{begin_converts, begin_turn, begin_wai
 use Rattle.silt_tiers.proofs.Exits.{on_error}
 use Rattle.silt_tiers.proofs.Viewing.{state_of}
 use Rattle.silt_tiers.proofs.Works.{nothing_done, went}
+use Rattle.silt_disk.specs.Disk.{Makes, MakesAtMost}
+use Rattle.silt_disk.proofs.Costs.{most_none, none_made}
+use Rattle.silt_event.specs.declared.progress.Progress.{Progress}
+use Rattle.silt_tiers.specs.Costs.{step_syncs, step_writes}
 use Rattle.silt_tiers.proofs.tiers.Tiers.begin_conversion.Goals as goal
 
 pub returns-in_default-lowest_free_hash-clause-converts :
@@ -100,3 +104,26 @@ returns-in_default-lowest_free_hash-clause-works g c = nothing_done g.D.Disk c.a
 
 pub returns-clause-moves : goal.returns-clause-moves
 returns-clause-moves g c = λ is. let no : Moved ≡ Finished = is in cc
+
+pub returns-in_default-lowest_free_hash-clause-made : goal.returns-in_default-lowest_free_hash-clause-made
+returns-in_default-lowest_free_hash-clause-made g c =
+    subst (λ (p : Progress). Makes g.D.Disk.writes g.D.Disk.syncs (step_writes p) (step_syncs p) c.args.disk.now c.args.disk.now) (returns-in_default-lowest_free_hash-clause-converts g c).due none_made
+
+pub returns-in_default-start-clause-made : goal.returns-in_default-start-clause-made
+returns-in_default-start-clause-made g c = most_none
+
+pub returns-in_err-step-clause-made : goal.returns-in_err-step-clause-made
+returns-in_err-step-clause-made g c =
+    let stores : TiersState = state_of c.self.inside in
+    let none : stores.converting ≡ None = subst (λ (v : TiersState). v.converting ≡ None) (sym c.self.view_is) c.requires.none in
+    let read = sym (ap option_copied c.in-Some.is) ∙ c.last.ensures.value ∙ ap (λ (l : List LogStoreState). slice_get l (length l - 1)) c.deref.ensures.value in
+    let hashes = c.hashes.ensures.value ∙ ap (λ (sh : Shape). sh.hashes) c.geometry-geometry.ensures.value in
+    let turn = begin_turn stores c.in-Some.oldest.now c.current.result c.hashes.result c.in-Some-lowest_free_hash.region read none c.self.invariant.whole c.current.ensures.sound c.current.ensures.value hashes c.in-Some-lowest_free_hash.ensures.some in
+    let due : convert_turn c.args.self.now ≡ Moved = subst (λ (v : TiersState). convert_turn v ≡ Moved) c.self.view_is turn in
+    let most : MakesAtMost g.D.Disk.writes g.D.Disk.syncs (step_writes (convert_turn c.args.self.now)) (step_syncs (convert_turn c.args.self.now)) c.args.disk.now c.step.new.disk
+    = subst (λ (p : Progress). MakesAtMost g.D.Disk.writes g.D.Disk.syncs (step_writes p) (step_syncs p) c.args.disk.now c.step.new.disk) (sym due) c.in_err-step.ensures.made in
+    search (rules, most)
+
+pub returns-clause-made : goal.returns-clause-made
+returns-clause-made g c =
+    subst (λ (p : Progress). Makes g.D.Disk.writes g.D.Disk.syncs (step_writes p) (step_syncs p) c.args.disk.now c.step.new.disk) (returns-clause-converts g c).due c.in_ok-step.ensures.made

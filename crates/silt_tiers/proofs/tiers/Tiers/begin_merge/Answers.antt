@@ -14,6 +14,7 @@ use Rattle.silt_tiers.proofs.MergeSteps.{begin_merges, begun, failed_breaks, fai
 use Rattle.silt_tiers.proofs.Exits.{on_error}
 use Rattle.silt_tiers.proofs.Viewing.{state_of}
 use Rattle.silt_tiers.proofs.Works.{nothing_done, went}
+use Rattle.silt_disk.proofs.Costs.{most_none}
 use Rattle.silt_tiers.proofs.tiers.Tiers.begin_merge.Goals as goal
 
 pub step-requires-clause-shapes : goal.step-requires-clause-shapes
@@ -97,3 +98,6 @@ returns-clause-merges g c =
 
 pub returns-clause-moves : goal.returns-clause-moves
 returns-clause-moves g c = λ is. let no : Moved ≡ Finished = is in cc
+
+pub returns-in_default-clause-made : goal.returns-in_default-clause-made
+returns-in_default-clause-made g c = most_none

@@ -1,10 +1,12 @@
-use Rattle.std.proofs.Common.{◌+◌, ◌%◌, ◌^◌, ℕ, ap, sym, ◌∙◌, subst}
+use Rattle.std.proofs.Common.{◌+◌, ◌%◌, ◌^◌, ℕ, ap, sym, ◌∙◌, subst, rules, arith}
 use Rattle.silt_standing.specs.State.{TiersState}
 use Rattle.silt_standing.specs.Standing.{Stands}
 use Rattle.silt_tiers.specs.Succession.{MayRule}
 use Rattle.silt_tiers.proofs.Exits.{on_error}
 use Rattle.silt_tiers.proofs.NextBodies.{at_gate, before_gate, both_steps, manifest_breaks, manifest_map, now_rules}
 use Rattle.silt_tiers.proofs.Viewing.{state_of}
+use Rattle.silt_disk.specs.Disk.{MakesAtMost}
+use Rattle.silt_disk.proofs.Costs.{most_both}
 use Rattle.silt_tiers.proofs.tiers.Tiers.change_manifest.Goals as goal
 
 pub prepare_next-requires-clause-next : goal.prepare_next-requires-clause-next
@@ -49,3 +51,8 @@ returns-clause-map g c =
     let may = subst (λ (v : TiersState). MayRule (g.D.Disk.content c.args.disk.now) v c.args.next.now c.args.digests.now) (sym c.self.view_is) c.requires.next in
     rw (← c.self.view_is) (manifest_map (g.D.Disk.content c.args.disk.now) (g.D.Disk.content c.commit_next.new.disk) stores c.args.next.now c.args.digests.now stands may (c.commit_next.ensures.size ∙ c.prepare_next.ensures.size)
     (both_steps stores c.args.next.now c.args.digests.now c.prepare_next.new.self c.in_ok-prepare_next.ensures.state (g.D.Disk.content c.args.disk.now) (g.D.Disk.content c.prepare_next.new.disk) (g.D.Disk.content c.commit_next.new.disk) c.prepare_next.ensures.changes c.commit_next.ensures.changes) (at_gate stores c.args.next.now c.args.digests.now c.prepare_next.new.self c.in_ok-prepare_next.ensures.state (g.D.Disk.content c.commit_next.new.disk) c.commit_next.ensures.each))
+
+pub returns-in_err-commit_next-clause-made : goal.returns-in_err-commit_next-clause-made
+returns-in_err-commit_next-clause-made g c =
+    let most : MakesAtMost g.D.Disk.writes g.D.Disk.syncs 3 3 c.args.disk.now c.commit_next.new.disk = most_both c.prepare_next.new.disk c.in_ok-prepare_next.ensures.made c.in_err-commit_next.ensures.made (omega arith) (omega arith) in
+    search (rules, most)

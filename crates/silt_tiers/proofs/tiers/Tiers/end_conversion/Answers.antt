@@ -1,4 +1,4 @@
-use Rattle.std.proofs.Common.{[], Option, Ok, subst}
+use Rattle.std.proofs.Common.{[], Option, Ok, subst, rules, arith}
 use Rattle.std.specs.Prelude.{IfSome, ⊤}
 use Rattle.silt_conversion.specs.Conversion.{ConversionState}
 use Rattle.silt_tiers.specs.Conversion.{ReplacesOldest}
@@ -6,6 +6,8 @@ use Rattle.silt_tiers.proofs.Chains.{honest_after}
 use Rattle.silt_tiers.proofs.Exits.{on_error}
 use Rattle.silt_tiers.proofs.ConvertTurns.{converted_advances, converted_finishes, converted_may_rule, has_converted_rows, may_replace}
 use Rattle.silt_tiers.proofs.Works.{both_went, then_broke_off, went}
+use Rattle.silt_disk.specs.Disk.{MakesAtMost}
+use Rattle.silt_disk.proofs.Costs.{most_both}
 use Rattle.silt_tiers.proofs.tiers.Tiers.end_conversion.Goals as goal
 
 pub change_manifest-requires-clause-next : goal.change_manifest-requires-clause-next
@@ -39,3 +41,8 @@ returns-clause-finishes g c =
     let is = subst (λ (o : Option ConversionState). IfSome o (ReplacesOldest c.args.self.now c.in_ok-manifest.manifest c.replace_oldest.new.self)) c.requires.ends.was c.replace_oldest.ensures.replaced in
     converted_finishes (g.D.Disk.content c.settle_work.new.disk) c.args.self.now c.args.body.now c.args.digests.now c.in_ok-settle_work.ensures.works.advances.stands c.in_ok-settle_work.ensures.rests c.requires.ends
     (g.D.Disk.content c.change_manifest.new.disk) c.change_manifest.ensures.same.size c.in_ok-manifest.manifest c.in_ok-manifest.ensures.ok is.digest is.digested c.replace_oldest.new.self is.is
+
+pub returns-in_err-manifest-clause-made : goal.returns-in_err-manifest-clause-made
+returns-in_err-manifest-clause-made g c =
+    let most : MakesAtMost g.D.Disk.writes g.D.Disk.syncs 3 4 c.args.disk.now c.change_manifest.new.disk = most_both c.settle_work.new.disk c.in_ok-settle_work.ensures.made c.in_err-manifest.ensures.made (omega arith) (omega arith) in
+    search (rules, most)

@@ -1,4 +1,4 @@
-use Rattle.std.proofs.Common.{◌≡◌, [], Option, Ok, subst}
+use Rattle.std.proofs.Common.{◌≡◌, [], Option, Ok, subst, rules, arith}
 use Rattle.std.specs.Prelude.{IfSome, ⊤}
 use Rattle.silt_merge.specs.State.{MergeState}
 use Rattle.silt_tiers.specs.Merge.{sorted_replaced}
@@ -6,6 +6,8 @@ use Rattle.silt_tiers.proofs.Chains.{honest_after}
 use Rattle.silt_tiers.proofs.Exits.{on_error}
 use Rattle.silt_tiers.proofs.MergeTurns.{ends_merged, has_merged_entries, may_stand_for, merged_advances, merged_may_rule}
 use Rattle.silt_tiers.proofs.Works.{both_went, then_broke_off, went}
+use Rattle.silt_disk.specs.Disk.{MakesAtMost}
+use Rattle.silt_disk.proofs.Costs.{most_both}
 use Rattle.silt_tiers.proofs.tiers.Tiers.end_merge.Goals as goal
 
 pub change_manifest-requires-clause-next : goal.change_manifest-requires-clause-next
@@ -39,3 +41,8 @@ returns-clause-entries g c = λ honest.
     has_merged_entries (g.D.Disk.content c.settle_work.new.disk) c.args.self.now c.args.body.now c.args.digests.now c.args.sorted c.in_ok-settle_work.ensures.works.advances.stands c.in_ok-settle_work.ensures.rests c.requires.ends
     (g.D.Disk.content c.change_manifest.new.disk) c.change_manifest.ensures.same.size c.in_ok-manifest.manifest c.in_ok-manifest.ensures.ok (g.D.Disk.content c.args.disk.now) c.replace_sorted.new.self is c.requires.stands honest
     (honest_after (g.D.Disk.content c.args.disk.now) (g.D.Disk.content c.settle_work.new.disk) c.settle_work.ensures.works.same honest) (c.in_ok-settle_work.ensures.stores honest)
+
+pub returns-in_err-manifest-clause-made : goal.returns-in_err-manifest-clause-made
+returns-in_err-manifest-clause-made g c =
+    let most : MakesAtMost g.D.Disk.writes g.D.Disk.syncs 3 4 c.args.disk.now c.change_manifest.new.disk = most_both c.settle_work.new.disk c.in_ok-settle_work.ensures.made c.in_err-manifest.ensures.made (omega arith) (omega arith) in
+    search (rules, most)

@@ -11,6 +11,7 @@ use Rattle.silt_tiers.proofs.ConvertSteps.{may_finish}
 use Rattle.silt_tiers.proofs.Holdings.{before_last}
 use Rattle.silt_tiers.proofs.ConvertCounting.{hash_count, room_for_hash}
 use Rattle.silt_tiers.proofs.Viewing.{state_of}
+use Rattle.silt_disk.proofs.Costs.{most_none}
 use Rattle.silt_tiers.proofs.tiers.Tiers.finish_conversion.Goals as goal
 
 pub converted_body-body-requires-clause-hashed : goal.converted_body-body-requires-clause-hashed
@@ -42,3 +43,6 @@ end_conversion-requires-clause-ends g c κs within =
     let body = c.converted_body-body.ensures ∙ ap (λ (b : Body). converted_body b c.region.result) c.current-current.ensures.value ∙ ap (converted_body stores.manifest.current) c.region.ensures.value in
     rw (← c.self.view_is) (may_finish stores c.converted_body-body.result c.digests_with-digests.result c.in-Some.conversion c.digest.result c.digest-sorted.result.now c.deref.result.now c.self.invariant.whole c.in-Some.is turn unspent body
     c.digest.ensures c.deref.ensures.value c.digest-sorted.ensures c.digests_with-digests.ensures)
+
+pub returns-then-current-eq-LAST_GENERATION-clause-made : goal.returns-then-current-eq-LAST_GENERATION-clause-made
+returns-then-current-eq-LAST_GENERATION-clause-made g c = most_none

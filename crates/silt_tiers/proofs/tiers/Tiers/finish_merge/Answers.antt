@@ -9,6 +9,7 @@ use Rattle.silt_tiers.proofs.Holdings.{before_last}
 use Rattle.silt_tiers.proofs.MergeDone.{may_end}
 use Rattle.silt_tiers.proofs.MergeSteps.{is_finished, merging_of}
 use Rattle.silt_tiers.proofs.Viewing.{state_of}
+use Rattle.silt_disk.proofs.Costs.{most_none}
 use Rattle.silt_tiers.proofs.tiers.Tiers.finish_merge.Goals as goal
 
 pub end_merge-requires-clause-ends : goal.end_merge-requires-clause-ends
@@ -46,3 +47,9 @@ merged_digests-digests-requires g c =
     let stores : TiersState = state_of c.self.inside in
     let most = (merging_of stores c.in-Some.merge c.self.invariant.whole c.in-Some.is).most in
     rw (← c.self.view_is) (omega (arith, most, c.stores-count.ensures.value))
+
+pub returns-then-current-eq-LAST_GENERATION-clause-made : goal.returns-then-current-eq-LAST_GENERATION-clause-made
+returns-then-current-eq-LAST_GENERATION-clause-made g c = most_none
+
+pub returns-in_default-finish-clause-made : goal.returns-in_default-finish-clause-made
+returns-in_default-finish-clause-made g c = most_none

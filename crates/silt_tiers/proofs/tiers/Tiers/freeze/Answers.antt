@@ -1,4 +1,4 @@
-use Rattle.std.proofs.Common.{[], Ok, sym, subst}
+use Rattle.std.proofs.Common.{[], Ok, sym, subst, rules, refl, arith, ◌+◌, ◌*◌}
 use Rattle.std.specs.Prelude.{⊤}
 use Rattle.silt_tiers.specs.declared.next_log.NextLog.{NextLog}
 use Rattle.silt_standing.specs.State.{TiersState}
@@ -8,6 +8,9 @@ use Rattle.silt_tiers.proofs.Exits.{on_error}
 use Rattle.silt_tiers.proofs.Steps.{frozen_from, next_for}
 use Rattle.silt_tiers.proofs.Commits.{frozen_advances, frozen_may_rule, frozen_whole, has_frozen}
 use Rattle.silt_tiers.proofs.Works.{both_went, then_broke_off, went}
+use Rattle.silt_disk.specs.Disk.{MakesAtMost}
+use Rattle.silt_disk.proofs.Costs.{made_both, most_both}
+use Rattle.silt_tiers.specs.Costs.{some_wait}
 use Rattle.silt_tiers.proofs.tiers.Tiers.freeze.Goals as goal
 
 pub clear_region-requires-clause-next : goal.clear_region-requires-clause-next
@@ -44,3 +47,16 @@ returns-clause-frozen g c =
     (g.D.Disk.content c.change_manifest.new.disk) c.change_manifest.ensures.same.size c.in_ok-manifest.manifest c.in_ok-manifest.ensures.ok) in
     subst (λ (n : NextLog). HasFrozen n (g.D.Disk.content c.change_manifest.new.disk) c.args.self.now c.replace_active.new.self) c.clear_region.ensures.next
     (frozen_from c.clear_region.new.next (g.D.Disk.content c.change_manifest.new.disk) c.args.self.now c.settle.new.self c.replace_active.new.self c.settle.ensures.behind c.settle.ensures.charge has)
+
+pub returns-in_err-clear_region-clause-made : goal.returns-in_err-clear_region-clause-made
+returns-in_err-clear_region-clause-made g c =
+    let most : MakesAtMost g.D.Disk.writes g.D.Disk.syncs (some_wait c.args.self.now + 4) (2 * some_wait c.args.self.now + 4) c.args.disk.now c.clear_region.new.disk
+    = most_both c.settle.new.disk c.in_ok-settle.ensures.made c.in_err-clear_region.ensures.made (omega arith) (omega arith) in
+    search (rules, most)
+
+pub returns-in_err-manifest-clause-made : goal.returns-in_err-manifest-clause-made
+returns-in_err-manifest-clause-made g c =
+    let front = made_both c.settle.new.disk c.in_ok-settle.ensures.made c.in_ok-clear_region.ensures.made refl refl in
+    let most : MakesAtMost g.D.Disk.writes g.D.Disk.syncs (some_wait c.args.self.now + 4) (2 * some_wait c.args.self.now + 4) c.args.disk.now c.change_manifest.new.disk
+    = most_both c.clear_region.new.disk front c.in_err-manifest.ensures.made (omega arith) (omega arith) in
+    search (rules, most)

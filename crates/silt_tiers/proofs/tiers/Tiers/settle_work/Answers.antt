@@ -1,7 +1,9 @@
-use Rattle.std.proofs.Common.{[]}
+use Rattle.std.proofs.Common.{[], rules, arith}
 use Rattle.silt_tiers.proofs.Exits.{on_error}
 use Rattle.silt_tiers.proofs.ConvertSlots.{failed_advances, sync_advances}
 use Rattle.silt_tiers.proofs.Works.{broke_off, went}
+use Rattle.silt_disk.specs.Disk.{MakesAtMost}
+use Rattle.silt_disk.proofs.Costs.{most_made}
 use Rattle.silt_tiers.proofs.tiers.Tiers.settle_work.Goals as goal
 
 pub returns-in_err-sync-clause-err : goal.returns-in_err-sync-clause-err
@@ -13,3 +15,8 @@ returns-in_err-sync-clause-err g c =
 pub returns-clause-works : goal.returns-clause-works
 returns-clause-works g c = went g.D.Disk [] c.args.disk.now c.sync.new.self c.args.self.now c.args.self.now _ (record { size = c.sync.ensures.size; honest = c.in_ok-sync.ensures.settled.honest }) c.requires.stands c.in_ok-sync.ensures.failures
     (sync_advances _ _ c.args.self.now c.requires.stands c.sync.ensures.size c.in_ok-sync.ensures.settled)
+
+pub returns-in_err-sync-clause-made : goal.returns-in_err-sync-clause-made
+returns-in_err-sync-clause-made g c =
+    let most : MakesAtMost g.D.Disk.writes g.D.Disk.syncs 0 1 c.args.disk.now c.sync.new.self = most_made c.in_err-sync.ensures.made (omega arith) (omega arith) in
+    search (rules, most)

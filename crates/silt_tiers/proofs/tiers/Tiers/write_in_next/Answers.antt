@@ -1,8 +1,9 @@
-use Rattle.std.proofs.Common.{[], ◌∷◌}
+use Rattle.std.proofs.Common.{[], ◌∷◌, arith}
 use Rattle.silt_event.specs.Rows.{command_of}
 use Rattle.silt_frame.specs.Rows.{stored_row}
 use Rattle.silt_tiers.proofs.Takes.{turns_for}
 use Rattle.silt_tiers.proofs.Works.{both_went, then_broke_off}
+use Rattle.silt_disk.proofs.Costs.{most_both, most_none}
 use Rattle.silt_tiers.proofs.tiers.Tiers.write_in_next.Goals as goal
 
 pub returns-in-Ok-write_active-clause-works : goal.returns-in-Ok-write_active-clause-works
@@ -19,3 +20,15 @@ returns-in-Ok-write_active-clause-current g c =
 pub returns-in-Err-Write-clause-err : goal.returns-in-Err-Write-clause-err
 returns-in-Err-Write-clause-err g c = then_broke_off g.D.Disk c.args.disk.now c.freeze.new.disk c.write_active.new.disk c.args.self.now c.freeze.new.self c.write_active.new.self _ c.in-Err-Write.fault
     c.in_default.ensures.works c.write_active.ensures.works.same (rw c.in-Err-Write.field-0-is at c.in-Err-Write.ensures.err)
+
+pub returns-in-Err-NoRoom-clause-made : goal.returns-in-Err-NoRoom-clause-made
+returns-in-Err-NoRoom-clause-made g c = most_none
+
+pub returns-in-Err-Spent-clause-made : goal.returns-in-Err-Spent-clause-made
+returns-in-Err-Spent-clause-made g c = most_none
+
+pub returns-in-Err-NoMemory-clause-made : goal.returns-in-Err-NoMemory-clause-made
+returns-in-Err-NoMemory-clause-made g c = most_none
+
+pub returns-in-Err-Write-clause-made : goal.returns-in-Err-Write-clause-made
+returns-in-Err-Write-clause-made g c = most_both c.freeze.new.disk c.in_default.ensures.made c.in-Err-Write.ensures.made (omega arith) (omega arith)
