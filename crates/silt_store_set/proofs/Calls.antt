@@ -1,8 +1,9 @@
 -- What the calls of a store do, from what the calls of its stores in memory do.
 use Rattle.std.proofs.Common.{◌≡◌, ◌≤◌, ◌<◌, ℕ, ◌+◌, ◌%◌, ◌^◌, Bool, true, false, IsTrue, List, [], ◌++◌, length, refl, ap, sym, ◌∙◌, subst, arith, length-append}
-use Rattle.silt_disk.specs.Disk.{Content, LeavesOnly}
+use Rattle.silt_disk.specs.Disk.{Content, LeavesOnly, MakesAtMost}
 use Rattle.silt_disk.specs.Layout.{device_size}
 use Rattle.silt_disk.specs.declared.disk.Disk.{Ghosts}
+use Rattle.silt_disk.proofs.Costs.{most_none}
 use Rattle.silt_event.specs.Commands.{Command, Map, map_after}
 use Rattle.silt_image.specs.Meaning.{image_map, StandsFor}
 use Rattle.silt_tiers.specs.Calls.{Advances, Breaks, HasBegun, Remaps}
@@ -20,7 +21,7 @@ use Rattle.silt_event.specs.declared.reply.Reply.TheVariants.{Refused}
 use Rattle.silt_event.specs.Events.{Step, Counts, accepted_command, is_failed}
 use Rattle.silt_store_set.specs.Basis.{BasisState, basis_kept, basis_of}
 use Rattle.silt_store_set.specs.CoreInvariant.{IsCore}
-use Rattle.silt_store_set.specs.CoreState.{CoreState, map_of, Cause, Durable, Does, convert_work, is_convert, is_finished, is_merge, is_refused, merge_work}
+use Rattle.silt_store_set.specs.CoreState.{CoreState, map_of, Cause, Durable, Does, MadeFor, convert_work, is_convert, is_finished, is_merge, is_refused, merge_work, most_syncs, most_writes}
 use Rattle.silt_store_set.proofs.Maps.{append_nil, map_after-append}
 
 -- what contracts see of a store with these fields that is not failed
@@ -170,12 +171,13 @@ none_refused Merge refusal = refl
 
 module _ {D F : Type 0} (facts : Ghosts D F) where
   -- a call that leaves the store as it was
-  pub unchanged : (core : CoreState D) (event : Event) (reply : Reply F) → Counts core.count reply core.count → Cause facts core core event reply
+  pub unchanged : (core : CoreState D) (event : Event) (reply : Reply F) → Counts core.count reply core.count → Cause facts core core event reply → MadeFor facts core core event reply
       → (core.failed ≡ true → reply ≡ Refused Failed) → (IsTrue (is_failed reply) → core.failed ≡ true)
       → (core.failed ≡ false → IsTrue (facts.content core.disk).honest → Step (map_of core) event reply (map_of core))
       → accepted_command event reply ≡ [] → (IsTrue (facts.content core.disk).honest → Durable core reply)
       → (core.failed ≡ false → Standing facts core) → Does facts core core event reply
-  unchanged core event reply counts cause failed told step none settles stands = record {
+  unchanged core event reply counts cause made failed told step none settles stands = record {
+    made = made;
     disk = record { size = refl; honest = refl };
     shape = refl;
     counts = counts;
@@ -202,7 +204,7 @@ module _ {D F : Type 0} (facts : Ghosts D F) where
   -- a failed store refuses
   pub refused_failed : (core : CoreState D) (event : Event) → core.failed ≡ true → Cause facts core core event (Refused Failed) → Does facts core core event (Refused Failed)
   refused_failed core event failed cause =
-      unchanged core event (Refused Failed) refl cause (λ _. refl) (λ _. failed) (λ f. absurd (let no : false ≡ true = sym f ∙ failed in cc)) (none_refused {F = F} event Failed) (λ _. tt)
+      unchanged core event (Refused Failed) refl cause most_none (λ _. refl) (λ _. failed) (λ f. absurd (let no : false ≡ true = sym f ∙ failed in cc)) (none_refused {F = F} event Failed) (λ _. tt)
       (λ f. absurd (let no : false ≡ true = sym f ∙ failed in cc))
 
   -- a store that is not failed refuses, for another cause than a failure, and stays as it was
@@ -210,18 +212,19 @@ module _ {D F : Type 0} (facts : Ghosts D F) where
       → Cause facts (seen facts disk stores count) (seen facts disk stores count) event (Refused refusal)
       → Does facts (seen facts disk stores count) (seen facts disk stores count) event (Refused refusal)
   refused disk stores count event refusal stands other cause =
-      unchanged (seen facts disk stores count) event (Refused refusal) refl cause (λ f. absurd (cc)) (λ t. absurd (let no : false ≡ true = sym other ∙ t in cc))
+      unchanged (seen facts disk stores count) event (Refused refusal) refl cause most_none (λ f. absurd (cc)) (λ t. absurd (let no : false ≡ true = sym other ∙ t in cc))
       (λ _ _. step_refused (image_map (full_image (facts.content disk) stores)) event refusal) (none_refused event refusal) (λ _. tt) (λ _. stands_seen facts disk stores count stands)
 
   -- a store that is not failed replies without a change
   pub answered : (disk : D) (stores : TiersState) (count : ℕ) (event : Event) (reply : Reply F)
       → Stands (facts.content disk) stores → Counts count reply count → is_failed reply ≡ false → accepted_command event reply ≡ []
       → Cause facts (seen facts disk stores count) (seen facts disk stores count) event reply
+      → MadeFor facts (seen facts disk stores count) (seen facts disk stores count) event reply
       → (IsTrue (facts.content disk).honest → Step (image_map (full_image (facts.content disk) stores)) event reply (image_map (full_image (facts.content disk) stores)))
       → (IsTrue (facts.content disk).honest → Durable (seen facts disk stores count) reply)
       → Does facts (seen facts disk stores count) (seen facts disk stores count) event reply
-  answered disk stores count event reply stands counts other none cause step settles =
-      unchanged (seen facts disk stores count) event reply counts cause (λ f. absurd (cc)) (λ t. absurd (let no : false ≡ true = sym other ∙ t in cc))
+  answered disk stores count event reply stands counts other none cause made step settles =
+      unchanged (seen facts disk stores count) event reply counts cause made (λ f. absurd (cc)) (λ t. absurd (let no : false ≡ true = sym other ∙ t in cc))
       (λ _ h. step h) none settles (λ _. stands_seen facts disk stores count stands)
 
   -- ---- calls that write
@@ -253,10 +256,12 @@ module _ {D F : Type 0} (facts : Ghosts D F) where
         → (adds ≡ [] → is_finished reply ≡ false → after.manifest.current ≡ stores.manifest.current)
         → (is_convert event ≡ false → after.converting ≡ stores.converting) → (is_merge event ≡ false → after.merging ≡ stores.merging)
         → (IsTrue (facts.content disk).honest → Durable (seen facts new after next) reply) → facts.failures new ≡ facts.failures disk
+        → MadeFor facts (seen facts disk stores count) (seen facts new after next) event reply
         → Does facts (seen facts disk stores count) (seen facts new after next) event reply
-    advanced adds count next event reply goes counts own answers tells cause step named converts merges settles none_failed =
+    advanced adds count next event reply goes counts own answers tells cause step named converts merges settles none_failed made =
         let standing = stands_seen facts new after next goes.stands in
         record {
+          made = made;
           disk = same;
           shape = goes.shape;
           counts = counts;
@@ -291,8 +296,10 @@ module _ {D F : Type 0} (facts : Ghosts D F) where
         → (IsTrue (facts.content disk).honest → image_map (full_image (facts.content new) after) ≡ image_map (full_image (facts.content disk) stores))
         → Cause facts (seen facts disk stores count) (seen_failed facts (basis_of (facts.content disk) stores) new after count) event (Refused (Device fault))
         → facts.failures new ≡ (facts.failures disk + 1) % 2 ^ 64
+        → MakesAtMost facts.writes facts.syncs (most_writes (seen facts disk stores count) event) (most_syncs (seen facts disk stores count) event) disk new
         → Does facts (seen facts disk stores count) (seen_failed facts (basis_of (facts.content disk) stores) new after count) event (Refused (Device fault))
-    broke count event fault breaks shape maps cause one_failed = record {
+    broke count event fault breaks shape maps cause one_failed most = record {
+      made = most;
       disk = same;
       shape = shape;
       counts = refl;

@@ -1,12 +1,14 @@
 -- What a step of conversion does, from what the same step of the stores in memory does.
 use Rattle.std.proofs.Common.{◌≡◌, ℕ, ◌+◌, ◌*◌, ◌%◌, ◌^◌, inl, inr, false, true, IsTrue, [], length, Option, Some, None, IfSome, refl, ap, sym, ◌∙◌, subst}
 use Rattle.std.proofs.lemmas.List.{length-map}
-use Rattle.silt_disk.specs.Disk.{GaveAny}
+use Rattle.silt_disk.specs.Disk.{GaveAny, Makes, MakesAtMost}
+use Rattle.silt_disk.proofs.Costs.{none_made}
 use Rattle.silt_disk.specs.declared.disk.Disk.{Ghosts}
 use Rattle.silt_conversion.specs.Conversion.{ConversionState}
 use Rattle.silt_hash_store.specs.Slots.{hash_rows}
 use Rattle.silt_tiers.specs.Calls.{Advances, Breaks, IsLastGeneration, Remaps}
 use Rattle.silt_standing.specs.Standing.{SameDisk}
+use Rattle.silt_tiers.specs.Costs.{step_syncs, step_writes}
 use Rattle.silt_tiers.specs.Conversion.{AreConverted, Converts, Finishes, HasConvertedRows, IsNextStep, MovesOn, convert_turn, is_work, oldest_rows, progress_due, written_by}
 use Rattle.silt_standing.specs.Standing.{Stands, full_image}
 use Rattle.silt_standing.specs.State.{TiersState, hash_region_of, region_of}
@@ -16,7 +18,7 @@ use Rattle.silt_event.specs.declared.event.Event.TheVariants.{Convert}
 use Rattle.silt_event.specs.declared.refusal.Refusal.TheVariants.{Device, NoMemory, Spent}
 use Rattle.silt_event.specs.declared.reply.Reply.TheVariants.{Progress, Refused}
 use Rattle.silt_store_set.specs.Basis.{basis_of}
-use Rattle.silt_store_set.specs.CoreState.{CoreState, ConvertGoesOn, ConvertsTo, Does, convert_due, convert_work, written_of}
+use Rattle.silt_store_set.specs.CoreState.{CoreState, ConvertGoesOn, ConvertsTo, Does, MadeFor, convert_due, convert_work, written_of}
 use Rattle.silt_store_set.proofs.Calls.{seen, seen_failed, advanced, answered, broke, refused}
 
 -- a conversion in memory and the contracts' view of it have written the same number of slots
@@ -43,11 +45,20 @@ module _ {D F : Type 0} (facts : Ghosts D F) (disk : D) (stores : TiersState) (c
       ∙ ap (λ (n : ℕ). progress_due (length stores.frozen) n stores.manifest.shape.hashes (4 * stores.manifest.shape.buckets) (written_of (convert_work stores.converting))) hashed
       ∙ ap (progress_due (length stores.frozen) (length stores.hashes) stores.manifest.shape.hashes (4 * stores.manifest.shape.buckets)) (written_same stores.converting)
 
+  -- what a step makes, as contracts see it
+  made_step : (progress : ProgressOf) → Makes facts.writes facts.syncs (step_writes progress) (step_syncs progress) disk disk → MadeFor facts before before Convert (Progress progress)
+  made_step progress made = made
+
+  -- the step that is due makes what was made
+  made_due : (progress : ProgressOf) (new : D) → progress ≡ convert_turn stores → Makes facts.writes facts.syncs (step_writes (convert_turn stores)) (step_syncs (convert_turn stores)) disk new
+      → Makes facts.writes facts.syncs (step_writes progress) (step_syncs progress) disk new
+  made_due progress new due made = subst (λ (p : ProgressOf). Makes facts.writes facts.syncs (step_writes p) (step_syncs p) disk new) (sym due) made
+
   -- there was nothing to do
   stood : (progress : ProgressOf) (new : D) (after : TiersState) → progress ≡ convert_turn stores → new ≡ disk → after ≡ stores → facts.failures new ≡ facts.failures disk
-      → ConvertsTo facts before before progress → is_work progress ≡ false → Does facts before (seen facts new after count) Convert (Progress progress)
-  stood progress new after due same_disk same counted does idle =
-      rw (same_disk, same) (answered facts disk stores count Convert (Progress progress) stands refl refl refl (refl, due ∙ sym due_same, does, refl) (λ _. refl) (λ _. tt))
+      → ConvertsTo facts before before progress → Makes facts.writes facts.syncs (step_writes progress) (step_syncs progress) disk disk → is_work progress ≡ false → Does facts before (seen facts new after count) Convert (Progress progress)
+  stood progress new after due same_disk same counted does made idle =
+      rw (same_disk, same) (answered facts disk stores count Convert (Progress progress) stands refl refl refl (refl, due ∙ sym due_same, does, refl) (made_step progress made) (λ _. refl) (λ _. tt))
 
   -- what the slots have
   rows_are : (new : D) (after : TiersState) (conversion : ConversionState) → stores.converting ≡ Some conversion → HasConvertedRows (facts.content disk) (facts.content new) stores after
@@ -59,17 +70,18 @@ module _ {D F : Type 0} (facts : Ghosts D F) (disk : D) (stores : TiersState) (c
   -- a step succeeded
   pub stepped : (progress : ProgressOf) (new : D) (after : TiersState) → SameDisk (facts.content disk) (facts.content new) → Advances [] (facts.content disk) (facts.content new) stores after
       → Converts progress stores after → (progress ≡ Finished → IsTrue (facts.content disk).honest → HasConvertedRows (facts.content disk) (facts.content new) stores after) → (is_work progress ≡ false → new ≡ disk) → facts.failures new ≡ facts.failures disk
+      → Makes facts.writes facts.syncs (step_writes (convert_turn stores)) (step_syncs (convert_turn stores)) disk new
       → Does facts before (seen facts new after count) Convert (Progress progress)
-  stepped Idle new after same goes converts rows quiet counted = stood Idle new after converts.due (quiet refl) converts.done counted refl refl
-  stepped Waiting new after same goes converts rows quiet counted = stood Waiting new after converts.due (quiet refl) converts.done counted refl refl
-  stepped Moved new after same goes converts rows quiet counted =
+  stepped Idle new after same goes converts rows quiet counted made = stood Idle new after converts.due (quiet refl) converts.done counted refl none_made refl
+  stepped Waiting new after same goes converts rows quiet counted made = stood Waiting new after converts.due (quiet refl) converts.done counted refl none_made refl
+  stepped Moved new after same goes converts rows quiet counted made =
       let moves : MovesOn stores after = converts.done in
       let current : after.manifest.current ≡ stores.manifest.current = ap (λ (s : TiersState). s.manifest.current) moves.is in
       let work : after.converting ≡ Some moves.conversion = ap (λ (s : TiersState). s.converting) moves.is in
       let on : ConvertGoesOn stores.manifest.shape.hashes stores.manifest.current (convert_work stores.converting) (convert_work after.converting) = rw work (goes_on stores stores.converting moves.conversion moves.step) in
       advanced facts disk new stores after same stands [] count count Convert (Progress Moved) goes refl refl refl refl
-      (refl, converts.due ∙ sym due_same, (current, on), counted) (λ m to e. e) (λ _ _. current) (λ other. absurd (cc)) (λ _. ap (λ (s : TiersState). s.merging) moves.is) (λ _. tt) counted
-  stepped Finished new after same goes converts rows quiet counted =
+      (refl, converts.due ∙ sym due_same, (current, on), counted) (λ m to e. e) (λ _ _. current) (λ other. absurd (cc)) (λ _. ap (λ (s : TiersState). s.merging) moves.is) (λ _. tt) counted (made_due Moved new converts.due made)
+  stepped Finished new after same goes converts rows quiet counted made =
       let ends : Finishes stores after = converts.done in
       advanced facts disk new stores after same stands [] count count Convert (Progress Finished) goes refl refl refl refl (
         refl,
@@ -83,7 +95,7 @@ module _ {D F : Type 0} (facts : Ghosts D F) (disk : D) (stores : TiersState) (c
         },
         counted,
       )
-      (λ m to e. e) (λ _ unfinished. absurd (cc)) (λ other. absurd (cc)) (λ _. ends.merging) (λ _. tt) counted
+      (λ m to e. e) (λ _ unfinished. absurd (cc)) (λ other. absurd (cc)) (λ _. ends.merging) (λ _. tt) counted (made_due Finished new converts.due made)
 
   -- ---- a step was refused
 
@@ -103,7 +115,8 @@ module _ {D F : Type 0} (facts : Ghosts D F) (disk : D) (stores : TiersState) (c
   -- a write or a sync failed
   pub step_broke : (new : D) (after : TiersState) (fault : F) → SameDisk (facts.content disk) (facts.content new) → is_work (convert_turn stores) ≡ true → Breaks (facts.content disk) (facts.content new) stores
       → Remaps [] (facts.content disk) (facts.content new) stores after → after.manifest.shape ≡ stores.manifest.shape → GaveAny facts.gave new fault → facts.failures new ≡ (facts.failures disk + 1) % 2 ^ 64
-      → Does facts before (seen_failed facts (basis_of (facts.content disk) stores) new after count) Convert (Refused (Device fault))
-  step_broke new after fault same work breaks remaps shape given counted =
+      → MakesAtMost facts.writes facts.syncs (step_writes (convert_turn stores)) (step_syncs (convert_turn stores)) disk new → Does facts before (seen_failed facts (basis_of (facts.content disk) stores) new after count) Convert (Refused (Device fault))
+  step_broke new after fault same work breaks remaps shape given counted most =
       broke facts disk new stores after same stands count Convert fault breaks shape remaps
       (inr (ap is_work due_same ∙ work, record { given = given; counted = counted; failed = refl })) counted
+      (subst (λ (p : ProgressOf). MakesAtMost facts.writes facts.syncs (step_writes p) (step_syncs p) disk new) (sym due_same) most)

@@ -15,6 +15,7 @@ use Rattle.silt_event.specs.declared.refusal.Refusal.TheVariants.{Device, NoMemo
 use Rattle.silt_event.specs.declared.reply.Reply.TheVariants.{Found, Absent, Refused}
 use Rattle.silt_store_set.specs.CoreState.{Does}
 use Rattle.silt_store_set.specs.Replies.{ReadCause, get_reply}
+use Rattle.silt_disk.proofs.Costs.{none_made}
 use Rattle.silt_store_set.proofs.Calls.{seen, answered, refused}
 
 module _ {D F : Type 0} (facts : Ghosts D F) (disk : D) (stores : TiersState) (count : ℕ) (key : Key) (stands : Stands (facts.content disk) stores) where
@@ -24,11 +25,11 @@ module _ {D F : Type 0} (facts : Ghosts D F) (disk : D) (stores : TiersState) (c
 
   pub get_found : (value : List ℕ) → (IsTrue (facts.content disk).honest → get (current_map (facts.content disk) stores) key.0 ≡ Some value)
       → Does facts (seen facts disk stores count) (seen facts disk stores count) (Get key) (Found value)
-  get_found value found = answered facts disk stores count (Get key) (Found value) stands refl refl refl (refl, refl) (λ h. (looked_up (Some value) found h, refl)) (λ _. tt)
+  get_found value found = answered facts disk stores count (Get key) (Found value) stands refl refl refl (refl, refl) none_made (λ h. (looked_up (Some value) found h, refl)) (λ _. tt)
 
   pub get_absent : (IsTrue (facts.content disk).honest → get (current_map (facts.content disk) stores) key.0 ≡ None)
       → Does facts (seen facts disk stores count) (seen facts disk stores count) (Get key) Absent
-  get_absent none = answered facts disk stores count (Get key) Absent stands refl refl refl (refl, refl) (λ h. (looked_up None none h, refl)) (λ _. tt)
+  get_absent none = answered facts disk stores count (Get key) Absent stands refl refl refl (refl, refl) none_made (λ h. (looked_up None none h, refl)) (λ _. tt)
 
   -- a lookup returned
   pub get_answered : (found : Bool) (out : List ℕ) → (found ≡ true → IsTrue (facts.content disk).honest → get (current_map (facts.content disk) stores) key.0 ≡ Some out)

@@ -1,9 +1,11 @@
 pub mod Maps
 pub mod Calls
 pub mod Runs
+pub mod RunCosts
 pub mod Keeps
 pub mod Failures
 pub mod Openings
+pub mod Waits
 pub mod Converts
 pub mod Gatherings
 pub mod Merges

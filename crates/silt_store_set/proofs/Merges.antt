@@ -5,7 +5,8 @@ use Rattle.std.proofs.lemmas.Bool.{cases_Bool, eqb-true, eq-eqb}
 use Rattle.std.proofs.lemmas.List.{length-map}
 use Rattle.std.proofs.lemmas.Nat.{mul-add-lt}
 use Rattle.std.proofs.Math.Nat.{mul_comm}
-use Rattle.silt_disk.specs.Disk.{GaveAny}
+use Rattle.silt_disk.specs.Disk.{GaveAny, MakesAtMost}
+use Rattle.silt_disk.proofs.Costs.{most_more, none_made}
 use Rattle.silt_disk.specs.Layout.{Shape}
 use Rattle.silt_disk.specs.declared.disk.Disk.{Ghosts}
 use Rattle.silt_event.specs.declared.event.Event.TheVariants.{Merge}
@@ -19,12 +20,14 @@ use Rattle.silt_merge.specs.State.{MergeState, is_done, oldest_stores, steps_of}
 use Rattle.silt_tiers.specs.Calls.{Advances, Breaks, IsLastGeneration, Remaps}
 use Rattle.silt_standing.specs.Standing.{SameDisk}
 use Rattle.silt_tiers.specs.Conversion.{is_work}
+use Rattle.silt_tiers.specs.Costs.{step_syncs, step_writes}
+use Rattle.silt_tiers.specs.Costs as tiers
 use Rattle.silt_tiers.specs.Merge.{EndsMerged, HasMergedEntries, IsDoneBySteps, IsNextMerge, MayLackMemory, Merges, MergesOn, full_stores, merge_progress, merge_sources, merge_turn, merged_body}
 use Rattle.silt_standing.specs.Standing.{HasGathered, Stands}
 use Rattle.silt_standing.specs.State.{IsMerging, TiersState, hash_region_of}
 use Rattle.silt_tiers.proofs.Meaning.{meaning}
 use Rattle.silt_store_set.specs.Basis.{basis_of}
-use Rattle.silt_store_set.specs.CoreState.{CoreState, Does, GathersNewKey, GathersNext, IsMergeDue, MergeGoesOn, MergeLacksMemory, has_decided, merge_due, merge_work}
+use Rattle.silt_store_set.specs.CoreState.{CoreState, Does, GathersNewKey, GathersNext, IsMergeDue, MadeFor, MergeGoesOn, MergeLacksMemory, entries_written, has_decided, merge_due, merge_work}
 use Rattle.silt_store_set.proofs.Calls.{seen, seen_failed, advanced, answered, broke, refused}
 use Rattle.silt_store_set.proofs.Gatherings.{new_key_next}
 
@@ -44,6 +47,11 @@ some_work hashes false = refl
 -- a slot before the end of the stores is a number below that of all slots
 slot_below : (store stores slot slots : ℕ) → store < stores → slot < slots → store * slots + slot < stores * slots
 slot_below store stores slot slots store_in slot_in = subst (λ (n : ℕ). store * slots + slot < n) (mul_comm slots stores) (mul-add-lt store slots slot stores store_in slot_in)
+
+-- a merge in memory and the contracts' view of it have written as many entries
+written_seen : (o : Option MergeState) → entries_written (merge_work o) ≡ tiers.entries_written o
+written_seen None = refl
+written_seen (Some merge) = refl
 
 -- the contracts' view of a step in memory
 goes_on : (s : TiersState) (before : Option MergeState) (after : MergeState) → length s.hashes ≡ length s.manifest.current.hashed → IsNextMerge s before after
@@ -105,37 +113,47 @@ module _ {D F : Type 0} (facts : Ghosts D F) (disk : D) (stores : TiersState) (c
   entries_are new after merge was has =
       subst (λ (o : Option MergeState). IfSome o (λ m. (full_stores (facts.content new) after).entries ≡ merged_rows (merge_sources m.stores (full_stores (facts.content disk) stores)))) was has
 
+  -- a step that goes on has made what contracts see
+  moved_made : (new : D) (after : TiersState) → tiers.MakesStep facts disk new stores after Moved → MadeFor facts before (seen facts new after count) Merge (Progress Moved)
+  moved_made new after made = (made.0, made.1, written_seen after.merging ∙ made.2 ∙ ap (λ (n : ℕ). n + made.0) (sym (written_seen stores.merging)), made.3)
+
+  -- no step makes more than the last one
+  few_made : (progress : ProgressOf) (new : D) → MakesAtMost facts.writes facts.syncs (step_writes progress) (step_syncs progress) disk new → MakesAtMost facts.writes facts.syncs 3 4 disk new
+  few_made Idle new most = most_more most (omega arith) (omega arith)
+  few_made Waiting new most = most_more most (omega arith) (omega arith)
+  few_made Moved new most = most_more most (omega arith) (omega arith)
+  few_made Finished new most = most
+
   pub stepped : (progress : ProgressOf) (new : D) (after : TiersState) → SameDisk (facts.content disk) (facts.content new) → Advances [] (facts.content disk) (facts.content new) stores after
       → Merges progress stores after → (progress ≡ Finished → IsTrue (facts.content disk).honest → HasMergedEntries (facts.content disk) (facts.content new) stores after)
-      → (is_work progress ≡ false → new ≡ disk) → facts.failures new ≡ facts.failures disk
+      → (is_work progress ≡ false → new ≡ disk) → facts.failures new ≡ facts.failures disk → tiers.MakesStep facts disk new stores after progress
       → Does facts before (seen facts new after count) Merge (Progress progress)
-  stepped Idle new after same goes merges entries quiet counted =
-      rw (quiet refl, merges.done) (answered facts disk stores count Merge (Progress Idle) stands refl refl refl (refl, due Idle merges.due, refl, refl) (λ _. refl) (λ _. tt))
-  stepped Waiting new after same goes merges entries quiet counted = absurd merges.done
-  stepped Moved new after same goes merges entries quiet counted =
+  stepped Idle new after same goes merges entries quiet counted made =
+      rw (quiet refl, merges.done) (answered facts disk stores count Merge (Progress Idle) stands refl refl refl (refl, due Idle merges.due, refl, refl) none_made (λ _. refl) (λ _. tt))
+  stepped Waiting new after same goes merges entries quiet counted made = absurd merges.done
+  stepped Moved new after same goes merges entries quiet counted made =
       let moves : MergesOn stores after = merges.done in
       let current : after.manifest.current ≡ stores.manifest.current = ap (λ (s : TiersState). s.manifest.current) moves.is in
       let merging : after.merging ≡ Some moves.merge = ap (λ (s : TiersState). s.merging) moves.is in
       let on : MergeGoesOn stores.manifest.current (merge_work stores.merging) (merge_work after.merging) = rw merging (goes_on stores stores.merging moves.merge hash_count moves.step) in
       advanced facts disk new stores after same stands [] count count Merge (Progress Moved) goes refl refl refl refl
-      (refl, due Moved merges.due, (current, on), counted) (λ m to e. e) (λ _ _. current) (λ _. ap (λ (s : TiersState). s.converting) moves.is) (λ other. absurd (cc)) (λ _. tt) counted
-  stepped Finished new after same goes merges entries quiet counted =
+      (refl, due Moved merges.due, (current, on), counted) (λ m to e. e) (λ _ _. current) (λ _. ap (λ (s : TiersState). s.converting) moves.is) (λ other. absurd (cc)) (λ _. tt) counted (moved_made new after made)
+  stepped Finished new after same goes merges entries quiet counted made =
       let ends : EndsMerged stores after = merges.done in
       let region : ends.merge.region ≡ 1 - stores.manifest.current.sorted = other_region stores.merging stands.whole.merging ends.merge ends.was in
       advanced facts disk new stores after same stands [] count count Merge (Progress Finished) goes refl refl refl refl (
         refl,
         due Finished merges.due,
         record {
-          work = record { stores = ends.merge.stores; steps = steps_of ends.merge };
+          work = record { stores = ends.merge.stores; steps = steps_of ends.merge; written = ends.merge.written };
           was = ap merge_work ends.was;
           none = ap merge_work ends.none;
-          written = ends.merge.written;
           body = ends.current ∙ ap (λ (n : ℕ). merged_body stores.manifest.current ends.merge.stores n ends.merge.written) region;
           entries = λ h. entries_are new after ends.merge ends.was (entries refl h);
         },
         counted,
       )
-      (λ m to e. e) (λ _ unfinished. absurd (cc)) (λ _. ends.converting) (λ other. absurd (cc)) (λ _. tt) counted
+      (λ m to e. e) (λ _ unfinished. absurd (cc)) (λ _. ends.converting) (λ other. absurd (cc)) (λ _. tt) counted made
 
   -- ---- a step was refused
 
@@ -176,7 +194,7 @@ module _ {D F : Type 0} (facts : Ghosts D F) (disk : D) (stores : TiersState) (c
   -- a write or a sync failed
   pub step_broke : (new : D) (after : TiersState) (fault : F) → SameDisk (facts.content disk) (facts.content new) → is_work (merge_turn stores) ≡ true → Breaks (facts.content disk) (facts.content new) stores
       → Remaps [] (facts.content disk) (facts.content new) stores after → after.manifest.shape ≡ stores.manifest.shape → GaveAny facts.gave new fault → facts.failures new ≡ (facts.failures disk + 1) % 2 ^ 64
-      → Does facts before (seen_failed facts (basis_of (facts.content disk) stores) new after count) Merge (Refused (Device fault))
-  step_broke new after fault same work breaks remaps shape given counted =
+      → MakesAtMost facts.writes facts.syncs (step_writes (merge_turn stores)) (step_syncs (merge_turn stores)) disk new → Does facts before (seen_failed facts (basis_of (facts.content disk) stores) new after count) Merge (Refused (Device fault))
+  step_broke new after fault same work breaks remaps shape given counted most =
       broke facts disk new stores after same stands count Merge fault breaks shape remaps
-      (inr (work_same ∙ work, record { given = given; counted = counted; failed = refl })) counted
+      (inr (work_same ∙ work, record { given = given; counted = counted; failed = refl })) counted (few_made (merge_turn stores) new most)

@@ -2,7 +2,7 @@
 use Rattle.std.proofs.Common.{◌≡◌, ◌≢◌, ◌<◌, ◌≤◌, ℕ, ◌*◌, ◌==◌, Bool, true, if◌then◌else◌, Option, Some, None, ◌+◌, ◌%◌, ◌^◌, inl, inr, false, IsTrue, List, [], ◌∷◌, length, refl, ap, sym, ◌∙◌, subst, arith}
 use Rattle.std.proofs.lemmas.Bool.{ne_eqb}
 use Rattle.std.proofs.lemmas.List.{length-map}
-use Rattle.silt_disk.specs.Disk.{GaveAny}
+use Rattle.silt_disk.specs.Disk.{GaveAny, Makes, MakesAtMost}
 use Rattle.silt_disk.specs.declared.disk.Disk.{Ghosts}
 use Rattle.silt_frame.specs.declared.key.Key.{Key}
 use Rattle.silt_frame.specs.declared.key.Kind.{Kind}
@@ -19,6 +19,7 @@ use Rattle.silt_tiers.specs.NextLog.{IsLowestFree, next_body}
 use Rattle.silt_standing.specs.Standing.{Stands, full_image, waiting_commands}
 use Rattle.silt_standing.specs.State.{TiersState, region_of}
 use Rattle.silt_tiers.specs.RowWrite.{NeedsNext, WritesKey}
+use Rattle.silt_tiers.specs.Costs as tiers
 use Rattle.silt_tiers.proofs.Meaning.{meaning}
 use Rattle.silt_event.specs.declared.event.Event.TheVariants.{Put, Delete}
 use Rattle.silt_event.specs.declared.refusal.Refusal.{Refusal}
@@ -30,7 +31,8 @@ use Rattle.silt_tiers.specs.Conversion.{progress_due}
 use Rattle.silt_event.specs.declared.progress.Progress.{Progress as ProgressOf}
 use Rattle.silt_event.specs.declared.progress.Progress.TheVariants.{Idle, Waiting, Moved, Finished}
 use Rattle.silt_disk.specs.Layout.{InLimits, Shape}
-use Rattle.silt_store_set.specs.CoreState.{CoreState, AreAllInUse, Cause, convert_due, convert_work, written_of, Does, FailsBy, FailsRead, Freezes, HasFreeLog, IsStuck, MayWrite, Takes, row_event}
+use Rattle.silt_store_set.specs.CoreState.{CoreState, AreAllInUse, Cause, convert_due, convert_work, written_of, Does, FailsBy, FailsRead, Freezes, HasFreeLog, IsStuck, MakesRow, MayWrite, Takes, most_syncs, most_writes, row_event, some_wait}
+use Rattle.silt_store_set.proofs.Waits.{waits_same}
 use Rattle.silt_store_set.proofs.Calls.{seen, seen_failed, advanced, broke, refused}
 
 -- a store that may write is not failed
@@ -108,17 +110,31 @@ module _ {D F : Type 0} (facts : Ghosts D F) (disk : D) (stores : TiersState) (c
     },
   )
 
+  -- ---- what was made
+
+  -- memory and the contracts' view say alike whether a command waits
+  waits_as_seen : tiers.some_wait stores ≡ some_wait (waiting_commands (facts.content disk) stores)
+  waits_as_seen = waits_same (facts.content disk) stores stands.active.bounds
+
+  row_made : (new : D) (after : TiersState) (next : ℕ) → tiers.MakesRow facts disk new stores after → MakesRow facts before (seen facts new after next)
+  row_made new after next made = (made.0, λ changed. subst (λ (n : ℕ). Makes facts.writes facts.syncs (n + 6) (2 * n + 4) disk new) waits_as_seen (made.1 changed))
+
+  row_most : (new : D) (k : Kind) (key : Key) (value : List ℕ) → MakesAtMost facts.writes facts.syncs (tiers.freeze_writes stores) (tiers.freeze_syncs stores) disk new
+      → MakesAtMost facts.writes facts.syncs (most_writes before (row_event k key value)) (most_syncs before (row_event k key value)) disk new
+  row_most new kind.Put key value most = subst (λ (n : ℕ). MakesAtMost facts.writes facts.syncs (n + 6) (2 * n + 4) disk new) waits_as_seen most
+  row_most new kind.Delete key value most = subst (λ (n : ℕ). MakesAtMost facts.writes facts.syncs (n + 6) (2 * n + 4) disk new) waits_as_seen most
+
   -- ---- the row was taken
 
   pub row_taken : (new : D) (after : TiersState) (k : Kind) (key : Key) (value : List ℕ) → MayWrite k before → SameDisk (facts.content disk) (facts.content new)
       → Advances (command_of (stored_row k key value) ∷ []) (facts.content disk) (facts.content new) stores after → WritesKey (facts.content disk) (facts.content new) stores after key.0 (command_of (stored_row k key value)) → after.converting ≡ stores.converting → after.merging ≡ stores.merging → facts.failures new ≡ facts.failures disk
-      → Does facts before (seen facts new after (count + 1)) (row_event k key value) (Accepted (count + 1))
-  row_taken new after kind.Put key value may same goes taken converting merging counted =
+      → tiers.MakesRow facts disk new stores after → Does facts before (seen facts new after (count + 1)) (row_event k key value) (Accepted (count + 1))
+  row_taken new after kind.Put key value may same goes taken converting merging counted made =
       advanced facts disk new stores after same stands (command_of (stored_row kind.Put key value) ∷ []) count (count + 1) (Put key value) (Accepted (count + 1)) goes (refl, refl) refl refl refl
-      (may, (takes new after (count + 1) key.0 _ same goes.stands taken, counted)) (λ m to e. e) (λ none. absurd (cc)) (λ _. converting) (λ _. merging) (λ _. tt) counted
-  row_taken new after kind.Delete key value may same goes taken converting merging counted =
+      (may, (takes new after (count + 1) key.0 _ same goes.stands taken, counted)) (λ m to e. e) (λ none. absurd (cc)) (λ _. converting) (λ _. merging) (λ _. tt) counted (row_made new after (count + 1) made)
+  row_taken new after kind.Delete key value may same goes taken converting merging counted made =
       advanced facts disk new stores after same stands (command_of (stored_row kind.Delete key value) ∷ []) count (count + 1) (Delete key) (Accepted (count + 1)) goes (refl, refl) refl refl refl
-      (may, (takes new after (count + 1) key.0 _ same goes.stands taken, counted)) (λ m to e. e) (λ none. absurd (cc)) (λ _. converting) (λ _. merging) (λ _. tt) counted
+      (may, (takes new after (count + 1) key.0 _ same goes.stands taken, counted)) (λ m to e. e) (λ none. absurd (cc)) (λ _. converting) (λ _. merging) (λ _. tt) counted (row_made new after (count + 1) made)
 
   -- ---- a call failed
 
@@ -133,10 +149,10 @@ module _ {D F : Type 0} (facts : Ghosts D F) (disk : D) (stores : TiersState) (c
   pub row_broke : (new : D) (after : TiersState) (k : Kind) (key : Key) (value : List ℕ) (fault : F) → MayWrite k before → SameDisk (facts.content disk) (facts.content new)
       → Breaks (facts.content disk) (facts.content new) stores → Remaps [] (facts.content disk) (facts.content new) stores after → after.manifest.shape ≡ stores.manifest.shape
       → GaveAny facts.gave new fault → facts.failures new ≡ (facts.failures disk + 1) % 2 ^ 64
-      → Does facts before (seen_failed facts (basis_of (facts.content disk) stores) new after count) (row_event k key value) (Refused (Device fault))
-  row_broke new after k key value fault may same breaks remaps shape given counted =
+      → MakesAtMost facts.writes facts.syncs (tiers.freeze_writes stores) (tiers.freeze_syncs stores) disk new → Does facts before (seen_failed facts (basis_of (facts.content disk) stores) new after count) (row_event k key value) (Refused (Device fault))
+  row_broke new after k key value fault may same breaks remaps shape given counted most =
       broke facts disk new stores after same stands count (row_event k key value) fault breaks shape remaps
-      (broke_cause (seen_failed facts (basis_of (facts.content disk) stores) new after count) k key value fault may (record { given = given; counted = counted; failed = refl })) counted
+      (broke_cause (seen_failed facts (basis_of (facts.content disk) stores) new after count) k key value fault may (record { given = given; counted = counted; failed = refl })) counted (row_most new k key value most)
 
   -- ---- the row was refused
 

@@ -1,9 +1,9 @@
 -- What a swap does: that of a put if the key has the old value, else nothing.
-use Rattle.std.proofs.Common.{◌≡◌, ◌≢◌, ◌↔◌, ◌&&◌, ℕ, Bool, true, false, IsTrue, inl, inr, List, [], ◌∷◌, Option, Some, None, refl, ap, sym, ◌∙◌, subst}
+use Rattle.std.proofs.Common.{◌≡◌, ◌≢◌, ◌↔◌, ℕ, Bool, false, IsTrue, inl, inr, List, Some, None, refl, ap, sym, ◌∙◌, subst}
 use Rattle.std.specs.FinMap.{get}
 use Rattle.silt_disk.specs.declared.disk.Disk.{Ghosts}
 use Rattle.silt_frame.specs.declared.key.Key.{Key}
-use Rattle.silt_event.specs.Commands.{Command, Map}
+use Rattle.silt_event.specs.Commands.{Map}
 use Rattle.silt_event.specs.declared.event.Event.TheVariants.{Put, Swap}
 use Rattle.silt_event.specs.declared.refusal.Refusal.{Refusal}
 use Rattle.silt_event.specs.declared.refusal.Refusal.TheVariants.{Device, StoreFull, Failed, Spent}
@@ -13,7 +13,8 @@ use Rattle.silt_event.specs.Events.{Step, accepted_command}
 use Rattle.silt_standing.specs.Standing.{Stands, current_map, full_image}
 use Rattle.silt_standing.specs.State.{TiersState}
 use Rattle.silt_image.specs.Meaning.{image_map}
-use Rattle.silt_store_set.specs.CoreState.{CoreState, Cause, Does, IsRefusedRead, Moves, map_of}
+use Rattle.silt_store_set.specs.CoreState.{CoreState, Cause, Does, IsRefusedRead, MadeFor, Moves, map_of}
+use Rattle.silt_disk.proofs.Costs.{none_made}
 use Rattle.silt_store_set.proofs.Calls.{seen, answered, refused}
 use Rattle.silt_store_set.proofs.Gets.{looked_up}
 
@@ -41,12 +42,25 @@ module _ {D F : Type 0} (facts : Ghosts D F) where
     swap_cause (Refused refusal) cause = (has, cause.0, cause.1)
     swap_cause reply cause = absurd cause
 
+    -- and what a put has made, such a swap has made
+    swap_made : (reply : Reply F) → MadeFor facts old new (Put key value) reply → MadeFor facts old new (Swap key expected value) reply
+    swap_made (Accepted n) made = made
+    swap_made (Acknowledged n) made = made
+    swap_made (Found v) made = made
+    swap_made Absent made = made
+    swap_made Differs made = made
+    swap_made (Progress progress) made = made
+    swap_made (Refused refusal) made = made
+    swap_made (Unsettled n) made = made
+    swap_made NotServed made = made
+
     -- what a put does, a swap of the value that the key has does
     pub does_swap : (reply : Reply F) → Does facts old new (Put key value) reply → Does facts old new (Swap key expected value) reply
     does_swap reply does =
         let adds : accepted_command (Put key value) reply ≡ accepted_command (Swap key expected value) reply = adds_put key expected value reply in
         record {
           cause = swap_cause reply does.cause;
+          made = swap_made reply does.made;
           counts = does.counts;
           step = λ working h. step_swapped (map_of old) (map_of new) key expected value reply (has h) (does.step working h);
           failed = does.failed;
@@ -87,7 +101,7 @@ module _ {D F : Type 0} (facts : Ghosts D F) where
     -- the key has another value or none
     pub swap_differs : (value : List ℕ) → (IsTrue (facts.content disk).honest → get (image_map (full_image (facts.content disk) stores)) key.0 ≢ Some expected)
         → Does facts (seen facts disk stores count) (seen facts disk stores count) (Swap key expected value) Differs
-    swap_differs value other = answered facts disk stores count (Swap key expected value) Differs stands refl refl refl (refl, refl) (λ h. (other h, refl)) (λ _. tt)
+    swap_differs value other = answered facts disk stores count (Swap key expected value) Differs stands refl refl refl (refl, refl) none_made (λ h. (other h, refl)) (λ _. tt)
 
     -- a read failed before it is known whether the key has the old value
     pub swap_unread : (value : List ℕ) (refusal : Refusal F) → IsRefusedRead facts (seen facts disk stores count) refusal

@@ -2,7 +2,7 @@
 use Rattle.std.specs.Prelude.{◌≡◌, ◌≢◌, ◌≤◌, ◌<◌, ◌-◌, ◌*◌, ◌^◌, ◌%◌, ◌==◌, ◌&&◌, ◌⊎◌, ℕ, ◌+◌, not, Option, Some, None, Bool, true, false, IsTrue, List, [], ◌∷◌, ◌++◌, drop, filter, flat_map, length, slice_get, take}
 use Rattle.std.specs.FinMap.{get}
 use Rattle.std.specs.Option.{option_map}
-use Rattle.silt_disk.specs.Disk.{Content, GaveAny, LeavesOnly}
+use Rattle.silt_disk.specs.Disk.{Content, GaveAny, LeavesOnly, Makes, MakesAtMost}
 use Rattle.silt_disk.specs.Layout.{Shape}
 use Rattle.silt_frame.specs.declared.key.Key.{Key}
 use Rattle.silt_frame.specs.declared.key.Kind.{Kind}
@@ -22,6 +22,7 @@ use Rattle.silt_merge.specs.State.{MergeState, steps_of}
 use Rattle.silt_tiers.specs.Calls.{CannotTake, HasBegun}
 use Rattle.silt_standing.specs.Standing.{SameDisk}
 use Rattle.silt_tiers.specs.Conversion.{AreConverted, IsLowestFreeHash, converted_body, is_work, oldest_rows, progress_due}
+use Rattle.silt_tiers.specs.Costs.{step_syncs, step_writes}
 use Rattle.silt_tiers.specs.Merge.{merge_progress, merge_sources, merged_body}
 use Rattle.silt_tiers.specs.NextLog.{IsLowestFree, next_body}
 use Rattle.silt_tiers.specs.Laws.{IsGoodWith}
@@ -42,10 +43,11 @@ pub record ConvertWork : Type 0 where
   pub region : ℕ
   pub written : ℕ
 
--- a merge in progress: how many of the oldest hash stores it takes, and how many steps it took
+-- a merge in progress: how many of the oldest hash stores it takes, how many steps it took, and how many entries it wrote
 pub record MergeWork : Type 0 where
   pub stores : ℕ
   pub steps : ℕ
+  pub written : ℕ
 
 -- the contracts' view of a conversion in memory
 abbrev pub convert_work : Option ConversionState → Option ConvertWork
@@ -55,7 +57,7 @@ convert_work (Some conversion) = Some (record { region = conversion.region; writ
 -- the contracts' view of a merge in memory
 abbrev pub merge_work : Option MergeState → Option MergeWork
 merge_work None = None
-merge_work (Some merge) = Some (record { stores = merge.stores; steps = steps_of merge })
+merge_work (Some merge) = Some (record { stores = merge.stores; steps = steps_of merge; written = merge.written })
 
 pub record CoreState (D : Type 0) : Type 0 where
   pub disk : D
@@ -211,8 +213,7 @@ pub record IsMerged {D F : Type 0} (facts : Ghosts D F) (old new : CoreState D) 
   pub work : MergeWork
   pub was : old.merging ≡ Some work
   pub none : new.merging ≡ None
-  pub written : ℕ
-  pub body : new.body ≡ merged_body old.body work.stores (1 - old.body.sorted) written
+  pub body : new.body ≡ merged_body old.body work.stores (1 - old.body.sorted) work.written
   pub entries : IsTrue (facts.content old.disk).honest → (stores_of new).entries ≡ merged_rows (taken_by old work)
 
 -- The write or sync that failed gave this fault in this very call, and the store is failed from now on.
@@ -364,6 +365,59 @@ module _ {D F : Type 0} (facts : Ghosts D F) (old new : CoreState D) where
   Cause Convert = ConvertCause
   Cause Merge = MergeCause
 
+-- ---- how many writes and syncs an event makes
+
+-- 1 if a command waits, and 0 if none does
+abbrev pub some_wait : List Command → ℕ
+some_wait [] = 0
+some_wait (command ∷ commands) = 1
+
+-- how many entries a merge has written
+abbrev pub entries_written : Option MergeWork → ℕ
+entries_written None = 0
+entries_written (Some work) = work.written
+
+-- The most writes of an event. A row is two. If a log is frozen for it, there are also a flush if a command waits, the commit bytes of the
+-- new log, and three of the manifest. A step of conversion or merging that finishes writes the manifest.
+abbrev pub most_writes : {D : Type 0} → CoreState D → Event → ℕ
+most_writes core Flush = some_wait core.waiting
+most_writes core (Get key) = 0
+most_writes core Convert = step_writes (convert_due core)
+most_writes core Merge = 3
+most_writes core event = some_wait core.waiting + 6
+
+-- The most syncs of an event: two of a flush, one of the new log's commit bytes, three of the manifest, and one of what the steps wrote.
+abbrev pub most_syncs : {D : Type 0} → CoreState D → Event → ℕ
+most_syncs core Flush = 2 * some_wait core.waiting
+most_syncs core (Get key) = 0
+most_syncs core Convert = step_syncs (convert_due core)
+most_syncs core Merge = 4
+most_syncs core event = 2 * some_wait core.waiting + 4
+
+module _ {D F : Type 0} (facts : Ghosts D F) (old new : CoreState D) where
+  -- the device was asked for so many writes and syncs
+  abbrev pub HasMade : ℕ → ℕ → Type 0
+  HasMade writes syncs = Makes facts.writes facts.syncs writes syncs old.disk new.disk
+
+  -- two writes, or, if the active log was frozen, as many as that makes
+  abbrev pub MakesRow : Type 0
+  MakesRow = (new.body ≡ old.body → HasMade 2 0)
+      × (new.body ≢ old.body → HasMade (some_wait old.waiting + 6) (2 * some_wait old.waiting + 4))
+
+  -- a step: of a merge that goes on, one write if it writes an entry; of a conversion that goes on, one
+  abbrev pub MakesStep : Event → ProgressOf → Type 0
+  MakesStep Merge Moved =
+      (count : ℕ) × (count ≤ 1) × (entries_written new.merging ≡ entries_written old.merging + count) × HasMade count 0
+  MakesStep event progress = HasMade (step_writes progress) (step_syncs progress)
+
+  -- what an event with this reply has made: after a refusal no more than the event can make, and else exactly as much as it must
+  abbrev pub MadeFor : Event → Reply F → Type 0
+  MadeFor event (Accepted n) = MakesRow
+  MadeFor event (Acknowledged n) = HasMade (some_wait old.waiting) (2 * some_wait old.waiting)
+  MadeFor event (Progress progress) = MakesStep event progress
+  MadeFor event (Refused refusal) = MakesAtMost facts.writes facts.syncs (most_writes old event) (most_syncs old event) old.disk new.disk
+  MadeFor event reply = HasMade 0 0
+
 -- ---- what a call leaves
 
 -- A beginning of what waited, and the event's own command, went into the base.
@@ -413,6 +467,8 @@ pub record Does {D F : Type 0} (facts : Ghosts D F) (old new : CoreState D) (eve
   pub failed_only : IsTrue (is_failed reply) → old.failed ≡ true
   -- a store fails only if it replies with a fault of its device
   pub faulted : old.failed ≡ false → new.failed ≡ true → IsTrue (is_fault reply)
+  -- the device is asked for as many writes and syncs as the event costs, and if it is refused, for no more
+  pub made : MadeFor facts old new event reply
   -- ---- the store after the call
 
   -- the disk keeps its length and whether it is honest, and the store keeps its shape

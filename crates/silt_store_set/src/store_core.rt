@@ -81,6 +81,7 @@ impl<D: Disk> Core<D> {
     ghost use Rattle.silt_store_set.specs.CoreInvariant.{LeavesBegun};
     ghost use Rattle.silt_frame.specs.Rows.{key_cmp};
     ghost use Rattle.silt_store_set.specs.CoreState.{CoreState, Does, Runs, Opens, EntriesCause, IsRefusedRead, StandsKept, map_of, MayWrite, row_event, wants_convert, wants_merge};
+    ghost use Rattle.silt_store_set.specs.Costs.{RunMade};
     ghost use Rattle.silt_event.specs.Events.{HasValueOf};
     ghost use Rattle.silt_store_set.specs.Opening.{OpeningCause};
     ghost use Rattle.silt_store_set.specs.Replies.{change_reply, flush_reply, get_reply, read_reply, progress_reply, swap_reply};
@@ -155,7 +156,8 @@ impl<D: Disk> Core<D> {
     ///
     /// The checks are in this order: `Failed`, `Spent` (the count), `StoreFull`, the reads of its lookup (`Device`),
     /// `NoRoom`, `Spent` (the generation), `NoMemory`, its writes (`Device`). It needs memory only if the active log
-    /// cannot take the row and a new log is started.
+    /// cannot take the row and a new log is started. A put costs two writes of the device and no sync. If a new log is
+    /// started, it costs six writes and four syncs, and a flush's if a row waits.
     pub fn put(&mut self, alloc: Global, key: &Key, value: &[u8]) -> Result<u64, Refusal<D::Fault>>
         requires { length value.now ≡ self.old.shape.value_len }
         ensures { Does D.Disk self.old self.new (Put key.now value.now) (change_reply result) }
@@ -262,7 +264,8 @@ impl<D: Disk> Core<D> {
         }
     }
 
-    /// Acknowledges all commands accepted so far, and returns their number. If no row waits it makes no device call.
+    /// Acknowledges all commands accepted so far, and returns their number. It costs one write of the device between two
+    /// syncs. If no row waits it makes no device call.
     pub fn flush(&mut self) -> Result<u64, Refusal<D::Fault>>
         ensures { Does D.Disk self.old self.new Flush (flush_reply result) }
     {
@@ -321,7 +324,8 @@ impl<D: Disk> Core<D> {
 
     /// Does one step of the conversion of the oldest frozen log into a hash store. If none is in progress, it returns
     /// `Idle` if no log is frozen and `Waiting` if no hash region is free; else the conversion begins. Each step writes
-    /// one slot and returns `Moved`. The step after the last slot syncs, writes the manifest and returns `Finished`.
+    /// one slot, by one write of the device, and returns `Moved`. The step after the last slot syncs, writes the
+    /// manifest and returns `Finished`: three writes and four syncs.
     ///
     /// The checks are in this order: `Failed`, `Spent` (the generation, if the step writes the manifest), the read of a
     /// row (`Device`) and `NoMemory` (only in a first step), its write or syncs (`Device`).
@@ -347,9 +351,9 @@ impl<D: Disk> Core<D> {
 
     /// Does one step of the merge of hash stores and the sorted store into a new sorted store. If none is in progress,
     /// it returns `Idle` if there is no hash store; else the merge of all of them begins. A step gathers one slot of a
-    /// hash store, or decides one key, and returns `Moved`. The step after the last key syncs, writes the manifest and
-    /// returns `Finished`. A hash store that a conversion finishes meanwhile stays in front. It never returns
-    /// `Waiting`.
+    /// hash store, or decides one key, and returns `Moved`; it makes one write of the device if it writes an entry, and
+    /// else none. The step after the last key syncs, writes the manifest and returns `Finished`: three writes and four
+    /// syncs. A hash store that a conversion finishes meanwhile stays in front. It never returns `Waiting`.
     ///
     /// The checks are in this order: `Failed`, `Spent` (the generation, if the step writes the manifest), its reads
     /// (`Device`) and `NoMemory` (while it gathers slots, and if it writes the manifest), its write or syncs
@@ -415,7 +419,7 @@ impl<D: Disk> Core<D> {
         }
     }
 
-    /// Does events in order, and returns a reply to each.
+    /// Does events in order, and returns a reply to each. What it costs is the sum of what the events cost (`RunMade`).
     ///
     /// # Errors
     ///
@@ -430,6 +434,7 @@ impl<D: Disk> Core<D> {
         ensures runs { IfOk result (λ replies. Runs D.Disk self.old events.now replies.items self.new) }
         ensures legal { IsTrue (D.content self.old.disk).honest → IfOk result (λ replies. Legal self.old.count (map_of self.old) events.now replies.items self.new.count (map_of self.new)) }
         ensures kept { self.old.failed ≡ false → IfOk result (λ replies. LeavesOnly (D.content self.new.disk) (StandsKept self.old events.now replies.items)) }
+        ensures made { IfOk result (λ replies. RunMade D.Disk self.old events.now replies.items self.new) }
         ensures err { OnErr result (self.new ≡ self.old) }
     {
         let _ = &self.disk; // the store is as it was made

@@ -1,20 +1,25 @@
 use Rattle.std.proofs.Common.{[], arith}
-use Rattle.silt_store_set.proofs.Calls.{core_broke, core_stays, core_went}
+use Rattle.silt_store_set.proofs.Calls.{core_broke, core_stays, core_went, refused_failed, seen_core}
 use Rattle.silt_store_set.proofs.Merges.{step_broke, step_no_memory, step_spent, step_unread, stepped}
+use Rattle.silt_event.specs.declared.event.Event.TheVariants.{Merge}
 use Rattle.silt_store_set.proofs.store_core.Core.merge.Goals as goal
+
+pub returns-then-self : goal.returns-then-self
+returns-then-self g c = rw (← c.self.view_is) (refused_failed g.D.Disk
+    (seen_core g.D.Disk c.self.inside.disk c.self.inside.tiers c.self.inside.count c.self.inside.failed c.self.inside.basis) Merge c.if-self.true c.if-self.true)
 
 pub returns-in-Ok : goal.returns-in-Ok
 returns-in-Ok g c =
     let working = c.if-self.false in
     rw (← c.self.view_is, working) (stepped g.D.Disk c.self.inside.disk c.self.inside.tiers c.self.inside.count
-    (c.self.invariant.stands working) c.in-Ok.merged c.merge.new.disk c.merge.new.self c.merge.ensures.works.same c.in-Ok.ensures.works.advances c.in-Ok.ensures.merges c.in-Ok.ensures.entries c.in-Ok.ensures.quiet c.in-Ok.ensures.works.failures)
+    (c.self.invariant.stands working) c.in-Ok.merged c.merge.new.disk c.merge.new.self c.merge.ensures.works.same c.in-Ok.ensures.works.advances c.in-Ok.ensures.merges c.in-Ok.ensures.entries c.in-Ok.ensures.quiet c.in-Ok.ensures.works.failures c.in-Ok.ensures.made)
 
 pub returns-in-Err-Write : goal.returns-in-Err-Write
 returns-in-Err-Write g c =
     let working = c.if-self.false in
     let err = rw c.in-Err-Write.field-0-is at c.in-Err-Write.ensures.err in
     rw (← c.self.view_is, working, c.of-basis.ensures) (step_broke g.D.Disk c.self.inside.disk c.self.inside.tiers c.self.inside.count
-    (c.self.invariant.stands working) c.merge.new.disk c.merge.new.self c.in-Err-Write.fault c.merge.ensures.works.same err.0 err.1.breaks err.1.map c.merge.ensures.works.shape err.1.counted.1 err.1.counted.0)
+    (c.self.invariant.stands working) c.merge.new.disk c.merge.new.self c.in-Err-Write.fault c.merge.ensures.works.same err.0 err.1.breaks err.1.map c.merge.ensures.works.shape err.1.counted.1 err.1.counted.0 c.in-Err-Write.ensures.made)
 
 pub returns-in-Err-Read : goal.returns-in-Err-Read
 returns-in-Err-Read g c =

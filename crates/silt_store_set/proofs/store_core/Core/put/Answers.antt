@@ -2,8 +2,12 @@ use Rattle.std.proofs.Common.{◌≡◌, inl, refl, ap, sym, ◌∙◌, arith}
 use Rattle.silt_disk.specs.Layout.{Shape}
 use Rattle.silt_event.specs.declared.event.Event.TheVariants.{Put}
 use Rattle.silt_event.specs.declared.refusal.Refusal.TheVariants.{Spent, StoreFull}
-use Rattle.silt_store_set.proofs.Calls.{refused}
+use Rattle.silt_store_set.proofs.Calls.{refused, refused_failed, seen_core}
 use Rattle.silt_store_set.proofs.store_core.Core.put.Goals as goal
+
+pub returns-then-self : goal.returns-then-self
+returns-then-self g c = rw (← c.self.view_is) (refused_failed g.D.Disk
+    (seen_core g.D.Disk c.self.inside.disk c.self.inside.tiers c.self.inside.count c.self.inside.failed c.self.inside.basis) (Put c.args.key.now c.args.value.now) c.if-self.true c.if-self.true)
 
 pub returns-then-self-eq-MOST_COMMANDS : goal.returns-then-self-eq-MOST_COMMANDS
 returns-then-self-eq-MOST_COMMANDS g c = rw (← c.self.view_is, c.if-self.false) (refused g.D.Disk c.self.inside.disk c.self.inside.tiers c.self.inside.count (Put c.args.key.now c.args.value.now) Spent

@@ -1,6 +1,12 @@
 use Rattle.std.proofs.Common.{Ok, Some, ap, sym, ◌∙◌}
 use Rattle.silt_store_set.proofs.Gets.{get_absent, get_found, get_faulted, get_refused}
+use Rattle.silt_event.specs.declared.event.Event.TheVariants.{Get}
+use Rattle.silt_store_set.proofs.Calls.{refused_failed, seen_core}
 use Rattle.silt_store_set.proofs.store_core.Core.read.Goals as goal
+
+pub returns-then-self : goal.returns-then-self
+returns-then-self g c = rw (← c.self.view_is) (refused_failed g.D.Disk
+    (seen_core g.D.Disk c.self.inside.disk c.self.inside.tiers c.self.inside.count c.self.inside.failed c.self.inside.basis) (Get c.args.key.now) c.if-self.true c.if-self.true)
 
 pub returns-in-Ok-false : goal.returns-in-Ok-false
 returns-in-Ok-false g c =

@@ -4,6 +4,7 @@ use Rattle.silt_event.specs.declared.event.Event.{Event}
 use Rattle.silt_store_set.specs.CoreState.{Runs}
 use Rattle.silt_store_set.proofs.Calls.{endures_seen}
 use Rattle.silt_store_set.proofs.Keeps.{keeps_runs}
+use Rattle.silt_store_set.proofs.RunCosts.{run_made}
 use Rattle.silt_store_set.proofs.Runs.{runs_more, legal_runs}
 use Rattle.silt_store_set.proofs.store_core.Core.run.Goals as goal
 
@@ -39,6 +40,12 @@ returns-clause-kept g c = λ working.
           keeps_runs g.D.Disk c.args.self.now c.loop-event.self c.args.events.now c.loop-event.replies.items working safe runs
           (sym c.loop-event.invariant.same_disk.honest ∙ h) image left;
     }
+
+pub returns-clause-made : goal.returns-clause-made
+returns-clause-made g c =
+    let all = take_all c.loop-event.event-index c.args.events.now c.loop-event-test.false in
+    run_made g.D.Disk c.args.self.now c.loop-event.self c.args.events.now c.loop-event.replies.items
+    (subst (λ (events : List Event). Runs g.D.Disk c.args.self.now events c.loop-event.replies.items c.loop-event.self) all c.loop-event.invariant.runs)
 
 pub returns-clause-runs : goal.returns-clause-runs
 returns-clause-runs g c =

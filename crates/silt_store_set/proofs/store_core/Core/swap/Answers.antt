@@ -1,7 +1,13 @@
 use Rattle.std.proofs.Common.{◌≡◌, true, false, sym, ◌∙◌}
 use Rattle.std.proofs.lemmas.Result.{err_from_is_err_and}
 use Rattle.silt_store_set.proofs.Swaps.{swap_differs, swap_unread}
+use Rattle.silt_event.specs.declared.event.Event.TheVariants.{Swap}
+use Rattle.silt_store_set.proofs.Calls.{refused_failed, seen_core}
 use Rattle.silt_store_set.proofs.store_core.Core.swap.Goals as goal
+
+pub returns-then-self : goal.returns-then-self
+returns-then-self g c = rw (← c.self.view_is) (refused_failed g.D.Disk
+    (seen_core g.D.Disk c.self.inside.disk c.self.inside.tiers c.self.inside.count c.self.inside.failed c.self.inside.basis) (Swap c.args.key.now c.args.old.now c.args.new.now) c.if-self.true c.if-self.true)
 
 pub returns-in_err-holds : goal.returns-in_err-holds
 returns-in_err-holds g c =

@@ -8,7 +8,7 @@ returns-in-Ok g c =
     let may = rw (← c.self.view_is) at c.requires.may in
     let working = may_working c.args.kind (seen_core g.D.Disk c.self.inside.disk c.self.inside.tiers c.self.inside.count c.self.inside.failed c.self.inside.basis) may in
     rw (← c.self.view_is, working) (row_taken g.D.Disk c.self.inside.disk c.self.inside.tiers c.self.inside.count
-    (c.self.invariant.stands working) c.write.new.disk c.write.new.self c.args.kind c.args.key.now c.args.value.now (rw working at may) c.write.ensures.works.same c.in-Ok.ensures.works.advances c.in-Ok.ensures.current c.in-Ok.ensures.converting c.in-Ok.ensures.merging c.in-Ok.ensures.works.failures)
+    (c.self.invariant.stands working) c.write.new.disk c.write.new.self c.args.kind c.args.key.now c.args.value.now (rw working at may) c.write.ensures.works.same c.in-Ok.ensures.works.advances c.in-Ok.ensures.current c.in-Ok.ensures.converting c.in-Ok.ensures.merging c.in-Ok.ensures.works.failures c.in-Ok.ensures.made)
 
 pub returns-in-Err-Write : goal.returns-in-Err-Write
 returns-in-Err-Write g c =
@@ -16,7 +16,7 @@ returns-in-Err-Write g c =
     let may = rw (← c.self.view_is) at c.requires.may in
     let working = may_working c.args.kind (seen_core g.D.Disk c.self.inside.disk c.self.inside.tiers c.self.inside.count c.self.inside.failed c.self.inside.basis) may in
     rw (← c.self.view_is, working, c.of-basis.ensures) (row_broke g.D.Disk c.self.inside.disk c.self.inside.tiers c.self.inside.count
-    (c.self.invariant.stands working) c.write.new.disk c.write.new.self c.args.kind c.args.key.now c.args.value.now c.in-Err-Write.fault (rw working at may) c.write.ensures.works.same err.breaks err.map c.write.ensures.works.shape err.counted.1 err.counted.0)
+    (c.self.invariant.stands working) c.write.new.disk c.write.new.self c.args.kind c.args.key.now c.args.value.now c.in-Err-Write.fault (rw working at may) c.write.ensures.works.same err.breaks err.map c.write.ensures.works.shape err.counted.1 err.counted.0 c.in-Err-Write.ensures.made)
 
 pub returns-in-Err-Read : goal.returns-in-Err-Read
 returns-in-Err-Read g c =

@@ -1,0 +1,236 @@
+-- How many writes and syncs runs make, from what each call makes.
+use Rattle.std.proofs.Common.{◌≡◌, ◌≤◌, ℕ, zero, suc, ◌+◌, ◌*◌, ◌==◌, Bool, true, false, if◌then◌else◌, IsTrue, List, [], ◌∷◌, ◌++◌, length, Option, Some, None, inl, inr, refl, ap, sym, ◌∙◌, subst, arith}
+use Rattle.std.specs.Prelude.{◌&&◌}
+use Rattle.std.specs.List.{list_all}
+use Rattle.silt_disk.specs.declared.disk.Disk.{Ghosts}
+use Rattle.silt_disk.proofs.Costs.{made_both, none_made}
+use Rattle.silt_event.specs.Commands.{Command}
+use Rattle.silt_event.specs.declared.event.Event.{Event}
+use Rattle.silt_event.specs.declared.event.Event.TheVariants.{Put, Delete, Swap, Flush, Get, Convert, Merge}
+use Rattle.silt_event.specs.declared.progress.Progress.TheVariants.{Moved, Finished}
+use Rattle.silt_event.specs.declared.reply.Reply.{Reply}
+use Rattle.silt_event.specs.declared.reply.Reply.TheVariants.{Accepted, Acknowledged, Found, Absent, Differs, Progress, Refused}
+use Rattle.silt_event.specs.Events.{accepted_command, accepted_commands}
+use Rattle.silt_store_set.specs.CoreState.{ConvertGoesOn, ConvertWork, CoreState, Does, HasMade, MakesRow, Runs, WritesRow, entries_written, is_convert, is_merge, some_wait, written_of}
+use Rattle.silt_store_set.specs.Costs.{RunMade, is_foreground, settles_by, settling, to_the_end, waits_after}
+use Rattle.silt_store_set.proofs.Calls.{none_refused}
+use Rattle.std.proofs.lemmas.List.{length-append}
+use Rattle.std.proofs.lemmas.Bool.{eqb-true}
+use Rattle.silt_manifest.specs.declared.body.Body.{Body}
+use Rattle.silt_tiers.specs.Conversion.{progress_due}
+
+-- behind other commands a command waits
+waits_behind : (commands : List Command) (command : Command) → some_wait (commands ++ command ∷ []) ≡ 1
+waits_behind [] command = refl
+waits_behind (first ∷ commands) command = refl
+
+-- of two truths each is one
+both_true : (a b : Bool) → IsTrue (a && b) → IsTrue a × IsTrue b
+both_true true b is = (refl, is)
+both_true false b is = absurd (let no : IsTrue false = is in cc)
+
+-- only a step of conversion is one
+convert_is : (event : Event) → IsTrue (is_convert event) → event ≡ Convert
+convert_is Convert is = refl
+convert_is event is = absurd (let no : IsTrue false = is in cc)
+
+-- only a step of merging is one
+merge_is : (event : Event) → IsTrue (is_merge event) → event ≡ Merge
+merge_is Merge is = refl
+merge_is event is = absurd (let no : IsTrue false = is in cc)
+
+-- how many slots a conversion in progress has written
+abbrev slots_written : Option ConvertWork → ℕ
+slots_written None = 0
+slots_written (Some work) = work.written
+
+-- a conversion that goes on writes one slot more
+one_slot : (hashes : ℕ) (body : Body) (before after : Option ConvertWork) → ConvertGoesOn hashes body before after → slots_written after ≡ slots_written before + 1
+one_slot hashes body (Some before) (Some after) on = on.1
+one_slot hashes body None (Some after) on = on.1
+one_slot hashes body before None on = absurd on
+
+-- if the step that is due finishes, all slots are written
+all_slots : (frozen hashes regions slots written : ℕ) → Finished ≡ progress_due frozen hashes regions slots (Some written) → written ≡ slots
+all_slots frozen hashes regions slots written due =
+    let go : (b : Bool) → (written == slots) ≡ b → Finished ≡ (if b then Finished else Moved) → written ≡ slots = elim [
+      | true ↦ λ is _. eqb-true written slots is
+      | false ↦ λ is no. absurd (let other : Finished ≡ Moved = no in cc)
+    ] in
+    go (written == slots) refl due
+
+module _ {D F : Type 0} (facts : Ghosts D F) where
+  -- what one call makes, and whether commands wait after it
+  record Made (old new : CoreState D) (event : Event) (reply : Reply F) : Type 0 where
+    generation : old.body.generation ≤ new.body.generation
+    made : new.body.generation ≡ old.body.generation
+        → HasMade facts old new (2 * length (accepted_command event reply) + settles_by (some_wait old.waiting) reply) (2 * settles_by (some_wait old.waiting) reply)
+    waits : some_wait new.waiting ≡ waits_after (some_wait old.waiting) reply
+
+  -- a row
+  row_made : (old new : CoreState D) (key : List ℕ) (command : Command) → IsTrue (facts.content old.disk).honest → WritesRow facts old new key command → MakesRow facts old new
+      → (old.body.generation ≤ new.body.generation) × (new.body.generation ≡ old.body.generation → HasMade facts old new 2 0) × (some_wait new.waiting ≡ 1)
+  row_made old new key command h (inl (stays, behind), quiet) made =
+      let same : new.body.generation ≡ old.body.generation = ap (λ b. b.generation) stays.0 in
+      (omega (arith, same), λ _. made.0 stays.0, ap some_wait (behind h).waiting ∙ waits_behind old.waiting command)
+  row_made old new key command h (inr (turns, alone), quiet) made =
+      let next : new.body.generation ≡ old.body.generation + 1 = ap (λ b. b.generation) turns.0.is in
+      (omega (arith, next), λ same. absurd (omega (arith, next, same)), ap some_wait (alone h).waiting)
+
+  -- a call that changes nothing
+  nothing_made : (old new : CoreState D) → new ≡ old → (old.body.generation ≤ new.body.generation) × HasMade facts old new 0 0 × (some_wait new.waiting ≡ some_wait old.waiting)
+  nothing_made old new same = rw same (omega arith, none_made, refl)
+
+  call_made : (old new : CoreState D) (event : Event) (reply : Reply F) → IsTrue (facts.content old.disk).honest → IsTrue (is_foreground event) → old.failed ≡ false → new.failed ≡ false
+      → Does facts old new event reply → Made old new event reply
+  call_made old new (Put key value) (Accepted n) h front was is does =
+      let row = row_made old new key.0 _ h does.cause.1 does.made in
+      record { generation = row.0; made = row.1; waits = row.2 }
+  call_made old new (Delete key) (Accepted n) h front was is does =
+      let row = row_made old new key.0 _ h does.cause.1 does.made in
+      record { generation = row.0; made = row.1; waits = row.2 }
+  call_made old new (Swap key expected value) (Accepted n) h front was is does =
+      let row = row_made old new key.0 _ h does.cause.2 does.made in
+      record { generation = row.0; made = row.1; waits = row.2 }
+  call_made old new Flush (Acknowledged n) h front was is does =
+      let same : new.body.generation ≡ old.body.generation = ap (λ b. b.generation) (does.keeps_body is refl refl) in
+      record { generation = omega (arith, same); made = λ _. subst (λ (n : ℕ). HasMade facts old new n (2 * some_wait old.waiting)) (omega arith) does.made; waits = ap some_wait (does.settles h) }
+  call_made old new (Get key) (Found value) h front was is does =
+      let none = nothing_made old new does.cause.1 in
+      record { generation = none.0; made = λ _. none.1; waits = none.2 }
+  call_made old new (Get key) Absent h front was is does =
+      let none = nothing_made old new does.cause.1 in
+      record { generation = none.0; made = λ _. none.1; waits = none.2 }
+  call_made old new (Swap key expected value) Differs h front was is does =
+      let none = nothing_made old new does.cause.1 in
+      record { generation = none.0; made = λ _. none.1; waits = none.2 }
+  call_made old new event (Refused refusal) h front was is does =
+      let none = nothing_made old new (does.stays refl (is ∙ sym was)) in
+      record {
+        generation = none.0;
+        made = λ _. subst (λ (commands : List Command). HasMade facts old new (2 * length commands + 0) 0) (sym (none_refused {F = F} event refusal)) none.1;
+        waits = none.2;
+      }
+  call_made old new Convert reply h front was is does = absurd (let no : IsTrue false = front in cc)
+  call_made old new Merge reply h front was is does = absurd (let no : IsTrue false = front in cc)
+  call_made old new event reply h front was is does = absurd does.cause
+
+  -- ---- runs
+
+  -- a failed store stays one
+  stays_failed : (old new : CoreState D) (events : List Event) (replies : List (Reply F)) → Runs facts old events replies new → old.failed ≡ true → new.failed ≡ true
+  stays_failed old new [] [] runs failed = ap (λ (c : CoreState D). c.failed) runs ∙ failed
+  stays_failed old new (event ∷ events) (reply ∷ replies) runs failed =
+      let same : runs.0 ≡ old = (runs.1.failed failed).0 in
+      stays_failed runs.0 new events replies runs.2 (ap (λ (c : CoreState D). c.failed) same ∙ failed)
+  stays_failed old new [] (reply ∷ replies) runs failed = absurd runs
+  stays_failed old new (event ∷ events) [] runs failed = absurd runs
+
+  -- so a store that is not failed was not
+  not_failed : (old new : CoreState D) (events : List Event) (replies : List (Reply F)) → Runs facts old events replies new → new.failed ≡ false → old.failed ≡ false
+  not_failed old new events replies runs is =
+      let go : (b : Bool) → old.failed ≡ b → old.failed ≡ false = elim [
+        | false ↦ λ was. was
+        | true ↦ λ was. absurd (let no : true ≡ false = sym (stays_failed old new events replies runs was) ∙ is in cc)
+      ] in
+      go old.failed refl
+
+  -- no record of a lower generation becomes current
+  rises : (old new : CoreState D) (events : List Event) (replies : List (Reply F)) → IsTrue (facts.content old.disk).honest → IsTrue (list_all is_foreground events) → new.failed ≡ false
+      → Runs facts old events replies new → old.body.generation ≤ new.body.generation
+  rises old new [] [] h front is runs = omega (arith, ap (λ (c : CoreState D). c.body.generation) runs)
+  rises old new (event ∷ events) (reply ∷ replies) h front is runs =
+      let next = runs.0 in
+      let working : next.failed ≡ false = not_failed next new events replies runs.2 is in
+      let was : old.failed ≡ false = not_failed old new (event ∷ events) (reply ∷ replies) runs is in
+      let fronts = both_true (is_foreground event) (list_all is_foreground events) front in
+      let one = call_made old next event reply h fronts.0 was working runs.1 in
+      let rest = rises next new events replies (subst IsTrue (sym runs.1.disk.honest) h) fronts.1 is runs.2 in
+      omega (arith, one.generation, rest)
+  rises old new [] (reply ∷ replies) h front is runs = absurd runs
+  rises old new (event ∷ events) [] h front is runs = absurd runs
+
+  rows_made : (old new : CoreState D) (events : List Event) (replies : List (Reply F)) → IsTrue (facts.content old.disk).honest → IsTrue (list_all is_foreground events) → new.failed ≡ false
+      → new.body.generation ≡ old.body.generation → Runs facts old events replies new
+      → HasMade facts old new (2 * length (accepted_commands events replies) + settling (some_wait old.waiting) replies) (2 * settling (some_wait old.waiting) replies)
+  rows_made old new [] [] h front is same runs = rw runs none_made
+  rows_made old new (event ∷ events) (reply ∷ replies) h front is same runs =
+      let next = runs.0 in
+      let working : next.failed ≡ false = not_failed next new events replies runs.2 is in
+      let was : old.failed ≡ false = not_failed old new (event ∷ events) (reply ∷ replies) runs is in
+      let fronts = both_true (is_foreground event) (list_all is_foreground events) front in
+      let there : IsTrue (facts.content next.disk).honest = subst IsTrue (sym runs.1.disk.honest) h in
+      let one = call_made old next event reply h fronts.0 was working runs.1 in
+      let above = rises next new events replies there fronts.1 is runs.2 in
+      let first : next.body.generation ≡ old.body.generation = omega (arith, one.generation, above, same) in
+      let rest = rows_made next new events replies there fronts.1 is (same ∙ sym first) runs.2 in
+      let after : HasMade facts next new (2 * length (accepted_commands events replies) + settling (waits_after (some_wait old.waiting) reply) replies) (2 * settling (waits_after (some_wait old.waiting) reply) replies)
+      = subst (λ (n : ℕ). HasMade facts next new (2 * length (accepted_commands events replies) + settling n replies) (2 * settling n replies)) one.waits rest in
+      let long : length (accepted_command event reply ++ accepted_commands events replies) ≡ length (accepted_command event reply) + length (accepted_commands events replies)
+      = length-append (accepted_command event reply) (accepted_commands events replies) in
+      made_both next.disk (one.made first) after (omega (arith, long)) (omega arith)
+  rows_made old new [] (reply ∷ replies) h front is same runs = absurd runs
+  rows_made old new (event ∷ events) [] h front is same runs = absurd runs
+
+  -- ---- background work
+
+  -- the step that finishes a conversion comes after one for each slot
+  finished_at : (old new : CoreState D) → Does facts old new Convert (Progress Finished) → slots_written old.converting ≡ 4 * old.shape.buckets
+  finished_at old new does =
+      let is = does.cause.2 in
+      let due : Finished ≡ progress_due (length old.body.frozen) (length old.body.hashed) old.shape.hashes (4 * old.shape.buckets) (Some is.work.written)
+      = does.cause.1 ∙ ap (λ o. progress_due (length old.body.frozen) (length old.body.hashed) old.shape.hashes (4 * old.shape.buckets) (written_of o)) is.was in
+      ap slots_written is.was ∙ all_slots (length old.body.frozen) (length old.body.hashed) old.shape.hashes (4 * old.shape.buckets) is.work.written due
+
+  conversion_made : (moves : ℕ) (old new : CoreState D) (events : List Event) → IsTrue (list_all is_convert events) → Runs facts old events (to_the_end moves) new
+      → (slots_written old.converting + moves ≡ 4 * old.shape.buckets) × HasMade facts old new (moves + 3) 4
+  conversion_made zero old new (event ∷ []) all runs =
+      let is = convert_is event (both_true (is_convert event) (list_all is_convert []) all).0 in
+      let does : Does facts old runs.0 Convert (Progress Finished) = subst (λ (e : Event). Does facts old runs.0 e (Progress Finished)) is runs.1 in
+      (omega (arith, finished_at old runs.0 does), subst (λ (c : CoreState D). HasMade facts old c 3 4) (sym runs.2) does.made)
+  conversion_made zero old new (event ∷ other ∷ events) all runs = absurd runs.2
+  conversion_made (suc moves) old new (event ∷ events) all runs =
+      let trues = both_true (is_convert event) (list_all is_convert events) all in
+      let is = convert_is event trues.0 in
+      let next = runs.0 in
+      let does : Does facts old next Convert (Progress Moved) = subst (λ (e : Event). Does facts old next e (Progress Moved)) is runs.1 in
+      let rest = conversion_made moves next new events trues.1 runs.2 in
+      let one : slots_written next.converting ≡ slots_written old.converting + 1 = one_slot old.shape.hashes old.body old.converting next.converting does.cause.2.1 in
+      let same : 4 * next.shape.buckets ≡ 4 * old.shape.buckets = ap (λ s. 4 * s.buckets) does.shape in
+      (omega (arith, one, rest.0, same), made_both next.disk does.made rest.1 (omega arith) (omega arith))
+  conversion_made zero old new [] all runs = absurd runs
+  conversion_made (suc moves) old new [] all runs = absurd runs
+
+  merge_made : (moves : ℕ) (old new : CoreState D) (events : List Event) → IsTrue (list_all is_merge events) → Runs facts old events (to_the_end moves) new
+      → (count : ℕ) × (new.body.sorted_count ≡ entries_written old.merging + count) × HasMade facts old new (count + 3) 4
+  merge_made zero old new (event ∷ []) all runs =
+      let is = merge_is event (both_true (is_merge event) (list_all is_merge []) all).0 in
+      let does : Does facts old runs.0 Merge (Progress Finished) = subst (λ (e : Event). Does facts old runs.0 e (Progress Finished)) is runs.1 in
+      let merged = does.cause.2 in
+      let written : runs.0.body.sorted_count ≡ entries_written old.merging = ap (λ b. b.sorted_count) merged.body ∙ sym (ap entries_written merged.was) in
+      let count : new.body.sorted_count ≡ entries_written old.merging + 0 = omega (arith, written, ap (λ (c : CoreState D). c.body.sorted_count) runs.2) in
+      (0, count, subst (λ (c : CoreState D). HasMade facts old c 3 4) (sym runs.2) does.made)
+  merge_made zero old new (event ∷ other ∷ events) all runs = absurd runs.2
+  merge_made (suc moves) old new (event ∷ events) all runs =
+      let trues = both_true (is_merge event) (list_all is_merge events) all in
+      let is = merge_is event trues.0 in
+      let next = runs.0 in
+      let does : Does facts old next Merge (Progress Moved) = subst (λ (e : Event). Does facts old next e (Progress Moved)) is runs.1 in
+      let rest = merge_made moves next new events trues.1 runs.2 in
+      let made = does.made in
+      (made.0 + rest.0, omega (arith, made.2, rest.1), made_both next.disk made.3 rest.2 (omega arith) (omega arith))
+  merge_made zero old new [] all runs = absurd runs
+  merge_made (suc moves) old new [] all runs = absurd runs
+
+  -- what a run makes
+  pub run_made : (old new : CoreState D) (events : List Event) (replies : List (Reply F)) → Runs facts old events replies new → RunMade facts old events replies new
+  run_made old new events replies runs = record {
+    rows = λ h front is same. rows_made old new events replies h front is same runs;
+    conversion = λ moves none all ends.
+        let end = conversion_made moves old new events all (subst (λ rs. Runs facts old events rs new) ends runs) in
+        (omega (arith, end.0, ap slots_written none), end.1);
+    merge = λ moves none all ends.
+        let end = merge_made moves old new events all (subst (λ rs. Runs facts old events rs new) ends runs) in
+        let count : end.0 ≡ new.body.sorted_count = omega (arith, end.1, ap entries_written none) in
+        subst (λ (n : ℕ). HasMade facts old new (n + 3) 4) count end.2;
+  }
