@@ -73,7 +73,7 @@ module _ {D : Type 0} (writes_of syncs_of : D → ℕ) where
 
   -- From the old state to the new one the inner disk made no more than this many writes, if the write that the waiting bytes will
   -- take is added to both sides, and exactly this many syncs.
-  pub record Gathers (w s : ℕ) (old new : BufferedState D) : Type 0 where
+  pub record SavesWrites (w s : ℕ) (old new : BufferedState D) : Type 0 where
     pub made : ℕ
     pub fewer : made + owed new.buffer ≤ w + owed old.buffer
     pub makes : Makes writes_of syncs_of made s old.inner new.inner

@@ -128,7 +128,7 @@ impl<D: Disk> Disk for BufferedDisk<D> {
     ghost use Rattle.std.specs.Prelude.{OnErr, ◌⊎◌};
     ghost use Rattle.silt_disk.specs.declared.disk.Call.TheVariants.{Write, Sync};
     ghost use Rattle.silt_disk.specs.Disk.{Makes, Settles};
-    ghost use Rattle.silt_device.specs.Buffered.{buffered_content, buffered_gave, buffered_syncs, buffered_writes, Gathers, PassesOn, WritesOut};
+    ghost use Rattle.silt_device.specs.Buffered.{buffered_content, buffered_gave, buffered_syncs, buffered_writes, SavesWrites, PassesOn, WritesOut};
 
     type Fault = BufferFault<D::Fault>;
 
@@ -178,7 +178,7 @@ impl<D: Disk> Disk for BufferedDisk<D> {
         ensures torn { Tears at (length buf.now) (buffered_content D.content self.old) (buffered_content D.content self.new) }
         ensures written { OnOk result (Writes at buf.now (buffered_content D.content self.old) (buffered_content D.content self.new)) }
         ensures passes { OnOk result (PassesOn D.writes D.syncs at buf.now self.old self.new) }
-        ensures gathers { MatchResult result (λ _. Gathers D.writes D.syncs 1 0 self.old self.new) (λ _. Gathers D.writes D.syncs 2 0 self.old self.new) }
+        ensures gathers { MatchResult result (λ _. SavesWrites D.writes D.syncs 1 0 self.old self.new) (λ _. SavesWrites D.writes D.syncs 2 0 self.old self.new) }
         ensures failures { MatchResult result (λ _. self.new.calls.failures ≡ self.old.calls.failures)
             (λ fault. (self.new.calls.failures ≡ (self.old.calls.failures + 1) % 2 ^ 64)
             × buffered_gave D.gave self.new fault Write at (length buf.now)) }
@@ -219,7 +219,7 @@ impl<D: Disk> Disk for BufferedDisk<D> {
         ensures settled { OnOk result (Settles (buffered_content D.content self.old) (buffered_content D.content self.new)) }
         ensures unchanged { OnErr result (Stays (buffered_content D.content self.old) (buffered_content D.content self.new)) }
         ensures gathers { MatchResult result (λ _. WritesOut D.writes D.syncs self.old self.new)
-            (λ _. Gathers D.writes D.syncs 1 0 self.old self.new ⊎ Gathers D.writes D.syncs 0 1 self.old self.new) }
+            (λ _. SavesWrites D.writes D.syncs 1 0 self.old self.new ⊎ SavesWrites D.writes D.syncs 0 1 self.old self.new) }
         ensures failures { MatchResult result (λ _. self.new.calls.failures ≡ self.old.calls.failures)
             (λ fault. (self.new.calls.failures ≡ (self.old.calls.failures + 1) % 2 ^ 64)
             × buffered_gave D.gave self.new fault Sync 0 (size (buffered_content D.content self.new))) }
@@ -245,7 +245,7 @@ impl<D: Disk> Disk for BufferedDisk<D> {
 
 impl<D: Stoppable> Stoppable for BufferedDisk<D> {
     ghost use Rattle.silt_disk.specs.Disk.{Makes, Restarts};
-    ghost use Rattle.silt_device.specs.Buffered.{buffered_content, buffered_syncs, buffered_writes, emptied, Gathers};
+    ghost use Rattle.silt_device.specs.Buffered.{buffered_content, buffered_syncs, buffered_writes, emptied, SavesWrites};
 
     #[tactic(auto, using(crate::proofs::Waiting::size_over, crate::proofs::Waiting::restarts_over))]
     fn restart(mut self) -> Self
@@ -254,7 +254,7 @@ impl<D: Stoppable> Stoppable for BufferedDisk<D> {
         ensures failures { result.calls.failures ≡ self.calls.failures }
         ensures made { Makes buffered_writes buffered_syncs 0 0 self result }
         ensures none { result.buffer ≡ emptied self.buffer }
-        ensures gathers { Gathers D.Disk.writes D.Disk.syncs 0 0 self result }
+        ensures gathers { SavesWrites D.Disk.writes D.Disk.syncs 0 0 self result }
     {
         self.buffer.empty();
         BufferedDisk {

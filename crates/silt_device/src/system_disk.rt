@@ -119,7 +119,7 @@ impl Disk for FileDisk {
     ghost use Rattle.silt_disk.specs.declared.disk.Call.TheVariants.{Write, Sync};
     ghost use Rattle.silt_disk.specs.Disk.{Makes, Settles, Stays, Tears, Writes, size};
     ghost use Rattle.silt_device.specs.File.{file_content, file_gave, file_syncs, file_writes};
-    ghost use Rattle.silt_device.specs.Buffered.{buffered_content, buffered_gave, Gathers, PassesOn, WritesOut};
+    ghost use Rattle.silt_device.specs.Buffered.{buffered_content, buffered_gave, SavesWrites, PassesOn, WritesOut};
 
     type Fault = BufferFault<FileFault>;
 
@@ -148,8 +148,8 @@ impl Disk for FileDisk {
         ensures torn { Tears at (length buf.now) (buffered_content file_content self.old.inner) (buffered_content file_content self.new.inner) }
         ensures written { OnOk result (Writes at buf.now (buffered_content file_content self.old.inner) (buffered_content file_content self.new.inner)) }
         ensures passes { OnOk result (PassesOn file_writes file_syncs at buf.now self.old.inner self.new.inner) }
-        ensures gathers { MatchResult result (λ _. Gathers file_writes file_syncs 1 0 self.old.inner self.new.inner)
-            (λ _. Gathers file_writes file_syncs 2 0 self.old.inner self.new.inner) }
+        ensures gathers { MatchResult result (λ _. SavesWrites file_writes file_syncs 1 0 self.old.inner self.new.inner)
+            (λ _. SavesWrites file_writes file_syncs 2 0 self.old.inner self.new.inner) }
         ensures failures { MatchResult result (λ _. self.new.inner.calls.failures ≡ self.old.inner.calls.failures)
             (λ fault. (self.new.inner.calls.failures ≡ (self.old.inner.calls.failures + 1) % 2 ^ 64)
             × buffered_gave file_gave self.new.inner fault Write at (length buf.now)) }
@@ -163,7 +163,7 @@ impl Disk for FileDisk {
         ensures settled { OnOk result (Settles (buffered_content file_content self.old.inner) (buffered_content file_content self.new.inner)) }
         ensures unchanged { OnErr result (Stays (buffered_content file_content self.old.inner) (buffered_content file_content self.new.inner)) }
         ensures gathers { MatchResult result (λ _. WritesOut file_writes file_syncs self.old.inner self.new.inner)
-            (λ _. Gathers file_writes file_syncs 1 0 self.old.inner self.new.inner ⊎ Gathers file_writes file_syncs 0 1 self.old.inner self.new.inner) }
+            (λ _. SavesWrites file_writes file_syncs 1 0 self.old.inner self.new.inner ⊎ SavesWrites file_writes file_syncs 0 1 self.old.inner self.new.inner) }
         ensures failures { MatchResult result (λ _. self.new.inner.calls.failures ≡ self.old.inner.calls.failures)
             (λ fault. (self.new.inner.calls.failures ≡ (self.old.inner.calls.failures + 1) % 2 ^ 64)
             × buffered_gave file_gave self.new.inner fault Sync 0 (size (buffered_content file_content self.new.inner))) }

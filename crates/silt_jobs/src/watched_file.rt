@@ -34,7 +34,7 @@ pub struct WatchedFile<'a, N> {
 impl<N: Notes + Send + Sync + Drop> Disk for WatchedFile<'_, N> {
     ghost use Rattle.std.specs.Prelude.{◌⊎◌};
     ghost use Rattle.silt_device.specs.File.{file_content, file_gave, file_syncs, file_writes};
-    ghost use Rattle.silt_device.specs.Buffered.{buffered_content, buffered_gave, Gathers, PassesOn, WritesOut};
+    ghost use Rattle.silt_device.specs.Buffered.{buffered_content, buffered_gave, SavesWrites, PassesOn, WritesOut};
 
     type Fault = FileFault;
 
@@ -72,8 +72,8 @@ impl<N: Notes + Send + Sync + Drop> Disk for WatchedFile<'_, N> {
         ensures torn { Tears at (length buf.now) (buffered_content file_content self.old.disk.inner) (buffered_content file_content self.new.disk.inner) }
         ensures written { OnOk result (Writes at buf.now (buffered_content file_content self.old.disk.inner) (buffered_content file_content self.new.disk.inner)) }
         ensures passes { OnOk result (PassesOn file_writes file_syncs at buf.now self.old.disk.inner self.new.disk.inner) }
-        ensures gathers { MatchResult result (λ _. Gathers file_writes file_syncs 1 0 self.old.disk.inner self.new.disk.inner)
-            (λ _. Gathers file_writes file_syncs 2 0 self.old.disk.inner self.new.disk.inner) }
+        ensures gathers { MatchResult result (λ _. SavesWrites file_writes file_syncs 1 0 self.old.disk.inner self.new.disk.inner)
+            (λ _. SavesWrites file_writes file_syncs 2 0 self.old.disk.inner self.new.disk.inner) }
         ensures failures { MatchResult result (λ _. self.new.disk.inner.calls.failures ≡ self.old.disk.inner.calls.failures)
             (λ fault. (self.new.disk.inner.calls.failures ≡ (self.old.disk.inner.calls.failures + 1) % 2 ^ 64)
             × buffered_gave file_gave self.new.disk.inner fault Write at (length buf.now)) }
@@ -91,7 +91,7 @@ impl<N: Notes + Send + Sync + Drop> Disk for WatchedFile<'_, N> {
         ensures settled { OnOk result (Settles (buffered_content file_content self.old.disk.inner) (buffered_content file_content self.new.disk.inner)) }
         ensures unchanged { OnErr result (Stays (buffered_content file_content self.old.disk.inner) (buffered_content file_content self.new.disk.inner)) }
         ensures gathers { MatchResult result (λ _. WritesOut file_writes file_syncs self.old.disk.inner self.new.disk.inner)
-            (λ _. Gathers file_writes file_syncs 1 0 self.old.disk.inner self.new.disk.inner ⊎ Gathers file_writes file_syncs 0 1 self.old.disk.inner self.new.disk.inner) }
+            (λ _. SavesWrites file_writes file_syncs 1 0 self.old.disk.inner self.new.disk.inner ⊎ SavesWrites file_writes file_syncs 0 1 self.old.disk.inner self.new.disk.inner) }
         ensures failures { MatchResult result (λ _. self.new.disk.inner.calls.failures ≡ self.old.disk.inner.calls.failures)
             (λ fault. (self.new.disk.inner.calls.failures ≡ (self.old.disk.inner.calls.failures + 1) % 2 ^ 64)
             × buffered_gave file_gave self.new.disk.inner fault Sync 0 (size (buffered_content file_content self.new.disk.inner))) }

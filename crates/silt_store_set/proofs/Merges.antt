@@ -49,7 +49,7 @@ slot_below : (store stores slot slots : ℕ) → store < stores → slot < slots
 slot_below store stores slot slots store_in slot_in = subst (λ (n : ℕ). store * slots + slot < n) (mul_comm slots stores) (mul-add-lt store slots slot stores store_in slot_in)
 
 -- a merge in memory and the contracts' view of it have written as many entries
-written_seen : (o : Option MergeState) → entries_written (merge_work o) ≡ tiers.entries_written o
+written_seen : (o : Option MergeState) → entries_written (merge_work o) ≡ tiers.written_by_merge o
 written_seen None = refl
 written_seen (Some merge) = refl
 
@@ -114,7 +114,7 @@ module _ {D F : Type 0} (facts : Ghosts D F) (disk : D) (stores : TiersState) (c
       subst (λ (o : Option MergeState). IfSome o (λ m. (full_stores (facts.content new) after).entries ≡ merged_rows (merge_sources m.stores (full_stores (facts.content disk) stores)))) was has
 
   -- a step that goes on has made what contracts see
-  moved_made : (new : D) (after : TiersState) → tiers.MakesStep facts disk new stores after Moved → MadeFor facts before (seen facts new after count) Merge (Progress Moved)
+  moved_made : (new : D) (after : TiersState) → tiers.StepMakes facts disk new stores after Moved → MadeFor facts before (seen facts new after count) Merge (Progress Moved)
   moved_made new after made = (made.0, made.1, written_seen after.merging ∙ made.2 ∙ ap (λ (n : ℕ). n + made.0) (sym (written_seen stores.merging)), made.3)
 
   -- no step makes more than the last one
@@ -126,7 +126,7 @@ module _ {D F : Type 0} (facts : Ghosts D F) (disk : D) (stores : TiersState) (c
 
   pub stepped : (progress : ProgressOf) (new : D) (after : TiersState) → SameDisk (facts.content disk) (facts.content new) → Advances [] (facts.content disk) (facts.content new) stores after
       → Merges progress stores after → (progress ≡ Finished → IsTrue (facts.content disk).honest → HasMergedEntries (facts.content disk) (facts.content new) stores after)
-      → (is_work progress ≡ false → new ≡ disk) → facts.failures new ≡ facts.failures disk → tiers.MakesStep facts disk new stores after progress
+      → (is_work progress ≡ false → new ≡ disk) → facts.failures new ≡ facts.failures disk → tiers.StepMakes facts disk new stores after progress
       → Does facts before (seen facts new after count) Merge (Progress progress)
   stepped Idle new after same goes merges entries quiet counted made =
       rw (quiet refl, merges.done) (answered facts disk stores count Merge (Progress Idle) stands refl refl refl (refl, due Idle merges.due, refl, refl) none_made (λ _. refl) (λ _. tt))

@@ -113,10 +113,10 @@ module _ {D F : Type 0} (facts : Ghosts D F) (disk : D) (stores : TiersState) (c
   -- ---- what was made
 
   -- memory and the contracts' view say alike whether a command waits
-  waits_as_seen : tiers.some_wait stores ≡ some_wait (waiting_commands (facts.content disk) stores)
+  waits_as_seen : tiers.row_waits stores ≡ some_wait (waiting_commands (facts.content disk) stores)
   waits_as_seen = waits_same (facts.content disk) stores stands.active.bounds
 
-  row_made : (new : D) (after : TiersState) (next : ℕ) → tiers.MakesRow facts disk new stores after → MakesRow facts before (seen facts new after next)
+  row_made : (new : D) (after : TiersState) (next : ℕ) → tiers.RowMakes facts disk new stores after → MakesRow facts before (seen facts new after next)
   row_made new after next made = (made.0, λ changed. subst (λ (n : ℕ). Makes facts.writes facts.syncs (n + 6) (2 * n + 4) disk new) waits_as_seen (made.1 changed))
 
   row_most : (new : D) (k : Kind) (key : Key) (value : List ℕ) → MakesAtMost facts.writes facts.syncs (tiers.freeze_writes stores) (tiers.freeze_syncs stores) disk new
@@ -128,7 +128,7 @@ module _ {D F : Type 0} (facts : Ghosts D F) (disk : D) (stores : TiersState) (c
 
   pub row_taken : (new : D) (after : TiersState) (k : Kind) (key : Key) (value : List ℕ) → MayWrite k before → SameDisk (facts.content disk) (facts.content new)
       → Advances (command_of (stored_row k key value) ∷ []) (facts.content disk) (facts.content new) stores after → WritesKey (facts.content disk) (facts.content new) stores after key.0 (command_of (stored_row k key value)) → after.converting ≡ stores.converting → after.merging ≡ stores.merging → facts.failures new ≡ facts.failures disk
-      → tiers.MakesRow facts disk new stores after → Does facts before (seen facts new after (count + 1)) (row_event k key value) (Accepted (count + 1))
+      → tiers.RowMakes facts disk new stores after → Does facts before (seen facts new after (count + 1)) (row_event k key value) (Accepted (count + 1))
   row_taken new after kind.Put key value may same goes taken converting merging counted made =
       advanced facts disk new stores after same stands (command_of (stored_row kind.Put key value) ∷ []) count (count + 1) (Put key value) (Accepted (count + 1)) goes (refl, refl) refl refl refl
       (may, (takes new after (count + 1) key.0 _ same goes.stands taken, counted)) (λ m to e. e) (λ none. absurd (cc)) (λ _. converting) (λ _. merging) (λ _. tt) counted (row_made new after (count + 1) made)

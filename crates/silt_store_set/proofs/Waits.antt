@@ -34,7 +34,7 @@ pub none_waits : {D F : Type 0} (facts : Ghosts D F) (disk : D) (commands : List
 none_waits facts disk commands none = rw none none_made
 
 -- the numbers of the log say the same
-pub waits_same : (content : Content) (s : TiersState) → InBounds s.active.log → tiers.some_wait s ≡ some_wait (waiting_commands content s)
+pub waits_same : (content : Content) (s : TiersState) → InBounds s.active.log → tiers.row_waits s ≡ some_wait (waiting_commands content s)
 waits_same content s bounds =
     let go : (b : Bool) → nat_lt s.active.log.settled s.active.log.used ≡ b → cond b 1 0 ≡ some_wait (waiting_commands content s) = elim [
       | true ↦ λ some. sym (one_waits (waiting_commands content s) (some_waits content s.active.log some))

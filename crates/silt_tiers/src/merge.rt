@@ -4,7 +4,7 @@ ghost use Rattle.silt_disk.specs.Disk.{Costs, MakesAtMost};
 ghost use Rattle.silt_event.specs.declared.progress.Progress.TheVariants.{Finished, Moved};
 ghost use Rattle.silt_tiers.specs.Calls.{BreaksOff, Works};
 ghost use Rattle.silt_tiers.specs.Conversion.{is_work};
-ghost use Rattle.silt_tiers.specs.Costs.{MakesStep, step_syncs, step_writes};
+ghost use Rattle.silt_tiers.specs.Costs.{StepMakes, step_syncs, step_writes};
 ghost use Rattle.silt_tiers.specs.Digests.{merged_digests};
 ghost use Rattle.silt_tiers.specs.Merge.{EndsMerge, EndsMerged, HasMergedEntries, MayStandFor, MergeErrorCause, Merges, merge_turn, merged_body, puts_in, sorted_replaced};
 ghost use Rattle.silt_standing.specs.State.{AreWhole};
@@ -99,7 +99,8 @@ impl Tiers {
         ensures merges { IfOk result (λ progress. Merges progress self.old self.new) }
         ensures moves { IfOk result (λ progress. progress ≡ Finished → ⊥) }
         ensures quiet { IfOk result (λ progress. is_work progress ≡ false → disk.new ≡ disk.old) }
-        ensures made { MatchResult result (MakesStep D.Disk disk.old disk.new self.old self.new) (λ _. MakesAtMost D.writes D.syncs (step_writes (merge_turn self.old)) (step_syncs (merge_turn self.old)) disk.old disk.new) }
+        ensures made { MatchResult result (StepMakes D.Disk disk.old disk.new self.old self.new)
+            (λ _. MakesAtMost D.writes D.syncs (step_writes (merge_turn self.old)) (step_syncs (merge_turn self.old)) disk.old disk.new) }
         ensures err { IfErr result (MergeErrorCause D.Disk disk.old disk.new self.old self.new) }
     {
         if self.hashes.is_empty() {
@@ -125,7 +126,8 @@ impl Tiers {
         ensures works { Works D.Disk [] disk.old disk.new self.old self.new result }
         ensures merges { IfOk result (λ progress. Merges progress self.old self.new) }
         ensures moves { IfOk result (λ progress. progress ≡ Moved) }
-        ensures made { MatchResult result (MakesStep D.Disk disk.old disk.new self.old self.new) (λ _. MakesAtMost D.writes D.syncs (step_writes (merge_turn self.old)) (step_syncs (merge_turn self.old)) disk.old disk.new) }
+        ensures made { MatchResult result (StepMakes D.Disk disk.old disk.new self.old self.new)
+            (λ _. MakesAtMost D.writes D.syncs (step_writes (merge_turn self.old)) (step_syncs (merge_turn self.old)) disk.old disk.new) }
         ensures err { IfErr result (MergeErrorCause D.Disk disk.old disk.new self.old self.new) }
     {
         let Some(merge) = &mut self.merging else {
@@ -244,7 +246,8 @@ impl Tiers {
         ensures merges { IfOk result (λ progress. Merges progress self.old self.new) }
         ensures entries { IfOk result (λ progress. progress ≡ Finished → IsTrue (D.content disk.old).honest → HasMergedEntries (D.content disk.old) (D.content disk.new) self.old self.new) }
         ensures quiet { IfOk result (λ progress. is_work progress ≡ false → disk.new ≡ disk.old) }
-        ensures made { MatchResult result (MakesStep D.Disk disk.old disk.new self.old self.new) (λ _. MakesAtMost D.writes D.syncs (step_writes (merge_turn self.old)) (step_syncs (merge_turn self.old)) disk.old disk.new) }
+        ensures made { MatchResult result (StepMakes D.Disk disk.old disk.new self.old self.new)
+            (λ _. MakesAtMost D.writes D.syncs (step_writes (merge_turn self.old)) (step_syncs (merge_turn self.old)) disk.old disk.new) }
         ensures err { IfErr result (MergeErrorCause D.Disk disk.old disk.new self.old self.new) }
     {
         let Some(merge) = &self.merging else {

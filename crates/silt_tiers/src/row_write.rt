@@ -8,7 +8,7 @@ ghost use Rattle.silt_log_store.specs.Calls.{IsFailedWrite};
 ghost use Rattle.silt_standing.specs.State.{AreWhole};
 ghost use Rattle.silt_standing.specs.Standing.{IsQuiet, Stands, waiting_commands};
 ghost use Rattle.silt_tiers.specs.Calls.{BreaksOff, StaysBehind, Works};
-ghost use Rattle.silt_tiers.specs.Costs.{MakesRow, freeze_syncs, freeze_writes, some_wait};
+ghost use Rattle.silt_tiers.specs.Costs.{RowMakes, freeze_syncs, freeze_writes, row_waits};
 ghost use Rattle.silt_tiers.specs.NextLog.{HasFrozen, IsEmptied, IsNextLog, NoNextCause, active_replaced};
 ghost use Rattle.silt_tiers.specs.RowWrite.{HasPlace, NeedsNext, TakeCause, TurnsFor, WriteCause, WritesKey};
 
@@ -62,7 +62,8 @@ impl Tiers {
         ensures converting { OnOk result (self.new.converting ≡ self.old.converting) }
         ensures merging { OnOk result (self.new.merging ≡ self.old.merging) }
         ensures current { OnOk result (WritesKey (D.content disk.old) (D.content disk.new) self.old self.new key.now.0 (command_of (stored_row kind key.now value.now))) }
-        ensures made { MatchResult result (λ _. MakesRow D.Disk disk.old disk.new self.old self.new) (λ _. MakesAtMost D.writes D.syncs (freeze_writes self.old) (freeze_syncs self.old) disk.old disk.new) }
+        ensures made { MatchResult result (λ _. RowMakes D.Disk disk.old disk.new self.old self.new)
+            (λ _. MakesAtMost D.writes D.syncs (freeze_writes self.old) (freeze_syncs self.old) disk.old disk.new) }
         ensures err { IfErr result (WriteCause D.Disk disk.old disk.new self.old self.new key.now.0) }
     {
         match self.write_active(disk, kind, key, value) {
@@ -171,7 +172,7 @@ impl Tiers {
         ensures quiet { OnOk result (IsQuiet (D.content disk.new) self.new) }
         ensures behind { StaysBehind self.old self.new }
         ensures charge { self.new.charge ≡ self.old.charge }
-        ensures made { Costs D.writes D.syncs (some_wait self.old) (2 * some_wait self.old) disk.old disk.new result }
+        ensures made { Costs D.writes D.syncs (row_waits self.old) (2 * row_waits self.old) disk.old disk.new result }
         ensures err { IfErr result (BreaksOff D.Disk disk.old disk.new self.old self.new) }
     {
         if !self.has_waiting() {
@@ -215,7 +216,7 @@ impl Tiers {
         requires next { IsNextLog self.old next }
         ensures works { Works D.Disk [] disk.old disk.new self.old self.new result }
         ensures frozen { OnOk result (HasFrozen next (D.content disk.new) self.old self.new) }
-        ensures made { Costs D.writes D.syncs (some_wait self.old + 4) (2 * some_wait self.old + 4) disk.old disk.new result }
+        ensures made { Costs D.writes D.syncs (row_waits self.old + 4) (2 * row_waits self.old + 4) disk.old disk.new result }
         ensures err { IfErr result (BreaksOff D.Disk disk.old disk.new self.old self.new) }
     {
         self.settle(disk)?;

@@ -10,7 +10,7 @@ use Rattle.silt_tiers.proofs.Commits.{frozen_advances, frozen_may_rule, frozen_w
 use Rattle.silt_tiers.proofs.Works.{both_went, then_broke_off, went}
 use Rattle.silt_disk.specs.Disk.{MakesAtMost}
 use Rattle.silt_disk.proofs.Costs.{made_both, most_both}
-use Rattle.silt_tiers.specs.Costs.{some_wait}
+use Rattle.silt_tiers.specs.Costs.{row_waits}
 use Rattle.silt_tiers.proofs.tiers.Tiers.freeze.Goals as goal
 
 pub clear_region-requires-clause-next : goal.clear_region-requires-clause-next
@@ -50,13 +50,13 @@ returns-clause-frozen g c =
 
 pub returns-in_err-clear_region-clause-made : goal.returns-in_err-clear_region-clause-made
 returns-in_err-clear_region-clause-made g c =
-    let most : MakesAtMost g.D.Disk.writes g.D.Disk.syncs (some_wait c.args.self.now + 4) (2 * some_wait c.args.self.now + 4) c.args.disk.now c.clear_region.new.disk
+    let most : MakesAtMost g.D.Disk.writes g.D.Disk.syncs (row_waits c.args.self.now + 4) (2 * row_waits c.args.self.now + 4) c.args.disk.now c.clear_region.new.disk
     = most_both c.settle.new.disk c.in_ok-settle.ensures.made c.in_err-clear_region.ensures.made (omega arith) (omega arith) in
     search (rules, most)
 
 pub returns-in_err-manifest-clause-made : goal.returns-in_err-manifest-clause-made
 returns-in_err-manifest-clause-made g c =
     let front = made_both c.settle.new.disk c.in_ok-settle.ensures.made c.in_ok-clear_region.ensures.made refl refl in
-    let most : MakesAtMost g.D.Disk.writes g.D.Disk.syncs (some_wait c.args.self.now + 4) (2 * some_wait c.args.self.now + 4) c.args.disk.now c.change_manifest.new.disk
+    let most : MakesAtMost g.D.Disk.writes g.D.Disk.syncs (row_waits c.args.self.now + 4) (2 * row_waits c.args.self.now + 4) c.args.disk.now c.change_manifest.new.disk
     = most_both c.clear_region.new.disk front c.in_err-manifest.ensures.made (omega arith) (omega arith) in
     search (rules, most)
