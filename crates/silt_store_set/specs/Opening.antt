@@ -1,6 +1,6 @@
 -- Why an opening is refused, and what it leaves.
 use Rattle.std.specs.Prelude.{IsTrue}
-use Rattle.silt_disk.specs.Disk.{Content, GaveAny}
+use Rattle.silt_disk.specs.Disk.{Content, GaveAny, Makes, MakesAtMost}
 use Rattle.silt_disk.specs.declared.disk.Disk.{Ghosts}
 use Rattle.silt_event.specs.declared.damage.Finding.{Finding}
 use Rattle.silt_event.specs.declared.damage.Finding.TheVariants as finding
@@ -21,3 +21,8 @@ OpeningCause facts old disk Crowded = FoundUnwritten old (facts.content disk) fi
 OpeningCause facts old disk (Device fault) = GaveAny facts.gave disk fault
 OpeningCause facts old disk NoMemory = IsUnwritten old (facts.content disk)
 OpeningCause facts old disk refusal = ⊥
+
+-- what a refused opening has made: one sync; or, if a device call failed, at most one write and two syncs
+abbrev pub RefusalMakes : {D F : Type 0} → Ghosts D F → D → D → Refusal F → Type 0
+RefusalMakes facts old new (Device fault) = MakesAtMost facts.writes facts.syncs 1 2 old new
+RefusalMakes facts old new refusal = Makes facts.writes facts.syncs 0 1 old new

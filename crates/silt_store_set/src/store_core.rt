@@ -73,7 +73,7 @@ impl<D: Disk> Core<D> {
     ghost use Rattle.std.specs.FinMap.{get};
     ghost use Rattle.silt_frame.specs.declared.key.Key.{Key as KeyOf};
     ghost use Rattle.silt_log.specs.Rows.{IsValueOf};
-    ghost use Rattle.silt_recovery.specs.Opening.{LeavesNoOther};
+    ghost use Rattle.silt_recovery.specs.Opening.{CostsOpening, LeavesNoOther};
     ghost use Rattle.silt_event.specs.Commands.{map_after};
     ghost use Rattle.silt_image.specs.Meaning.{StandsFor};
     ghost use Rattle.silt_standing.specs.Standing.{SameDisk};
@@ -83,11 +83,12 @@ impl<D: Disk> Core<D> {
     ghost use Rattle.silt_store_set.specs.CoreState.{CoreState, Does, Runs, Opens, EntriesCause, IsRefusedRead, StandsKept, map_of, MayWrite, row_event, wants_convert, wants_merge};
     ghost use Rattle.silt_store_set.specs.Costs.{RunMade};
     ghost use Rattle.silt_event.specs.Events.{HasValueOf};
-    ghost use Rattle.silt_store_set.specs.Opening.{OpeningCause};
+    ghost use Rattle.silt_store_set.specs.Opening.{OpeningCause, RefusalMakes};
     ghost use Rattle.silt_store_set.specs.Replies.{change_reply, flush_reply, get_reply, read_reply, progress_reply, swap_reply};
     ghost use Rattle.silt_event.specs.declared.event.Event.TheVariants.{Put, Delete, Swap, Get, Flush, Convert, Merge};
 
-    /// Opens a store on a device that a crash may have left.
+    /// Opens a store on a device that a crash may have left. It costs one sync of the device. If the active log has open
+    /// commit bytes past the first closed one, it costs one write and two syncs.
     ///
     /// # Errors
     ///
@@ -97,6 +98,7 @@ impl<D: Disk> Core<D> {
         ensures ok { IfOk result (Opens D.Disk (D.content disk)) }
         ensures same { IfErr result (λ fault. SameDisk (D.content disk) (D.content fault.disk)) }
         ensures cause { IfErr result (λ fault. OpeningCause D.Disk (D.content disk) fault.disk fault.refusal) }
+        ensures made { MatchResult result (λ core. CostsOpening D.content D.writes D.syncs disk core.disk) (λ fault. RefusalMakes D.Disk disk fault.disk fault.refusal) }
         ensures images { MatchResult result (λ core. LeavesNoOther (D.content disk) (D.content core.disk)) (λ fault. LeavesNoOther (D.content disk) (D.content fault.disk)) }
     {
         match silt_recovery::open(alloc, disk) {
