@@ -5,7 +5,7 @@ use Rattle.silt_disk.specs.Layout.{Shape}
 use Rattle.silt_disk.specs.declared.disk.Disk.{Ghosts}
 use Rattle.silt_event.specs.Commands.{Command, Map, map_after}
 use Rattle.silt_image.specs.Meaning.{StandsFor}
-use Rattle.silt_tiers.specs.Calls.{HasBegun}
+use Rattle.silt_engine.specs.Calls.{HasBegun}
 use Rattle.silt_store_set.specs.CoreState.{CoreState, map_of}
 use Rattle.silt_event.specs.Events.{Step, Counts, PlainReply, accepted_command, is_fault}
 use Rattle.silt_event.specs.declared.event.Event.{Event}

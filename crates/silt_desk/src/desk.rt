@@ -99,7 +99,7 @@ impl<D: Disk, T: Trace, N: DeskId> Desk<D, T, N> {
     ghost use Rattle.std.specs.Prelude.{IsErrOf};
     ghost use Rattle.silt_disk.specs.Disk.{LeavesOnly};
     ghost use Rattle.silt_image.specs.Meaning.{StandsFor};
-    ghost use Rattle.silt_tiers.specs.Calls.{HasBegun};
+    ghost use Rattle.silt_engine.specs.Calls.{HasBegun};
     ghost use Rattle.silt_store_set.specs.CoreInvariant.{LeavesBegun};
     ghost use Rattle.silt_event.specs.Commands.{map_after};
     ghost use Rattle.silt_store_set.specs.CoreState.{Does, map_of, wants_convert, wants_merge};

@@ -22,7 +22,7 @@ use Rattle.silt_manifest.specs.declared.slot.Damage.{Damage}
 use Rattle.silt_manifest.proofs.SoundBodies.{sound_parts}
 use Rattle.silt_disk.specs.Header.{header_of, header_shape, version_of}
 use Rattle.silt_log.specs.Parts.{Part, log_part}
-use Rattle.silt_image.specs.Stores.{Stores, digests_found, image_digests, image_stores, shape_found, stores_named, stores_ruled, stores_shaped}
+use Rattle.silt_image.specs.Stores.{Stores, digests_found, image_digests, image_stores, shape_found, stores_named, stores_of_current, stores_shaped}
 use Rattle.silt_hash_store.specs.Slots.{hash_part, hash_rows}
 use Rattle.silt_sorted_store.specs.State.{sorted_rows}
 use Rattle.silt_image.specs.Meaning.{image_charge, image_fits, image_map, image_rows, image_stands, image_verdict, findings_of, map_where_sound, all_logs_fit, rows_found, with_log_rows, with_new_log, with_part_rows}
@@ -239,15 +239,15 @@ unfolding stores_named
 frame_regions before after shape body agree stores = agree.regions (stores_named shape body before) stores
 
 -- the stores of an image, from its shape and its body
-frame_ruled : (shape : Shape) (before after : List ℕ) → Agree before after → shape_found (length before) (header_of before) ≡ Ok shape → stores_ruled shape after (manifest_found shape before) ≡ stores_ruled shape before (manifest_found shape before)
+frame_of_current : (shape : Shape) (before after : List ℕ) → Agree before after → shape_found (length before) (header_of before) ≡ Ok shape → stores_of_current shape after (manifest_found shape before) ≡ stores_of_current shape before (manifest_found shape before)
 unfolding image_stores
-frame_ruled shape before after agree has_shape = go (manifest_found shape before) refl
+frame_of_current shape before after agree has_shape = go (manifest_found shape before) refl
   where
-    go : (r : Result SlotRecord Damage) → manifest_found shape before ≡ r → stores_ruled shape after r ≡ stores_ruled shape before r
+    go : (r : Result SlotRecord Damage) → manifest_found shape before ≡ r → stores_of_current shape after r ≡ stores_of_current shape before r
     go (Err damaged) has = refl
     go (Ok found) has =
         let body : Body = found.body in
-        let stores : image_stores before ≡ Ok (stores_named shape body before) = ap (stores_shaped before) has_shape ∙ ap (stores_ruled shape before) has in
+        let stores : image_stores before ≡ Ok (stores_named shape body before) = ap (stores_shaped before) has_shape ∙ ap (stores_of_current shape before) has in
         let shaped = shape_parts (length before) (header_of before) shape has_shape in
         let same : SameRegions shape body before after = frame_regions before after shape body agree stores in
         ap Ok (stores_named_same shape body before after (names_regions shape (body.generation % 2) body (current_sound shape before found has)) agree.size (omega (arith, shaped.size)) same)
@@ -255,7 +255,7 @@ frame_ruled shape before after agree has_shape = go (manifest_found shape before
 frame_shaped : (before after : List ℕ) → Agree before after → (r : Result Shape Finding) → shape_found (length before) (header_of before) ≡ r → stores_shaped after r ≡ stores_shaped before r
 frame_shaped before after agree (Err finding) has = refl
 frame_shaped before after agree (Ok shape) has =
-    ap (stores_ruled shape after) (same_manifest shape before after agree.header agree.first_slot agree.second_slot) ∙ frame_ruled shape before after agree has
+    ap (stores_of_current shape after) (same_manifest shape before after agree.header agree.first_slot agree.second_slot) ∙ frame_of_current shape before after agree has
 
 -- images that agree on all that counts have the same stores
 frame_stores : (before after : List ℕ) → Agree before after → image_stores after ≡ image_stores before
@@ -298,13 +298,13 @@ stores_after at count before after s other has low torn shape body named =
     (stores_law after other).1 (record {
       shape = ap (λ (n : ℕ). shape_found n (header_of after)) torn.size ∙ ap (shape_found (length before)) header ∙ has.shape ∙ ap Ok (sym shape);
       digests = has.digests;
-      rules = ap (λ t. manifest_found t after) shape ∙ manifest_before s.shape at count before after low long header torn ∙ has.rules ∙ ap (λ b. Ok (record_with has.digests b)) (sym body);
+      current = ap (λ t. manifest_found t after) shape ∙ manifest_before s.shape at count before after low long header torn ∙ has.current ∙ ap (λ b. Ok (record_with has.digests b)) (sym body);
       named = named ∙ ap (λ t. stores_named t s.body after) (sym shape) ∙ ap (λ b. stores_named other.shape b after) (sym body);
     })
 
 -- the regions of an image with stores
 stores_regions : (image : List ℕ) (s : Stores) → HasStores s image → NamesRegions s.shape s.body
-stores_regions image s has = names_regions s.shape (s.body.generation % 2) s.body (current_sound s.shape image (record_with has.digests s.body) has.rules)
+stores_regions image s has = names_regions s.shape (s.body.generation % 2) s.body (current_sound s.shape image (record_with has.digests s.body) has.current)
 
 -- one log, with the rows that it has now
 log_after : (s : Shape) (region id : ℕ) (before after : List ℕ) → Torn (gates_at s region) (log_size s) before after → device_size s ≤ length before → id < s.logs → with_part_rows region (log_rows s region after) (log_part s before id) ≡ log_part s after id
@@ -414,13 +414,13 @@ free_sorted_law before after s region e below other torn =
 -- after a change in a manifest slot the stores are those that the new current body names
 pub manifest_law : ManifestLaw
 unfolding stores_named
-manifest_law before after s slot found e below torn rules =
+manifest_law before after s slot found e below torn is_current =
     let body : Body = found.body in
     let has = (stores_law before s).0 e in
     let sh = s.shape in
     let shaped = shape_parts (length before) (header_of before) sh has.shape in
     let header : header_of after ≡ header_of before = torn_slice_before (slot_at slot) 4096 before after torn 0 37 (omega arith) (omega (arith, shaped.size)) in
-    let there = names_regions sh (body.generation % 2) body (current_sound sh after found rules) in
+    let there = names_regions sh (body.generation % 2) body (current_sound sh after found is_current) in
     let same : SameRegions sh body before after = record {
       logs = λ id named. torn_same (slot_at slot) 4096 (gates_at sh id) (log_size sh) before after torn (inr (omega arith));
       hashes = λ id named. torn_same (slot_at slot) 4096 (hash_at sh id) (hash_size sh) before after torn (inr (omega arith));
@@ -429,7 +429,7 @@ manifest_law before after s slot found e below torn rules =
     (stores_law after (stores_named sh body before)).1 (record {
       shape = ap (λ (n : ℕ). shape_found n (header_of after)) torn.size ∙ ap (shape_found (length before)) header ∙ has.shape;
       digests = found.digests;
-      rules = rules;
+      current = is_current;
       named = sym (stores_named_same sh body before after there torn.size (omega (arith, shaped.size)) same);
     })
 

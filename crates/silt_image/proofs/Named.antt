@@ -17,7 +17,7 @@ use Rattle.silt_manifest.proofs.SoundBodies.{own_slot}
 use Rattle.silt_disk.specs.Header.{IsHeader, header_of, header_shape, is_formatted, is_in_limits, magic, version_number, version_of}
 use Rattle.silt_disk.specs.declared.header.Version.{Version}
 use Rattle.silt_log.specs.Parts.{Part, log_part}
-use Rattle.silt_image.specs.Stores.{Stores, digests_found, image_digests, image_stores, shape_found, stores_named, stores_ruled, stores_shaped}
+use Rattle.silt_image.specs.Stores.{Stores, digests_found, image_digests, image_stores, shape_found, stores_named, stores_of_current, stores_shaped}
 use Rattle.silt_image.specs.Laws.{DigestsLaw, HasStores, LimitsLaw, StoresLaw, WholeLaw}
 use Rattle.silt_event.specs.declared.damage.Finding.{Finding}
 use Rattle.silt_event.specs.declared.damage.Finding.TheVariants.{NotFormatted, Damaged}
@@ -158,11 +158,11 @@ greater_sound s version (Some a) (Some b) found s0 s1 e = go (nat_lt a.body.gene
     go false e = (0, sound_body s version 0 a found s0 (cc))
 
 -- the two tests of the slots
-abbrev pub ruled : Bool → Bool → Result SlotRecord Damage → Result SlotRecord Damage
-ruled first second found = if not first then Err (damage.Slot 0) else if not second then Err (damage.Slot 1) else found
+abbrev pub both_sound_found : Bool → Bool → Result SlotRecord Damage → Result SlotRecord Damage
+both_sound_found first second found = if not first then Err (damage.Slot 0) else if not second then Err (damage.Slot 1) else found
 
 -- they succeed if a record is found
-both_sound : (a b : Bool) (r : Result SlotRecord Damage) (found : SlotRecord) → ruled a b r ≡ Ok found → (a ≡ true) × (b ≡ true) × (r ≡ Ok found)
+both_sound : (a b : Bool) (r : Result SlotRecord Damage) (found : SlotRecord) → both_sound_found a b r ≡ Ok found → (a ≡ true) × (b ≡ true) × (r ≡ Ok found)
 both_sound false b r found e = absurd (cc)
 both_sound true false r found e = absurd (cc)
 both_sound true true r found e = (refl, refl, e)
@@ -199,24 +199,24 @@ named_has image s shape found has_shape has_record same =
     record {
       shape = has_shape ∙ ap Ok is_shape;
       digests = found.digests;
-      rules = ap (λ t. manifest_found t image) (sym is_shape) ∙ has_record ∙ ap (λ b. Ok (record_with found.digests b)) is_body;
+      current = ap (λ t. manifest_found t image) (sym is_shape) ∙ has_record ∙ ap (λ b. Ok (record_with found.digests b)) is_body;
       named = sym same ∙ ap (λ t. stores_named t found.body image) is_shape ∙ ap (λ b. stores_named s.shape b image) is_body;
     }
 
-from_ruled : (image : List ℕ) (s : Stores) (shape : Shape) → shape_found (length image) (header_of image) ≡ Ok shape → (r : Result SlotRecord Damage) → manifest_found shape image ≡ r → stores_ruled shape image r ≡ Ok s → HasStores s image
-from_ruled image s shape has_shape (Err damaged) has e = absurd (cc)
-from_ruled image s shape has_shape (Ok found) has e = named_has image s shape found has_shape has (let same : stores_named shape found.body image ≡ s = cc in same)
+from_current : (image : List ℕ) (s : Stores) (shape : Shape) → shape_found (length image) (header_of image) ≡ Ok shape → (r : Result SlotRecord Damage) → manifest_found shape image ≡ r → stores_of_current shape image r ≡ Ok s → HasStores s image
+from_current image s shape has_shape (Err damaged) has e = absurd (cc)
+from_current image s shape has_shape (Ok found) has e = named_has image s shape found has_shape has (let same : stores_named shape found.body image ≡ s = cc in same)
 
 from_shaped : (image : List ℕ) (s : Stores) (r : Result Shape Finding) → shape_found (length image) (header_of image) ≡ r → stores_shaped image r ≡ Ok s → HasStores s image
 from_shaped image s (Err finding) has e = absurd (cc)
-from_shaped image s (Ok shape) has e = from_ruled image s shape has (manifest_found shape image) refl e
+from_shaped image s (Ok shape) has e = from_current image s shape has (manifest_found shape image) refl e
 
 -- an image has these stores exactly if its shape and its current body are theirs, and the regions that the body names have their rows
 pub stores_law : StoresLaw
 unfolding image_stores
 stores_law image s = (
   λ e. from_shaped image s (shape_found (length image) (header_of image)) refl e,
-  λ has. ap (stores_shaped image) has.shape ∙ ap (stores_ruled s.shape image) has.rules ∙ ap Ok (sym has.named),
+  λ has. ap (stores_shaped image) has.shape ∙ ap (stores_of_current s.shape image) has.current ∙ ap Ok (sym has.named),
 )
 
 -- a log of an image is asked for by its region
@@ -245,7 +245,7 @@ pub whole_law : WholeLaw
 whole_law image s e =
     let has = (stores_law image s).0 e in
     let shaped = shape_parts (length image) (header_of image) s.shape has.shape in
-    let sound = current_sound s.shape image (record_with has.digests s.body) has.rules in
+    let sound = current_sound s.shape image (record_with has.digests s.body) has.current in
     let logs : s.logs ≡ map (log_part s.shape image) (s.body.active ∷ s.body.frozen) = ap (λ (t : Stores). t.logs) has.named ∙ logs_named s.shape s.body image in
     record {
       header = header_is (header_of image) (length-between image 0 37 shaped.long) shaped.formatted;
@@ -264,4 +264,4 @@ whole_law image s e =
 -- the digests of an image with stores are those after the current body
 pub digests_law : DigestsLaw
 unfolding image_digests
-digests_law image s found e rules = ap (λ (t : Shape). digests_found (manifest_found t image)) (whole_law image s e).has_shape ∙ ap digests_found rules
+digests_law image s found e is_current = ap (λ (t : Shape). digests_found (manifest_found t image)) (whole_law image s e).has_shape ∙ ap digests_found is_current

@@ -11,7 +11,7 @@ use Rattle.silt_manifest.specs.Digests.{long_record}
 use Rattle.silt_manifest.specs.Current.{manifest_found}
 use Rattle.silt_manifest.specs.declared.digests.Digests.{Digests}
 use Rattle.silt_log.specs.Parts.{Part}
-use Rattle.silt_image.specs.Stores.{Stores, image_digests, image_stores, stores_named, stores_ruled, stores_shaped}
+use Rattle.silt_image.specs.Stores.{Stores, image_digests, image_stores, stores_named, stores_of_current, stores_shaped}
 use Rattle.silt_sorted_store.specs.State.{sorted_rows}
 use Rattle.silt_image.specs.Meaning.{AreDigestsOf, IsSound, all_logs_fit, charge_findings, charge_of, digest_findings, entries_digest, findings_of, image_fits, image_map, image_rows, image_stands, image_verdict, is_crowding, map_where_sound, part_digest, rows_found, rows_of, said_entry_findings, said_hash, said_hash_findings, said_sorted, store_findings}
 use Rattle.silt_sorted_store.specs.Findings.{entry_findings, is_key_below, sorted_findings}
@@ -234,13 +234,13 @@ pub empty_law : EmptyLaw
 unfolding image_stores
 empty_law image shape digests has_shape has_record digest none =
     let s : Stores = stores_named shape first_body image in
-    let e : image_stores image ≡ Ok s = ap (stores_shaped image) has_shape ∙ ap (stores_ruled shape image) has_record in
+    let e : image_stores image ≡ Ok s = ap (stores_shaped image) has_shape ∙ ap (stores_of_current shape image) has_record in
     let logs = first_logs shape image none in
     let hashes = first_hashes shape image in
     let entries = first_entries shape image in
     let is_shape = first_shape shape image in
-    let rules : manifest_found s.shape image ≡ Ok (long_record first_body digests) = ap (λ (t : Shape). manifest_found t image) is_shape ∙ has_record in
-    let said = digests_law image s (long_record first_body digests) e rules in
+    let is_current : manifest_found s.shape image ≡ Ok (long_record first_body digests) = ap (λ (t : Shape). manifest_found t image) is_shape ∙ has_record in
+    let said = digests_law image s (long_record first_body digests) e is_current in
     let stands = stands_law image s e (nothing_found s 0 logs hashes entries) (first_digests (image_digests image) digests s said digest hashes entries) in
     record {
       good = stands.good;

@@ -47,7 +47,7 @@ FormattedLaw = (shape : Shape) → InLimits shape → shape_found (device_size s
 pub record HasStores (s : Stores) (image : List ℕ) : Type 0 where
   pub shape : shape_found (length image) (header_of image) ≡ Ok s.shape
   pub digests : Option Digests
-  pub rules : manifest_found s.shape image ≡ Ok (record { body = s.body; digests = digests })
+  pub current : manifest_found s.shape image ≡ Ok (record { body = s.body; digests = digests })
   pub named : s ≡ stores_named s.shape s.body image
 
 -- an image has these stores exactly if its shape and its current body are theirs, and the regions that the body names have their rows

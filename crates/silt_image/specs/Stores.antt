@@ -49,13 +49,13 @@ damage_finding (damage.Slot slot) = Damaged (Slot slot)
 damage_finding damage.NoSlot = Damaged NoSlot
 
 -- the stores that the current body names, or the finding
-abbrev pub stores_ruled : Shape → List ℕ → Result SlotRecord Damage → Result Stores Finding
-stores_ruled shape image (Ok found) = Ok (stores_named shape found.body image)
-stores_ruled shape image (Err damaged) = Err (damage_finding damaged)
+abbrev pub stores_of_current : Shape → List ℕ → Result SlotRecord Damage → Result Stores Finding
+stores_of_current shape image (Ok found) = Ok (stores_named shape found.body image)
+stores_of_current shape image (Err damaged) = Err (damage_finding damaged)
 
 -- the stores of an image of this shape, or the finding in its shape or its manifest
 abbrev pub stores_shaped : List ℕ → Result Shape Finding → Result Stores Finding
-stores_shaped image (Ok shape) = stores_ruled shape image (manifest_found shape image)
+stores_shaped image (Ok shape) = stores_of_current shape image (manifest_found shape image)
 stores_shaped image (Err finding) = Err finding
 
 -- The stores of an image, or the first finding in its header or its manifest. All meaning of an image is defined by this.

@@ -8,7 +8,7 @@ use Rattle.silt_event.specs.declared.refusal.Refusal.{Refusal}
 use Rattle.silt_frame.specs.Rows.{key_cmp}
 use Rattle.silt_frame.specs.declared.key.Key.{Key}
 use Rattle.silt_image.specs.Meaning.{image_map}
-use Rattle.silt_tiers.specs.Lookup.{AreEntriesOf}
+use Rattle.silt_engine.specs.Lookup.{AreEntriesOf}
 use Rattle.silt_jobs.specs.Files.{TellsNoDisk}
 use Rattle.silt_jobs.specs.Jobs.{TellsCheck}
 

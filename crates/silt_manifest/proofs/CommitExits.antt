@@ -9,14 +9,14 @@ use Rattle.silt_frame.specs.Gate.{is_open}
 use Rattle.silt_manifest.specs.Body.{FitsSlot}
 use Rattle.silt_manifest.specs.Digests.{FitsDigests, long_record, record_bytes, record_of}
 use Rattle.silt_manifest.specs.Current.{slot_of, is_slot_open, record_behind, open_record, current_manifest}
-use Rattle.silt_manifest.specs.Standing.{ManifestState, IsNext, IsPrepared, IsRuled, IsReady, Rules, RulesOldOrNew, ruled_by, current_record, current_slot, spare_slot}
+use Rattle.silt_manifest.specs.Standing.{ManifestState, IsNext, IsPrepared, IsCurrentIn, IsReady, IsCurrent, OldOrNewIsCurrent, with_current, current_record, current_slot, spare_slot}
 use Rattle.silt_manifest.specs.declared.body.Body.{Body}
 use Rattle.silt_manifest.specs.declared.digests.Digests.{Digests}
 use Rattle.silt_manifest.specs.declared.slot.SlotRecord.{SlotRecord}
 use Rattle.silt_manifest.proofs.DigestTrip.{record_law}
 use Rattle.silt_manifest.proofs.SlotImages.{slot_parts, closed_record, opened_record, other_same, gate_written, version_stays}
 use Rattle.silt_manifest.proofs.SoundBodies.{long_sound}
-use Rattle.silt_manifest.proofs.CurrentLemmas.{newer_rules, rules_sound, still_rules}
+use Rattle.silt_manifest.proofs.CurrentLemmas.{newer_is_current, current_is_sound, stays_current}
 use Rattle.silt_manifest.proofs.PrepareExits.{two_slots}
 
 -- an open slot with these bytes holds the record
@@ -46,8 +46,8 @@ module _ (m : ManifestState) (next : Body) (digests : Digests) (n : ℕ) (fits :
   same_version before after (size, ready) torn = version_stays (slot_at (spare_slot m)) 1 before after (omega arith) (omega arith) torn
 
   -- with an open gate the next record is current
-  new_rules : (before after : List ℕ) → (length before ≡ n) × IsReady m next digests before → Torn (slot_at (spare_slot m)) 1 before after → is_slot_open after (spare_slot m) ≡ true → (open_record after (spare_slot m) ≡ Some (long_record next digests)) × (current_manifest m.shape after ≡ Some (long_record next digests))
-  new_rules before after was torn opened =
+  new_record_is_current : (before after : List ℕ) → (length before ≡ n) × IsReady m next digests before → Torn (slot_at (spare_slot m)) 1 before after → is_slot_open after (spare_slot m) ≡ true → (open_record after (spare_slot m) ≡ Some (long_record next digests)) × (current_manifest m.shape after ≡ Some (long_record next digests))
+  new_record_is_current before after was torn opened =
       let slots = two_slots m in
       let size = was.0 in
       let ready = was.1 in
@@ -56,48 +56,48 @@ module _ (m : ManifestState) (next : Body) (digests : Digests) (n : ℕ) (fits :
       torn_slice_after (slot_at (spare_slot m)) 1 before after torn (slot_at (spare_slot m) + 1) (slot_at (spare_slot m) + 461) (omega arith) (omega arith) ∙ ready.bytes in
       let holds : open_record after (spare_slot m) ≡ Some (long_record next digests) = holds_record after (spare_slot m) next digests room held held_digests opened bytes in (
         holds,
-        newer_rules m.shape (version_of (header_of before)) (current_slot m) (spare_slot m) (current_record m) (long_record next digests) after (same_version before after was torn) slots
-            (rules_sound m.shape (current_slot m) (spare_slot m) (current_record m) before slots ready.stands ready.rules)
+        newer_is_current m.shape (version_of (header_of before)) (current_slot m) (spare_slot m) (current_record m) (long_record next digests) after (same_version before after was torn) slots
+            (current_is_sound m.shape (current_slot m) (spare_slot m) (current_record m) before slots ready.stands ready.current)
             (long_sound m.shape (version_of (header_of before)) (spare_slot m) (long_record next digests) refl follows.sound)
             follows.generation (current_stays before after was torn ∙ ready.stands) holds,
       )
 
   -- the gate may be written or not
-  old_or_new : m.prepared ≡ Some (long_record next digests) → (before after : List ℕ) → (length before ≡ n) × IsReady m next digests before → Torn (slot_at (spare_slot m)) 1 before after → RulesOldOrNew m after
+  old_or_new : m.prepared ≡ Some (long_record next digests) → (before after : List ℕ) → (length before ≡ n) × IsReady m next digests before → Torn (slot_at (spare_slot m)) 1 before after → OldOrNewIsCurrent m after
   old_or_new prepared before after was torn =
       let slots = two_slots m in
       elim (cases_Bool (is_slot_open after (spare_slot m))) [
-        | inl opened ↦ inr ((new_rules before after was torn opened).1 ∙ sym prepared)
+        | inl opened ↦ inr ((new_record_is_current before after was torn opened).1 ∙ sym prepared)
         | inr closed ↦
-            inl (still_rules m.shape (current_slot m) (spare_slot m) (current_record m) before after (same_version before after was torn) slots was.1.stands was.1.rules (current_stays before after was torn)
+            inl (stays_current m.shape (current_slot m) (spare_slot m) (current_record m) before after (same_version before after was torn) slots was.1.stands was.1.current (current_stays before after was torn)
             (inl (closed_record (slot_of after (spare_slot m)) closed)))
       ]
 
   -- the gate is written
-  new_ruled : (before : List ℕ) → (length before ≡ n) × IsReady m next digests before → IsRuled (ruled_by m.shape (long_record next digests) false) (splice (slot_at (spare_slot m)) (167 ∷ []) before)
-  new_ruled before was =
+  new_is_current_in : (before : List ℕ) → (length before ≡ n) × IsReady m next digests before → IsCurrentIn (with_current m.shape (long_record next digests) false) (splice (slot_at (spare_slot m)) (167 ∷ []) before)
+  new_is_current_in before was =
       let slots = two_slots m in
       let size = was.0 in
       let after = splice (slot_at (spare_slot m)) (167 ∷ []) before in
       let torn : Torn (slot_at (spare_slot m)) 1 before after = torn_splice (slot_at (spare_slot m)) (167 ∷ []) before (omega arith) in
       let opened : is_slot_open after (spare_slot m) ≡ true = ap is_open (gate_written 167 (spare_slot m) before (omega arith)) in
-      let both = new_rules before after was torn opened in
+      let both = new_record_is_current before after was torn opened in
       let own : next.generation % 2 ≡ spare_slot m = ap (λ (k : ℕ). k % 2) follows.generation in
       let other : (next.generation + 1) % 2 ≡ current_slot m = omega (arith, follows.generation) in
       record {
-        rules = both.1;
+        current = both.1;
         stands = ap (open_record after) own ∙ both.0;
         spare = ap (is_slot_open after) other ∙ holds_open (slot_of after (current_slot m)) (current_record m) (current_stays before after was torn ∙ was.1.stands);
       }
 
 -- the write or the sync fails
-pub gate_fails : (m : ManifestState) (next : Body) (digests : Digests) (old new : Content) (at : ℕ) → slot_at 1 + 4096 ≤ size old → IsPrepared m next digests old → at ≡ slot_at (spare_slot m) → ChangesWithin at 1 old new → LeavesOnly new (RulesOldOrNew m)
+pub gate_fails : (m : ManifestState) (next : Body) (digests : Digests) (old new : Content) (at : ℕ) → slot_at 1 + 4096 ≤ size old → IsPrepared m next digests old → at ≡ slot_at (spare_slot m) → ChangesWithin at 1 old new → LeavesOnly new (OldOrNewIsCurrent m)
 gate_fails m next digests old new at fits prepared is changes =
     let here : ChangesWithin (slot_at (spare_slot m)) 1 old new = rw is at changes in
     within_leaves here (sized_leaves prepared.leaves) (old_or_new m next digests (size old) fits prepared.follows prepared.fits prepared.fits_digests prepared.is)
 
 -- the gate is open
-pub all_committed : (m : ManifestState) (next : Body) (digests : Digests) (old new : Content) (at : ℕ) → slot_at 1 + 4096 ≤ size old → IsPrepared m next digests old → at ≡ slot_at (spare_slot m) → Writes at (167 ∷ []) old new → Rests new → Rules (ruled_by m.shape (long_record next digests) false) new
+pub all_committed : (m : ManifestState) (next : Body) (digests : Digests) (old new : Content) (at : ℕ) → slot_at 1 + 4096 ≤ size old → IsPrepared m next digests old → at ≡ slot_at (spare_slot m) → Writes at (167 ∷ []) old new → Rests new → IsCurrent (with_current m.shape (long_record next digests) false) new
 all_committed m next digests old new at fits prepared is writes rests =
     let here : Writes (slot_at (spare_slot m)) (167 ∷ []) old new = rw is at writes in
-    rests_leaves rests (write_shows here (sized_shows (leaves_shows prepared.leaves)) (new_ruled m next digests (size old) fits prepared.follows prepared.fits prepared.fits_digests))
+    rests_leaves rests (write_shows here (sized_shows (leaves_shows prepared.leaves)) (new_is_current_in m next digests (size old) fits prepared.follows prepared.fits prepared.fits_digests))

@@ -36,42 +36,42 @@ found_at s v image first second is is_first is_second =
     ∙ ap (λ held. record_found s v held (open_record image 1)) is_first ∙ ap (λ held. record_found s v first held) is_second
 
 -- no record is current if a slot is damaged
-none_rules : (s : Shape) (v : Version) (first second : Option SlotRecord) (slot : ℕ) (b : SlotRecord) → record_found s v first second ≡ Err (Slot slot) → where_found (record_found s v first second) ≡ Some b → ⊥
-none_rules s v first second slot b refused rules = let none : where_found (record_found s v first second) ≡ None = ap where_found refused in absurd (cc)
+none_is_current : (s : Shape) (v : Version) (first second : Option SlotRecord) (slot : ℕ) (b : SlotRecord) → record_found s v first second ≡ Err (Slot slot) → where_found (record_found s v first second) ≡ Some b → ⊥
+none_is_current s v first second slot b refused is_current = let none : where_found (record_found s v first second) ≡ None = ap where_found refused in absurd (cc)
 
 -- if there is a current record, the first slot is sound
 first_is_sound : (s : Shape) (v : Version) (first second : Option SlotRecord) (b : SlotRecord) → where_found (record_found s v first second) ≡ Some b → is_sound_record s v 0 first ≡ true
 unfolding record_found
-first_is_sound s v first second b rules =
+first_is_sound s v first second b is_current =
     elim (cases_Bool (is_sound_record s v 0 first)) [
       | inl sound ↦ sound
-      | inr unsound ↦ let refused : record_found s v first second ≡ Err (Slot 0) = rw unsound refl in absurd (none_rules s v first second 0 b refused rules)
+      | inr unsound ↦ let refused : record_found s v first second ≡ Err (Slot 0) = rw unsound refl in absurd (none_is_current s v first second 0 b refused is_current)
     ]
 
 -- and the second
 second_is_sound : (s : Shape) (v : Version) (first second : Option SlotRecord) (b : SlotRecord) → where_found (record_found s v first second) ≡ Some b → is_sound_record s v 1 second ≡ true
 unfolding record_found
-second_is_sound s v first second b rules =
-    let sound = first_is_sound s v first second b rules in
+second_is_sound s v first second b is_current =
+    let sound = first_is_sound s v first second b is_current in
     elim (cases_Bool (is_sound_record s v 1 second)) [
       | inl sound_too ↦ sound_too
-      | inr unsound ↦ let refused : record_found s v first second ≡ Err (Slot 1) = rw (sound, unsound) refl in absurd (none_rules s v first second 1 b refused rules)
+      | inr unsound ↦ let refused : record_found s v first second ≡ Err (Slot 1) = rw (sound, unsound) refl in absurd (none_is_current s v first second 1 b refused is_current)
     ]
 
 -- the current record of an image is sound in its slot
-pub rules_sound : (s : Shape) (r o : ℕ) (b : SlotRecord) (image : List ℕ) → r + o ≡ 1 → open_record image r ≡ Some b → current_manifest s image ≡ Some b → is_sound_record s (version_of (header_of image)) r (Some b) ≡ true
-rules_sound s r o b image slots stands rules =
+pub current_is_sound : (s : Shape) (r o : ℕ) (b : SlotRecord) (image : List ℕ) → r + o ≡ 1 → open_record image r ≡ Some b → current_manifest s image ≡ Some b → is_sound_record s (version_of (header_of image)) r (Some b) ≡ true
+current_is_sound s r o b image slots stands is_current =
     let v = version_of (header_of image) in
     elim (cases_eq r 0) [
       | inl zero_r ↦
           let here : open_record image 0 ≡ Some b = ap (open_record image) (sym zero_r) ∙ stands in
           ap (λ (slot : ℕ). is_sound_record s v slot (Some b)) zero_r ∙ ap (is_sound_record s v 0) (sym here)
-          ∙ first_is_sound s v (open_record image 0) (open_record image 1) b rules
+          ∙ first_is_sound s v (open_record image 0) (open_record image 1) b is_current
       | inr not_zero ↦
           let one_r : r ≡ 1 = omega arith in
           let here : open_record image 1 ≡ Some b = ap (open_record image) (sym one_r) ∙ stands in
           ap (λ (slot : ℕ). is_sound_record s v slot (Some b)) one_r ∙ ap (is_sound_record s v 1) (sym here)
-          ∙ second_is_sound s v (open_record image 0) (open_record image 1) b rules
+          ∙ second_is_sound s v (open_record image 0) (open_record image 1) b is_current
     ]
 
 -- a record is found whose slot is the only open one
@@ -90,8 +90,8 @@ alone_found s v r o b image is slots sound stands closed =
     ]
 
 -- a record is current if it is newer than the other
-pub newer_rules : (s : Shape) (v : Version) (r o : ℕ) (a b : SlotRecord) (image : List ℕ) → version_of (header_of image) ≡ v → r + o ≡ 1 → is_sound_record s v r (Some a) ≡ true → is_sound_record s v o (Some b) ≡ true → b.body.generation ≡ a.body.generation + 1 → open_record image r ≡ Some a → open_record image o ≡ Some b → current_manifest s image ≡ Some b
-newer_rules s v r o a b image is slots sound_a sound_b next stands_a stands_b =
+pub newer_is_current : (s : Shape) (v : Version) (r o : ℕ) (a b : SlotRecord) (image : List ℕ) → version_of (header_of image) ≡ v → r + o ≡ 1 → is_sound_record s v r (Some a) ≡ true → is_sound_record s v o (Some b) ≡ true → b.body.generation ≡ a.body.generation + 1 → open_record image r ≡ Some a → open_record image o ≡ Some b → current_manifest s image ≡ Some b
+newer_is_current s v r o a b image is slots sound_a sound_b next stands_a stands_b =
     elim (cases_eq r 0) [
       | inl zero_r ↦
           let one_o : o ≡ 1 = omega arith in
@@ -107,8 +107,8 @@ newer_rules s v r o a b image is slots sound_a sound_b next stands_a stands_b =
     ]
 
 -- images of one version whose slots hold the same have the same current record
-pub same_rules : (s : Shape) (r o : ℕ) (before after : List ℕ) → version_of (header_of after) ≡ version_of (header_of before) → r + o ≡ 1 → open_record after r ≡ open_record before r → open_record after o ≡ open_record before o → current_manifest s after ≡ current_manifest s before
-same_rules s r o before after is slots same_r same_o =
+pub same_is_current : (s : Shape) (r o : ℕ) (before after : List ℕ) → version_of (header_of after) ≡ version_of (header_of before) → r + o ≡ 1 → open_record after r ≡ open_record before r → open_record after o ≡ open_record before o → current_manifest s after ≡ current_manifest s before
+same_is_current s r o before after is slots same_r same_o =
     elim (cases_eq r 0) [
       | inl zero_r ↦
           let one_o : o ≡ 1 = omega arith in
@@ -122,9 +122,9 @@ same_rules s r o before after is slots same_r same_o =
     ]
 
 -- a record stays current if its slot stays, and the other one is closed or stays too
-pub still_rules : (s : Shape) (r o : ℕ) (b : SlotRecord) (before after : List ℕ) → version_of (header_of after) ≡ version_of (header_of before) → r + o ≡ 1 → open_record before r ≡ Some b → current_manifest s before ≡ Some b → open_record after r ≡ open_record before r → (open_record after o ≡ None) ⊎ (open_record after o ≡ open_record before o) → current_manifest s after ≡ Some b
-still_rules s r o b before after is slots stands rules same_r other =
+pub stays_current : (s : Shape) (r o : ℕ) (b : SlotRecord) (before after : List ℕ) → version_of (header_of after) ≡ version_of (header_of before) → r + o ≡ 1 → open_record before r ≡ Some b → current_manifest s before ≡ Some b → open_record after r ≡ open_record before r → (open_record after o ≡ None) ⊎ (open_record after o ≡ open_record before o) → current_manifest s after ≡ Some b
+stays_current s r o b before after is slots stands is_current same_r other =
     elim other [
-      | inl closed ↦ ap where_found (alone_found s (version_of (header_of before)) r o b after is slots (rules_sound s r o b before slots stands rules) (same_r ∙ stands) closed)
-      | inr same_o ↦ same_rules s r o before after is slots same_r same_o ∙ rules
+      | inl closed ↦ ap where_found (alone_found s (version_of (header_of before)) r o b after is slots (current_is_sound s r o b before slots stands is_current) (same_r ∙ stands) closed)
+      | inr same_o ↦ same_is_current s r o before after is slots same_r same_o ∙ is_current
     ]

@@ -9,7 +9,7 @@ use Rattle.silt_frame.specs.Gate.{is_open}
 use Rattle.silt_manifest.specs.Body.{FitsSlot, first_body, is_well_formed}
 use Rattle.silt_manifest.specs.Digests.{FitsDigests, long_record, record_bytes}
 use Rattle.silt_manifest.specs.Current.{slot_of, is_slot_open}
-use Rattle.silt_manifest.specs.Standing.{FirstRulesLaw, IsFirst}
+use Rattle.silt_manifest.specs.Standing.{FirstIsCurrentLaw, IsFirst}
 use Rattle.silt_manifest.specs.declared.digests.Digests.{Digests}
 use Rattle.silt_manifest.proofs.DigestTrip.{length_record_bytes}
 use Rattle.silt_manifest.proofs.SlotImages.{slot_parts, gate_of, closed_record, other_same, gate_written}
@@ -96,7 +96,7 @@ all_first digests bytes a b c d held fits closed are first second third rests =
     rests_leaves rests (write_shows third (write_shows second zeroed (after_bytes digests held (size a) fits bytes long are)) (after_gate digests held (size a) fits))
 
 -- a first record is current
-pub first_rules : FirstRulesLaw
-first_rules s digests image limits first second =
+pub first_is_current : FirstIsCurrentLaw
+first_is_current s digests image limits first second =
     let v = version_of (header_of image) in
     alone_found s v 0 1 (long_record first_body digests) image refl refl (long_sound s v 0 (long_record first_body digests) refl (first_sound s limits)) first second

@@ -8,7 +8,7 @@ use Rattle.silt_disk.proofs.Images.{torn_slice_after, torn_slice_before, leaves_
 use Rattle.silt_manifest.specs.Current.{ClosedSlotLaw, OtherRecordsLaw, OtherRegionsLaw, record_behind, is_slot_open, manifest_found, open_record, current_manifest, slot_of, where_found}
 use Rattle.silt_manifest.specs.declared.digests.Digests.{Digests}
 use Rattle.silt_manifest.specs.declared.slot.SlotRecord.{SlotRecord}
-use Rattle.silt_manifest.specs.Standing.{IsFirst, IsRuled, ManifestState, Rules, current_slot, spare_slot}
+use Rattle.silt_manifest.specs.Standing.{IsFirst, IsCurrentIn, ManifestState, IsCurrent, current_slot, spare_slot}
 use Rattle.silt_manifest.proofs.SlotImages.{gate_written, other_same, slot_same, version_stays}
 use Rattle.silt_manifest.proofs.CurrentLemmas.{found_at}
 use Rattle.std.specs.Prelude.{slice_index}
@@ -66,27 +66,27 @@ found_elsewhere : (s : Shape) (at count : ℕ) (before after : List ℕ) → slo
 found_elsewhere s at count before after fits apart torn = other_regions s at count before after fits (outside_slots at count apart) torn (header_elsewhere at count before after (omega arith) apart torn)
 
 -- the record of an image stays current under a change outside the header and the slots
-ruled_elsewhere : (m : ManifestState) (n at count : ℕ) → slot_at 1 + 4096 ≤ n → LiesOutside 0 12288 at count → (before after : List ℕ) → (length before ≡ n) × IsRuled m before → Torn at count before after → IsRuled m after
-ruled_elsewhere m n at count fits apart before after (size, ruled) torn =
+current_in_elsewhere : (m : ManifestState) (n at count : ℕ) → slot_at 1 + 4096 ≤ n → LiesOutside 0 12288 at count → (before after : List ℕ) → (length before ≡ n) × IsCurrentIn m before → Torn at count before after → IsCurrentIn m after
+current_in_elsewhere m n at count fits apart before after (size, was_current) torn =
     let room : slot_at 1 + 4096 ≤ length before = omega arith in
     let apart_too = outside_slots at count apart in
     record {
-      rules = ap where_found (found_elsewhere m.shape at count before after room apart torn) ∙ ruled.rules;
-      stands = other_records (current_slot m) at count before after (omega arith) room apart_too torn ∙ ruled.stands;
-      spare = ap (λ bytes. is_open (slice_index bytes 0)) (slot_elsewhere at count (spare_slot m) before after (omega arith) room apart_too torn) ∙ ruled.spare;
+      current = ap where_found (found_elsewhere m.shape at count before after room apart torn) ∙ was_current.current;
+      stands = other_records (current_slot m) at count before after (omega arith) room apart_too torn ∙ was_current.stands;
+      spare = ap (λ bytes. is_open (slice_index bytes 0)) (slot_elsewhere at count (spare_slot m) before after (omega arith) room apart_too torn) ∙ was_current.spare;
     }
 
 -- and in each possible crash image, under changes outside the header and the slots
-pub rules_elsewhere : (m : ManifestState) (at count : ℕ) (old new : Content) → slot_at 1 + 4096 ≤ size old → LiesOutside 0 12288 at count → ChangesWithin at count old new → Rules m old → Rules m new
-rules_elsewhere m at count old new fits apart changes rules = within_leaves changes (sized_leaves rules) (ruled_elsewhere m (size old) at count fits apart)
+pub current_record_elsewhere : (m : ManifestState) (at count : ℕ) (old new : Content) → slot_at 1 + 4096 ≤ size old → LiesOutside 0 12288 at count → ChangesWithin at count old new → IsCurrent m old → IsCurrent m new
+current_record_elsewhere m at count old new fits apart changes is_current = within_leaves changes (sized_leaves is_current) (current_in_elsewhere m (size old) at count fits apart)
 
 -- and after a crash
-pub rules_restart : (m : ManifestState) (old new : Content) → Restarts old new → Rules m old → Rules m new
-rules_restart m old new restarts rules = restart_leaves restarts rules
+pub current_at_restart : (m : ManifestState) (old new : Content) → Restarts old new → IsCurrent m old → IsCurrent m new
+current_at_restart m old new restarts is_current = restart_leaves restarts is_current
 
 -- it is current in what is shown too
-pub rules_shown : (m : ManifestState) (content : Content) → Rules m content → Shows content (IsRuled m)
-rules_shown m content rules = leaves_shows rules
+pub current_is_shown : (m : ManifestState) (content : Content) → IsCurrent m content → Shows content (IsCurrentIn m)
+current_is_shown m content is_current = leaves_shows is_current
 
 -- a slot that was closed is closed in what is shown
 pub closed_shown : (slot : ℕ) (old new : Content) → slot_at slot + 461 ≤ size old → Writes (slot_at slot) (0 ∷ []) old new → Shows new (λ image. is_slot_open image slot ≡ false)

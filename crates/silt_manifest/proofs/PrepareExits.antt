@@ -8,11 +8,11 @@ use Rattle.silt_frame.specs.Gate.{is_open}
 use Rattle.silt_manifest.specs.Body.{FitsSlot}
 use Rattle.silt_manifest.specs.Digests.{FitsDigests, long_record, record_bytes}
 use Rattle.silt_manifest.specs.Current.{slot_of, is_slot_open, record_behind, open_record}
-use Rattle.silt_manifest.specs.Standing.{ManifestState, IsNext, IsPrepared, IsRuled, IsReady, Rules, RulesAsHeld, WritesNext, closing_place, current_record, current_slot, spare_slot}
+use Rattle.silt_manifest.specs.Standing.{ManifestState, IsNext, IsPrepared, IsCurrentIn, IsReady, IsCurrent, RecordIsCurrent, WritesNext, closing_place, current_record, current_slot, spare_slot}
 use Rattle.silt_manifest.specs.declared.body.Body.{Body}
 use Rattle.silt_manifest.specs.declared.digests.Digests.{Digests}
 use Rattle.silt_manifest.proofs.SlotImages.{closed_record, slot_same, other_same, gate_torn, gate_stays, gate_written, version_stays}
-use Rattle.silt_manifest.proofs.CurrentLemmas.{still_rules}
+use Rattle.silt_manifest.proofs.CurrentLemmas.{stays_current}
 
 -- the two slots are 0 and 1
 pub two_slots : (m : ManifestState) → current_slot m + spare_slot m ≡ 1
@@ -29,31 +29,31 @@ place_open m opened = rw opened refl
 -- in an image of this length: the record is current as before, and the other slot is closed
 pub record IsShut (m : ManifestState) (n : ℕ) (image : List ℕ) : Type 0 where
   pub size : length image ≡ n
-  pub rules : RulesAsHeld m image
+  pub current : RecordIsCurrent m image
   pub stands : open_record image (current_slot m) ≡ Some (current_record m)
   pub shut : is_slot_open image (spare_slot m) ≡ false
 
 module _ (m : ManifestState) (n : ℕ) (fits : slot_at 1 + 4096 ≤ n) where
   -- the zero may be done, done in part or not done
-  close_torn : (place : ℕ) → place ≡ closing_place m → (before after : List ℕ) → (length before ≡ n) × IsRuled m before → Torn place 1 before after → RulesAsHeld m after
-  close_torn place is before after (size, ruled) torn =
+  close_torn : (place : ℕ) → place ≡ closing_place m → (before after : List ℕ) → (length before ≡ n) × IsCurrentIn m before → Torn place 1 before after → RecordIsCurrent m after
+  close_torn place is before after (size, was_current) torn =
       let slots = two_slots m in
       elim (cases_Bool m.spare_closed) [
         | inl closed ↦
             let at : place ≡ slot_at (spare_slot m) + 4095 = is ∙ place_closed m closed in
-            still_rules m.shape (current_slot m) (spare_slot m) (current_record m) before after (version_stays place 1 before after (omega arith) (omega arith) torn) slots ruled.stands ruled.rules
+            stays_current m.shape (current_slot m) (spare_slot m) (current_record m) before after (version_stays place 1 before after (omega arith) (omega arith) torn) slots was_current.stands was_current.current
             (ap record_behind (other_same (current_slot m) (spare_slot m) place 1 before after slots (omega arith) (omega arith) (omega arith) torn))
             (inr (ap record_behind (slot_same place 1 (spare_slot m) before after torn (omega arith) (inr (omega arith)))))
         | inr opened ↦
             let at : place ≡ slot_at (spare_slot m) = is ∙ place_open m opened in
-            still_rules m.shape (current_slot m) (spare_slot m) (current_record m) before after (version_stays place 1 before after (omega arith) (omega arith) torn) slots ruled.stands ruled.rules
+            stays_current m.shape (current_slot m) (spare_slot m) (current_record m) before after (version_stays place 1 before after (omega arith) (omega arith) torn) slots was_current.stands was_current.current
             (ap record_behind (other_same (current_slot m) (spare_slot m) place 1 before after slots (omega arith) (omega arith) (omega arith) torn))
-            (gate_torn (spare_slot m) before after (omega arith) (subst (λ (p : ℕ). Torn p 1 before after) at torn) (ruled.spare ∙ ap not opened))
+            (gate_torn (spare_slot m) before after (omega arith) (subst (λ (p : ℕ). Torn p 1 before after) at torn) (was_current.spare ∙ ap not opened))
       ]
 
   -- the zero is done
-  close_written : (place : ℕ) → place ≡ closing_place m → (before : List ℕ) → (length before ≡ n) × IsRuled m before → IsShut m n (splice place (0 ∷ []) before)
-  close_written place is before (size, ruled) =
+  close_written : (place : ℕ) → place ≡ closing_place m → (before : List ℕ) → (length before ≡ n) × IsCurrentIn m before → IsShut m n (splice place (0 ∷ []) before)
+  close_written place is before (size, was_current) =
       let slots = two_slots m in
       let after = splice place (0 ∷ []) before in
       elim (cases_Bool m.spare_closed) [
@@ -62,17 +62,17 @@ module _ (m : ManifestState) (n : ℕ) (fits : slot_at 1 + 4096 ≤ n) where
             let torn : Torn place 1 before after = torn_splice place (0 ∷ []) before (omega arith) in
             record {
               size = torn.size ∙ size;
-              rules = close_torn place is before after (size, ruled) torn;
-              stands = ap record_behind (other_same (current_slot m) (spare_slot m) place 1 before after slots (omega arith) (omega arith) (omega arith) torn) ∙ ruled.stands;
-              shut = ap (λ bytes. is_open (slice_index bytes 0)) (slot_same place 1 (spare_slot m) before after torn (omega arith) (inr (omega arith))) ∙ ruled.spare ∙ ap not closed;
+              current = close_torn place is before after (size, was_current) torn;
+              stands = ap record_behind (other_same (current_slot m) (spare_slot m) place 1 before after slots (omega arith) (omega arith) (omega arith) torn) ∙ was_current.stands;
+              shut = ap (λ bytes. is_open (slice_index bytes 0)) (slot_same place 1 (spare_slot m) before after torn (omega arith) (inr (omega arith))) ∙ was_current.spare ∙ ap not closed;
             }
         | inr opened ↦
             let at : place ≡ slot_at (spare_slot m) = is ∙ place_open m opened in
             let torn : Torn place 1 before after = torn_splice place (0 ∷ []) before (omega arith) in
             record {
               size = torn.size ∙ size;
-              rules = close_torn place is before after (size, ruled) torn;
-              stands = ap record_behind (other_same (current_slot m) (spare_slot m) place 1 before after slots (omega arith) (omega arith) (omega arith) torn) ∙ ruled.stands;
+              current = close_torn place is before after (size, was_current) torn;
+              stands = ap record_behind (other_same (current_slot m) (spare_slot m) place 1 before after slots (omega arith) (omega arith) (omega arith) torn) ∙ was_current.stands;
               shut = ap is_open (ap (λ (p : ℕ). slice_index (slot_of (splice p (0 ∷ []) before) (spare_slot m)) 0) at ∙ gate_written 0 (spare_slot m) before (omega arith));
             }
       ]
@@ -86,8 +86,8 @@ module _ (m : ManifestState) (n : ℕ) (fits : slot_at 1 + 4096 ≤ n) where
       let shut : is_slot_open after (spare_slot m) ≡ false = gate_stays at count (spare_slot m) before after (omega arith) (omega arith) torn ∙ was.shut in
       record {
         size = torn.size ∙ was.size;
-        rules =
-            still_rules m.shape (current_slot m) (spare_slot m) (current_record m) before after (version_stays at count before after (omega arith) (omega arith) torn) slots was.stands was.rules same
+        current =
+            stays_current m.shape (current_slot m) (spare_slot m) (current_record m) before after (version_stays at count before after (omega arith) (omega arith) torn) slots was.stands was.current same
             (inl (closed_record (slot_of after (spare_slot m)) shut));
         stands = same ∙ was.stands;
         shut = shut;
@@ -103,29 +103,29 @@ module _ (m : ManifestState) (n : ℕ) (fits : slot_at 1 + 4096 ≤ n) where
       let now = bytes_torn at (length bytes) is long before after was (torn_splice at bytes before room) in
       let end : at + length bytes ≡ slot_at (spare_slot m) + 461 = omega arith in
       record {
-        rules = now.rules;
+        current = now.current;
         stands = now.stands;
         spare = now.shut;
         bytes = sym (ap (λ (i : ℕ). slice_range after i (at + length bytes)) is ∙ ap (λ (j : ℕ). slice_range after (slot_at (spare_slot m) + 1) j) end) ∙ splice_slice at bytes before room ∙ bytes_are;
       }
 
 -- the first write or sync fails
-pub close_fails : (m : ManifestState) (place : ℕ) (old new : Content) → slot_at 1 + 4096 ≤ size old → Rules m old → place ≡ closing_place m → ChangesWithin place 1 old new → LeavesOnly new (RulesAsHeld m)
-close_fails m place old new fits rules is changes = within_leaves changes (sized_leaves rules) (close_torn m (size old) fits place is)
+pub close_fails : (m : ManifestState) (place : ℕ) (old new : Content) → slot_at 1 + 4096 ≤ size old → IsCurrent m old → place ≡ closing_place m → ChangesWithin place 1 old new → LeavesOnly new (RecordIsCurrent m)
+close_fails m place old new fits is_current is changes = within_leaves changes (sized_leaves is_current) (close_torn m (size old) fits place is)
 
 -- the other slot is closed
-shut_leaves : (m : ManifestState) (place : ℕ) (old between : Content) → slot_at 1 + 4096 ≤ size old → Rules m old → place ≡ closing_place m → Writes place (0 ∷ []) old between → Rests between → LeavesOnly between (IsShut m (size old))
-shut_leaves m place old between fits rules is writes rests = rests_leaves rests (write_shows writes (sized_shows (leaves_shows rules)) (close_written m (size old) fits place is))
+shut_leaves : (m : ManifestState) (place : ℕ) (old between : Content) → slot_at 1 + 4096 ≤ size old → IsCurrent m old → place ≡ closing_place m → Writes place (0 ∷ []) old between → Rests between → LeavesOnly between (IsShut m (size old))
+shut_leaves m place old between fits is_current is writes rests = rests_leaves rests (write_shows writes (sized_shows (leaves_shows is_current)) (close_written m (size old) fits place is))
 
 -- the second write or sync fails
-pub bytes_fail : (m : ManifestState) (place at count : ℕ) (old between new : Content) → slot_at 1 + 4096 ≤ size old → Rules m old → place ≡ closing_place m → at ≡ slot_at (spare_slot m) + 1 → count ≡ 460 → Writes place (0 ∷ []) old between → Rests between → ChangesWithin at count between new → LeavesOnly new (RulesAsHeld m)
-bytes_fail m place at count old between new fits rules is is_at long writes rests changes =
-    weaker_leaves (within_leaves changes (shut_leaves m place old between fits rules is writes rests) (bytes_torn m (size old) fits at count is_at long)) (λ image now. now.rules)
+pub bytes_fail : (m : ManifestState) (place at count : ℕ) (old between new : Content) → slot_at 1 + 4096 ≤ size old → IsCurrent m old → place ≡ closing_place m → at ≡ slot_at (spare_slot m) + 1 → count ≡ 460 → Writes place (0 ∷ []) old between → Rests between → ChangesWithin at count between new → LeavesOnly new (RecordIsCurrent m)
+bytes_fail m place at count old between new fits is_current is is_at long writes rests changes =
+    weaker_leaves (within_leaves changes (shut_leaves m place old between fits is_current is writes rests) (bytes_torn m (size old) fits at count is_at long)) (λ image now. now.current)
 
 -- all is written
-pub all_prepared : (m : ManifestState) (place at : ℕ) (bytes : List ℕ) (next : Body) (digests : Digests) (old between new : Content) → slot_at 1 + 4096 ≤ size old → Rules m old → place ≡ closing_place m → at ≡ slot_at (spare_slot m) + 1 → length bytes ≡ 460 → bytes ≡ record_bytes next digests → Writes place (0 ∷ []) old between → Rests between → Writes at bytes between new → Rests new → LeavesOnly new (IsReady m next digests)
-all_prepared m place at bytes next digests old between new fits rules is is_at long bytes_are first rests second rests_too =
-    rests_leaves rests_too (write_shows second (leaves_shows (shut_leaves m place old between fits rules is first rests)) (bytes_written m (size old) fits at bytes next digests is_at long bytes_are))
+pub all_prepared : (m : ManifestState) (place at : ℕ) (bytes : List ℕ) (next : Body) (digests : Digests) (old between new : Content) → slot_at 1 + 4096 ≤ size old → IsCurrent m old → place ≡ closing_place m → at ≡ slot_at (spare_slot m) + 1 → length bytes ≡ 460 → bytes ≡ record_bytes next digests → Writes place (0 ∷ []) old between → Rests between → Writes at bytes between new → Rests new → LeavesOnly new (IsReady m next digests)
+all_prepared m place at bytes next digests old between new fits is_current is is_at long bytes_are first rests second rests_too =
+    rests_leaves rests_too (write_shows second (leaves_shows (shut_leaves m place old between fits is_current is first rests)) (bytes_written m (size old) fits at bytes next digests is_at long bytes_are))
 
 -- what is then shown
 pub next_written : (m : ManifestState) (place at : ℕ) (bytes : List ℕ) (next : Body) (digests : Digests) (old between new : Content) → place ≡ closing_place m → at ≡ slot_at (spare_slot m) + 1 → bytes ≡ record_bytes next digests → Writes place (0 ∷ []) old between → Writes at bytes between new → WritesNext m next digests old new
@@ -152,5 +152,5 @@ prepared_state m shape current next held digests content same_shape same_current
       follows = record { generation = follows.generation; sound = follows.sound };
       fits = fits;
       fits_digests = fits_digests;
-      leaves = weaker_leaves leaves (λ image ready. record { rules = ready.rules; stands = ready.stands; spare = ready.spare; bytes = ready.bytes });
+      leaves = weaker_leaves leaves (λ image ready. record { current = ready.current; stands = ready.stands; spare = ready.spare; bytes = ready.bytes });
     })))

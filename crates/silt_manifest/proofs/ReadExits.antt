@@ -12,7 +12,7 @@ use Rattle.silt_frame.specs.Gate.{is_open}
 use Rattle.silt_manifest.specs.Digests.{record_of}
 use Rattle.silt_manifest.specs.Faults.{IsDamaged, IsNotRead, IsSlotRefused, IsUnsound}
 use Rattle.silt_manifest.specs.Current.{HasSlot, record_behind, record_found, is_slot_open, is_sound_record, open_record, current_manifest, slot_of, where_found}
-use Rattle.silt_manifest.specs.Standing.{IsRuled, ManifestState, manifest_of, ruled_by}
+use Rattle.silt_manifest.specs.Standing.{IsCurrentIn, ManifestState, manifest_of, with_current}
 use Rattle.silt_manifest.specs.declared.slot.SlotRecord.{SlotRecord}
 use Rattle.silt_manifest.specs.declared.slot.Damage.{Damage}
 use Rattle.silt_manifest.specs.declared.slot.Damage.TheVariants.{Slot, NoSlot}
@@ -88,44 +88,44 @@ holds_closed bytes holds =
     ]
 
 -- the record of the one slot is current, if the gate of the other is as given
-ruled_so : (s : Shape) (v : Version) (r o : ℕ) (b : SlotRecord) (spare_closed : Bool) (image : List ℕ) → r + o ≡ 1 → HasSlot s v r (Some b) image → current_manifest s image ≡ Some b → is_slot_open image o ≡ not spare_closed → IsRuled (ruled_by s b spare_closed) image
-ruled_so s v r o b spare_closed image slots has rules spare =
+current_so : (s : Shape) (v : Version) (r o : ℕ) (b : SlotRecord) (spare_closed : Bool) (image : List ℕ) → r + o ≡ 1 → HasSlot s v r (Some b) image → current_manifest s image ≡ Some b → is_slot_open image o ≡ not spare_closed → IsCurrentIn (with_current s b spare_closed) image
+current_so s v r o b spare_closed image slots has is_current spare =
     let own : b.body.generation % 2 ≡ r = (sound_parts s r b.body (sound_body s v r b has.sound)).slot_is in
     let other : (b.body.generation + 1) % 2 ≡ o = omega arith in
     record {
-      rules = rules;
+      current = is_current;
       stands = ap (open_record image) own ∙ has.held;
       spare = ap (is_slot_open image) other ∙ spare;
     }
 
 -- the manifest of two slots is what an image has
-ruled_image : (s : Shape) (v : Version) (first second : Option SlotRecord) (m : ManifestState) (image : List ℕ) → version_of (header_of image) ≡ v → HasSlot s v 0 first image → HasSlot s v 1 second image → manifest_of s first second ≡ Some m → IsRuled m image
-ruled_image s v None None m image version one two is = absurd (cc)
-ruled_image s v None (Some b) m image version one two is =
-    let same : ruled_by s b true ≡ m = cc in
-    subst (λ state. IsRuled state image) same (ruled_so s v 1 0 b true image refl two (ap where_found (alone_found s v 1 0 b image version refl two.sound two.held one.held)) (holds_closed (slot_of image 0) one.held))
-ruled_image s v (Some a) None m image version one two is =
-    let same : ruled_by s a true ≡ m = cc in
-    subst (λ state. IsRuled state image) same (ruled_so s v 0 1 a true image refl one (ap where_found (alone_found s v 0 1 a image version refl one.sound one.held two.held)) (holds_closed (slot_of image 1) two.held))
-ruled_image s v (Some a) (Some b) m image version one two is =
+current_in_image : (s : Shape) (v : Version) (first second : Option SlotRecord) (m : ManifestState) (image : List ℕ) → version_of (header_of image) ≡ v → HasSlot s v 0 first image → HasSlot s v 1 second image → manifest_of s first second ≡ Some m → IsCurrentIn m image
+current_in_image s v None None m image version one two is = absurd (cc)
+current_in_image s v None (Some b) m image version one two is =
+    let same : with_current s b true ≡ m = cc in
+    subst (λ state. IsCurrentIn state image) same (current_so s v 1 0 b true image refl two (ap where_found (alone_found s v 1 0 b image version refl two.sound two.held one.held)) (holds_closed (slot_of image 0) one.held))
+current_in_image s v (Some a) None m image version one two is =
+    let same : with_current s a true ≡ m = cc in
+    subst (λ state. IsCurrentIn state image) same (current_so s v 0 1 a true image refl one (ap where_found (alone_found s v 0 1 a image version refl one.sound one.held two.held)) (holds_closed (slot_of image 1) two.held))
+current_in_image s v (Some a) (Some b) m image version one two is =
     elim (cases_Bool (nat_lt a.body.generation b.body.generation)) [
       | inl newer ↦
-          let chosen : (if nat_lt a.body.generation b.body.generation then ruled_by s b false else ruled_by s a false) ≡ ruled_by s b false = rw newer refl in
-          let same : ruled_by s b false ≡ m = cc in
-          subst (λ state. IsRuled state image) same (ruled_so s v 1 0 b false image refl two (ap where_found (found_at s v image (Some a) (Some b) version one.held two.held ∙ newer_second s v a b one.sound two.sound newer)) (holds_open (slot_of image 0) a one.held))
+          let chosen : (if nat_lt a.body.generation b.body.generation then with_current s b false else with_current s a false) ≡ with_current s b false = rw newer refl in
+          let same : with_current s b false ≡ m = cc in
+          subst (λ state. IsCurrentIn state image) same (current_so s v 1 0 b false image refl two (ap where_found (found_at s v image (Some a) (Some b) version one.held two.held ∙ newer_second s v a b one.sound two.sound newer)) (holds_open (slot_of image 0) a one.held))
       | inr older ↦
-          let chosen : (if nat_lt a.body.generation b.body.generation then ruled_by s b false else ruled_by s a false) ≡ ruled_by s a false = rw older refl in
-          let same : ruled_by s a false ≡ m = cc in
-          subst (λ state. IsRuled state image) same (ruled_so s v 0 1 a false image refl one (ap where_found (found_at s v image (Some a) (Some b) version one.held two.held ∙ newer_first s v a b one.sound two.sound older)) (holds_open (slot_of image 1) b two.held))
+          let chosen : (if nat_lt a.body.generation b.body.generation then with_current s b false else with_current s a false) ≡ with_current s a false = rw older refl in
+          let same : with_current s a false ≡ m = cc in
+          subst (λ state. IsCurrentIn state image) same (current_so s v 0 1 a false image refl one (ap where_found (found_at s v image (Some a) (Some b) version one.held two.held ∙ newer_first s v a b one.sound two.sound older)) (holds_open (slot_of image 1) b two.held))
     ]
 
 -- the manifest of the slots is current in what is shown
-pub slots_rule : (content : Content) (s : Shape) (v : Version) (first second : Option SlotRecord) (made : Option ManifestState) (m : ManifestState) → HasVersion content v → Shows content (HasSlot s v 0 first) → Shows content (HasSlot s v 1 second) → made ≡ manifest_of s first second → made ≡ Some m → Shows content (IsRuled m)
-slots_rule content s v first second made m version one two is some = record { holds = λ honest. ruled_image s v first second m content.shown (sym (version honest)) (one.holds honest) (two.holds honest) (sym is ∙ some) }
+pub slots_are_current : (content : Content) (s : Shape) (v : Version) (first second : Option SlotRecord) (made : Option ManifestState) (m : ManifestState) → HasVersion content v → Shows content (HasSlot s v 0 first) → Shows content (HasSlot s v 1 second) → made ≡ manifest_of s first second → made ≡ Some m → Shows content (IsCurrentIn m)
+slots_are_current content s v first second made m version one two is some = record { holds = λ honest. current_in_image s v first second m content.shown (sym (version honest)) (one.holds honest) (two.holds honest) (sym is ∙ some) }
 
 -- if nothing is pending, also in each possible crash image
-pub rest_rules : (content : Content) (m : ManifestState) → Shows content (IsRuled m) → Rests content → LeavesOnly content (IsRuled m)
-rest_rules content m shows rests = rests_leaves rests shows
+pub rest_is_current : (content : Content) (m : ManifestState) → Shows content (IsCurrentIn m) → Rests content → LeavesOnly content (IsCurrentIn m)
+rest_is_current content m shows rests = rests_leaves rests shows
 
 -- what was found, or else the refusal
 pub where_some : {X E : Type 0} (o : Option X) (e : E) (P : X → Type 0) → ((x : X) → o ≡ Some x → P x) → IfOk (ok_or o e) P

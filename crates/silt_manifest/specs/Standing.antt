@@ -25,16 +25,16 @@ abbrev pub current_record : ManifestState → SlotRecord
 current_record m = record { body = m.current; digests = m.digests }
 
 -- the manifest with this current record
-abbrev pub ruled_by : Shape → SlotRecord → Bool → ManifestState
-ruled_by s found spare_closed = record { shape = s; current = found.body; digests = found.digests; spare_closed = spare_closed; prepared = None }
+abbrev pub with_current : Shape → SlotRecord → Bool → ManifestState
+with_current s found spare_closed = record { shape = s; current = found.body; digests = found.digests; spare_closed = spare_closed; prepared = None }
 
 -- the manifest of two slots, each with a sound record or none
 abbrev pub manifest_of : Shape → Option SlotRecord → Option SlotRecord → Option ManifestState
 manifest_of s None None = None
-manifest_of s None (Some second) = Some (ruled_by s second true)
-manifest_of s (Some first) None = Some (ruled_by s first true)
+manifest_of s None (Some second) = Some (with_current s second true)
+manifest_of s (Some first) None = Some (with_current s first true)
 manifest_of s (Some first) (Some second) =
-    Some (if nat_lt first.body.generation second.body.generation then ruled_by s second false else ruled_by s first false)
+    Some (if nat_lt first.body.generation second.body.generation then with_current s second false else with_current s first false)
 
 -- the slot of the current body
 abbrev pub current_slot : ManifestState → ℕ
@@ -74,22 +74,22 @@ pub record HasSoundBodies (m : ManifestState) : Type 0 where
   pub prepared : ForSome m.prepared (IsNextRecord m)
 
 -- in an image the record of the manifest is current
-abbrev pub RulesAsHeld : ManifestState → List ℕ → Type 0
-RulesAsHeld m image = current_manifest m.shape image ≡ Some (current_record m)
+abbrev pub RecordIsCurrent : ManifestState → List ℕ → Type 0
+RecordIsCurrent m image = current_manifest m.shape image ≡ Some (current_record m)
 
 -- in an image the record is current and lies in its slot, and the other slot's gate is as the manifest has it
-pub record IsRuled (m : ManifestState) (image : List ℕ) : Type 0 where
-  pub rules : RulesAsHeld m image
+pub record IsCurrentIn (m : ManifestState) (image : List ℕ) : Type 0 where
+  pub current : RecordIsCurrent m image
   pub stands : open_record image (current_slot m) ≡ Some (current_record m)
   pub spare : is_slot_open image (spare_slot m) ≡ not m.spare_closed
 
 -- the same in each possible crash image
-abbrev pub Rules : ManifestState → Content → Type 0
-Rules m content = LeavesOnly content (IsRuled m)
+abbrev pub IsCurrent : ManifestState → Content → Type 0
+IsCurrent m content = LeavesOnly content (IsCurrentIn m)
 
 -- in an image the record is current as before, and the other slot has the next one's bytes after a closed gate
 pub record IsReady (m : ManifestState) (next : Body) (digests : Digests) (image : List ℕ) : Type 0 where
-  pub rules : RulesAsHeld m image
+  pub current : RecordIsCurrent m image
   pub stands : open_record image (current_slot m) ≡ Some (current_record m)
   pub spare : is_slot_open image (spare_slot m) ≡ false
   pub bytes : slice_range image (slot_at (spare_slot m) + 1) (slot_at (spare_slot m) + 461) ≡ record_bytes next digests
@@ -110,8 +110,8 @@ pub record CanCommit (m : ManifestState) (content : Content) : Type 0 where
   pub prepared : IsPrepared m next digests content
 
 -- in an image the old record or the prepared one is current
-abbrev pub RulesOldOrNew : ManifestState → List ℕ → Type 0
-RulesOldOrNew m image = RulesAsHeld m image ⊎ (current_manifest m.shape image ≡ m.prepared)
+abbrev pub OldOrNewIsCurrent : ManifestState → List ℕ → Type 0
+OldOrNewIsCurrent m image = RecordIsCurrent m image ⊎ (current_manifest m.shape image ≡ m.prepared)
 
 -- in an image slot 0 has the body of generation 0 with these digests and an open gate, and slot 1 is closed
 pub record IsFirst (digests : Digests) (image : List ℕ) : Type 0 where
@@ -120,7 +120,7 @@ pub record IsFirst (digests : Digests) (image : List ℕ) : Type 0 where
   pub bytes : slot_of image 0 ≡ gate_open ∷ record_bytes first_body digests
 
 -- such a record is current, in any store's geometry, whatever the header
-abbrev pub FirstRulesLaw : Type 0
-FirstRulesLaw =
+abbrev pub FirstIsCurrentLaw : Type 0
+FirstIsCurrentLaw =
     (s : Shape) (digests : Digests) (image : List ℕ) → InLimits s → open_record image 0 ≡ Some (long_record first_body digests) → open_record image 1 ≡ None
     → manifest_found s image ≡ Ok (long_record first_body digests)

@@ -7,8 +7,8 @@ ghost use Rattle.silt_manifest.specs.Body.{is_well_formed};
 ghost use Rattle.silt_manifest.specs.Digests.{long_record};
 ghost use Rattle.silt_manifest.specs.Current.{ClosedSlotLaw, OtherRecordsLaw, OtherRegionsLaw, is_slot_open, is_sound_record};
 ghost use Rattle.silt_manifest.specs.Faults.{IsNotRead};
-ghost use Rattle.silt_manifest.specs.Standing.{CanCommit, FirstRulesLaw, IsFirst, IsNext, IsRuled, Rules, RulesAsHeld};
-ghost use Rattle.silt_manifest.specs.Standing.{RulesOldOrNew, WritesNext, closing_place, manifest_of, ruled_by, current_record, current_slot, spare_slot};
+ghost use Rattle.silt_manifest.specs.Standing.{CanCommit, FirstIsCurrentLaw, IsFirst, IsNext, IsCurrentIn, IsCurrent, RecordIsCurrent};
+ghost use Rattle.silt_manifest.specs.Standing.{OldOrNewIsCurrent, WritesNext, closing_place, manifest_of, with_current, current_record, current_slot, spare_slot};
 
 use crate::body::Body;
 use crate::digests::Digests;
@@ -62,8 +62,8 @@ pub fn read_current<D: Disk>(
     requires size { slot_at 1 + sector ≤ size (D.content disk.now) }
     requires version { IsTrue (D.content disk.now).honest → version ≡ version_of (header_of (D.content disk.now).shown) }
     ensures shape { IfOk result (λ m. (m.shape ≡ geometry) × (m.prepared ≡ None)) }
-    ensures ruled { IfOk result (λ m. Shows (D.content disk.now) (IsRuled m)) }
-    ensures rules { IfOk result (λ m. Rests (D.content disk.now) → Rules m (D.content disk.now)) }
+    ensures shown { IfOk result (λ m. Shows (D.content disk.now) (IsCurrentIn m)) }
+    ensures current { IfOk result (λ m. Rests (D.content disk.now) → IsCurrent m (D.content disk.now)) }
     ensures refused { IfErr result (IsNotRead (D.content disk.now) geometry (GaveAny D.gave disk.now)) }
 {
     let first = read_slot(disk, &geometry, version, 0)?;
@@ -97,9 +97,9 @@ impl Manifest {
 
     // The manifest with this current record.
     #[tactic(auto, using(crate::proofs::SoundBodies::own_slot))]
-    fn ruled_by(geometry: Geometry, found: SlotRecord, spare_closed: bool, slot: u32) -> Self
+    fn with_current(geometry: Geometry, found: SlotRecord, spare_closed: bool, slot: u32) -> Self
         requires { is_well_formed geometry slot found.body ≡ true }
-        ensures { result ≡ ruled_by geometry found spare_closed }
+        ensures { result ≡ with_current geometry found spare_closed }
     {
         Manifest {
             geometry,
@@ -124,13 +124,13 @@ impl Manifest {
     {
         match (first, second) {
             (None, None) => None,
-            (None, Some(second)) => Some(Self::ruled_by(geometry, second, true, 1)),
-            (Some(first), None) => Some(Self::ruled_by(geometry, first, true, 0)),
+            (None, Some(second)) => Some(Self::with_current(geometry, second, true, 1)),
+            (Some(first), None) => Some(Self::with_current(geometry, first, true, 0)),
             (Some(first), Some(second)) => {
                 if first.body.generation < second.body.generation {
-                    Some(Self::ruled_by(geometry, second, false, 1))
+                    Some(Self::with_current(geometry, second, false, 1))
                 } else {
-                    Some(Self::ruled_by(geometry, first, false, 0))
+                    Some(Self::with_current(geometry, first, false, 0))
                 }
             }
         }
@@ -172,11 +172,11 @@ impl Manifest {
         digests: Digests,
     ) -> Result<(), D::Fault>
         requires size { slot_at 1 + sector ≤ size (D.content disk.old) }
-        requires rules { Rules self.old (D.content disk.old) }
+        requires current { IsCurrent self.old (D.content disk.old) }
         requires next { IsNext self.old next }
         ensures size { size (D.content disk.new) ≡ size (D.content disk.old) }
         ensures changes { ChangesWithin (slot_at (spare_slot self.old)) sector (D.content disk.old) (D.content disk.new) }
-        ensures each { LeavesOnly (D.content disk.new) (RulesAsHeld self.old) }
+        ensures each { LeavesOnly (D.content disk.new) (RecordIsCurrent self.old) }
         ensures written { OnOk result (WritesNext self.old next digests (D.content disk.old) (D.content disk.new)) }
         ensures ready { OnOk result (CanCommit self.new (D.content disk.new)) }
         ensures rests { OnOk result (Rests (D.content disk.new)) }
@@ -208,8 +208,8 @@ impl Manifest {
         requires prepared { CanCommit self.old (D.content disk.old) }
         ensures size { size (D.content disk.new) ≡ size (D.content disk.old) }
         ensures changes { ChangesWithin (slot_at (spare_slot self.old)) 1 (D.content disk.old) (D.content disk.new) }
-        ensures each { LeavesOnly (D.content disk.new) (RulesOldOrNew self.old) }
-        ensures rules { OnOk result (Rules self.new (D.content disk.new)) }
+        ensures each { LeavesOnly (D.content disk.new) (OldOrNewIsCurrent self.old) }
+        ensures current { OnOk result (IsCurrent self.new (D.content disk.new)) }
         ensures rests { OnOk result (Rests (D.content disk.new)) }
         ensures new { OnOk result (Some (current_record self.new) ≡ self.old.prepared) }
         ensures state { OnOk result ((self.new.shape ≡ self.old.shape) × (self.new.spare_closed ≡ false) × (self.new.prepared ≡ None)) }
@@ -241,7 +241,7 @@ pub fn write_first<D: Disk>(disk: &mut D, digests: &Digests) -> Result<(), D::Fa
     requires closed { LeavesOnly (D.content disk.old) (λ image. is_slot_open image 1 ≡ false) }
     ensures size { size (D.content disk.new) ≡ size (D.content disk.old) }
     ensures changes { ChangesWithin (slot_at 0) sector (D.content disk.old) (D.content disk.new) }
-    ensures rules { OnOk result (LeavesOnly (D.content disk.new) (IsFirst digests.now)) }
+    ensures current { OnOk result (LeavesOnly (D.content disk.new) (IsFirst digests.now)) }
     ensures rests { OnOk result (Rests (D.content disk.new)) }
     ensures made { Costs D.writes D.syncs 3 3 disk.old disk.new result }
     ensures failures { MatchResult result (λ _. D.failures disk.new ≡ D.failures disk.old) (CountsFault D.failures D.gave disk.old disk.new) }
@@ -269,6 +269,6 @@ pub fn other_regions_do_not_count()
 {}
 
 /// The law of the first record: it is current in any store's geometry, whatever the header's version.
-pub fn first_record_rules()
-    ensures { FirstRulesLaw }
+pub fn first_record_is_current()
+    ensures { FirstIsCurrentLaw }
 {}

@@ -20,7 +20,7 @@ use Rattle.silt_log.specs.Rows.{log_rows}
 use Rattle.silt_log_store.specs.Findings.{log_findings}
 use Rattle.silt_log_store.specs.State.{LogStoreState}
 use Rattle.silt_manifest.specs.Body.{all_below, is_well_formed}
-use Rattle.silt_manifest.specs.Standing.{ManifestState, Rules}
+use Rattle.silt_manifest.specs.Standing.{ManifestState, IsCurrent}
 use Rattle.silt_manifest.specs.declared.body.Body.{Body}
 use Rattle.silt_manifest.specs.declared.digests.Digests.{Digests}
 use Rattle.silt_manifest.proofs.SoundBodies.{sound_parts}
@@ -138,10 +138,10 @@ module _ (content : Content) (shape : Shape) (body : Body) (named : IsTrue conte
 
           module _ (manifest : ManifestState) (same_shape : shape ≡ manifest.shape) (same_body : body ≡ manifest.current) (same_said : said ≡ manifest.digests) where
             -- what is held
-            pub held : (active : LogStoreState) (index : MarkedCode) (digest : List ℕ) (charge : ℕ) → InLimits shape → size content ≡ device_size manifest.shape → manifest.prepared ≡ None → (Rests content → Rules manifest content)
+            pub held : (active : LogStoreState) (index : MarkedCode) (digest : List ℕ) (charge : ℕ) → InLimits shape → size content ≡ device_size manifest.shape → manifest.prepared ≡ None → (Rests content → IsCurrent manifest content)
                 → IsReadLog content shape active → active.log.region ≡ body.active → HasIndex content sorted index → HasDigest content sorted digest → charge ≡ newest + older + hash_puts + sorted.count → charge ≤ shape.sorted_capacity
                 → Holds content (record { manifest = manifest; active = active; frozen = frozen; hashes = hashes; sorted = sorted; index = index; digest = digest; converting = None; merging = None; charge = charge })
-            held active index digest charge limits sized idle rules own region located digested total most = record {
+            held active index digest charge limits sized idle is_current own region located digested total most = record {
               limits = subst InLimits same_shape limits;
               has_size = sized;
               whole = record {
@@ -160,7 +160,7 @@ module _ (content : Content) (shape : Shape) (body : Body) (named : IsTrue conte
               idle = idle;
               none_converted = refl;
               none_merged = refl;
-              rules = rules;
+              current = is_current;
               active = subst (λ (s : Shape). IsReadLog content s active) same_shape own;
               frozen = subst (λ (s : Shape). All (IsReadLog content s) frozen) same_shape read.each;
               hashed = All-weaker (IsReadHash content shape) (IsHashStore content) (λ store is. is.stands) hashes hashed.each;

@@ -16,7 +16,7 @@ use Rattle.silt_manifest.specs.Current.{is_slot_open, manifest_found}
 use Rattle.silt_manifest.specs.Standing.{IsFirst}
 use Rattle.silt_manifest.specs.declared.digests.Digests.{Digests}
 use Rattle.silt_manifest.proofs.Laws.{closed_shown, closed_elsewhere, first_elsewhere}
-use Rattle.silt_manifest.proofs.FirstExits.{first_rules}
+use Rattle.silt_manifest.proofs.FirstExits.{first_is_current}
 use Rattle.silt_image.proofs.Headers.{formatted_law}
 use Rattle.silt_image.proofs.Verdict.{empty_law}
 
@@ -43,8 +43,8 @@ pub fresh_store : (shape : Shape) (digests : Digests) (image : List ℕ) → InL
     → log_rows shape 0 image ≡ [] → StandsFor shape empty image
 fresh_store shape digests image limits of_none long header first rows =
     let is : shape_found (length image) (header_of image) ≡ Ok shape = ap (λ (n : ℕ). shape_found n (header_of image)) long ∙ ap (shape_found (device_size shape)) header ∙ formatted_law shape limits in
-    let rules : manifest_found shape image ≡ Ok (long_record first_body digests) = first_rules shape digests image limits first.first first.second in
-    empty_law image shape digests is rules of_none rows
+    let is_current : manifest_found shape image ≡ Ok (long_record first_body digests) = first_is_current shape digests image limits first.first first.second in
+    empty_law image shape digests is is_current of_none rows
 
 module _ (shape : Shape) (limits : InLimits shape) (c1 c2 c3 : Content) (sized : size c1 ≡ device_size shape) (long2 : size c2 ≡ size c1) (slot : Writes (slot_at 1) (0 ∷ []) c1 c2)
     (prepared : ChangesWithin (gates_at shape 0) shape.log_capacity c2 c3) where

@@ -2,13 +2,13 @@
 use Rattle.std.proofs.Common.{◌≡◌, ℕ, List, length, Some, Ok, Err, Result, refl, ap, sym, ◌∙◌}
 use Rattle.silt_disk.specs.Layout.{Shape}
 use Rattle.silt_disk.specs.Header.{header_of}
-use Rattle.silt_image.specs.Stores.{damage_finding, image_digests, image_stores, shape_found, stores_named, stores_ruled, stores_shaped}
+use Rattle.silt_image.specs.Stores.{damage_finding, image_digests, image_stores, shape_found, stores_named, stores_of_current, stores_shaped}
 use Rattle.silt_image.proofs.Named.{digests_law, stores_law}
 use Rattle.silt_image.proofs.Verdict.{no_stores_law}
 use Rattle.silt_event.specs.declared.damage.Finding.{Finding}
 use Rattle.silt_manifest.specs.Faults.{IsDamaged}
 use Rattle.silt_manifest.specs.Current.{manifest_found, where_found}
-use Rattle.silt_manifest.specs.Standing.{IsRuled, ManifestState, current_record}
+use Rattle.silt_manifest.specs.Standing.{IsCurrentIn, ManifestState, current_record}
 use Rattle.silt_manifest.specs.declared.slot.SlotRecord.{SlotRecord}
 use Rattle.silt_manifest.specs.declared.slot.Damage.{Damage}
 use Rattle.silt_recovery.specs.Refusals.{IsFound}
@@ -19,19 +19,19 @@ found_record (Ok other) held is = cc
 found_record (Err damage) held is = absurd (cc)
 
 -- the current record, in a shape of another name
-pub record_that_rules : (shape : Shape) (image : List ℕ) (m : ManifestState) → m.shape ≡ shape → IsRuled m image → manifest_found shape image ≡ Ok (current_record m)
-record_that_rules shape image m same ruled = ap (λ (s : Shape). manifest_found s image) (sym same) ∙ found_record (manifest_found m.shape image) (current_record m) ruled.rules
+pub record_that_is_current : (shape : Shape) (image : List ℕ) (m : ManifestState) → m.shape ≡ shape → IsCurrentIn m image → manifest_found shape image ≡ Ok (current_record m)
+record_that_is_current shape image m same was_current = ap (λ (s : Shape). manifest_found s image) (sym same) ∙ found_record (manifest_found m.shape image) (current_record m) was_current.current
 
 -- the stores of the current record
-pub ruled_stores : (shape : Shape) (image : List ℕ) (m : ManifestState) → shape_found (length image) (header_of image) ≡ Ok shape → m.shape ≡ shape → IsRuled m image → image_stores image ≡ Ok (stores_named shape m.current image)
+pub current_stores : (shape : Shape) (image : List ℕ) (m : ManifestState) → shape_found (length image) (header_of image) ≡ Ok shape → m.shape ≡ shape → IsCurrentIn m image → image_stores image ≡ Ok (stores_named shape m.current image)
 unfolding stores_named
-ruled_stores shape image m header same ruled =
-    (stores_law image (stores_named shape m.current image)).1 (record { shape = header; digests = m.digests; rules = record_that_rules shape image m same ruled; named = refl })
+current_stores shape image m header same was_current =
+    (stores_law image (stores_named shape m.current image)).1 (record { shape = header; digests = m.digests; current = record_that_is_current shape image m same was_current; named = refl })
 
 -- the digests behind it
-pub ruled_digests : (shape : Shape) (image : List ℕ) (m : ManifestState) → image_stores image ≡ Ok (stores_named shape m.current image) → m.shape ≡ shape → IsRuled m image → image_digests image ≡ m.digests
+pub current_digests_of : (shape : Shape) (image : List ℕ) (m : ManifestState) → image_stores image ≡ Ok (stores_named shape m.current image) → m.shape ≡ shape → IsCurrentIn m image → image_digests image ≡ m.digests
 unfolding stores_named
-ruled_digests shape image m stores same ruled = digests_law image (stores_named shape m.current image) (current_record m) stores (record_that_rules shape image m same ruled)
+current_digests_of shape image m stores same was_current = digests_law image (stores_named shape m.current image) (current_record m) stores (record_that_is_current shape image m same was_current)
 
 -- a finding in the header is the verdict
 pub header_verdict : (image : List ℕ) (finding : Finding) → shape_found (length image) (header_of image) ≡ Err finding → IsFound image finding
@@ -42,4 +42,4 @@ header_verdict image finding found = no_stores_law image finding (ap (stores_sha
 pub damage_verdict : (shape : Shape) (image : List ℕ) (damage : Damage) → shape_found (length image) (header_of image) ≡ Ok shape → IsDamaged shape damage image → IsFound image (damage_finding damage)
 unfolding image_stores
 damage_verdict shape image damage header damaged =
-    no_stores_law image (damage_finding damage) (ap (stores_shaped image) header ∙ ap (stores_ruled shape image) damaged.found)
+    no_stores_law image (damage_finding damage) (ap (stores_shaped image) header ∙ ap (stores_of_current shape image) damaged.found)

@@ -5,13 +5,13 @@ use Rattle.silt_disk.specs.Layout.{Shape}
 use Rattle.silt_disk.proofs.Costs.{made_both, most_both, most_made}
 use Rattle.silt_image.specs.Stores.{stores_named}
 use Rattle.silt_log.specs.Rows.{has_stale_gate}
-use Rattle.silt_standing.specs.State.{TiersState}
+use Rattle.silt_standing.specs.State.{EngineState}
 use Rattle.silt_recovery.specs.Opening.{CostsOpening, CostsRefusal, Holds, are_stale, has_stale_log}
 use Rattle.silt_recovery.specs.declared.fault.OpenError.{OpenError}
 use Rattle.silt_recovery.specs.declared.fault.OpenError.TheVariants.{NotFormatted, Damaged, Crowded, Device, NoMemory}
 
 -- the active log was found as it was shown
-stale_as_shown : (old between : Content) (s : TiersState) → Settles old between → Holds between s → IsTrue old.honest → s.active.log.stale ≡ has_stale_log old.shown
+stale_as_shown : (old between : Content) (s : EngineState) → Settles old between → Holds between s → IsTrue old.honest → s.active.log.stale ≡ has_stale_log old.shown
 unfolding has_stale_log stores_named
 stale_as_shown old between s settles holds o =
     let h : IsTrue between.honest = settles.honest ∙ o in
@@ -50,7 +50,7 @@ module _ {D : Type 0} {writes_of syncs_of : D → ℕ} where
   seal_failed old mid new stale first second = most_both mid first second (omega (arith, at_most_one stale)) (omega (arith, at_most_one stale))
 
   -- the store was opened
-  pub opened : (content : D → Content) (old mid new : D) (s : TiersState) → Settles (content old) (content mid) → Holds (content mid) s
+  pub opened : (content : D → Content) (old mid new : D) (s : EngineState) → Settles (content old) (content mid) → Holds (content mid) s
       → Makes writes_of syncs_of 0 1 old mid → Makes writes_of syncs_of (cond s.active.log.stale 1 0) (cond s.active.log.stale 1 0) mid new → CostsOpening content writes_of syncs_of old new
   opened content old mid new s settles holds first second = record {
     stale = s.active.log.stale;

@@ -18,7 +18,7 @@ use Rattle.silt_log_store.specs.State.{LogStoreState}
 use Rattle.silt_manifest.specs.Body.{is_well_formed}
 use Rattle.silt_manifest.specs.declared.body.Body.{Body}
 use Rattle.silt_standing.specs.Standing.{shown_stores}
-use Rattle.silt_standing.specs.State.{TiersState, region_of}
+use Rattle.silt_standing.specs.State.{EngineState, region_of}
 use Rattle.silt_recovery.specs.Logs.{IsReadLog}
 use Rattle.silt_recovery.specs.Opening.{CountsHashRows, Holds, IsReported}
 use Rattle.silt_recovery.proofs.Examinations.{HasRegions, named_regions}
@@ -49,7 +49,7 @@ counts_read content shape (store ∷ stores) h read =
     ∙ sym (sum_by-cons part_count (log_part shape content.shown store.log.region) (map (log_part shape content.shown) (map region_of stores)))
 
 -- the numbers of the stores that are held
-pub reported : (content : Content) (s : TiersState) (body : Body) (hash_rows : ℕ) → Holds content s → CountsHashRows content s hash_rows → body ≡ s.manifest.current → IsTrue content.honest → IsReported content.shown (record {
+pub reported : (content : Content) (s : EngineState) (body : Body) (hash_rows : ℕ) → Holds content s → CountsHashRows content s hash_rows → body ≡ s.manifest.current → IsTrue content.honest → IsReported content.shown (record {
   generation = body.generation;
   active = body.active;
   active_rows = s.active.log.used;
@@ -108,7 +108,7 @@ few_rows content shape stores limits read =
     omega (arith, room, limits.log_capacity_most, bucket_count_most shape.buckets limits.buckets)) stores read
 
 -- the same of numbers that are named in another way
-pub reported_so : (content : Content) (s : TiersState) (body : Body) (rows frozen older hashes hash_rows : ℕ) (layout : Layout) → Holds content s → CountsHashRows content s hash_rows → body ≡ s.manifest.current → rows ≡ s.active.log.used → frozen ≡ length body.frozen → older ≡ sum_by used_rows s.frozen → hashes ≡ length body.hashed → layout ≡ layout_of s.manifest.digests
+pub reported_so : (content : Content) (s : EngineState) (body : Body) (rows frozen older hashes hash_rows : ℕ) (layout : Layout) → Holds content s → CountsHashRows content s hash_rows → body ≡ s.manifest.current → rows ≡ s.active.log.used → frozen ≡ length body.frozen → older ≡ sum_by used_rows s.frozen → hashes ≡ length body.hashed → layout ≡ layout_of s.manifest.digests
     → IsTrue content.honest → IsReported content.shown (record {
       generation = body.generation;
       active = body.active;
@@ -141,7 +141,7 @@ reported_so content s body rows frozen older hashes hash_rows layout holds count
     (subst (λ (l : Layout). IsReported content.shown (told s.active.log.used (length body.frozen) (sum_by used_rows s.frozen) (length body.hashed) l)) (sym is_layout) (reported content s body hash_rows holds counts same h)))))
 
 -- no more logs are frozen than a device can have
-pub few_frozen : (content : Content) (s : TiersState) (slot : ℕ) → Holds content s → is_well_formed s.manifest.shape slot s.manifest.current ≡ true → length s.frozen ≤ 7
+pub few_frozen : (content : Content) (s : EngineState) (slot : ℕ) → Holds content s → is_well_formed s.manifest.shape slot s.manifest.current ≡ true → length s.frozen ≤ 7
 few_frozen content s slot holds sound =
     let all : HasRegions s.manifest.shape s.manifest.current = named_regions s.manifest.shape slot s.manifest.current holds.limits sound in
     omega (arith, all.few, ap length holds.whole.frozen_regions, length-map s.frozen region_of)

@@ -11,11 +11,11 @@ use Rattle.silt_log.specs.State.{settled_rows}
 use Rattle.silt_log.proofs.Waiting.{none_waiting}
 use Rattle.silt_manifest.specs.declared.digests.Digests.{Digests}
 use Rattle.silt_standing.specs.Standing.{ShowsStores, base_map, current_map, shown_stores}
-use Rattle.silt_standing.specs.State.{TiersState}
+use Rattle.silt_standing.specs.State.{EngineState}
 use Rattle.silt_recovery.specs.Logs.{IsReadLog}
 use Rattle.silt_recovery.specs.Opening.{Holds}
 
-module _ (content : Content) (s : TiersState) (holds : Holds content s) where
+module _ (content : Content) (s : EngineState) (holds : Holds content s) where
   -- the active log has the rows that are shown
   active_shown : IsTrue content.honest → log_rows s.active.log.shape s.active.log.region content.shown ≡ settled_rows content s.active.log
   unfolding log_rows

@@ -30,21 +30,21 @@ use Rattle.silt_log.specs.State.{LogState, InBounds, all_rows, waiting_rows}
 use Rattle.silt_log.proofs.Waiting.{none_waiting}
 use Rattle.silt_log_store.specs.Calls.{SealsStore}
 use Rattle.silt_log_store.specs.State.{LogStoreState}
-use Rattle.silt_manifest.proofs.Laws.{rules_elsewhere}
-use Rattle.silt_manifest.specs.Standing.{IsRuled, Rules, current_record}
+use Rattle.silt_manifest.proofs.Laws.{current_record_elsewhere}
+use Rattle.silt_manifest.specs.Standing.{IsCurrentIn, IsCurrent, current_record}
 use Rattle.silt_manifest.specs.declared.digests.Digests.{Digests}
 use Rattle.silt_merge.specs.State.{MergeState}
 use Rattle.silt_standing.specs.Standing.{HasGathered, IsDigested, IsFrozen, IsLocated, Stands, base_map, shown_stores}
 use Rattle.silt_sorted_store.specs.State.{SortedState}
 use Rattle.silt_sorted_store.proofs.Elsewhere.{digest_elsewhere, indexed_elsewhere}
 use Rattle.silt_standing.proofs.Places.{entries_behind_log}
-use Rattle.silt_standing.specs.State.{AreWhole, IsHashOf, IsMerging, IsUnderWay, TiersState, oldest_log, region_of}
+use Rattle.silt_standing.specs.State.{AreWhole, IsHashOf, IsMerging, IsUnderWay, EngineState, oldest_log, region_of}
 use Rattle.silt_recovery.specs.Logs.{IsReadLog}
 use Rattle.silt_recovery.specs.Opening.{Holds, IsUnwritten, IsUnwrittenUnlessFailed, LeavesNoOther, TakesUp}
 use Rattle.silt_recovery.specs.Refusals.{IsFound, IsRefusedLook}
 use Rattle.silt_recovery.specs.declared.fault.OpenError.{OpenError}
 use Rattle.silt_recovery.specs.declared.fault.OpenError.TheVariants.{NotFormatted, Damaged, Crowded, Device, NoMemory}
-use Rattle.silt_recovery.proofs.Manifests.{record_that_rules}
+use Rattle.silt_recovery.proofs.Manifests.{record_that_is_current}
 use Rattle.silt_recovery.proofs.Refusals.{refused_weaker}
 use Rattle.silt_recovery.proofs.Shown.{held_good}
 
@@ -143,7 +143,7 @@ hash_stands between new shape log store exists fits changes is stands =
     (inl (subst (λ (x : Shape). gates_at shape log + log_size shape ≤ hash_at x store.region) (sym is.has_shape) before)) changes stands
 
 -- the index of entries is theirs while a log region alone is changed
-index_stands : (between new : Content) (s : TiersState) (log : ℕ) → log < s.manifest.shape.logs → device_size s.manifest.shape ≤ size between → ChangesWithin (gates_at s.manifest.shape log) (log_size s.manifest.shape) between new
+index_stands : (between new : Content) (s : EngineState) (log : ℕ) → log < s.manifest.shape.logs → device_size s.manifest.shape ≤ size between → ChangesWithin (gates_at s.manifest.shape log) (log_size s.manifest.shape) between new
     → AreWhole s → IsLocated between s → IsLocated new s
 index_stands between new s log exists fits changes whole located =
     let is_shape : s.manifest.shape ≡ s.sorted.shape = ap (λ (t : SortedState). t.shape) (sym whole.sorted) in
@@ -152,7 +152,7 @@ index_stands between new s log exists fits changes whole located =
     (entries_behind_log s.manifest.shape log s.sorted.region exists)) changes located
 
 -- and so is their digest
-digest_stands : (between new : Content) (s : TiersState) (log : ℕ) → log < s.manifest.shape.logs → device_size s.manifest.shape ≤ size between → ChangesWithin (gates_at s.manifest.shape log) (log_size s.manifest.shape) between new
+digest_stands : (between new : Content) (s : EngineState) (log : ℕ) → log < s.manifest.shape.logs → device_size s.manifest.shape ≤ size between → ChangesWithin (gates_at s.manifest.shape log) (log_size s.manifest.shape) between new
     → AreWhole s → IsDigested between s → IsDigested new s
 digest_stands between new s log exists fits changes whole digested =
     let is_shape : s.manifest.shape ≡ s.sorted.shape = ap (λ (t : SortedState). t.shape) (sym whole.sorted) in
@@ -161,22 +161,22 @@ digest_stands between new s log exists fits changes whole digested =
     (entries_behind_log s.manifest.shape log s.sorted.region exists)) changes digested
 
 -- if no conversion is in progress, nothing is required of one
-none_converts : (s : TiersState) → s.converting ≡ None → IfSome s.converting (IsUnderWay s)
+none_converts : (s : EngineState) → s.converting ≡ None → IfSome s.converting (IsUnderWay s)
 none_converts s none = subst (λ (converting : Option ConversionState). IfSome converting (IsUnderWay s)) (sym none) tt
 
-none_written : (content : Content) (s : TiersState) → s.converting ≡ None → IfSome s.converting (HasWritten content (oldest_log s))
+none_written : (content : Content) (s : EngineState) → s.converting ≡ None → IfSome s.converting (HasWritten content (oldest_log s))
 none_written content s none = subst (λ (converting : Option ConversionState). IfSome converting (HasWritten content (oldest_log s))) (sym none) tt
 
 -- and if no merge is in progress, nothing is required of one
-none_merges : (s : TiersState) → s.merging ≡ None → IfSome s.merging (IsMerging s)
+none_merges : (s : EngineState) → s.merging ≡ None → IfSome s.merging (IsMerging s)
 none_merges s none = subst (λ (merging : Option MergeState). IfSome merging (IsMerging s)) (sym none) tt
 
-none_gathered : (content : Content) (s : TiersState) → s.merging ≡ None → IfSome s.merging (HasGathered content s)
+none_gathered : (content : Content) (s : EngineState) → s.merging ≡ None → IfSome s.merging (HasGathered content s)
 none_gathered content s none = subst (λ (merging : Option MergeState). IfSome merging (HasGathered content s)) (sym none) tt
 
 -- ---- where the active log was sealed
 
-module _ (old between new : Content) (s : TiersState) (settles : Settles old between) (holds : Holds between s)
+module _ (old between new : Content) (s : EngineState) (settles : Settles old between) (holds : Holds between s)
     (seals_within : ChangesWithin (gates_at s.active.log.shape s.active.log.region + s.active.log.used + 1) (s.active.log.shape.log_capacity - (s.active.log.used + 1)) between new)
     (images : LeavesOnly new (λ image. log_rows s.active.log.shape s.active.log.region image ≡ log_rows s.active.log.shape s.active.log.region between.shown)) where
   changes : ChangesWithin (gates_at s.active.log.shape s.active.log.region) (log_size s.active.log.shape) between new
@@ -233,18 +233,18 @@ module _ (old between new : Content) (s : TiersState) (settles : Settles old bet
   shown_same h = sym ((stores_law new.shown (shown_stores between s)).0 (same_stores.each (changes.honest ∙ h) new.shown (shown_left new))).named
 
   -- the same record is current in each possible crash image
-  still_ruled : Rules s.manifest new
-  still_ruled =
+  stays_current_in : IsCurrent s.manifest new
+  stays_current_in =
       let least : slot_at 1 + 4096 ≤ size between = omega (arith, holds.has_size) in
-      rules_elsewhere s.manifest (gates_at s.manifest.shape s.manifest.current.active) (log_size s.manifest.shape) between new least (inr (omega arith)) changed (holds.rules settles.rests)
+      current_record_elsewhere s.manifest (gates_at s.manifest.shape s.manifest.current.active) (log_size s.manifest.shape) between new least (inr (omega arith)) changed (holds.current settles.rests)
 
   -- so it has the same digests
-  said_in : (image : List ℕ) → image_stores image ≡ Ok (shown_stores between s) → IsRuled s.manifest image → image_digests image ≡ s.manifest.digests
+  said_in : (image : List ℕ) → image_stores image ≡ Ok (shown_stores between s) → IsCurrentIn s.manifest image → image_digests image ≡ s.manifest.digests
   unfolding stores_named
-  said_in image stores ruled = digests_law image (shown_stores between s) (current_record s.manifest) stores (record_that_rules s.manifest.shape image s.manifest refl ruled)
+  said_in image stores was_current = digests_law image (shown_stores between s) (current_record s.manifest) stores (record_that_is_current s.manifest.shape image s.manifest refl was_current)
 
   same_said : LeavesOnly new (λ image. image_digests image ≡ s.manifest.digests)
-  same_said = record { each = λ honest image left. said_in image (same_stores.each honest image left) (still_ruled.each honest image left) }
+  same_said = record { each = λ honest image left. said_in image (same_stores.each honest image left) (stays_current_in.each honest image left) }
 
   -- each image represents what was shown
   stands_for : IsTrue old.honest → (image : List ℕ) → image_stores image ≡ Ok (shown_stores between s) → image_digests image ≡ s.manifest.digests → StandsFor (shape_of old.shown) (image_map old.shown) image
@@ -320,7 +320,7 @@ module _ (old between new : Content) (s : TiersState) (settles : Settles old bet
             most = holds.whole.most;
           };
           idle = holds.idle;
-          rules = still_ruled;
+          current = stays_current_in;
           active = sealed.log;
           indexed = sealed.index;
           frozen = λ k d inside. frozen_stands between new s.manifest.shape (slice_index_or s.frozen k d) changes.honest (holds.frozen k d inside) (λ h. frozen_rows h k d inside);

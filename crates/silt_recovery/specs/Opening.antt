@@ -10,17 +10,17 @@ use Rattle.silt_log.specs.Rows.{has_stale_gate}
 use Rattle.silt_image.specs.Stores.{Stores, image_digests, image_stores}
 use Rattle.silt_event.specs.declared.damage.Finding.{Finding}
 use Rattle.silt_event.specs.declared.report.Report.{Report}
-use Rattle.silt_manifest.specs.Standing.{Rules}
+use Rattle.silt_manifest.specs.Standing.{IsCurrent}
 use Rattle.silt_standing.specs.Standing.{IsQuiet, SameDisk}
 use Rattle.silt_standing.specs.Standing.{IsDigested, IsLocated, Stands, base_map, shown_stores}
-use Rattle.silt_standing.specs.State.{TiersState, AreWhole}
+use Rattle.silt_standing.specs.State.{EngineState, AreWhole}
 use Rattle.silt_recovery.specs.Logs.{IsReadLog}
 use Rattle.silt_recovery.specs.declared.examination.Holding.{Holding}
 use Rattle.silt_recovery.specs.declared.fault.OpenError.{OpenError}
 use Rattle.silt_recovery.specs.declared.fault.OpenError.TheVariants.{Device}
 
 -- the stores in memory, with no conversion and no merge in progress
-abbrev pub held_stores : Holding → TiersState
+abbrev pub held_stores : Holding → EngineState
 held_stores held = record {
   manifest = held.manifest;
   active = held.active;
@@ -35,14 +35,14 @@ held_stores held = record {
 }
 
 -- what is held in memory of a device in which nothing is found: the stores that it shows
-pub record Holds (content : Content) (s : TiersState) : Type 0 where
+pub record Holds (content : Content) (s : EngineState) : Type 0 where
   pub limits : InLimits s.manifest.shape
   pub has_size : size content ≡ device_size s.manifest.shape
   pub whole : AreWhole s
   pub idle : s.manifest.prepared ≡ None
   pub none_converted : s.converting ≡ None
   pub none_merged : s.merging ≡ None
-  pub rules : Rests content → Rules s.manifest content
+  pub current : Rests content → IsCurrent s.manifest content
   pub active : IsReadLog content s.manifest.shape s.active
   pub frozen : All (IsReadLog content s.manifest.shape) s.frozen
   pub hashed : All (IsHashStore content) s.hashes
@@ -55,7 +55,7 @@ pub record Holds (content : Content) (s : TiersState) : Type 0 where
   pub counted : IsTrue content.honest → s.charge ≡ charge_of (shown_stores content s)
 
 -- together the hash stores that are shown have this many rows of known kinds
-abbrev pub CountsHashRows : Content → TiersState → ℕ → Type 0
+abbrev pub CountsHashRows : Content → EngineState → ℕ → Type 0
 CountsHashRows content s count = IsTrue content.honest → count ≡ sum_by (λ part. length (known_rows part)) (shown_stores content s).hashes
 
 -- these are the numbers of the stores of an image, in which nothing is found
@@ -81,7 +81,7 @@ IsUnwrittenUnlessFailed old new error = IsUnwritten old new
 
 -- the store is opened: its stores stand on the disk, no row waits, no conversion and no merge is in progress, and the map is that of the
 -- image that was shown, which is good
-pub record TakesUp (old new : Content) (s : TiersState) : Type 0 where
+pub record TakesUp (old new : Content) (s : EngineState) : Type 0 where
   pub disk : SameDisk old new
   pub stands : Stands new s
   pub quiet : IsQuiet new s

@@ -4,7 +4,7 @@ ghost use Rattle.silt_disk.specs.Disk.{GaveAny, Rests, size};
 ghost use Rattle.silt_disk.specs.Layout.{device_size};
 ghost use Rattle.silt_disk.specs.Header.{header_of, version_of};
 ghost use Rattle.silt_image.specs.Stores.{image_digests, image_stores, shape_found, stores_named};
-ghost use Rattle.silt_manifest.specs.Standing.{Rules};
+ghost use Rattle.silt_manifest.specs.Standing.{IsCurrent};
 ghost use Rattle.silt_recovery.specs.Opening.{CountsHashRows, Holds, held_stores};
 ghost use Rattle.silt_recovery.specs.Refusals.{IsFound, IsRefusedLook};
 
@@ -46,7 +46,7 @@ fn read_manifest<D: Disk>(
     requires shape { IsTrue (D.content disk.now).honest → shape_found (size (D.content disk.now)) (header_of (D.content disk.now).shown) ≡ Ok geometry }
     requires version { IsTrue (D.content disk.now).honest → version ≡ version_of (header_of (D.content disk.now).shown) }
     ensures shape { IfOk result (λ m. (m.shape ≡ geometry) × (m.prepared ≡ None)) }
-    ensures rules { IfOk result (λ m. Rests (D.content disk.now) → Rules m (D.content disk.now)) }
+    ensures current { IfOk result (λ m. Rests (D.content disk.now) → IsCurrent m (D.content disk.now)) }
     ensures named { IsTrue (D.content disk.now).honest → IfOk result (λ m. image_stores (D.content disk.now).shown ≡ Ok (stores_named geometry m.current (D.content disk.now).shown)) }
     ensures says { IsTrue (D.content disk.now).honest → IfOk result (λ m. image_digests (D.content disk.now).shown ≡ m.digests) }
     ensures cause { IfErr result (IsRefusedLook
@@ -71,7 +71,7 @@ fn read_stores<D: Disk>(
     requires idle { manifest.prepared ≡ None }
     requires named { IsTrue (D.content disk.now).honest → image_stores (D.content disk.now).shown ≡ Ok (stores_named manifest.shape manifest.current (D.content disk.now).shown) }
     requires says { IsTrue (D.content disk.now).honest → image_digests (D.content disk.now).shown ≡ manifest.digests }
-    requires rules { Rests (D.content disk.now) → Rules manifest (D.content disk.now) }
+    requires current { Rests (D.content disk.now) → IsCurrent manifest (D.content disk.now) }
     ensures holds { IfOk result (λ held. Holds (D.content disk.now) (held_stores held)) }
     ensures hash_rows { IfOk result (λ held. CountsHashRows (D.content disk.now) (held_stores held) held.hash_rows) }
     ensures room { IfOk result (λ held. (7 ≤ vec_capacity held.frozen) × (16 ≤ vec_capacity held.hashes)) }

@@ -13,12 +13,12 @@ use Rattle.silt_log.specs.Rows.{log_rows, open_count}
 use Rattle.silt_log.specs.State.{InBounds, IsLog, all_rows, settled_rows, waiting_rows}
 use Rattle.silt_log.specs.State as log
 use Rattle.silt_log_store.specs.State.{LogStoreState, IsIndexed}
-use Rattle.silt_manifest.specs.Standing.{Rules}
+use Rattle.silt_manifest.specs.Standing.{IsCurrent}
 use Rattle.silt_merge.specs.Merging.{HasMerged}
 use Rattle.silt_merge.specs.State.{MergeState, oldest_stores}
 use Rattle.silt_sorted_store.specs.Index.{HasIndex}
 use Rattle.silt_sorted_store.specs.State.{HasDigest}
-use Rattle.silt_standing.specs.State.{TiersState, AreWhole, oldest_log}
+use Rattle.silt_standing.specs.State.{EngineState, AreWhole, oldest_log}
 
 -- ---- the disk
 
@@ -30,23 +30,23 @@ pub record SameDisk (old new : Content) : Type 0 where
 -- ---- what they mean
 
 -- the stores that the disk shows, as the manifest in memory names them
-abbrev pub shown_stores : Content → TiersState → Stores
+abbrev pub shown_stores : Content → EngineState → Stores
 shown_stores content s = stores_named s.manifest.shape s.manifest.current content.shown
 
 -- the map of the settled rows
-unfoldable pub base_map : Content → TiersState → Map
+unfoldable pub base_map : Content → EngineState → Map
 base_map content s = map_of_rows (rows_of (shown_stores content s))
 
 -- the commands of the rows that wait, in order
-abbrev pub waiting_commands : Content → TiersState → List Command
+abbrev pub waiting_commands : Content → EngineState → List Command
 waiting_commands content s = map command_of (waiting_rows content s.active.log)
 
 -- the map that lookups read
-abbrev pub current_map : Content → TiersState → Map
+abbrev pub current_map : Content → EngineState → Map
 current_map content s = map_after (base_map content s) (waiting_commands content s)
 
 -- what is shown, with the gates of the waiting rows open
-abbrev pub full_image : Content → TiersState → List ℕ
+abbrev pub full_image : Content → EngineState → List ℕ
 full_image content s = log.opened_image content s.active.log
 
 -- ---- how they stand
@@ -57,25 +57,25 @@ pub record IsFrozen (content : Content) (store : LogStoreState) : Type 0 where
   pub indexed : IsIndexed content store
 
 -- the index is that of the sorted store's entries
-abbrev pub IsLocated : Content → TiersState → Type 0
+abbrev pub IsLocated : Content → EngineState → Type 0
 IsLocated content s = HasIndex content s.sorted s.index
 
 -- the digest is that of the sorted store's entries
-abbrev pub IsDigested : Content → TiersState → Type 0
+abbrev pub IsDigested : Content → EngineState → Type 0
 IsDigested content s = HasDigest content s.sorted s.digest
 
 -- a merge has gathered and written what is due so far, of the oldest hash stores and the sorted store
-abbrev pub HasGathered : Content → TiersState → MergeState → Type 0
+abbrev pub HasGathered : Content → EngineState → MergeState → Type 0
 HasGathered content s merge = HasMerged content (oldest_stores merge.stores s.hashes) s.sorted merge
 
 -- The stores match their disk: every possible crash image has the stores that are shown, and nothing is wrong with these, also once the
 -- waiting rows are settled. The tables, the tags, the index and the digests in memory are those of what is shown. So are the digests that
 -- the manifest has, if it has any. A conversion and a merge have written exactly what is due so far.
-pub record Stands (content : Content) (s : TiersState) : Type 0 where
+pub record Stands (content : Content) (s : EngineState) : Type 0 where
   pub has_size : size content ≡ device_size s.manifest.shape
   pub whole : AreWhole s
   pub idle : s.manifest.prepared ≡ None
-  pub rules : Rules s.manifest content
+  pub current : IsCurrent s.manifest content
   pub active : IsLog content s.active.log
   pub indexed : IsIndexed content s.active
   pub frozen : All (IsFrozen content) s.frozen
@@ -90,13 +90,13 @@ pub record Stands (content : Content) (s : TiersState) : Type 0 where
   pub counted : IsTrue content.honest → s.charge ≡ put_count (rows_of (shown_stores content s) ++ waiting_rows content s.active.log)
 
 -- What reading needs: every possible crash image has the stores that the disk shows, and memory has the same ones, with the waiting rows.
-pub record ShowsStores (content : Content) (s : TiersState) : Type 0 where
+pub record ShowsStores (content : Content) (s : EngineState) : Type 0 where
   pub whole : AreWhole s
   pub bounds : InBounds s.active.log
   pub active : IsTrue content.honest → log_rows s.active.log.shape s.active.log.region content.shown ≡ settled_rows content s.active.log
   pub frozen : All (IsFrozen content) s.frozen
 
 -- no command waits
-pub record IsQuiet (content : Content) (s : TiersState) : Type 0 where
+pub record IsQuiet (content : Content) (s : EngineState) : Type 0 where
   pub settled : s.active.log.settled ≡ s.active.log.used
   pub none_wait : waiting_commands content s ≡ []

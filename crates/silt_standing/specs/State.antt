@@ -14,7 +14,7 @@ use Rattle.silt_trie.specs.Marks.{MarkedCode}
 -- The manifest. The log that takes writes. The full logs behind it, the newest first. The hash stores behind these, the newest first. The
 -- sorted store behind all of them, with its index and its digest. The conversion of the oldest log and the merge, if they are in progress.
 -- The number of put rows, the waiting ones included.
-pub record TiersState : Type 0 where
+pub record EngineState : Type 0 where
   pub manifest : ManifestState
   pub active : LogStoreState
   pub frozen : List LogStoreState
@@ -35,7 +35,7 @@ abbrev pub hash_region_of : HashState → ℕ
 hash_region_of store = store.region
 
 -- the oldest of the frozen logs, which is the next one to be converted
-abbrev pub oldest_log : TiersState → LogStoreState
+abbrev pub oldest_log : EngineState → LogStoreState
 oldest_log s = get_or s.frozen (length s.frozen - 1) s.active
 
 -- a hash store of the body has this region
@@ -53,7 +53,7 @@ pub record IsHashOf (shape : Shape) (store : HashState) : Type 0 where
   pub held : IsHeldHash store
 
 -- a conversion of a frozen log into a hash region that is free
-pub record IsUnderWay (s : TiersState) (conversion : ConversionState) : Type 0 where
+pub record IsUnderWay (s : EngineState) (conversion : ConversionState) : Type 0 where
   pub has_shape : conversion.shape ≡ s.manifest.shape
   pub some_frozen : 0 < length s.frozen
   pub there : conversion.region < s.manifest.shape.hashes
@@ -61,7 +61,7 @@ pub record IsUnderWay (s : TiersState) (conversion : ConversionState) : Type 0 w
   pub most : conversion.next ≤ 4 * s.manifest.shape.buckets
 
 -- a merge of the oldest hash stores, at least one, and the sorted store into the other sorted region
-pub record IsMerging (s : TiersState) (merge : MergeState) : Type 0 where
+pub record IsMerging (s : EngineState) (merge : MergeState) : Type 0 where
   pub has_shape : merge.shape ≡ s.manifest.shape
   pub apart : s.sorted.region ≢ merge.region
   pub some : 0 < merge.stores
@@ -74,7 +74,7 @@ sorted_named shape body = record { shape = shape; region = body.sorted; count = 
 
 -- the stores are those that the current manifest record names, a conversion and a merge write free regions, and there are no more put rows
 -- than the store may hold
-pub record AreWhole (s : TiersState) : Type 0 where
+pub record AreWhole (s : EngineState) : Type 0 where
   pub has_shape : s.active.log.shape ≡ s.manifest.shape
   pub active_region : s.active.log.region ≡ s.manifest.current.active
   pub frozen_regions : map region_of s.frozen ≡ s.manifest.current.frozen
@@ -88,7 +88,7 @@ pub record AreWhole (s : TiersState) : Type 0 where
   pub most : s.charge ≤ s.manifest.shape.sorted_capacity
 
 -- what holds of the stores on any device: there is room in memory for as many frozen logs and hash stores as a device can have
-pub record AreHeld (s : TiersState) (log_room hash_room : ℕ) : Type 0 where
+pub record AreHeld (s : EngineState) (log_room hash_room : ℕ) : Type 0 where
   pub whole : AreWhole s
   pub enough : 7 ≤ log_room
   pub enough_hashes : 16 ≤ hash_room

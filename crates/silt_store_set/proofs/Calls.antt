@@ -6,12 +6,12 @@ use Rattle.silt_disk.specs.declared.disk.Disk.{Ghosts}
 use Rattle.silt_disk.proofs.Costs.{most_none}
 use Rattle.silt_event.specs.Commands.{Command, Map, map_after}
 use Rattle.silt_image.specs.Meaning.{image_map, StandsFor}
-use Rattle.silt_tiers.specs.Calls.{Advances, Breaks, HasBegun, Remaps}
+use Rattle.silt_engine.specs.Calls.{Advances, Breaks, HasBegun, Remaps}
 use Rattle.silt_standing.specs.Standing.{SameDisk}
-use Rattle.silt_tiers.specs.Laws.{IsGoodWith}
+use Rattle.silt_engine.specs.Laws.{IsGoodWith}
 use Rattle.silt_standing.specs.Standing.{Stands, base_map, full_image, waiting_commands}
-use Rattle.silt_standing.specs.State.{TiersState}
-use Rattle.silt_tiers.proofs.Meaning.{meaning}
+use Rattle.silt_standing.specs.State.{EngineState}
+use Rattle.silt_engine.proofs.Meaning.{meaning}
 use Rattle.silt_event.specs.declared.event.Event.{Event}
 use Rattle.silt_event.specs.declared.event.Event.TheVariants.{Put, Delete, Swap, Flush, Get, Convert, Merge}
 use Rattle.silt_event.specs.declared.refusal.Refusal.{Refusal}
@@ -25,7 +25,7 @@ use Rattle.silt_store_set.specs.CoreState.{CoreState, map_of, Cause, Durable, Do
 use Rattle.silt_store_set.proofs.Maps.{append_nil, map_after-append}
 
 -- what contracts see of a store with these fields that is not failed
-abbrev pub seen : {D F : Type 0} → Ghosts D F → D → TiersState → ℕ → CoreState D
+abbrev pub seen : {D F : Type 0} → Ghosts D F → D → EngineState → ℕ → CoreState D
 seen facts disk stores count = record {
   disk = disk;
   shape = stores.manifest.shape;
@@ -41,11 +41,11 @@ seen facts disk stores count = record {
 }
 
 -- and of one that failed in a call that began with this basis
-abbrev pub seen_failed : {D F : Type 0} → Ghosts D F → BasisState → D → TiersState → ℕ → CoreState D
+abbrev pub seen_failed : {D F : Type 0} → Ghosts D F → BasisState → D → EngineState → ℕ → CoreState D
 seen_failed facts basis disk stores count = record (seen facts disk stores count) { base = basis.base; waiting = basis.waiting; failed = true }
 
 -- and of one or the other
-abbrev pub seen_core : {D F : Type 0} → Ghosts D F → D → TiersState → ℕ → Bool → BasisState → CoreState D
+abbrev pub seen_core : {D F : Type 0} → Ghosts D F → D → EngineState → ℕ → Bool → BasisState → CoreState D
 seen_core facts disk stores count failed basis = record (seen facts disk stores count) {
   base = (basis_kept failed basis (basis_of (facts.content disk) stores)).base;
   waiting = (basis_kept failed basis (basis_of (facts.content disk) stores)).waiting;
@@ -59,7 +59,7 @@ pub record Standing {D F : Type 0} (facts : Ghosts D F) (core : CoreState D) : T
   pub safe : LeavesOnly (facts.content core.disk) (StandsFor core.shape core.base)
 
 -- this is true of a store that is not failed
-pub stands_seen : {D F : Type 0} (facts : Ghosts D F) (disk : D) (stores : TiersState) (count : ℕ) → Stands (facts.content disk) stores → Standing facts (seen facts disk stores count)
+pub stands_seen : {D F : Type 0} (facts : Ghosts D F) (disk : D) (stores : EngineState) (count : ℕ) → Stands (facts.content disk) stores → Standing facts (seen facts disk stores count)
 stands_seen facts disk stores count stands = record {
   numbers = (meaning (facts.content disk) stores stands).numbers;
   has_map = λ h. (meaning (facts.content disk) stores stands).full h ∙ ap (λ m. map_after m (waiting_commands (facts.content disk) stores)) (sym ((meaning (facts.content disk) stores stands).shown h));
@@ -75,7 +75,7 @@ pub record Endures {D F : Type 0} (facts : Ghosts D F) (core : CoreState D) : Ty
   pub has_map : IsTrue (facts.content core.disk).honest → map_of core ≡ map_after core.base core.waiting
   pub few : IsTrue (facts.content core.disk).honest → length core.waiting ≤ core.count
 
-pub endures : {D F : Type 0} (facts : Ghosts D F) (disk : D) (stores : TiersState) (count : ℕ) (failed : Bool) (basis : BasisState) → IsCore (facts.content disk) stores count failed basis
+pub endures : {D F : Type 0} (facts : Ghosts D F) (disk : D) (stores : EngineState) (count : ℕ) (failed : Bool) (basis : BasisState) → IsCore (facts.content disk) stores count failed basis
     → Endures facts (seen_core facts disk stores count failed basis)
 endures facts disk stores count true basis holds =
     let breaks = holds.breaks refl in
@@ -96,17 +96,17 @@ endures facts disk stores count false basis holds =
     }
 
 -- and of the store that contracts see so
-pub endures_seen : {D F : Type 0} (facts : Ghosts D F) (disk : D) (stores : TiersState) (count : ℕ) (failed : Bool) (basis : BasisState) (core : CoreState D) → seen_core facts disk stores count failed basis ≡ core
+pub endures_seen : {D F : Type 0} (facts : Ghosts D F) (disk : D) (stores : EngineState) (count : ℕ) (failed : Bool) (basis : BasisState) (core : CoreState D) → seen_core facts disk stores count failed basis ≡ core
     → IsCore (facts.content disk) stores count failed basis → Endures facts core
 endures_seen facts disk stores count failed basis core is holds = subst (Endures facts) is (endures facts disk stores count failed basis holds)
 
 -- what is true of a store stays true if its disk and its stores stay
-pub core_stays : {D : Type 0} (content : D → Content) (old new : D) (stores after : TiersState) (count : ℕ) (failed : Bool) (basis : BasisState) → IsCore (content old) stores count failed basis → after ≡ stores → new ≡ old
+pub core_stays : {D : Type 0} (content : D → Content) (old new : D) (stores after : EngineState) (count : ℕ) (failed : Bool) (basis : BasisState) → IsCore (content old) stores count failed basis → after ≡ stores → new ≡ old
     → IsCore (content new) after count failed basis
 core_stays content old new stores after count failed basis holds same same_disk = rw (same_disk, same) holds
 
 -- what is true of a store after a failed write or sync
-pub core_broke : (old new : Content) (stores after : TiersState) (count : ℕ) (failed : Bool) (basis : BasisState) → IsCore old stores count failed basis → failed ≡ false → SameDisk old new
+pub core_broke : (old new : Content) (stores after : EngineState) (count : ℕ) (failed : Bool) (basis : BasisState) → IsCore old stores count failed basis → failed ≡ false → SameDisk old new
     → after.manifest.shape ≡ stores.manifest.shape → Breaks old new stores → Remaps [] old new stores after → IsCore new after count true (basis_of old stores)
 core_broke old new stores after count failed basis holds working same shape breaks maps =
     let back : IsTrue new.honest → IsTrue old.honest = λ h. sym same.honest ∙ h in
@@ -128,7 +128,7 @@ core_broke old new stores after count failed basis holds working same shape brea
     }
 
 -- what is true of a store after a successful call that accepted these commands
-pub core_went : (adds : List Command) (old new : Content) (stores after : TiersState) (count next : ℕ) (failed : Bool) (basis : BasisState) → IsCore old stores count failed basis → failed ≡ false → SameDisk old new
+pub core_went : (adds : List Command) (old new : Content) (stores after : EngineState) (count next : ℕ) (failed : Bool) (basis : BasisState) → IsCore old stores count failed basis → failed ≡ false → SameDisk old new
     → Advances adds old new stores after → next ≡ count + length adds → next < 2 ^ 63 → IsCore new after next failed basis
 core_went adds old new stores after count next failed basis holds working same goes is most = record {
   has_size = same.size ∙ holds.has_size ∙ ap device_size (sym goes.shape);
@@ -208,7 +208,7 @@ module _ {D F : Type 0} (facts : Ghosts D F) where
       (λ f. absurd (let no : false ≡ true = sym f ∙ failed in cc))
 
   -- a store that is not failed refuses, for another cause than a failure, and stays as it was
-  pub refused : (disk : D) (stores : TiersState) (count : ℕ) (event : Event) (refusal : Refusal F) → Stands (facts.content disk) stores → is_failed (Refused refusal) ≡ false
+  pub refused : (disk : D) (stores : EngineState) (count : ℕ) (event : Event) (refusal : Refusal F) → Stands (facts.content disk) stores → is_failed (Refused refusal) ≡ false
       → Cause facts (seen facts disk stores count) (seen facts disk stores count) event (Refused refusal)
       → Does facts (seen facts disk stores count) (seen facts disk stores count) event (Refused refusal)
   refused disk stores count event refusal stands other cause =
@@ -216,7 +216,7 @@ module _ {D F : Type 0} (facts : Ghosts D F) where
       (λ _ _. step_refused (image_map (full_image (facts.content disk) stores)) event refusal) (none_refused event refusal) (λ _. tt) (λ _. stands_seen facts disk stores count stands)
 
   -- a store that is not failed replies without a change
-  pub answered : (disk : D) (stores : TiersState) (count : ℕ) (event : Event) (reply : Reply F)
+  pub answered : (disk : D) (stores : EngineState) (count : ℕ) (event : Event) (reply : Reply F)
       → Stands (facts.content disk) stores → Counts count reply count → is_failed reply ≡ false → accepted_command event reply ≡ []
       → Cause facts (seen facts disk stores count) (seen facts disk stores count) event reply
       → MadeFor facts (seen facts disk stores count) (seen facts disk stores count) event reply
@@ -229,7 +229,7 @@ module _ {D F : Type 0} (facts : Ghosts D F) where
 
   -- ---- calls that write
 
-  module _ (disk new : D) (stores after : TiersState) (same : SameDisk (facts.content disk) (facts.content new)) (stands : Stands (facts.content disk) stores) where
+  module _ (disk new : D) (stores after : EngineState) (same : SameDisk (facts.content disk) (facts.content new)) (stands : Stands (facts.content disk) stores) where
     there : IsTrue (facts.content disk).honest → IsTrue (facts.content new).honest
     there h = same.honest ∙ h
 

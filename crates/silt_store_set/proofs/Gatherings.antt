@@ -21,11 +21,11 @@ use Rattle.silt_merge.specs.Merging.{IsMergedIn, TakesMemory, decided_rows, gath
 use Rattle.silt_merge.specs.Rows.{has_row_with, regions_of, rows_of_hashes}
 use Rattle.silt_merge.specs.State.{MergeState, oldest_stores, source_at, steps_of}
 use Rattle.silt_merge.proofs.Newest.{newest_append}
-use Rattle.silt_tiers.specs.Merge.{full_stores}
+use Rattle.silt_engine.specs.Merge.{full_stores}
 use Rattle.silt_standing.specs.Standing.{HasGathered, Stands}
-use Rattle.silt_standing.specs.State.{IsMerging, TiersState}
-use Rattle.silt_tiers.proofs.MergeDone.{full_is, sorted_shape, taken_sound}
-use Rattle.silt_tiers.proofs.MergeStores.{taken_named}
+use Rattle.silt_standing.specs.State.{IsMerging, EngineState}
+use Rattle.silt_engine.proofs.MergeDone.{full_is, sorted_shape, taken_sound}
+use Rattle.silt_engine.proofs.MergeStores.{taken_named}
 use Rattle.silt_store_set.specs.CoreState.{HasNewKey}
 
 -- ---- lists one after the other
@@ -150,7 +150,7 @@ hashes_with : (region : ℕ) (rows : List StoredRow) (shape : Shape) (body : Bod
 unfolding with_log_rows stores_named
 hashes_with region rows shape body image = refl
 
-module _ (content : Content) (s : TiersState) (stands : Stands content s) (honest : IsTrue content.honest) where
+module _ (content : Content) (s : EngineState) (stands : Stands content s) (honest : IsTrue content.honest) where
   -- the slots that it takes of the full image are those of its stores
   slots_taken : (count : ℕ) → flat_map part_rows (drop (length (full_stores content s).hashes - count) (full_stores content s).hashes) ≡ slots_in s.manifest.shape content.shown (regions_of (oldest_stores count s.hashes))
   slots_taken count =

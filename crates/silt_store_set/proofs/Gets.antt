@@ -7,8 +7,8 @@ use Rattle.silt_frame.specs.declared.key.Key.{Key}
 use Rattle.silt_event.specs.Commands.{Map}
 use Rattle.silt_image.specs.Meaning.{image_map}
 use Rattle.silt_standing.specs.Standing.{Stands, current_map, full_image}
-use Rattle.silt_standing.specs.State.{TiersState}
-use Rattle.silt_tiers.proofs.Meaning.{meaning}
+use Rattle.silt_standing.specs.State.{EngineState}
+use Rattle.silt_engine.proofs.Meaning.{meaning}
 use Rattle.silt_event.specs.declared.event.Event.TheVariants.{Get}
 use Rattle.silt_event.specs.declared.refusal.Refusal.{Refusal}
 use Rattle.silt_event.specs.declared.refusal.Refusal.TheVariants.{Device, NoMemory}
@@ -18,7 +18,7 @@ use Rattle.silt_store_set.specs.Replies.{ReadCause, get_reply}
 use Rattle.silt_disk.proofs.Costs.{none_made}
 use Rattle.silt_store_set.proofs.Calls.{seen, answered, refused}
 
-module _ {D F : Type 0} (facts : Ghosts D F) (disk : D) (stores : TiersState) (count : ℕ) (key : Key) (stands : Stands (facts.content disk) stores) where
+module _ {D F : Type 0} (facts : Ghosts D F) (disk : D) (stores : EngineState) (count : ℕ) (key : Key) (stands : Stands (facts.content disk) stores) where
   -- the map that lookups read is that of the full image
   pub looked_up : (value : Option (List ℕ)) → (IsTrue (facts.content disk).honest → get (current_map (facts.content disk) stores) key.0 ≡ value) → IsTrue (facts.content disk).honest → get (image_map (full_image (facts.content disk) stores)) key.0 ≡ value
   looked_up value found h = ap (λ (m : Map). get m key.0) ((meaning (facts.content disk) stores stands).full h) ∙ found h

@@ -17,15 +17,15 @@ use Rattle.silt_event.specs.declared.reply.Reply.TheVariants.{Progress, Refused}
 use Rattle.silt_merge.specs.Merging.{TakesMemory}
 use Rattle.silt_merge.specs.Rows.{key_count, merged_rows}
 use Rattle.silt_merge.specs.State.{MergeState, is_done, oldest_stores, steps_of}
-use Rattle.silt_tiers.specs.Calls.{Advances, Breaks, IsLastGeneration, Remaps}
+use Rattle.silt_engine.specs.Calls.{Advances, Breaks, IsLastGeneration, Remaps}
 use Rattle.silt_standing.specs.Standing.{SameDisk}
-use Rattle.silt_tiers.specs.Conversion.{is_work}
-use Rattle.silt_tiers.specs.Costs.{step_syncs, step_writes}
-use Rattle.silt_tiers.specs.Costs as tiers
-use Rattle.silt_tiers.specs.Merge.{EndsMerged, HasMergedEntries, IsDoneBySteps, IsNextMerge, MayLackMemory, Merges, MergesOn, full_stores, merge_progress, merge_sources, merge_turn, merged_body}
+use Rattle.silt_engine.specs.Conversion.{is_work}
+use Rattle.silt_engine.specs.Costs.{step_syncs, step_writes}
+use Rattle.silt_engine.specs.Costs as engine
+use Rattle.silt_engine.specs.Merge.{EndsMerged, HasMergedEntries, IsDoneBySteps, IsNextMerge, MayLackMemory, Merges, MergesOn, full_stores, merge_progress, merge_sources, merge_turn, merged_body}
 use Rattle.silt_standing.specs.Standing.{HasGathered, Stands}
-use Rattle.silt_standing.specs.State.{IsMerging, TiersState, hash_region_of}
-use Rattle.silt_tiers.proofs.Meaning.{meaning}
+use Rattle.silt_standing.specs.State.{IsMerging, EngineState, hash_region_of}
+use Rattle.silt_engine.proofs.Meaning.{meaning}
 use Rattle.silt_store_set.specs.Basis.{basis_of}
 use Rattle.silt_store_set.specs.CoreState.{CoreState, Does, GathersNewKey, GathersNext, IsMergeDue, MadeFor, MergeGoesOn, MergeLacksMemory, entries_written, has_decided, merge_due, merge_work}
 use Rattle.silt_store_set.proofs.Calls.{seen, seen_failed, advanced, answered, broke, refused}
@@ -49,17 +49,17 @@ slot_below : (store stores slot slots : ℕ) → store < stores → slot < slots
 slot_below store stores slot slots store_in slot_in = subst (λ (n : ℕ). store * slots + slot < n) (mul_comm slots stores) (mul-add-lt store slots slot stores store_in slot_in)
 
 -- a merge in memory and the contracts' view of it have written as many entries
-written_seen : (o : Option MergeState) → entries_written (merge_work o) ≡ tiers.written_by_merge o
+written_seen : (o : Option MergeState) → entries_written (merge_work o) ≡ engine.written_by_merge o
 written_seen None = refl
 written_seen (Some merge) = refl
 
 -- the contracts' view of a step in memory
-goes_on : (s : TiersState) (before : Option MergeState) (after : MergeState) → length s.hashes ≡ length s.manifest.current.hashed → IsNextMerge s before after
+goes_on : (s : EngineState) (before : Option MergeState) (after : MergeState) → length s.hashes ≡ length s.manifest.current.hashed → IsNextMerge s before after
     → MergeGoesOn s.manifest.current (merge_work before) (merge_work (Some after))
 goes_on s None after named step = (step.0 ∙ named, step.1)
 goes_on s (Some before) after named step = (step.0.stores, step.1)
 
-module _ {D F : Type 0} (facts : Ghosts D F) (disk : D) (stores : TiersState) (count : ℕ) (stands : Stands (facts.content disk) stores) where
+module _ {D F : Type 0} (facts : Ghosts D F) (disk : D) (stores : EngineState) (count : ℕ) (stands : Stands (facts.content disk) stores) where
   -- the store before
   abbrev before : CoreState D
   before = seen facts disk stores count
@@ -108,13 +108,13 @@ module _ {D F : Type 0} (facts : Ghosts D F) (disk : D) (stores : TiersState) (c
       let named : stores.sorted.region ≡ stores.manifest.current.sorted = ap (λ s. s.region) stands.whole.sorted in
       omega (arith, is.apart, is.held.there, stands.whole.held.region, named)
 
-  entries_are : (new : D) (after : TiersState) (merge : MergeState) → stores.merging ≡ Some merge → HasMergedEntries (facts.content disk) (facts.content new) stores after
+  entries_are : (new : D) (after : EngineState) (merge : MergeState) → stores.merging ≡ Some merge → HasMergedEntries (facts.content disk) (facts.content new) stores after
       → (full_stores (facts.content new) after).entries ≡ merged_rows (merge_sources merge.stores (full_stores (facts.content disk) stores))
   entries_are new after merge was has =
       subst (λ (o : Option MergeState). IfSome o (λ m. (full_stores (facts.content new) after).entries ≡ merged_rows (merge_sources m.stores (full_stores (facts.content disk) stores)))) was has
 
   -- a step that goes on has made what contracts see
-  moved_made : (new : D) (after : TiersState) → tiers.StepMakes facts disk new stores after Moved → MadeFor facts before (seen facts new after count) Merge (Progress Moved)
+  moved_made : (new : D) (after : EngineState) → engine.StepMakes facts disk new stores after Moved → MadeFor facts before (seen facts new after count) Merge (Progress Moved)
   moved_made new after made = (made.0, made.1, written_seen after.merging ∙ made.2 ∙ ap (λ (n : ℕ). n + made.0) (sym (written_seen stores.merging)), made.3)
 
   -- no step makes more than the last one
@@ -124,20 +124,20 @@ module _ {D F : Type 0} (facts : Ghosts D F) (disk : D) (stores : TiersState) (c
   few_made Moved new most = most_more most (omega arith) (omega arith)
   few_made Finished new most = most
 
-  pub stepped : (progress : ProgressOf) (new : D) (after : TiersState) → SameDisk (facts.content disk) (facts.content new) → Advances [] (facts.content disk) (facts.content new) stores after
+  pub stepped : (progress : ProgressOf) (new : D) (after : EngineState) → SameDisk (facts.content disk) (facts.content new) → Advances [] (facts.content disk) (facts.content new) stores after
       → Merges progress stores after → (progress ≡ Finished → IsTrue (facts.content disk).honest → HasMergedEntries (facts.content disk) (facts.content new) stores after)
-      → (is_work progress ≡ false → new ≡ disk) → facts.failures new ≡ facts.failures disk → tiers.StepMakes facts disk new stores after progress
+      → (is_work progress ≡ false → new ≡ disk) → facts.failures new ≡ facts.failures disk → engine.StepMakes facts disk new stores after progress
       → Does facts before (seen facts new after count) Merge (Progress progress)
   stepped Idle new after same goes merges entries quiet counted made =
       rw (quiet refl, merges.done) (answered facts disk stores count Merge (Progress Idle) stands refl refl refl (refl, due Idle merges.due, refl, refl) none_made (λ _. refl) (λ _. tt))
   stepped Waiting new after same goes merges entries quiet counted made = absurd merges.done
   stepped Moved new after same goes merges entries quiet counted made =
       let moves : MergesOn stores after = merges.done in
-      let current : after.manifest.current ≡ stores.manifest.current = ap (λ (s : TiersState). s.manifest.current) moves.is in
-      let merging : after.merging ≡ Some moves.merge = ap (λ (s : TiersState). s.merging) moves.is in
+      let current : after.manifest.current ≡ stores.manifest.current = ap (λ (s : EngineState). s.manifest.current) moves.is in
+      let merging : after.merging ≡ Some moves.merge = ap (λ (s : EngineState). s.merging) moves.is in
       let on : MergeGoesOn stores.manifest.current (merge_work stores.merging) (merge_work after.merging) = rw merging (goes_on stores stores.merging moves.merge hash_count moves.step) in
       advanced facts disk new stores after same stands [] count count Merge (Progress Moved) goes refl refl refl refl
-      (refl, due Moved merges.due, (current, on), counted) (λ m to e. e) (λ _ _. current) (λ _. ap (λ (s : TiersState). s.converting) moves.is) (λ other. absurd (cc)) (λ _. tt) counted (moved_made new after made)
+      (refl, due Moved merges.due, (current, on), counted) (λ m to e. e) (λ _ _. current) (λ _. ap (λ (s : EngineState). s.converting) moves.is) (λ other. absurd (cc)) (λ _. tt) counted (moved_made new after made)
   stepped Finished new after same goes merges entries quiet counted made =
       let ends : EndsMerged stores after = merges.done in
       let region : ends.merge.region ≡ 1 - stores.manifest.current.sorted = other_region stores.merging stands.whole.merging ends.merge ends.was in
@@ -157,12 +157,12 @@ module _ {D F : Type 0} (facts : Ghosts D F) (disk : D) (stores : TiersState) (c
 
   -- ---- a step was refused
 
-  pub step_unread : (new : D) (after : TiersState) (fault : F) → after ≡ stores → new ≡ disk → merge_turn stores ≡ Moved → GaveAny facts.gave disk fault
+  pub step_unread : (new : D) (after : EngineState) (fault : F) → after ≡ stores → new ≡ disk → merge_turn stores ≡ Moved → GaveAny facts.gave disk fault
       → Does facts before (seen facts new after count) Merge (Refused (Device fault))
   step_unread new after fault same same_disk turn given =
       rw (same_disk, same) (refused facts disk stores count Merge (Device fault) stands refl (inl (due Moved (sym turn), record { given = given; working = refl; same = refl })))
 
-  pub step_spent : (new : D) (after : TiersState) → after ≡ stores → new ≡ disk → merge_turn stores ≡ Finished → IsLastGeneration stores
+  pub step_spent : (new : D) (after : EngineState) → after ≡ stores → new ≡ disk → merge_turn stores ≡ Finished → IsLastGeneration stores
       → Does facts before (seen facts new after count) Merge (Refused Spent)
   step_spent new after same same_disk turn last = rw (same_disk, same) (refused facts disk stores count Merge Spent stands refl (refl, due Finished (sym turn), last))
 
@@ -186,13 +186,13 @@ module _ {D F : Type 0} (facts : Ghosts D F) (disk : D) (stores : TiersState) (c
   lacks (inl (turn, may)) = inl (due Moved (sym turn), gathers stores.merging stands.whole.merging may, λ h. new_key h stores.merging stands.whole.merging stands.merged may)
   lacks (inr (turn, more)) = inr (due Finished (sym turn), more)
 
-  pub step_no_memory : (new : D) (after : TiersState) → after ≡ stores → new ≡ disk
+  pub step_no_memory : (new : D) (after : EngineState) → after ≡ stores → new ≡ disk
       → ((merge_turn stores ≡ Moved) × MayLackMemory (facts.content disk) stores) ⊎ ((merge_turn stores ≡ Finished) × (IsLastGeneration stores → ⊥))
       → Does facts before (seen facts new after count) Merge (Refused NoMemory)
   step_no_memory new after same same_disk why = rw (same_disk, same) (refused facts disk stores count Merge NoMemory stands refl (refl, lacks why))
 
   -- a write or a sync failed
-  pub step_broke : (new : D) (after : TiersState) (fault : F) → SameDisk (facts.content disk) (facts.content new) → is_work (merge_turn stores) ≡ true → Breaks (facts.content disk) (facts.content new) stores
+  pub step_broke : (new : D) (after : EngineState) (fault : F) → SameDisk (facts.content disk) (facts.content new) → is_work (merge_turn stores) ≡ true → Breaks (facts.content disk) (facts.content new) stores
       → Remaps [] (facts.content disk) (facts.content new) stores after → after.manifest.shape ≡ stores.manifest.shape → GaveAny facts.gave new fault → facts.failures new ≡ (facts.failures disk + 1) % 2 ^ 64
       → MakesAtMost facts.writes facts.syncs (step_writes (merge_turn stores)) (step_syncs (merge_turn stores)) disk new → Does facts before (seen_failed facts (basis_of (facts.content disk) stores) new after count) Merge (Refused (Device fault))
   step_broke new after fault same work breaks remaps shape given counted most =

@@ -11,8 +11,8 @@ use Rattle.silt_recovery.specs.Refusals.{IsFound, IsRefusedLook}
 use Rattle.silt_recovery.specs.declared.fault.OpenError.{OpenError}
 use Rattle.silt_recovery.specs.declared.fault.OpenError.TheVariants.{NotFormatted, Damaged, Crowded, Device, NoMemory}
 use Rattle.silt_standing.specs.Standing.{waiting_commands}
-use Rattle.silt_standing.specs.State.{TiersState}
-use Rattle.silt_tiers.proofs.Meaning.{meaning}
+use Rattle.silt_standing.specs.State.{EngineState}
+use Rattle.silt_engine.proofs.Meaning.{meaning}
 use Rattle.silt_store_set.specs.CoreState.{Opens, convert_work, merge_work}
 use Rattle.silt_event.specs.Events.{IsOpeningRefusal}
 use Rattle.silt_store_set.specs.Opening.{OpeningCause}
@@ -56,7 +56,7 @@ none_wait content log settled =
     rw none refl
 
 -- a store that was opened
-pub opened : {D F : Type 0} (facts : Ghosts D F) (old : Content) (disk : D) (stores : TiersState) → TakesUp old (facts.content disk) stores → Opens facts old (seen facts disk stores 0)
+pub opened : {D F : Type 0} (facts : Ghosts D F) (old : Content) (disk : D) (stores : EngineState) → TakesUp old (facts.content disk) stores → Opens facts old (seen facts disk stores 0)
 opened facts old disk stores takes =
     let means = meaning (facts.content disk) stores takes.stands in
     let there : IsTrue old.honest → IsTrue (facts.content disk).honest = λ h. takes.disk.honest ∙ h in

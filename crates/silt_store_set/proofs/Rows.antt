@@ -13,21 +13,21 @@ use Rattle.silt_log.specs.Rows.{log_rows}
 use Rattle.silt_frame.specs.Rows.{stored_row, StoredRow}
 use Rattle.silt_log.specs.State.{all_rows}
 use Rattle.silt_manifest.specs.declared.body.Body.{Body}
-use Rattle.silt_tiers.specs.Calls.{Advances, HasNoFreeLog as AllInUse, Breaks, CannotTake, IsLastGeneration, Remaps}
+use Rattle.silt_engine.specs.Calls.{Advances, HasNoFreeLog as AllInUse, Breaks, CannotTake, IsLastGeneration, Remaps}
 use Rattle.silt_standing.specs.Standing.{SameDisk}
-use Rattle.silt_tiers.specs.NextLog.{IsLowestFree, next_body}
+use Rattle.silt_engine.specs.NextLog.{IsLowestFree, next_body}
 use Rattle.silt_standing.specs.Standing.{Stands, full_image, waiting_commands}
-use Rattle.silt_standing.specs.State.{TiersState, region_of}
-use Rattle.silt_tiers.specs.RowWrite.{NeedsNext, WritesKey}
-use Rattle.silt_tiers.specs.Costs as tiers
-use Rattle.silt_tiers.proofs.Meaning.{meaning}
+use Rattle.silt_standing.specs.State.{EngineState, region_of}
+use Rattle.silt_engine.specs.RowWrite.{NeedsNext, WritesKey}
+use Rattle.silt_engine.specs.Costs as engine
+use Rattle.silt_engine.proofs.Meaning.{meaning}
 use Rattle.silt_event.specs.declared.event.Event.TheVariants.{Put, Delete}
 use Rattle.silt_event.specs.declared.refusal.Refusal.{Refusal}
 use Rattle.silt_event.specs.declared.refusal.Refusal.TheVariants.{Device, NoMemory, NoRoom, Spent}
 use Rattle.silt_event.specs.declared.reply.Reply.TheVariants.{Accepted, Refused}
 use Rattle.silt_event.specs.Events.{is_failed}
 use Rattle.silt_store_set.specs.Basis.{basis_of}
-use Rattle.silt_tiers.specs.Conversion.{progress_due}
+use Rattle.silt_engine.specs.Conversion.{progress_due}
 use Rattle.silt_event.specs.declared.progress.Progress.{Progress as ProgressOf}
 use Rattle.silt_event.specs.declared.progress.Progress.TheVariants.{Idle, Waiting, Moved, Finished}
 use Rattle.silt_disk.specs.Layout.{InLimits, Shape}
@@ -66,7 +66,7 @@ not_idle frozen hashes regions slots None some =
 pub least_logs : (shape : Shape) → InLimits shape → 2 ≤ shape.logs
 least_logs shape limits = limits.logs_least
 
-module _ {D F : Type 0} (facts : Ghosts D F) (disk : D) (stores : TiersState) (count : ℕ) (stands : Stands (facts.content disk) stores) where
+module _ {D F : Type 0} (facts : Ghosts D F) (disk : D) (stores : EngineState) (count : ℕ) (stands : Stands (facts.content disk) stores) where
   -- the store before
   abbrev before : CoreState D
   before = seen facts disk stores count
@@ -88,7 +88,7 @@ module _ {D F : Type 0} (facts : Ghosts D F) (disk : D) (stores : TiersState) (c
   has_free : (AllInUse stores → ⊥) → HasFreeLog before
   has_free free = λ all. free (ap (λ (n : ℕ). n + 1) frozen_count ∙ all)
 
-  takes : (new : D) (after : TiersState) (next : ℕ) (key : List ℕ) (command : Command) → SameDisk (facts.content disk) (facts.content new) → Stands (facts.content new) after
+  takes : (new : D) (after : EngineState) (next : ℕ) (key : List ℕ) (command : Command) → SameDisk (facts.content disk) (facts.content new) → Stands (facts.content new) after
       → WritesKey (facts.content disk) (facts.content new) stores after key command → Takes facts before (seen facts new after next) key command
   takes new after next key command same stood (inl stays) = inl (
     (stays.current, λ h cannot. stays.has_place h (subst (λ (rows : List StoredRow). CannotTake stores.manifest.shape rows key) (sym (rows_are h)) cannot)),
@@ -113,22 +113,22 @@ module _ {D F : Type 0} (facts : Ghosts D F) (disk : D) (stores : TiersState) (c
   -- ---- what was made
 
   -- memory and the contracts' view say alike whether a command waits
-  waits_as_seen : tiers.row_waits stores ≡ some_wait (waiting_commands (facts.content disk) stores)
+  waits_as_seen : engine.row_waits stores ≡ some_wait (waiting_commands (facts.content disk) stores)
   waits_as_seen = waits_same (facts.content disk) stores stands.active.bounds
 
-  row_made : (new : D) (after : TiersState) (next : ℕ) → tiers.RowMakes facts disk new stores after → MakesRow facts before (seen facts new after next)
+  row_made : (new : D) (after : EngineState) (next : ℕ) → engine.RowMakes facts disk new stores after → MakesRow facts before (seen facts new after next)
   row_made new after next made = (made.0, λ changed. subst (λ (n : ℕ). Makes facts.writes facts.syncs (n + 6) (2 * n + 4) disk new) waits_as_seen (made.1 changed))
 
-  row_most : (new : D) (k : Kind) (key : Key) (value : List ℕ) → MakesAtMost facts.writes facts.syncs (tiers.freeze_writes stores) (tiers.freeze_syncs stores) disk new
+  row_most : (new : D) (k : Kind) (key : Key) (value : List ℕ) → MakesAtMost facts.writes facts.syncs (engine.freeze_writes stores) (engine.freeze_syncs stores) disk new
       → MakesAtMost facts.writes facts.syncs (most_writes before (row_event k key value)) (most_syncs before (row_event k key value)) disk new
   row_most new kind.Put key value most = subst (λ (n : ℕ). MakesAtMost facts.writes facts.syncs (n + 6) (2 * n + 4) disk new) waits_as_seen most
   row_most new kind.Delete key value most = subst (λ (n : ℕ). MakesAtMost facts.writes facts.syncs (n + 6) (2 * n + 4) disk new) waits_as_seen most
 
   -- ---- the row was taken
 
-  pub row_taken : (new : D) (after : TiersState) (k : Kind) (key : Key) (value : List ℕ) → MayWrite k before → SameDisk (facts.content disk) (facts.content new)
+  pub row_taken : (new : D) (after : EngineState) (k : Kind) (key : Key) (value : List ℕ) → MayWrite k before → SameDisk (facts.content disk) (facts.content new)
       → Advances (command_of (stored_row k key value) ∷ []) (facts.content disk) (facts.content new) stores after → WritesKey (facts.content disk) (facts.content new) stores after key.0 (command_of (stored_row k key value)) → after.converting ≡ stores.converting → after.merging ≡ stores.merging → facts.failures new ≡ facts.failures disk
-      → tiers.RowMakes facts disk new stores after → Does facts before (seen facts new after (count + 1)) (row_event k key value) (Accepted (count + 1))
+      → engine.RowMakes facts disk new stores after → Does facts before (seen facts new after (count + 1)) (row_event k key value) (Accepted (count + 1))
   row_taken new after kind.Put key value may same goes taken converting merging counted made =
       advanced facts disk new stores after same stands (command_of (stored_row kind.Put key value) ∷ []) count (count + 1) (Put key value) (Accepted (count + 1)) goes (refl, refl) refl refl refl
       (may, (takes new after (count + 1) key.0 _ same goes.stands taken, counted)) (λ m to e. e) (λ none. absurd (cc)) (λ _. converting) (λ _. merging) (λ _. tt) counted (row_made new after (count + 1) made)
@@ -146,10 +146,10 @@ module _ {D F : Type 0} (facts : Ghosts D F) (disk : D) (stores : TiersState) (c
   read_cause next kind.Put key value fault may fails = (may, inl fails)
   read_cause next kind.Delete key value fault may fails = (may, inl fails)
 
-  pub row_broke : (new : D) (after : TiersState) (k : Kind) (key : Key) (value : List ℕ) (fault : F) → MayWrite k before → SameDisk (facts.content disk) (facts.content new)
+  pub row_broke : (new : D) (after : EngineState) (k : Kind) (key : Key) (value : List ℕ) (fault : F) → MayWrite k before → SameDisk (facts.content disk) (facts.content new)
       → Breaks (facts.content disk) (facts.content new) stores → Remaps [] (facts.content disk) (facts.content new) stores after → after.manifest.shape ≡ stores.manifest.shape
       → GaveAny facts.gave new fault → facts.failures new ≡ (facts.failures disk + 1) % 2 ^ 64
-      → MakesAtMost facts.writes facts.syncs (tiers.freeze_writes stores) (tiers.freeze_syncs stores) disk new → Does facts before (seen_failed facts (basis_of (facts.content disk) stores) new after count) (row_event k key value) (Refused (Device fault))
+      → MakesAtMost facts.writes facts.syncs (engine.freeze_writes stores) (engine.freeze_syncs stores) disk new → Does facts before (seen_failed facts (basis_of (facts.content disk) stores) new after count) (row_event k key value) (Refused (Device fault))
   row_broke new after k key value fault may same breaks remaps shape given counted most =
       broke facts disk new stores after same stands count (row_event k key value) fault breaks shape remaps
       (broke_cause (seen_failed facts (basis_of (facts.content disk) stores) new after count) k key value fault may (record { given = given; counted = counted; failed = refl })) counted (row_most new k key value most)
@@ -157,13 +157,13 @@ module _ {D F : Type 0} (facts : Ghosts D F) (disk : D) (stores : TiersState) (c
   -- ---- the row was refused
 
   -- nothing was changed
-  kept : (new : D) (after : TiersState) (k : Kind) (key : Key) (value : List ℕ) (refusal : Refusal F) → after ≡ stores → new ≡ disk → is_failed (Refused refusal) ≡ false
+  kept : (new : D) (after : EngineState) (k : Kind) (key : Key) (value : List ℕ) (refusal : Refusal F) → after ≡ stores → new ≡ disk → is_failed (Refused refusal) ≡ false
       → Cause facts before before (row_event k key value) (Refused refusal)
       → Does facts before (seen facts new after count) (row_event k key value) (Refused refusal)
   kept new after k key value refusal same_stores same_disk other cause =
       rw (same_stores, same_disk) (refused facts disk stores count (row_event k key value) refusal stands other cause)
 
-  pub row_unread : (new : D) (after : TiersState) (k : Kind) (key : Key) (value : List ℕ) (fault : F) → MayWrite k before → after ≡ stores → new ≡ disk → GaveAny facts.gave disk fault
+  pub row_unread : (new : D) (after : EngineState) (k : Kind) (key : Key) (value : List ℕ) (fault : F) → MayWrite k before → after ≡ stores → new ≡ disk → GaveAny facts.gave disk fault
       → Does facts before (seen facts new after count) (row_event k key value) (Refused (Device fault))
   row_unread new after k key value fault may same_stores same_disk given =
       kept new after k key value (Device fault) same_stores same_disk refl (read_cause before k key value fault may (record { given = given; working = refl; same = refl }))
@@ -177,7 +177,7 @@ module _ {D F : Type 0} (facts : Ghosts D F) (disk : D) (stores : TiersState) (c
   no_room_cause kind.Put key value least may needs all = (may, (stopped before key.0 needs, all_in_use all, frozen_due least all))
   no_room_cause kind.Delete key value least may needs all = (may, (stopped before key.0 needs, all_in_use all, frozen_due least all))
 
-  pub row_no_room : (new : D) (after : TiersState) (k : Kind) (key : Key) (value : List ℕ) → 2 ≤ stores.manifest.shape.logs → MayWrite k before → after ≡ stores → new ≡ disk → NeedsNext (facts.content disk) stores key.0 → AllInUse stores
+  pub row_no_room : (new : D) (after : EngineState) (k : Kind) (key : Key) (value : List ℕ) → 2 ≤ stores.manifest.shape.logs → MayWrite k before → after ≡ stores → new ≡ disk → NeedsNext (facts.content disk) stores key.0 → AllInUse stores
       → Does facts before (seen facts new after count) (row_event k key value) (Refused NoRoom)
   row_no_room new after k key value least may same_stores same_disk needs all = kept new after k key value NoRoom same_stores same_disk refl (no_room_cause k key value least may needs all)
 
@@ -185,7 +185,7 @@ module _ {D F : Type 0} (facts : Ghosts D F) (disk : D) (stores : TiersState) (c
   spent_cause kind.Put key value may needs free last = (refl, inr (may, (stopped before key.0 needs, has_free free, last)))
   spent_cause kind.Delete key value may needs free last = (refl, inr (may, (stopped before key.0 needs, has_free free, last)))
 
-  pub row_spent : (new : D) (after : TiersState) (k : Kind) (key : Key) (value : List ℕ) → MayWrite k before → after ≡ stores → new ≡ disk → NeedsNext (facts.content disk) stores key.0 → (AllInUse stores → ⊥) → IsLastGeneration stores
+  pub row_spent : (new : D) (after : EngineState) (k : Kind) (key : Key) (value : List ℕ) → MayWrite k before → after ≡ stores → new ≡ disk → NeedsNext (facts.content disk) stores key.0 → (AllInUse stores → ⊥) → IsLastGeneration stores
       → Does facts before (seen facts new after count) (row_event k key value) (Refused Spent)
   row_spent new after k key value may same_stores same_disk needs free last = kept new after k key value Spent same_stores same_disk refl (spent_cause k key value may needs free last)
 
@@ -193,6 +193,6 @@ module _ {D F : Type 0} (facts : Ghosts D F) (disk : D) (stores : TiersState) (c
   memory_cause kind.Put key value may needs free more = (may, (stopped before key.0 needs, has_free free, more))
   memory_cause kind.Delete key value may needs free more = (may, (stopped before key.0 needs, has_free free, more))
 
-  pub row_no_memory : (new : D) (after : TiersState) (k : Kind) (key : Key) (value : List ℕ) → MayWrite k before → after ≡ stores → new ≡ disk → NeedsNext (facts.content disk) stores key.0 → (AllInUse stores → ⊥) → (IsLastGeneration stores → ⊥)
+  pub row_no_memory : (new : D) (after : EngineState) (k : Kind) (key : Key) (value : List ℕ) → MayWrite k before → after ≡ stores → new ≡ disk → NeedsNext (facts.content disk) stores key.0 → (AllInUse stores → ⊥) → (IsLastGeneration stores → ⊥)
       → Does facts before (seen facts new after count) (row_event k key value) (Refused NoMemory)
   row_no_memory new after k key value may same_stores same_disk needs free more = kept new after k key value NoMemory same_stores same_disk refl (memory_cause k key value may needs free more)

@@ -17,7 +17,7 @@ use Rattle.silt_store_set.proofs.Calls.{none_refused}
 use Rattle.std.proofs.lemmas.List.{length-append}
 use Rattle.std.proofs.lemmas.Bool.{eqb-true}
 use Rattle.silt_manifest.specs.declared.body.Body.{Body}
-use Rattle.silt_tiers.specs.Conversion.{progress_due}
+use Rattle.silt_engine.specs.Conversion.{progress_due}
 
 -- behind other commands a command waits
 waits_behind : (commands : List Command) (command : Command) → some_wait (commands ++ command ∷ []) ≡ 1

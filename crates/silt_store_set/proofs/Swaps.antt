@@ -11,7 +11,7 @@ use Rattle.silt_event.specs.declared.reply.Reply.{Reply}
 use Rattle.silt_event.specs.declared.reply.Reply.TheVariants.{Accepted, Acknowledged, Found, Absent, Differs, Progress, Refused, Unsettled, NotServed}
 use Rattle.silt_event.specs.Events.{Step, accepted_command}
 use Rattle.silt_standing.specs.Standing.{Stands, current_map, full_image}
-use Rattle.silt_standing.specs.State.{TiersState}
+use Rattle.silt_standing.specs.State.{EngineState}
 use Rattle.silt_image.specs.Meaning.{image_map}
 use Rattle.silt_store_set.specs.CoreState.{CoreState, Cause, Does, IsRefusedRead, MadeFor, Moves, map_of}
 use Rattle.silt_disk.proofs.Costs.{none_made}
@@ -83,7 +83,7 @@ module _ {D F : Type 0} (facts : Ghosts D F) where
           keeps_basis = does.keeps_basis;
         }
 
-  module _ (disk : D) (stores : TiersState) (count : ℕ) (key : Key) (expected : List ℕ) (stands : Stands (facts.content disk) stores) where
+  module _ (disk : D) (stores : EngineState) (count : ℕ) (key : Key) (expected : List ℕ) (stands : Stands (facts.content disk) stores) where
     -- a value was found: the key has the expected one exactly if both are equal
     pub holds_found : (same : Bool) (out : List ℕ) → (IsTrue (facts.content disk).honest → get (current_map (facts.content disk) stores) key.0 ≡ Some out) → IsTrue same ↔ (out ≡ expected)
         → IsTrue (facts.content disk).honest → IsTrue same ↔ (get (image_map (full_image (facts.content disk) stores)) key.0 ≡ Some expected)

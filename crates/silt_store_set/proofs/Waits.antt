@@ -10,9 +10,9 @@ use Rattle.silt_event.specs.Commands.{Command}
 use Rattle.silt_event.specs.Rows.{command_of}
 use Rattle.silt_log.specs.Rows.{row_at, rows_from}
 use Rattle.silt_log.specs.State.{InBounds, LogState, waiting_rows}
-use Rattle.silt_standing.specs.State.{TiersState}
+use Rattle.silt_standing.specs.State.{EngineState}
 use Rattle.silt_standing.specs.Standing.{waiting_commands}
-use Rattle.silt_tiers.specs.Costs as tiers
+use Rattle.silt_engine.specs.Costs as engine
 use Rattle.silt_store_set.specs.CoreState.{some_wait}
 use Rattle.silt_store_set.proofs.Openings.{none_wait}
 
@@ -34,7 +34,7 @@ pub none_waits : {D F : Type 0} (facts : Ghosts D F) (disk : D) (commands : List
 none_waits facts disk commands none = rw none none_made
 
 -- the numbers of the log say the same
-pub waits_same : (content : Content) (s : TiersState) → InBounds s.active.log → tiers.row_waits s ≡ some_wait (waiting_commands content s)
+pub waits_same : (content : Content) (s : EngineState) → InBounds s.active.log → engine.row_waits s ≡ some_wait (waiting_commands content s)
 waits_same content s bounds =
     let go : (b : Bool) → nat_lt s.active.log.settled s.active.log.used ≡ b → cond b 1 0 ≡ some_wait (waiting_commands content s) = elim [
       | true ↦ λ some. sym (one_waits (waiting_commands content s) (some_waits content s.active.log some))

@@ -5,9 +5,9 @@ use Rattle.silt_disk.specs.Layout.{Shape, device_size}
 use Rattle.silt_event.specs.Commands.{Command, Map, map_after}
 use Rattle.silt_disk.specs.Header.{shape_of}
 use Rattle.silt_image.specs.Meaning.{image_map, IsGood}
-use Rattle.silt_tiers.specs.Calls.{HasBegun}
+use Rattle.silt_engine.specs.Calls.{HasBegun}
 use Rattle.silt_standing.specs.Standing.{Stands, full_image, waiting_commands}
-use Rattle.silt_standing.specs.State.{TiersState}
+use Rattle.silt_standing.specs.State.{EngineState}
 use Rattle.silt_store_set.specs.Basis.{BasisState}
 
 -- What is known of a disk whose store is gone: for some map and list of commands, each possible crash image represents the map after some
@@ -19,14 +19,14 @@ pub record LeavesBegun (content : Content) (shape : Shape) : Type 0 where
 
 -- Each possible crash image represents the base after some first part of the waiting commands. The full image represents the base after
 -- all of them, and no more wait than the store accepted.
-pub record BreaksFrom (basis : BasisState) (content : Content) (stores : TiersState) (count : ℕ) : Type 0 where
+pub record BreaksFrom (basis : BasisState) (content : Content) (stores : EngineState) (count : ℕ) : Type 0 where
   pub begun : LeavesOnly content (HasBegun stores.manifest.shape basis.base basis.waiting)
   pub has_map : IsTrue content.honest → image_map (full_image content stores) ≡ map_after basis.base basis.waiting
   pub few : IsTrue content.honest → length basis.waiting ≤ count
 
 -- What is true of each store. If it is not failed, its memory fits its disk, and no more commands wait than it accepted. If it is failed,
 -- its failing call broke off from the basis.
-pub record IsCore (content : Content) (stores : TiersState) (count : ℕ) (failed : Bool) (basis : BasisState) : Type 0 where
+pub record IsCore (content : Content) (stores : EngineState) (count : ℕ) (failed : Bool) (basis : BasisState) : Type 0 where
   pub has_size : size content ≡ device_size stores.manifest.shape
   pub count_most : count < 2 ^ 63
   pub stands : failed ≡ false → Stands content stores

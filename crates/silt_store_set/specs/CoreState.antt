@@ -19,13 +19,13 @@ use Rattle.silt_log.specs.Parts.{part_rows}
 use Rattle.silt_manifest.specs.declared.body.Body.{Body}
 use Rattle.silt_merge.specs.Rows.{key_count, merged_rows}
 use Rattle.silt_merge.specs.State.{MergeState, steps_of}
-use Rattle.silt_tiers.specs.Calls.{CannotTake, HasBegun}
+use Rattle.silt_engine.specs.Calls.{CannotTake, HasBegun}
 use Rattle.silt_standing.specs.Standing.{SameDisk}
-use Rattle.silt_tiers.specs.Conversion.{AreConverted, IsLowestFreeHash, converted_body, is_work, oldest_rows, progress_due}
-use Rattle.silt_tiers.specs.Costs.{step_syncs, step_writes}
-use Rattle.silt_tiers.specs.Merge.{merge_progress, merge_sources, merged_body}
-use Rattle.silt_tiers.specs.NextLog.{IsLowestFree, next_body}
-use Rattle.silt_tiers.specs.Laws.{IsGoodWith}
+use Rattle.silt_engine.specs.Conversion.{AreConverted, IsLowestFreeHash, converted_body, is_work, oldest_rows, progress_due}
+use Rattle.silt_engine.specs.Costs.{step_syncs, step_writes}
+use Rattle.silt_engine.specs.Merge.{merge_progress, merge_sources, merged_body}
+use Rattle.silt_engine.specs.NextLog.{IsLowestFree, next_body}
+use Rattle.silt_engine.specs.Laws.{IsGoodWith}
 use Rattle.silt_event.specs.declared.event.Event.{Event}
 use Rattle.silt_event.specs.declared.event.Event.TheVariants.{Put, Delete, Swap, Flush, Get, Convert, Merge}
 use Rattle.silt_event.specs.declared.progress.Progress.{Progress as ProgressOf}

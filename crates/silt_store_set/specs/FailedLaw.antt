@@ -6,7 +6,7 @@ use Rattle.silt_event.specs.declared.event.Event.TheVariants.{Flush}
 use Rattle.silt_event.specs.declared.reply.Reply.{Reply}
 use Rattle.silt_event.specs.declared.reply.Reply.TheVariants.{Acknowledged}
 use Rattle.silt_image.specs.Meaning.{image_map}
-use Rattle.silt_tiers.specs.Calls.{HasBegun}
+use Rattle.silt_engine.specs.Calls.{HasBegun}
 use Rattle.silt_store_set.specs.CoreState.{CoreState, Does, map_of}
 
 -- If the call after an acknowledged flush fails, an image represents the failed store's base after a first part of the waiting commands

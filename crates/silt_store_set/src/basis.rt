@@ -4,14 +4,14 @@ ghost use Rattle.silt_store_set.specs.Basis.{basis_of};
 
 use crate::remembered::Remembered;
 use silt_disk::Disk;
-use silt_tiers::Tiers;
+use silt_engine::Engine;
 use std::marker::Model;
 
 // The map that a store's possible crash images represent, and the commands that wait, as they were when this was taken.
 #[derive(Drop)]
 pub struct Basis<D: Disk> {
     disk: Remembered<D>,
-    tiers: Remembered<Tiers>,
+    engine: Remembered<Engine>,
 }
 
 impl<D: Disk> Model for Basis<D> {
@@ -23,17 +23,17 @@ impl<D: Disk> Model for Basis<D> {
 
     ghost coded = { Prim.hlevel (codes, map_code) };
 
-    ghost view = { λ b. basis_of (D.content b.disk.value) b.tiers.value };
+    ghost view = { λ b. basis_of (D.content b.disk.value) b.engine.value };
 }
 
 impl<D: Disk> Basis<D> {
     // Takes the basis of a disk and of what memory holds of it.
-    pub fn of(disk: &D, tiers: &Tiers) -> Basis<D>
-        ensures { result ≡ basis_of (D.content disk.now) tiers.now }
+    pub fn of(disk: &D, engine: &Engine) -> Basis<D>
+        ensures { result ≡ basis_of (D.content disk.now) engine.now }
     {
         Basis {
             disk: Remembered::of(disk),
-            tiers: Remembered::of(tiers),
+            engine: Remembered::of(engine),
         }
     }
 }

@@ -3,12 +3,12 @@ ghost use Rattle.std.specs.Prelude.{IsTrue, IfOk, IfErr, OnOk};
 ghost use Rattle.silt_disk.specs.Disk.{GaveAny};
 ghost use Rattle.silt_image.specs.Meaning.{IsGood, image_map};
 ghost use Rattle.silt_recovery.specs.Refusals.{IsFound, IsRefusedLook};
-ghost use Rattle.silt_tiers.specs.Lookup.{AreEntriesOf};
+ghost use Rattle.silt_engine.specs.Lookup.{AreEntriesOf};
 
 use silt_disk::Disk;
+use silt_engine::{Engine, EntriesError};
 use silt_frame::{Key, Value};
 use silt_recovery::{OpenError, examine};
-use silt_tiers::{EntriesError, Tiers};
 use std::alloc::Global;
 use std::collections::BTreeMap;
 
@@ -29,7 +29,7 @@ pub fn read_entries<D: Disk>(
         (GaveAny D.gave disk.now)) }
 {
     let held = examine(alloc, disk)?;
-    let tiers = Tiers::new(
+    let engine = Engine::new(
         held.manifest,
         held.active,
         held.frozen,
@@ -37,7 +37,7 @@ pub fn read_entries<D: Disk>(
         held.sorted,
         held.charge,
     );
-    match tiers.entries(alloc, disk) {
+    match engine.entries(alloc, disk) {
         Ok(entries) => Ok(entries),
         Err(EntriesError::Device(fault)) => Err(OpenError::Device(fault)),
         Err(EntriesError::NoMemory) => Err(OpenError::NoMemory),

@@ -2,7 +2,7 @@
 ghost use Rattle.std.specs.Prelude.{◌≡◌, ◌≤◌, length, IfOk};
 ghost use Rattle.silt_frame.specs.declared.key.Kind.TheVariants.{Delete};
 ghost use Rattle.silt_log.specs.Rows.{IsValueOf};
-ghost use Rattle.silt_tiers.specs.Conversion.{is_work};
+ghost use Rattle.silt_engine.specs.Conversion.{is_work};
 ghost use Rattle.silt_store_set.specs.Replies.{change_reply, progress_reply, swap_reply};
 
 use crate::{Progress, Refusal, Reply};

@@ -7,8 +7,8 @@ use crate::basis::Basis;
 use crate::replies::{accepted, copied, is_work, progressed, swapped, zeros};
 use crate::{Event, Progress, Refusal, Reply};
 use silt_disk::{Disk, Geometry};
+use silt_engine::{ConvertError, Engine, EntriesError, MergeError, WriteError};
 use silt_frame::{Key, Kind, Value};
-use silt_tiers::{ConvertError, EntriesError, MergeError, Tiers, WriteError};
 use std::alloc::{AllocError, Global};
 use std::collections::BTreeMap;
 use std::marker::Model;
@@ -30,7 +30,7 @@ pub struct OpenFault<D: Disk> {
 #[derive(Drop)]
 pub struct Core<D: Disk> {
     disk: D,
-    tiers: Tiers,
+    engine: Engine,
     // How many commands this life has accepted.
     count: u64,
     failed: bool,
@@ -52,19 +52,19 @@ impl<D: Disk> Model for Core<D> {
 
     ghost view = { λ a. record {
       disk = a.disk;
-      shape = a.tiers.manifest.shape;
-      body = a.tiers.manifest.current;
-      full = full_image (D.content a.disk) a.tiers;
-      base = (basis_kept a.failed a.basis (basis_of (D.content a.disk) a.tiers)).base;
-      waiting = (basis_kept a.failed a.basis (basis_of (D.content a.disk) a.tiers)).waiting;
-      converting = convert_work a.tiers.converting;
-      merging = merge_work a.tiers.merging;
-      charge = a.tiers.charge;
+      shape = a.engine.manifest.shape;
+      body = a.engine.manifest.current;
+      full = full_image (D.content a.disk) a.engine;
+      base = (basis_kept a.failed a.basis (basis_of (D.content a.disk) a.engine)).base;
+      waiting = (basis_kept a.failed a.basis (basis_of (D.content a.disk) a.engine)).waiting;
+      converting = convert_work a.engine.converting;
+      merging = merge_work a.engine.merging;
+      charge = a.engine.charge;
       count = a.count;
       failed = a.failed;
     } };
 
-    ghost invariant = { λ a. IsCore (D.content a.disk) a.tiers a.count a.failed a.basis };
+    ghost invariant = { λ a. IsCore (D.content a.disk) a.engine a.count a.failed a.basis };
 }
 
 impl<D: Disk> Core<D> {
@@ -77,7 +77,7 @@ impl<D: Disk> Core<D> {
     ghost use Rattle.silt_event.specs.Commands.{map_after};
     ghost use Rattle.silt_image.specs.Meaning.{StandsFor};
     ghost use Rattle.silt_standing.specs.Standing.{SameDisk};
-    ghost use Rattle.silt_tiers.specs.Calls.{HasBegun};
+    ghost use Rattle.silt_engine.specs.Calls.{HasBegun};
     ghost use Rattle.silt_store_set.specs.CoreInvariant.{LeavesBegun};
     ghost use Rattle.silt_frame.specs.Rows.{key_cmp};
     ghost use Rattle.silt_store_set.specs.CoreState.{CoreState, Does, Runs, Opens, EntriesCause, IsRefusedRead, StandsKept, map_of, MayWrite, row_event, wants_convert, wants_merge};
@@ -104,7 +104,7 @@ impl<D: Disk> Core<D> {
         match silt_recovery::open(alloc, disk) {
             Ok(opened) => {
                 let held = opened.held;
-                let tiers = Tiers::new(
+                let engine = Engine::new(
                     held.manifest,
                     held.active,
                     held.frozen,
@@ -113,9 +113,9 @@ impl<D: Disk> Core<D> {
                     held.charge,
                 );
                 Ok(Core {
-                    basis: Basis::of(&opened.disk, &tiers),
+                    basis: Basis::of(&opened.disk, &engine),
                     disk: opened.disk,
-                    tiers,
+                    engine,
                     count: 0,
                     failed: false,
                 })
@@ -131,7 +131,7 @@ impl<D: Disk> Core<D> {
     pub fn geometry(&self) -> Geometry
         ensures { result ≡ self.now.shape }
     {
-        self.tiers.geometry()
+        self.engine.geometry()
     }
 
     /// How many commands this life has accepted.
@@ -170,7 +170,7 @@ impl<D: Disk> Core<D> {
         if self.count == MOST_COMMANDS {
             return Err(Refusal::Spent);
         }
-        if self.tiers.charge() == self.tiers.geometry().sorted_capacity() {
+        if self.engine.charge() == self.engine.geometry().sorted_capacity() {
             return Err(Refusal::StoreFull);
         }
         self.write_row(alloc, Kind::Put, key, value)
@@ -188,7 +188,7 @@ impl<D: Disk> Core<D> {
         if self.count == MOST_COMMANDS {
             return Err(Refusal::Spent);
         }
-        let zeros = zeros(self.tiers.geometry().value_len());
+        let zeros = zeros(self.engine.geometry().value_len());
         self.write_row(alloc, Kind::Delete, key, zeros)
     }
 
@@ -226,8 +226,8 @@ impl<D: Disk> Core<D> {
         ensures fault { IfErr result (λ refusal. IsRefusedRead D.Disk self.now refusal) }
     {
         let mut longest = [0; MOST_VALUE_LEN];
-        let out = &mut longest[..self.tiers.geometry().value_len() as usize];
-        match self.tiers.get(&self.disk, key, out) {
+        let out = &mut longest[..self.engine.geometry().value_len() as usize];
+        match self.engine.get(&self.disk, key, out) {
             Ok(true) => Ok(*out == *value),
             Ok(false) => Ok(false),
             Err(fault) => Err(Refusal::Device(fault)),
@@ -247,9 +247,9 @@ impl<D: Disk> Core<D> {
         requires zeros { IsValueOf kind value.now }
         ensures { Does D.Disk self.old self.new (row_event kind key.now value.now) (change_reply result) }
     {
-        let _logs = self.tiers.geometry().logs(); // at least two
-        let basis = Basis::of(&self.disk, &self.tiers);
-        match self.tiers.write(alloc, &mut self.disk, kind, key, value) {
+        let _logs = self.engine.geometry().logs(); // at least two
+        let basis = Basis::of(&self.disk, &self.engine);
+        match self.engine.write(alloc, &mut self.disk, kind, key, value) {
             Ok(()) => {
                 self.count += 1;
                 Ok(self.count)
@@ -274,11 +274,11 @@ impl<D: Disk> Core<D> {
         if self.failed {
             return Err(Refusal::Failed);
         }
-        if !self.tiers.has_waiting() {
+        if !self.engine.has_waiting() {
             return Ok(self.count);
         }
-        let basis = Basis::of(&self.disk, &self.tiers);
-        match self.tiers.flush(&mut self.disk) {
+        let basis = Basis::of(&self.disk, &self.engine);
+        match self.engine.flush(&mut self.disk) {
             Ok(()) => Ok(self.count),
             Err(fault) => {
                 self.failed = true; // some of the gates may be open
@@ -298,7 +298,7 @@ impl<D: Disk> Core<D> {
         if self.failed {
             return Err(Refusal::Failed);
         }
-        match self.tiers.get(&self.disk, key, out) {
+        match self.engine.get(&self.disk, key, out) {
             Ok(found) => Ok(found),
             Err(fault) => Err(Refusal::Device(fault)),
         }
@@ -313,8 +313,8 @@ impl<D: Disk> Core<D> {
             return Err(Refusal::Failed);
         }
         let mut longest = [0; MOST_VALUE_LEN];
-        let out = &mut longest[..self.tiers.geometry().value_len() as usize];
-        match self.tiers.get(&self.disk, key, out) {
+        let out = &mut longest[..self.engine.geometry().value_len() as usize];
+        match self.engine.get(&self.disk, key, out) {
             Ok(true) => match copied(alloc, out) {
                 Ok(value) => Ok(Some(value)),
                 Err(_) => Err(Refusal::NoMemory),
@@ -337,8 +337,8 @@ impl<D: Disk> Core<D> {
         if self.failed {
             return Err(Refusal::Failed);
         }
-        let basis = Basis::of(&self.disk, &self.tiers);
-        match self.tiers.convert(alloc, &mut self.disk) {
+        let basis = Basis::of(&self.disk, &self.engine);
+        match self.engine.convert(alloc, &mut self.disk) {
             Ok(progress) => Ok(progress),
             Err(ConvertError::Write(fault)) => {
                 self.failed = true; // a slot or the manifest may stand in part
@@ -366,8 +366,8 @@ impl<D: Disk> Core<D> {
         if self.failed {
             return Err(Refusal::Failed);
         }
-        let basis = Basis::of(&self.disk, &self.tiers);
-        match self.tiers.merge(alloc, &mut self.disk) {
+        let basis = Basis::of(&self.disk, &self.engine);
+        match self.engine.merge(alloc, &mut self.disk) {
             Ok(merged) => Ok(merged),
             Err(MergeError::Write(fault)) => {
                 self.failed = true; // an entry or the manifest may stand in part
@@ -385,7 +385,7 @@ impl<D: Disk> Core<D> {
     pub fn wants_convert(&self) -> bool
         ensures { result ≡ wants_convert self.now }
     {
-        !self.failed && is_work(self.tiers.convert_turn())
+        !self.failed && is_work(self.engine.convert_turn())
     }
 
     /// Whether the store is not failed and there is a step of merging to do. If nothing refuses it, the step returns
@@ -393,7 +393,7 @@ impl<D: Disk> Core<D> {
     pub fn wants_merge(&self) -> bool
         ensures { result ≡ wants_merge self.now }
     {
-        !self.failed && is_work(self.tiers.merge_turn())
+        !self.failed && is_work(self.engine.merge_turn())
     }
 
     /// Does one event. A get that is out of memory for its value is refused with `NoMemory`.
@@ -461,7 +461,7 @@ impl<D: Disk> Core<D> {
         if self.failed {
             return Err(Refusal::Failed);
         }
-        match self.tiers.entries(alloc, &self.disk) {
+        match self.engine.entries(alloc, &self.disk) {
             Ok(entries) => Ok(entries),
             Err(EntriesError::Device(fault)) => Err(Refusal::Device(fault)),
             Err(EntriesError::NoMemory) => Err(Refusal::NoMemory),
@@ -478,7 +478,7 @@ impl<D: Disk> Core<D> {
     {
         let Core {
             disk,
-            tiers: _,
+            engine: _,
             count: _,
             failed: _,
             basis: _,

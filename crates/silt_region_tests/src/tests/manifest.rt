@@ -2,7 +2,7 @@
 // version. A crash comes at each call of a write, and the first call is looked at by itself.
 ghost use Rattle.std.specs.Prelude.{◌≡◌, ◌+◌, ◌≤◌, ◌<◌, ◌↔◌, IsTrue, IfSome, OnOk};
 ghost use Rattle.silt_disk.specs.Disk.{Rests, size};
-ghost use Rattle.silt_manifest.specs.Standing.{IsNext, Rules};
+ghost use Rattle.silt_manifest.specs.Standing.{IsNext, IsCurrent};
 ghost use Rattle.silt_disk.specs.Header.{header_of, version_of};
 ghost use Rattle.silt_disk.specs.Layout.{slot_at};
 
@@ -146,10 +146,10 @@ fn put_digests(slot: &mut Slot) {
 // Writes this body as the next one, with those digests.
 fn write<D: Disk>(manifest: &mut Manifest, disk: &mut D, next: Body) -> Result<(), D::Fault>
     requires size { slot_at 1 + 4096 ≤ size (D.content disk.old) }
-    requires rules { Rules manifest.old (D.content disk.old) }
+    requires current { IsCurrent manifest.old (D.content disk.old) }
     requires next { IsNext manifest.old next }
     ensures size { size (D.content disk.new) ≡ size (D.content disk.old) }
-    ensures rules { OnOk result (Rules manifest.new (D.content disk.new)) }
+    ensures current { OnOk result (IsCurrent manifest.new (D.content disk.new)) }
 {
     manifest.prepare_next(disk, next, some_digests())?;
     manifest.commit_next(disk)?;
@@ -322,7 +322,7 @@ fn refuses_each_fault_of_a_body(rt: HostRuntime) -> Result<(), Fail> {
 }
 
 #[test]
-fn the_greater_generation_rules(rt: HostRuntime) -> Result<(), Fail> {
+fn the_greater_generation_is_current(rt: HostRuntime) -> Result<(), Fail> {
     let geometry = small(&rt);
     for (second, greater) in [(1, 2), (3, 3)] {
         let mut body = Body::first();
@@ -612,7 +612,7 @@ fn stopped_first(
 // The first body is written over two old ones, with a crash at each of the eight calls and with
 // every fill. It is current from the call on that writes its gate: the seventh, at an even offset.
 #[test]
-fn the_first_body_rules_once_it_is_written(rt: HostRuntime) -> Result<(), Fail> {
+fn the_first_body_is_current_once_it_is_written(rt: HostRuntime) -> Result<(), Fail> {
     let geometry = small(&rt);
     for k in 0..10u32 {
         for fill in FILLS {

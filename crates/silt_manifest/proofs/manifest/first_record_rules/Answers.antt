@@ -1,5 +1,5 @@
-use Rattle.silt_manifest.proofs.FirstExits.{first_rules}
-use Rattle.silt_manifest.proofs.manifest.first_record_rules.Goals as goal
+use Rattle.silt_manifest.proofs.FirstExits.{first_is_current}
+use Rattle.silt_manifest.proofs.manifest.first_record_is_current.Goals as goal
 
 pub returns : goal.returns
-returns c = first_rules
+returns c = first_is_current

@@ -1,8 +1,8 @@
 use Rattle.std.proofs.Common.{rules}
 use Rattle.silt_disk.specs.Disk.{GaveAny, Shows, Rests}
-use Rattle.silt_manifest.specs.Standing.{IsRuled, Rules}
+use Rattle.silt_manifest.specs.Standing.{IsCurrentIn, IsCurrent}
 use Rattle.silt_manifest.specs.Faults.{IsNotRead}
-use Rattle.silt_manifest.proofs.ReadExits.{first_refused, second_refused, none_refused, slots_rule, rest_rules, where_some, where_none}
+use Rattle.silt_manifest.proofs.ReadExits.{first_refused, second_refused, none_refused, slots_are_current, rest_is_current, where_some, where_none}
 use Rattle.silt_manifest.proofs.manifest.read_current.Goals as goal
 
 pub returns-in_err-first-clause-refused : goal.returns-in_err-first-clause-refused
@@ -17,15 +17,15 @@ returns-in_err-second-clause-refused g c =
     let fact = second_refused content c.args.geometry c.args.version (GaveAny g.D.Disk.gave c.args.disk.now) c.in_ok-first.first c.in_err-second.field-0.0 c.requires.version c.in_ok-first.ensures.held c.in_err-second.ensures.refused in
     search (rules, fact)
 
-pub returns-clause-ruled : goal.returns-clause-ruled
-returns-clause-ruled g c =
+pub returns-clause-shown : goal.returns-clause-shown
+returns-clause-shown g c =
     let content = g.D.Disk.content c.args.disk.now in
-    rw c.ok_or.ensures.value (where_some c.of_slots.result _ (λ m. Shows content (IsRuled m)) (λ m is. slots_rule content c.args.geometry c.args.version c.in_ok-first.first c.in_ok-second.second c.of_slots.result m c.requires.version c.in_ok-first.ensures.held c.in_ok-second.ensures.held c.of_slots.ensures is))
+    rw c.ok_or.ensures.value (where_some c.of_slots.result _ (λ m. Shows content (IsCurrentIn m)) (λ m is. slots_are_current content c.args.geometry c.args.version c.in_ok-first.first c.in_ok-second.second c.of_slots.result m c.requires.version c.in_ok-first.ensures.held c.in_ok-second.ensures.held c.of_slots.ensures is))
 
-pub returns-clause-rules : goal.returns-clause-rules
-returns-clause-rules g c =
+pub returns-clause-current : goal.returns-clause-current
+returns-clause-current g c =
     let content = g.D.Disk.content c.args.disk.now in
-    rw c.ok_or.ensures.value (where_some c.of_slots.result _ (λ m. Rests content → Rules m content) (λ m is rests. rest_rules content m (slots_rule content c.args.geometry c.args.version c.in_ok-first.first c.in_ok-second.second c.of_slots.result m c.requires.version c.in_ok-first.ensures.held c.in_ok-second.ensures.held c.of_slots.ensures is) rests))
+    rw c.ok_or.ensures.value (where_some c.of_slots.result _ (λ m. Rests content → IsCurrent m content) (λ m is rests. rest_is_current content m (slots_are_current content c.args.geometry c.args.version c.in_ok-first.first c.in_ok-second.second c.of_slots.result m c.requires.version c.in_ok-first.ensures.held c.in_ok-second.ensures.held c.of_slots.ensures is) rests))
 
 pub returns-clause-refused : goal.returns-clause-refused
 returns-clause-refused g c =

@@ -30,8 +30,8 @@ returns-clause-changes g c =
     (changes_joined (slot_at 0) 1 4097 460 (slot_at 0) 4096 _ _ _ c.in_ok-write_gate.ensures.changes c.in_ok-write_record.ensures.changes (omega arith) (omega arith) (omega arith) (omega arith))
     c.in_ok-write_gate-2.ensures.changes (omega arith) (omega arith) (omega arith) (omega arith)
 
-pub returns-clause-rules : goal.returns-clause-rules
-returns-clause-rules g c =
+pub returns-clause-current : goal.returns-clause-current
+returns-clause-current g c =
     all_first c.args.digests.now c.record_bytes.result _ _ _ _ c.record_bytes.ensures.fits c.requires.size c.requires.closed (c.record_bytes.ensures.value ∙ ap (λ b. record_bytes b c.args.digests.now) c.first.ensures)
     c.in_ok-write_gate.ensures.written c.in_ok-write_record.ensures.written c.in_ok-write_gate-2.ensures.written c.in_ok-write_gate-2.ensures.rests
 

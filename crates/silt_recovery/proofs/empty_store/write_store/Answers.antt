@@ -49,7 +49,7 @@ returns-in_err-write_header-clause-stopped g c =
     let size3 = c.prepare.ensures.size ∙ c.write.ensures.size ∙ c.write_synced.ensures.size ∙ c.requires.size in
     let size4 = c.write_first.ensures.size ∙ size3 in
     on_err c.from_residual-in_err-write_header.result (left_at_last c.args.geometry.now c.empty_digests-digests.result (g.D.Disk.content c.args.disk.now) c3 (g.D.Disk.content c.write_first.new.disk) (g.D.Disk.content c.write_header.new.disk) c.requires.limits c.empty_digests-digests.ensures size3 size4 (c.write_header.ensures.size ∙ size4)
-    rows c.write_first.ensures.changes c.in_ok-write_first.ensures.rules c.write_header.ensures.changes c.write_header.ensures.stopped)
+    rows c.write_first.ensures.changes c.in_ok-write_first.ensures.current c.write_header.ensures.changes c.write_header.ensures.stopped)
 
 pub write_header-requires-clause-closed : goal.write_header-requires-clause-closed
 write_header-requires-clause-closed g c κs within =
@@ -78,7 +78,7 @@ returns-clause-images g c =
     let size3 = c.prepare.ensures.size ∙ c.write.ensures.size ∙ c.write_synced.ensures.size ∙ c.requires.size in
     let size4 = c.write_first.ensures.size ∙ size3 in
     formatted c.args.geometry.now c.empty_digests-digests.result c3 (g.D.Disk.content c.write_first.new.disk) (g.D.Disk.content c.write_header.new.disk) c.requires.limits c.empty_digests-digests.ensures size3 size4 (c.write_header.ensures.size ∙ size4)
-    rows c.write_first.ensures.changes c.in_ok-write_first.ensures.rules c.write_header.ensures.changes c.in_ok-write_header.ensures.header c.in_ok-write_header.ensures.rests
+    rows c.write_first.ensures.changes c.in_ok-write_first.ensures.current c.write_header.ensures.changes c.in_ok-write_header.ensures.header c.in_ok-write_header.ensures.rests
 
 pub returns-in_err-write_synced-clause-made : goal.returns-in_err-write_synced-clause-made
 returns-in_err-write_synced-clause-made g c =

@@ -3,7 +3,7 @@ use Rattle.silt_disk.specs.Disk.{GaveAny}
 use Rattle.silt_image.specs.Stores.{damage_finding}
 use Rattle.silt_manifest.specs.Faults.{IsNotRead}
 use Rattle.silt_recovery.specs.Refusals.{IsFound, IsRefusedLook, refusal_of}
-use Rattle.silt_recovery.proofs.Manifests.{damage_verdict, ruled_digests, ruled_stores}
+use Rattle.silt_recovery.proofs.Manifests.{damage_verdict, current_digests_of, current_stores}
 use Rattle.silt_recovery.proofs.Refusals.{look_refused}
 use Rattle.silt_recovery.proofs.examination.read_manifest.Goals as goal
 
@@ -19,10 +19,10 @@ returns-in-Err-Damaged-clause-cause g c =
 
 pub returns-in-Ok-clause-named : goal.returns-in-Ok-clause-named
 returns-in-Ok-clause-named g c = λ h.
-    ruled_stores c.args.geometry (g.D.Disk.content c.args.disk.now).shown c.in-Ok.manifest (c.requires.shape h) c.in-Ok.ensures.shape.0 (c.in-Ok.ensures.ruled.holds h)
+    current_stores c.args.geometry (g.D.Disk.content c.args.disk.now).shown c.in-Ok.manifest (c.requires.shape h) c.in-Ok.ensures.shape.0 (c.in-Ok.ensures.shown.holds h)
 
 pub returns-in-Ok-clause-says : goal.returns-in-Ok-clause-says
 returns-in-Ok-clause-says g c = λ h.
     let image = (g.D.Disk.content c.args.disk.now).shown in
-    ruled_digests c.args.geometry image c.in-Ok.manifest (ruled_stores c.args.geometry image c.in-Ok.manifest (c.requires.shape h) c.in-Ok.ensures.shape.0 (c.in-Ok.ensures.ruled.holds h)) c.in-Ok.ensures.shape.0
-    (c.in-Ok.ensures.ruled.holds h)
+    current_digests_of c.args.geometry image c.in-Ok.manifest (current_stores c.args.geometry image c.in-Ok.manifest (c.requires.shape h) c.in-Ok.ensures.shape.0 (c.in-Ok.ensures.shown.holds h)) c.in-Ok.ensures.shape.0
+    (c.in-Ok.ensures.shown.holds h)

@@ -120,7 +120,7 @@ returns-clause-holds g c =
     c.as_slice-2.result.now c.as_slice-2.ensures.value c.in_ok-hashes.hashes.stores.items c.in_ok-hashes.hashes.puts c.in_ok-hashes.hashes.rows c.in_ok-hashes.ensures.read
     c.in_ok-sorted.sorted.sorted c.in_ok-sorted.ensures.store c.len.ensures.held c.in_ok-sorted.ensures.sound
     c.from-newest.result (λ h. c.from-newest.ensures ∙ c.puts.ensures.value ∙ c.in_ok-active.ensures.counted h) c.args.manifest c.geometry-geometry.ensures.value c.current-body.ensures.value c.digests-said.ensures.value
-    c.in_ok-active.active c.in_ok-sorted.sorted.index c.in_ok-sorted.sorted.digest charge c.sorted_capacity.ensures.limits c.requires.size c.requires.idle c.requires.rules c.in_ok-active.ensures.read c.in_ok-active.ensures.region c.in_ok-sorted.ensures.indexed
+    c.in_ok-active.active c.in_ok-sorted.sorted.index c.in_ok-sorted.sorted.digest charge c.sorted_capacity.ensures.limits c.requires.size c.requires.idle c.requires.current c.in_ok-active.ensures.read c.in_ok-active.ensures.region c.in_ok-sorted.ensures.indexed
     c.in_ok-sorted.ensures.digested total most
 
 pub returns-clause-hash_rows : goal.returns-clause-hash_rows

@@ -1,5 +1,5 @@
 use Rattle.silt_disk.specs.Disk.{GaveAny}
-use Rattle.silt_standing.specs.State.{TiersState}
+use Rattle.silt_standing.specs.State.{EngineState}
 use Rattle.silt_recovery.specs.Opening.{held_stores}
 use Rattle.silt_recovery.proofs.OpeningCosts.{only_synced, opened, seal_failed, sync_failed}
 use Rattle.silt_recovery.proofs.Takings.{looked_up, sealed_images, settled_image, taken_up, unsettled, unwritten}
@@ -20,18 +20,18 @@ returns-in-Err-examine-clause-images g c = settled_image (g.D.Disk.content c.arg
 
 pub returns-in-Ok-seal-clause-ok : goal.returns-in-Ok-seal-clause-ok
 returns-in-Ok-seal-clause-ok g c =
-    let held : TiersState = held_stores c.in-Ok.held in
+    let held : EngineState = held_stores c.in-Ok.held in
     taken_up (g.D.Disk.content c.args.disk.now) (g.D.Disk.content c.sync.new.self) (g.D.Disk.content c.seal.new.disk) held c.in_default.ensures.settled c.in-Ok.ensures.holds c.seal.ensures.changes c.seal.ensures.images
     c.seal.new.self c.seal.ensures.size c.sync.ensures.size c.in-Ok-seal.ensures.ok
 
 pub returns-in-Ok-seal-clause-images : goal.returns-in-Ok-seal-clause-images
 returns-in-Ok-seal-clause-images g c =
-    let held : TiersState = held_stores c.in-Ok.held in
+    let held : EngineState = held_stores c.in-Ok.held in
     sealed_images (g.D.Disk.content c.args.disk.now) (g.D.Disk.content c.sync.new.self) (g.D.Disk.content c.seal.new.disk) held c.in_default.ensures.settled c.in-Ok.ensures.holds c.seal.ensures.changes c.seal.ensures.images
 
 pub returns-in-Err-seal-clause-images : goal.returns-in-Err-seal-clause-images
 returns-in-Err-seal-clause-images g c =
-    let held : TiersState = held_stores c.in-Ok.held in
+    let held : EngineState = held_stores c.in-Ok.held in
     sealed_images (g.D.Disk.content c.args.disk.now) (g.D.Disk.content c.sync.new.self) (g.D.Disk.content c.seal.new.disk) held c.in_default.ensures.settled c.in-Ok.ensures.holds c.seal.ensures.changes c.seal.ensures.images
 
 pub returns-in-Err-clause-made : goal.returns-in-Err-clause-made

@@ -2,14 +2,14 @@ use Rattle.std.proofs.Common.{◌≤◌, List, All, length, sum_by, sym, ap, ◌
 use Rattle.silt_image.specs.Meaning.{layout_of}
 use Rattle.silt_log_store.specs.State.{LogStoreState}
 use Rattle.silt_manifest.specs.Standing.{current_slot}
-use Rattle.silt_standing.specs.State.{TiersState}
+use Rattle.silt_standing.specs.State.{EngineState}
 use Rattle.silt_recovery.specs.Opening.{held_stores}
 use Rattle.silt_recovery.proofs.Reports.{few_frozen, few_rows, reported_so, used_rows}
 use Rattle.silt_recovery.proofs.report.report_of.Goals as goal
 
 pub row_count-requires-clause-few : goal.row_count-requires-clause-few
 row_count-requires-clause-few g c =
-    let held : TiersState = held_stores c.args.held.now in
+    let held : EngineState = held_stores c.args.held.now in
     subst (λ (stores : List LogStoreState). length stores ≤ 7) (sym c.deref.ensures.value) (few_frozen (g.D.Disk.content c.args.disk.now) held (current_slot c.args.held.now.manifest) c.requires.holds c.current-body.ensures.sound)
 
 pub row_count-requires-clause-most : goal.row_count-requires-clause-most
@@ -19,6 +19,6 @@ row_count-requires-clause-most g c =
 
 pub returns : goal.returns
 returns g c =
-    let held : TiersState = held_stores c.args.held.now in
+    let held : EngineState = held_stores c.args.held.now in
     reported_so (g.D.Disk.content c.args.disk.now) held c.current-body.result c.len.result c.len-2.result c.row_count.result c.len-3.result c.args.held.now.hash_rows c.layout_of.result c.requires.holds c.requires.hash_rows c.current-body.ensures.value c.len.ensures.value c.len-2.ensures.value
     (c.row_count.ensures ∙ ap (λ (stores : List LogStoreState). sum_by used_rows stores) c.deref.ensures.value) c.len-3.ensures.value (c.layout_of.ensures ∙ ap layout_of c.digests-said.ensures.value)

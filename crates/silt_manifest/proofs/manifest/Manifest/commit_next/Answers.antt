@@ -1,7 +1,7 @@
 use Rattle.std.proofs.Common.{◌≡◌, false, Some, sym, ap, subst, ◌∙◌}
 use Rattle.silt_disk.specs.Layout.{slot_at}
 use Rattle.silt_manifest.specs.Digests.{long_record}
-use Rattle.silt_manifest.specs.Standing.{Rules, ruled_by, spare_slot}
+use Rattle.silt_manifest.specs.Standing.{IsCurrent, with_current, spare_slot}
 use Rattle.silt_manifest.proofs.CommitExits.{gate_fails, all_committed}
 use Rattle.silt_manifest.proofs.manifest.Manifest.commit_next.Goals as goal
 
@@ -17,8 +17,8 @@ returns-clause-each g c =
     let start : slot_at c.spare_slot.result ≡ slot_at (spare_slot m) = ap slot_at c.spare_slot.ensures.value in
     gate_fails m c.requires.prepared.next c.requires.prepared.digests _ _ (slot_at c.spare_slot.result) c.requires.size c.requires.prepared.prepared start c.in_ok-write_gate.ensures.changes
 
-pub returns-clause-rules : goal.returns-clause-rules
-returns-clause-rules g c =
+pub returns-clause-current : goal.returns-clause-current
+returns-clause-current g c =
     let m = c.args.self.now in
     let start : slot_at c.spare_slot.result ≡ slot_at (spare_slot m) = ap slot_at c.spare_slot.ensures.value in
     let held : m.prepared ≡ Some c.in-Some.next = sym (ap (λ state. state.prepared) c.self.view_is) ∙ c.in-Some.is in
@@ -26,4 +26,4 @@ returns-clause-rules g c =
     let same : long_record c.requires.prepared.next c.requires.prepared.digests ≡ c.in-Some.next = cc in
     let shape : m.shape ≡ c.self.inside.geometry = sym (ap (λ state. state.shape) c.self.view_is) in
     let final = all_committed m c.requires.prepared.next c.requires.prepared.digests _ _ (slot_at c.spare_slot.result) c.requires.size c.requires.prepared.prepared start c.in_ok-write_gate.ensures.written c.in_ok-write_gate.ensures.rests in
-    subst (λ s. Rules (ruled_by s c.in-Some.next false) (g.D.Disk.content c.write_gate.new.disk)) shape (subst (λ b. Rules (ruled_by m.shape b false) (g.D.Disk.content c.write_gate.new.disk)) same final)
+    subst (λ s. IsCurrent (with_current s c.in-Some.next false) (g.D.Disk.content c.write_gate.new.disk)) shape (subst (λ b. IsCurrent (with_current m.shape b false) (g.D.Disk.content c.write_gate.new.disk)) same final)

@@ -22,7 +22,7 @@ returns-in_err-write_synced-clause-changes g c =
 
 pub returns-in_err-write_synced-clause-each : goal.returns-in_err-write_synced-clause-each
 returns-in_err-write_synced-clause-each g c =
-    close_fails c.args.self.now c.closing_place.result _ _ c.requires.size c.requires.rules c.closing_place.ensures.value c.in_err-write_synced.ensures.changes
+    close_fails c.args.self.now c.closing_place.result _ _ c.requires.size c.requires.current c.closing_place.ensures.value c.in_err-write_synced.ensures.changes
 
 pub returns-in_err-write_record-clause-changes : goal.returns-in_err-write_record-clause-changes
 returns-in_err-write_record-clause-changes g c =
@@ -34,7 +34,7 @@ returns-in_err-write_record-clause-changes g c =
 pub returns-in_err-write_record-clause-each : goal.returns-in_err-write_record-clause-each
 returns-in_err-write_record-clause-each g c =
     let start = ap (λ slot. slot_at slot + 1) c.spare_slot-slot.ensures.value in
-    bytes_fail c.args.self.now c.closing_place.result (slot_at c.spare_slot-slot.result + 1) 460 _ _ _ c.requires.size c.requires.rules c.closing_place.ensures.value start refl
+    bytes_fail c.args.self.now c.closing_place.result (slot_at c.spare_slot-slot.result + 1) 460 _ _ _ c.requires.size c.requires.current c.closing_place.ensures.value start refl
     c.in_ok-write_synced.ensures.written c.in_ok-write_synced.ensures.rests c.in_err-write_record.ensures.changes
 
 pub returns-clause-changes : goal.returns-clause-changes
@@ -47,7 +47,7 @@ returns-clause-changes g c =
 pub returns-clause-each : goal.returns-clause-each
 returns-clause-each g c =
     let start = ap (λ slot. slot_at slot + 1) c.spare_slot-slot.ensures.value in
-    bytes_fail c.args.self.now c.closing_place.result (slot_at c.spare_slot-slot.result + 1) 460 _ _ _ c.requires.size c.requires.rules c.closing_place.ensures.value start refl
+    bytes_fail c.args.self.now c.closing_place.result (slot_at c.spare_slot-slot.result + 1) 460 _ _ _ c.requires.size c.requires.current c.closing_place.ensures.value start refl
     c.in_ok-write_synced.ensures.written c.in_ok-write_synced.ensures.rests c.in_ok-write_record.ensures.changes
 
 pub returns-clause-written : goal.returns-clause-written
@@ -61,7 +61,7 @@ returns-clause-ready g c =
     let start = ap (λ slot. slot_at slot + 1) c.spare_slot-slot.ensures.value in
     let fits : FitsSlot c.args.next = fits_slot m.shape (spare_slot m) c.args.next (subst (λ state. InLimits state.shape) c.self.view_is c.logs-limits.ensures.limits) c.requires.next.sound in
     let fits_digests : FitsDigests c.args.digests = c.record_bytes.ensures.fits in
-    let ready = all_prepared m c.closing_place.result (slot_at c.spare_slot-slot.result + 1) c.record_bytes.result c.args.next c.args.digests _ _ _ c.requires.size c.requires.rules c.closing_place.ensures.value start (ap length c.record_bytes.ensures.value ∙ length_record_bytes c.args.next c.args.digests fits fits_digests) c.record_bytes.ensures.value
+    let ready = all_prepared m c.closing_place.result (slot_at c.spare_slot-slot.result + 1) c.record_bytes.result c.args.next c.args.digests _ _ _ c.requires.size c.requires.current c.closing_place.ensures.value start (ap length c.record_bytes.ensures.value ∙ length_record_bytes c.args.next c.args.digests fits fits_digests) c.record_bytes.ensures.value
     c.in_ok-write_synced.ensures.written c.in_ok-write_synced.ensures.rests c.in_ok-write_record.ensures.written c.in_ok-write_record.ensures.rests in
     record {
       next = c.args.next;

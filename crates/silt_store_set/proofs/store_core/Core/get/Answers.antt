@@ -6,14 +6,14 @@ use Rattle.silt_store_set.proofs.store_core.Core.get.Goals as goal
 
 pub returns-then-self-clause-reply : goal.returns-then-self-clause-reply
 returns-then-self-clause-reply g c = rw (← c.self.view_is) (refused_failed g.D.Disk
-    (seen_core g.D.Disk c.self.inside.disk c.self.inside.tiers c.self.inside.count c.self.inside.failed c.self.inside.basis) (Get c.args.key.now) c.if-self.true c.if-self.true)
+    (seen_core g.D.Disk c.self.inside.disk c.self.inside.engine c.self.inside.count c.self.inside.failed c.self.inside.basis) (Get c.args.key.now) c.if-self.true c.if-self.true)
 
 pub returns-in-Ok-clause-reply : goal.returns-in-Ok-clause-reply
 returns-in-Ok-clause-reply g c =
     let stands = c.self.invariant.stands c.if-self.false in
-    rw (← c.self.view_is, c.if-self.false) (get_answered g.D.Disk c.self.inside.disk c.self.inside.tiers c.self.inside.count c.args.key.now stands c.in-Ok.found c.get.new.out
+    rw (← c.self.view_is, c.if-self.false) (get_answered g.D.Disk c.self.inside.disk c.self.inside.engine c.self.inside.count c.args.key.now stands c.in-Ok.found c.get.new.out
     (λ e. c.in-Ok.ensures.found stands (ap Ok e)) (λ e. c.in-Ok.ensures.none stands (ap Ok e)))
 
 pub returns-in-Err-clause-reply : goal.returns-in-Err-clause-reply
-returns-in-Err-clause-reply g c = rw (← c.self.view_is, c.if-self.false) (get_faulted g.D.Disk c.self.inside.disk c.self.inside.tiers c.self.inside.count c.args.key.now
+returns-in-Err-clause-reply g c = rw (← c.self.view_is, c.if-self.false) (get_faulted g.D.Disk c.self.inside.disk c.self.inside.engine c.self.inside.count c.args.key.now
     (c.self.invariant.stands c.if-self.false) c.in-Err.fault c.in-Err.ensures.fault)

@@ -7,14 +7,14 @@ use Rattle.silt_store_set.proofs.store_core.Core.holds.Goals as goal
 pub returns-in-Ok-true-clause-holds : goal.returns-in-Ok-true-clause-holds
 returns-in-Ok-true-clause-holds g c =
     let stands = c.self.invariant.stands (rw (← c.self.view_is) at c.requires.working) in
-    rw (← c.self.view_is) (holds_found g.D.Disk c.self.inside.disk c.self.inside.tiers c.self.inside.count c.args.key.now c.args.value.now stands
+    rw (← c.self.view_is) (holds_found g.D.Disk c.self.inside.disk c.self.inside.engine c.self.inside.count c.args.key.now c.args.value.now stands
     c.eq.result c.get.new.out (c.in-Ok-true.ensures.found stands (ap Ok c.in-Ok-true.field-0-test))
     (slice_eq-Decides Decides-eqb c.get.new.out c.args.value.now c.eq.result c.eq.ensures))
 
 pub returns-in-Ok-false-clause-holds : goal.returns-in-Ok-false-clause-holds
 returns-in-Ok-false-clause-holds g c =
     let stands = c.self.invariant.stands (rw (← c.self.view_is) at c.requires.working) in
-    rw (← c.self.view_is) (holds_none g.D.Disk c.self.inside.disk c.self.inside.tiers c.self.inside.count c.args.key.now c.args.value.now stands
+    rw (← c.self.view_is) (holds_none g.D.Disk c.self.inside.disk c.self.inside.engine c.self.inside.count c.args.key.now c.args.value.now stands
     (c.in-Ok-false.ensures.none stands (ap Ok c.in-Ok-false.field-0-test)))
 
 pub returns-in-Err-clause-fault : goal.returns-in-Err-clause-fault

@@ -1,6 +1,6 @@
 use Rattle.std.proofs.Common.{subst, sym}
 use Rattle.silt_recovery.specs.Opening.{held_stores}
-use Rattle.silt_standing.specs.State.{TiersState}
+use Rattle.silt_standing.specs.State.{EngineState}
 use Rattle.silt_store_set.specs.CoreState.{Opens}
 use Rattle.silt_store_set.proofs.Calls.{seen}
 use Rattle.silt_store_set.proofs.Openings.{opened}
@@ -8,5 +8,5 @@ use Rattle.silt_store_set.proofs.store_core.Core.open.Goals as goal
 
 pub returns-in-Ok-clause-ok : goal.returns-in-Ok-clause-ok
 returns-in-Ok-clause-ok g c =
-    subst (λ (s : TiersState). Opens g.D.Disk (g.D.Disk.content c.args.disk) (seen g.D.Disk c.in-Ok.opened.disk s 0)) (sym c.new-tiers.ensures)
+    subst (λ (s : EngineState). Opens g.D.Disk (g.D.Disk.content c.args.disk) (seen g.D.Disk c.in-Ok.opened.disk s 0)) (sym c.new-engine.ensures)
     (opened g.D.Disk (g.D.Disk.content c.args.disk) c.in-Ok.opened.disk (held_stores c.in-Ok.opened.held) c.in-Ok.ensures.ok)

@@ -34,7 +34,7 @@ pub returns-clause-kept : goal.returns-clause-kept
 returns-clause-kept g c = λ working.
     let all = take_all c.loop-event.event-index c.args.events.now c.loop-event-test.false in
     let runs = subst (λ (events : List Event). Runs g.D.Disk c.args.self.now events c.loop-event.replies.items c.loop-event.self) all c.loop-event.invariant.runs in
-    let safe = (endures_seen g.D.Disk c.self.inside.disk c.self.inside.tiers c.self.inside.count c.self.inside.failed c.self.inside.basis c.args.self.now c.self.view_is c.self.invariant).safe working in
+    let safe = (endures_seen g.D.Disk c.self.inside.disk c.self.inside.engine c.self.inside.count c.self.inside.failed c.self.inside.basis c.args.self.now c.self.view_is c.self.invariant).safe working in
     record {
       each = λ h image left.
           keeps_runs g.D.Disk c.args.self.now c.loop-event.self c.args.events.now c.loop-event.replies.items working safe runs

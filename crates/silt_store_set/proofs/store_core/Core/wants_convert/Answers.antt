@@ -1,5 +1,5 @@
 use Rattle.std.proofs.Common.{ap, sym, ◌∙◌}
-use Rattle.silt_tiers.specs.Conversion.{is_work}
+use Rattle.silt_engine.specs.Conversion.{is_work}
 use Rattle.silt_store_set.proofs.Converts.{due_same}
 use Rattle.silt_store_set.proofs.store_core.Core.wants_convert.Goals as goal
 
@@ -7,4 +7,4 @@ pub returns-then-not-self : goal.returns-then-not-self
 returns-then-not-self g c =
     let working = c.if-not-self.true in
     rw (← c.self.view_is, working) (c.is_work.ensures ∙ ap is_work (c.convert_turn.ensures
-    ∙ sym (due_same g.D.Disk c.self.inside.disk c.self.inside.tiers c.self.inside.count (c.self.invariant.stands working))))
+    ∙ sym (due_same g.D.Disk c.self.inside.disk c.self.inside.engine c.self.inside.count (c.self.invariant.stands working))))

@@ -1,5 +1,5 @@
 use Rattle.std.proofs.Common.{ap, sym, ◌∙◌}
-use Rattle.silt_tiers.specs.Conversion.{is_work}
+use Rattle.silt_engine.specs.Conversion.{is_work}
 use Rattle.silt_store_set.proofs.Merges.{work_same}
 use Rattle.silt_store_set.proofs.store_core.Core.wants_merge.Goals as goal
 
@@ -7,4 +7,4 @@ pub returns-then-not-self : goal.returns-then-not-self
 returns-then-not-self g c =
     let working = c.if-not-self.true in
     rw (← c.self.view_is, working) (c.is_work.ensures ∙ ap is_work c.merge_turn.ensures
-    ∙ sym (work_same g.D.Disk c.self.inside.disk c.self.inside.tiers c.self.inside.count (c.self.invariant.stands working)))
+    ∙ sym (work_same g.D.Disk c.self.inside.disk c.self.inside.engine c.self.inside.count (c.self.invariant.stands working)))

@@ -1,0 +1,183 @@
+-- A row more in the active log, and none.
+use Rattle.std.proofs.Common.{◌≡◌, ◌≤◌, ◌<◌, ℕ, ◌+◌, true, IsTrue, List, [], ◌∷◌, ◌++◌, map, Some, Ok, is_some, refl, ap, sym, ◌∙◌, subst, arith, append_assoc}
+use Rattle.std.proofs.lemmas.List.{append-nil, map-append}
+use Rattle.silt_disk.specs.Disk.{ChangesWithin, Content, LeavesOnly, size}
+use Rattle.silt_disk.specs.Layout.{Shape, gates_at, log_size, row_len}
+use Rattle.silt_frame.specs.declared.key.Key.{Key}
+use Rattle.silt_frame.specs.declared.key.Kind.{Kind}
+use Rattle.silt_frame.specs.declared.key.Kind.TheVariants.{Put, Delete}
+use Rattle.silt_log.specs.Rows.{body_at, log_rows}
+use Rattle.silt_frame.specs.Rows.{has_known_kind, stored_row, StoredRow, keys_of, put_count, puts_of}
+use Rattle.silt_log.specs.State.{LogState, all_rows, settled_rows, waiting_rows}
+use Rattle.silt_log.proofs.Elsewhere.{all_are_settled_and_waiting, body_in_region}
+use Rattle.silt_log_store.specs.State.{IsLogStore, LogStoreState}
+use Rattle.silt_log_store.specs.Calls.{KeepsStore, TakesRow}
+use Rattle.silt_cuckoo.specs.Slots.{Slots}
+use Rattle.silt_cuckoo.specs.Index.{index_of_keys}
+use Rattle.silt_image.specs.Stores.{Stores, image_stores}
+use Rattle.silt_image.specs.Meaning.{IsSound, rows_of, with_log_rows}
+use Rattle.silt_event.specs.Rows.{command_of, map_of_rows}
+use Rattle.silt_log_store.specs.Findings.{fits_table}
+use Rattle.silt_event.proofs.Rows.{count_law}
+use Rattle.silt_image.proofs.Sound.{taken_law}
+use Rattle.silt_standing.specs.State.{AreWhole, EngineState}
+use Rattle.silt_standing.specs.Standing.{Stands, shown_stores, waiting_commands}
+use Rattle.silt_engine.specs.Calls.{Advances}
+use Rattle.silt_standing.specs.Standing.{SameDisk}
+use Rattle.silt_engine.proofs.Named.{named_body, named_shape, own_rows, rows_with_more}
+use Rattle.silt_engine.proofs.Facts.{active_is, base_is, has_active, rows_split}
+use Rattle.silt_engine.proofs.Standing.{Fits, after_same, digested_stays, fits_stand, frozen_stay, hashed_stay, located_stays, merged_stays, named_with, current_record_stays, shown_are, written_stays}
+use Rattle.silt_engine.proofs.Wholes.{whole_with_active, written_with_active}
+
+-- the stores with another active log and another charge
+abbrev pub with_active : EngineState → LogStoreState → ℕ → EngineState
+with_active s after charge = record s { active = after; charge = charge }
+
+module _ (old new : Content) (s : EngineState) (after : LogStoreState) (more : List StoredRow) (charge : ℕ)
+    (stands : Stands old s) (sizes : size new ≡ size old) (changes : ChangesWithin (gates_at s.active.log.shape s.active.log.region) (log_size s.active.log.shape) old new)
+    (same_shape : after.log.shape ≡ s.active.log.shape) (same_region : after.log.region ≡ s.active.log.region) (is : IsLogStore new after)
+    (images : LeavesOnly new (λ image. log_rows s.active.log.shape s.active.log.region image ≡ settled_rows old s.active.log))
+    (settled : IsTrue old.honest → settled_rows new after.log ≡ settled_rows old s.active.log) (all : IsTrue old.honest → all_rows new after.log ≡ all_rows old s.active.log ++ more)
+    (sound : IsTrue old.honest → IsSound (with_log_rows s.manifest.current.active (all_rows old s.active.log ++ more) (shown_stores old s)))
+    (counted : charge ≡ s.charge + put_count more) (most : charge ≤ s.manifest.shape.sorted_capacity) where
+  was : IsTrue new.honest → IsTrue old.honest
+  was h = subst IsTrue changes.honest h
+
+  there : IsTrue old.honest → IsTrue new.honest
+  there h = subst IsTrue (sym changes.honest) h
+
+  -- the rows wait behind the others
+  pub waits : IsTrue old.honest → waiting_rows new after.log ≡ waiting_rows old s.active.log ++ more
+  waits h = after_same (settled_rows old s.active.log) _ _ (
+      ap (λ (rows : List StoredRow). rows ++ waiting_rows new after.log) (sym (settled h))
+      ∙ sym (all_are_settled_and_waiting new after.log is.log.bounds.order)
+      ∙ all h
+      ∙ ap (λ (rows : List StoredRow). rows ++ more) (rows_split old s stands)
+      ∙ append_assoc (settled_rows old s.active.log) (waiting_rows old s.active.log) more
+      )
+
+  -- each possible crash image has the stores that were shown
+  named : LeavesOnly new (λ image. image_stores image ≡ Ok (shown_stores old s))
+  named = record {
+    each = λ h image left.
+        (named_with old new s stands sizes changes (settled_rows old s.active.log) images).each h image left
+        ∙ ap Ok (own_rows (shown_stores old s) s.manifest.current.active (settled_rows old s.active.log) [] (active_is old s stands) (has_active old s stands (was h)));
+  }
+
+  whole : AreWhole (with_active s after charge)
+  whole = whole_with_active s after charge stands.whole same_shape same_region most
+
+  pub fits_extended : Fits new (with_active s after charge) (shown_stores old s)
+  fits_extended = record {
+    has_size = sizes ∙ stands.has_size;
+    whole = whole;
+    idle = stands.idle;
+    current = current_record_stays old new s stands sizes changes;
+    active = is;
+    frozen = frozen_stay old new s stands sizes changes;
+    hashed = hashed_stay old new s stands sizes changes;
+    located = located_stays old new s stands sizes changes;
+    digested = digested_stays old new s stands sizes changes;
+    written = written_with_active new s after charge stands.whole (written_stays old new s stands sizes changes);
+    merged = merged_stays old new s stands sizes changes;
+    same_shape = named_shape s.manifest.shape s.manifest.current old.shown;
+    same_body = named_body s.manifest.shape s.manifest.current old.shown;
+    named = named;
+    sound = λ h. subst (λ (rows : List StoredRow). IsSound (with_log_rows s.manifest.current.active rows (shown_stores old s))) (sym (all (was h))) (sound (was h));
+    said = λ h. stands.said (was h);
+    counted = λ h.
+        counted ∙ ap (λ (n : ℕ). n + put_count more) (stands.counted (was h))
+        ∙ sym (count_law (rows_of (shown_stores old s) ++ waiting_rows old s.active.log) more)
+        ∙ ap put_count (append_assoc (rows_of (shown_stores old s)) (waiting_rows old s.active.log) more ∙ ap (λ (rows : List StoredRow). rows_of (shown_stores old s) ++ rows) (sym (waits (was h))));
+  }
+
+  -- the stores advance by the commands of the rows
+  pub extended : Advances (map command_of more) old new s (with_active s after charge)
+  extended = record {
+    stands = fits_stand new (with_active s after charge) (shown_stores old s) fits_extended;
+    shape = refl;
+    moves = λ h. record {
+      moved = [];
+      rest = ap (map command_of) (waits h) ∙ map-append command_of (waiting_rows old s.active.log) more;
+      base =
+          base_is new (with_active s after charge)
+          ∙ ap (λ (t : Stores). map_of_rows (rows_of t)) (shown_are new (with_active s after charge) (shown_stores old s) (named_shape s.manifest.shape s.manifest.current old.shown) (named_body s.manifest.shape s.manifest.current old.shown) named (there h))
+          ∙ sym (base_is old s);
+    };
+  }
+
+-- ---- a row
+
+-- a row that is written is of a known kind
+pub known_stored : (kind : Kind) (key : Key) (value : List ℕ) → has_known_kind (stored_row kind key value) ≡ true
+known_stored Put key value = refl
+known_stored Delete key value = refl
+
+-- and a put counts
+pub counted_stored : (kind : Kind) (key : Key) (value : List ℕ) → put_count (stored_row kind key value ∷ []) ≡ puts_of kind
+counted_stored Put key value = refl
+counted_stored Delete key value = refl
+
+-- a table that is there fits
+table_fits : (shape : Shape) (rows : List StoredRow) (table : Slots) → index_of_keys shape.buckets (keys_of rows) ≡ Some table → IsTrue (fits_table shape rows)
+unfolding fits_table
+table_fits shape rows table is = ap is_some is
+
+module _ (old new : Content) (s : EngineState) (after : LogStoreState) (kind : Kind) (key : Key) (value : List ℕ) (charge : ℕ)
+    (stands : Stands old s) (sizes : size new ≡ size old) (room : s.active.log.used < s.active.log.shape.log_capacity)
+    (changes : ChangesWithin (body_at s.active.log.shape s.active.log.region s.active.log.used) (row_len s.active.log.shape) old new)
+    (images : LeavesOnly new (λ image. log_rows s.active.log.shape s.active.log.region image ≡ settled_rows old s.active.log)) where
+  changed : ChangesWithin (gates_at s.active.log.shape s.active.log.region) (log_size s.active.log.shape) old new
+  changed = body_in_region s.active.log.shape s.active.log.region s.active.log.used old new room changes
+
+  pub same_disk : SameDisk old new
+  same_disk = record { size = sizes; honest = changes.honest }
+
+  -- the row was taken
+  module _ (takes : TakesRow (stored_row kind key value) old new s.active after) (counted : charge ≡ s.charge + puts_of kind) (most : s.charge + puts_of kind ≤ s.manifest.shape.sorted_capacity) where
+    shape_same : after.log.shape ≡ s.active.log.shape
+    shape_same = ap (λ (l : LogState). l.shape) takes.log.log
+
+    region_same : after.log.region ≡ s.active.log.region
+    region_same = ap (λ (l : LogState). l.region) takes.log.log
+
+    ready : IsTrue old.honest → IsTrue new.honest
+    ready h = subst IsTrue (sym changes.honest) h
+
+    -- nothing is found with the row
+    pub row_sound : IsTrue old.honest → IsSound (with_log_rows s.manifest.current.active (all_rows old s.active.log ++ stored_row kind key value ∷ []) (shown_stores old s))
+    row_sound h =
+        let t : Stores = shown_stores old s in
+        let rows : List StoredRow = all_rows old s.active.log in
+        let one : List StoredRow = stored_row kind key value ∷ [] in
+        let is_shape : t.shape ≡ s.manifest.shape = named_shape s.manifest.shape s.manifest.current old.shown in
+        let table : IsTrue (fits_table after.log.shape (rows ++ one)) = table_fits after.log.shape (rows ++ one) after.table (ap (λ (r : List StoredRow). index_of_keys after.log.shape.buckets (keys_of r)) (sym (takes.log.all h)) ∙ takes.stands.index.indexed (ready h)) in
+        let fits : IsTrue (fits_table t.shape (rows ++ one)) = subst (λ (sh : Shape). IsTrue (fits_table sh (rows ++ one))) (shape_same ∙ stands.whole.has_shape ∙ sym is_shape) table in
+        let sound : IsSound (with_log_rows s.manifest.current.active rows t) = subst (λ (n : ℕ). IsSound (with_log_rows n rows t)) stands.whole.active_region (stands.sound h) in
+        let all_of : rows_of (with_log_rows s.manifest.current.active (rows ++ one) t) ≡ (rows_of t ++ waiting_rows old s.active.log) ++ one =
+        ap (λ (r : List StoredRow). rows_of (with_log_rows s.manifest.current.active r t)) (ap (λ (r : List StoredRow). r ++ one) (rows_split old s stands) ∙ append_assoc (settled_rows old s.active.log) (waiting_rows old s.active.log) one)
+        ∙ rows_with_more t s.manifest.current.active (settled_rows old s.active.log) [] (active_is old s stands) (has_active old s stands h) (waiting_rows old s.active.log ++ one)
+        ∙ sym (append_assoc (rows_of t) (waiting_rows old s.active.log) one) in
+        let charged : put_count (rows_of (with_log_rows s.manifest.current.active (rows ++ one) t)) ≡ s.charge + puts_of kind =
+        ap put_count all_of ∙ count_law (rows_of t ++ waiting_rows old s.active.log) one ∙ ap (λ (n : ℕ). n + put_count one) (sym (stands.counted h)) ∙ ap (λ (n : ℕ). s.charge + n) (counted_stored kind key value) in
+        let capacity : t.shape.sorted_capacity ≡ s.manifest.shape.sorted_capacity = ap (λ (sh : Shape). sh.sorted_capacity) is_shape in
+        taken_law t s.manifest.current.active rows (stored_row kind key value) sound (known_stored kind key value) fits (omega (arith, charged, capacity, most))
+
+    pub appended : Advances (command_of (stored_row kind key value) ∷ []) old new s (with_active s after charge)
+    appended = extended old new s after (stored_row kind key value ∷ []) charge stands sizes changed shape_same region_same takes.stands images takes.log.settled takes.log.all row_sound
+        (counted ∙ ap (λ (n : ℕ). s.charge + n) (sym (counted_stored kind key value))) (omega (arith, counted, most))
+
+    pub appended_waits : IsTrue old.honest → waiting_commands new (with_active s after charge) ≡ waiting_commands old s ++ command_of (stored_row kind key value) ∷ []
+    appended_waits h =
+        ap (map command_of) (waits old new s after (stored_row kind key value ∷ []) charge stands sizes changed shape_same region_same takes.stands images takes.log.settled takes.log.all row_sound
+        (counted ∙ ap (λ (n : ℕ). s.charge + n) (sym (counted_stored kind key value))) (omega (arith, counted, most)) h)
+        ∙ map-append command_of (waiting_rows old s.active.log) (stored_row kind key value ∷ [])
+
+  -- the row was not taken
+  module _ (keeps : KeepsStore old new s.active after) where
+    pub not_appended : Advances [] old new s (with_active s after s.charge)
+    not_appended = extended old new s after [] s.charge stands sizes changed (ap (λ (l : LogState). l.shape) keeps.log.log) (ap (λ (l : LogState). l.region) keeps.log.log) keeps.stands images keeps.log.settled
+        (λ h. keeps.log.all h ∙ sym (append-nil (all_rows old s.active.log)))
+        (λ h. subst (λ (rows : List StoredRow). IsSound (with_log_rows s.manifest.current.active rows (shown_stores old s))) (sym (append-nil (all_rows old s.active.log)))
+        (subst (λ (n : ℕ). IsSound (with_log_rows n (all_rows old s.active.log) (shown_stores old s))) stands.whole.active_region (stands.sound h)))
+        (let none : put_count [] ≡ 0 = refl in omega (arith, none)) stands.whole.most

@@ -1,0 +1,96 @@
+-- One call after another.
+use Rattle.std.proofs.Common.{IsTrue, List, [], ◌++◌, refl, ap, sym, ◌∙◌, subst, append_assoc}
+use Rattle.std.proofs.lemmas.List.{append-nil}
+use Rattle.silt_disk.specs.Disk.{Content}
+use Rattle.silt_disk.specs.Layout.{Shape}
+use Rattle.silt_event.specs.Commands.{Command, Map, map_after}
+use Rattle.silt_image.specs.Meaning.{StandsFor, image_map}
+use Rattle.silt_event.proofs.Rows.{map_after-append}
+use Rattle.silt_standing.specs.State.{EngineState}
+use Rattle.silt_standing.specs.Standing.{Stands, base_map, full_image, waiting_commands}
+use Rattle.silt_engine.specs.Calls.{Advances, Breaks, HasBegun, MovesIntoBase, Remaps}
+use Rattle.silt_standing.specs.Standing.{SameDisk}
+use Rattle.silt_engine.proofs.Facts.{base_safe, full_map}
+
+-- the disk after two calls
+pub same_trans : (a b c : Content) → SameDisk a b → SameDisk b c → SameDisk a c
+same_trans a b c first second = record { size = second.size ∙ first.size; honest = second.honest ∙ first.honest }
+
+-- a disk that keeps whether it obeys the crash model obeys it if the earlier one did
+pub honest_before : (a b : Content) → SameDisk a b → IsTrue b.honest → IsTrue a.honest
+honest_before a b same h = subst IsTrue same.honest h
+
+pub honest_after : (a b : Content) → SameDisk a b → IsTrue a.honest → IsTrue b.honest
+honest_after a b same h = subst IsTrue (sym same.honest) h
+
+-- what two calls move
+pub moves_trans : (one two : List Command) (a b c : Content) (first second third : EngineState) → MovesIntoBase one a b first second → MovesIntoBase two b c second third → MovesIntoBase (one ++ two) a c first third
+moves_trans one two a b c first second third m n = record {
+  moved = m.moved ++ n.moved;
+  rest =
+      append_assoc m.moved n.moved (waiting_commands c third) ∙ ap (λ (cs : List Command). m.moved ++ cs) n.rest
+      ∙ sym (append_assoc m.moved (waiting_commands b second) two) ∙ ap (λ (cs : List Command). cs ++ two) m.rest
+      ∙ append_assoc (waiting_commands a first) one two;
+  base = n.base ∙ ap (λ (base : Map). map_after base n.moved) m.base ∙ sym (map_after-append (base_map a first) m.moved n.moved);
+}
+
+-- two calls that advance
+pub advances_trans : (one two : List Command) (a b c : Content) (first second third : EngineState) → SameDisk a b → Advances one a b first second → Advances two b c second third → Advances (one ++ two) a c first third
+advances_trans one two a b c first second third same m n = record {
+  stands = n.stands;
+  shape = n.shape ∙ m.shape;
+  moves = λ h. moves_trans one two a b c first second third (m.moves h) (n.moves (honest_after a b same h));
+}
+
+-- a call that advances, and one that breaks
+pub breaks_after : (a b c : Content) (first second : EngineState) → SameDisk a b → SameDisk b c → Advances [] a b first second → Breaks b c second → Breaks a c first
+breaks_after a b c first second same later m breaks = record {
+  each = λ h image left.
+      let moves = m.moves (honest_before a b same (honest_before b c later h)) in
+      let begun : HasBegun second.manifest.shape (base_map b second) (waiting_commands b second) image = breaks.each h image left in
+      record {
+        kept = moves.moved ++ begun.kept;
+        begins = record {
+          rest = begun.begins.rest;
+          is = append_assoc moves.moved begun.kept begun.begins.rest ∙ ap (λ (cs : List Command). moves.moved ++ cs) begun.begins.is ∙ moves.rest ∙ append-nil (waiting_commands a first);
+        };
+        stands = subst (λ (m : Map). StandsFor first.manifest.shape m image) (ap (λ (base : Map). map_after base begun.kept) moves.base ∙ sym (map_after-append (base_map a first) moves.moved begun.kept))
+            (subst (λ (s : Shape). StandsFor s (map_after (base_map b second) begun.kept) image) m.shape begun.stands);
+      };
+}
+
+-- what two calls do to the map of the full image
+pub remaps_trans : (one two : List Command) (a b c : Content) (first second third : EngineState) → SameDisk a b → Remaps one a b first second → Remaps two b c second third → Remaps (one ++ two) a c first third
+remaps_trans one two a b c first second third same m n h =
+    n (honest_after a b same h) ∙ ap (λ (base : Map). map_after base two) (m h) ∙ sym (map_after-append (image_map (full_image a first)) one two)
+
+-- a call that advances changes the map by its commands
+pub advances_remap : (adds : List Command) (a b : Content) (first second : EngineState) → SameDisk a b → Stands a first → Advances adds a b first second → Remaps adds a b first second
+advances_remap adds a b first second same stands m h =
+    let moves = m.moves h in
+    full_map b second m.stands (honest_after a b same h)
+    ∙ ap (λ (base : Map). map_after base (waiting_commands b second)) moves.base
+    ∙ sym (map_after-append (base_map a first) moves.moved (waiting_commands b second))
+    ∙ ap (map_after (base_map a first)) moves.rest
+    ∙ map_after-append (base_map a first) (waiting_commands a first) adds
+    ∙ ap (λ (m : Map). map_after m adds) (sym (full_map a first stands h))
+
+-- and if it adds none, each possible crash image has a beginning of what waited
+pub advances_break : (a b : Content) (first second : EngineState) → SameDisk a b → Advances [] a b first second → Breaks a b first
+advances_break a b first second same m = record {
+  each = λ h image left.
+      let moves = m.moves (honest_before a b same h) in
+      record {
+        kept = moves.moved;
+        begins = record { rest = waiting_commands b second; is = moves.rest ∙ append-nil (waiting_commands a first) };
+        stands = subst (λ (m : Map). StandsFor first.manifest.shape m image) moves.base (subst (λ (s : Shape). StandsFor s (base_map b second) image) m.shape ((base_safe b second m.stands).each h image left));
+      };
+}
+
+-- no call
+pub stays_still : (content : Content) (s : EngineState) → Stands content s → Advances [] content content s s
+stays_still content s stands = record {
+  stands = stands;
+  shape = refl;
+  moves = λ h. record { moved = []; rest = sym (append-nil (waiting_commands content s)); base = refl };
+}

@@ -1,0 +1,224 @@
+-- A freeze: the record that names the new log, and the stores once it is current.
+use Rattle.std.proofs.Common.{inl, ◌≡◌, ◌≤◌, ◌<◌, ℕ, ◌+◌, IsTrue, List, [], ◌∷◌, ◌++◌, length, map, Option, Some, refl, ap, sym, ◌∙◌, subst, arith}
+use Rattle.std.specs.Prelude.{All, IfSome}
+use Rattle.std.proofs.lemmas.List.Elements.{All-cons}
+use Rattle.silt_disk.specs.Disk.{Content, LeavesOnly, size}
+use Rattle.silt_disk.specs.Layout.{Shape, device_size, slot_at}
+use Rattle.silt_disk.proofs.Images.{shown_left}
+use Rattle.silt_log.specs.Rows.{first_rows, log_rows, rows_from}
+use Rattle.silt_frame.specs.Rows.{StoredRow, put_count}
+use Rattle.silt_log.specs.State.{all_rows, waiting_rows}
+use Rattle.silt_log.proofs.Elsewhere.{all_count}
+use Rattle.silt_log.proofs.Waiting.{none_waiting}
+use Rattle.silt_log_store.specs.State.{IsLogStore, LogStoreState}
+use Rattle.silt_conversion.specs.Conversion.{HasWritten}
+use Rattle.silt_manifest.specs.Standing.{ManifestState, spare_slot}
+use Rattle.silt_manifest.specs.declared.body.Body.{Body}
+use Rattle.silt_manifest.specs.declared.digests.Digests.{Digests}
+use Rattle.silt_image.specs.Stores.{Stores, stores_named}
+use Rattle.silt_image.specs.Meaning.{AreDigestsOf, HasActive, IsSound, rows_of, with_log_rows, with_new_log}
+use Rattle.silt_event.specs.Rows.{command_of, map_of_rows}
+use Rattle.silt_image.specs.Laws.{FreezesActive}
+use Rattle.silt_image.proofs.Frame.{freeze_law}
+use Rattle.silt_image.proofs.Named.{whole_law}
+use Rattle.silt_image.proofs.Rows.{new_active_law, new_log_law}
+use Rattle.silt_image.proofs.Sound.{frozen_law}
+use Rattle.silt_engine.specs.declared.next_log.NextLog.{NextLog}
+use Rattle.silt_sorted_store.specs.State.{SortedState}
+use Rattle.silt_standing.specs.State.{AreWhole, IsHashOf, IsSettled, EngineState, oldest_log, region_of, sorted_named}
+use Rattle.silt_standing.specs.Standing.{IsFrozen, Stands, shown_stores}
+use Rattle.silt_engine.specs.Calls.{Advances}
+use Rattle.silt_standing.specs.Standing.{IsQuiet}
+use Rattle.silt_engine.specs.Digests.{own_digests}
+use Rattle.silt_engine.specs.NextLog.{HasFrozen, IsEmptied, active_replaced, names_region}
+use Rattle.silt_engine.specs.Succession.{MayBecomeCurrent, BecomesCurrent}
+use Rattle.silt_engine.proofs.Named.{named_body, named_shape, own_rows}
+use Rattle.silt_engine.proofs.Facts.{base_is, shown_named, shown_sound}
+use Rattle.silt_engine.proofs.Elsewhere.{length-log_rows, outside_slot}
+use Rattle.silt_engine.proofs.Standing.{Fits}
+use Rattle.silt_engine.proofs.Wholes.{merging_in, oldest_behind, under_way_in, written_in}
+use Rattle.silt_engine.proofs.NextBodies.{now_named, succeeds}
+use Rattle.silt_engine.proofs.Remains.{digested_stays, frozen_stays, hashed_stays, located_stays, merged_stays, written_stays}
+use Rattle.silt_engine.proofs.Holdings.{may_follow}
+use Rattle.silt_engine.proofs.Flushes.{quiet}
+use Rattle.silt_engine.proofs.Freezes.{below_two, store_elsewhere}
+use Rattle.silt_engine.proofs.Said.{frozen_said}
+
+-- the stores with a new log have the next body
+new_shape : (body : Body) (t : Stores) → (with_new_log body t).shape ≡ t.shape
+unfolding with_new_log
+new_shape body t = refl
+
+new_body : (body : Body) (t : Stores) → (with_new_log body t).body ≡ body
+unfolding with_new_log
+new_body body t = refl
+
+-- an active log on which nothing waits has the rows of a frozen one
+settled_frozen : (content : Content) (store : LogStoreState) → IsLogStore content store → store.log.settled ≡ store.log.used → IsFrozen content store
+settled_frozen content store is settled = record {
+  rows = λ h.
+      let rows : log_rows store.log.shape store.log.region content.shown ≡ all_rows content store.log = is.log.images.each h content.shown (shown_left content) ∙ ap (λ (n : ℕ). first_rows store.log.shape store.log.region content.shown n) settled in
+      sym (all_count content store.log) ∙ ap length (sym rows) ∙ length-log_rows store.log.shape store.log.region content.shown;
+  indexed = is.index;
+}
+
+-- ---- the body that names the new log
+
+module _ (old : Content) (s : EngineState) (next : NextLog) (digests : Digests) (stands : Stands old s) (is_quiet : IsQuiet old s) (emptied : IsEmptied old s next) (digests_are : digests ≡ own_digests s) where
+  store_shape : next.store.log.shape ≡ s.manifest.shape
+  store_shape = ap (λ (t : LogStoreState). t.log.shape) emptied.follows.store
+
+  store_region : next.store.log.region ≡ next.body.active
+  store_region = ap (λ (t : LogStoreState). t.log.region) emptied.follows.store ∙ ap (λ (b : Body). b.active) (sym emptied.follows.body)
+
+  t_shape : (shown_stores old s).shape ≡ s.manifest.shape
+  t_shape = named_shape s.manifest.shape s.manifest.current old.shown
+
+  t_body : (shown_stores old s).body ≡ s.manifest.current
+  t_body = named_body s.manifest.shape s.manifest.current old.shown
+
+  freezes : FreezesActive (shown_stores old s).body next.body
+  freezes = subst (λ (b : Body). FreezesActive b next.body) (sym t_body) (record {
+    frozen = ap (λ (b : Body). b.frozen) emptied.follows.body;
+    hashed = ap (λ (b : Body). b.hashed) emptied.follows.body;
+    sorted = ap (λ (b : Body). b.sorted) emptied.follows.body;
+    sorted_count = ap (λ (b : Body). b.sorted_count) emptied.follows.body;
+  })
+
+  -- the stores under it
+  abbrev frozen_stores : Stores
+  frozen_stores = with_new_log next.body (shown_stores old s)
+
+  frozen_rows : rows_of frozen_stores ≡ rows_of (shown_stores old s)
+  frozen_rows = new_log_law (shown_stores old s) next.body
+
+  -- it names them in each image
+  names : LeavesOnly old (λ image. stores_named s.manifest.shape next.body image ≡ frozen_stores)
+  names = record {
+    each = λ h image left.
+        ap (λ (sh : Shape). stores_named sh next.body image) (sym t_shape)
+        ∙ freeze_law image (shown_stores old s) next.body (stands.named.each h image left) freezes
+        (ap (λ (sh : Shape). log_rows sh next.body.active image) t_shape ∙ ap (λ (n : ℕ). log_rows s.manifest.shape n image) (sym store_region) ∙ emptied.images.each h image left);
+  }
+
+  pub frozen_may_become_current : MayBecomeCurrent old s next.body digests
+  frozen_may_become_current = record {
+    follows = λ sound. may_follow s next sound emptied.follows;
+    stores = frozen_stores;
+    has_shape = new_shape next.body (shown_stores old s) ∙ t_shape;
+    has_body = new_body next.body (shown_stores old s);
+    names = names;
+    sound = λ h. frozen_law (shown_stores old s) next.body (shown_sound old s stands h);
+    said = λ h. subst (λ (d : Digests). AreDigestsOf (Some d) frozen_stores) (sym digests_are) (frozen_said old s stands h next.body);
+    same_map = λ h. ap map_of_rows frozen_rows ∙ sym (base_is old s);
+    waiting = inl is_quiet;
+  }
+
+  -- ---- once it is_current
+
+  module _ (new : Content) (sizes : size new ≡ size old) (m : ManifestState) (now : BecomesCurrent old new s next.body digests m) where
+    slot_below : spare_slot s.manifest < 2
+    slot_below = below_two (s.manifest.current.generation + 1)
+
+    back : IsTrue new.honest → IsTrue old.honest
+    back h = subst IsTrue now.changes.honest h
+
+    -- the stores in memory afterwards
+    abbrev after : EngineState
+    after = active_replaced s m next.store
+
+    pub frozen_whole : AreWhole (active_replaced s m next.store)
+    frozen_whole = record {
+      has_shape = store_shape ∙ sym now.has_shape;
+      active_region = store_region ∙ ap (λ (b : Body). b.active) (sym now.has_body);
+      frozen_regions =
+          ap (λ (n : ℕ). n ∷ map region_of s.frozen) stands.whole.active_region
+          ∙ ap (λ (ids : List ℕ). s.manifest.current.active ∷ ids) stands.whole.frozen_regions
+          ∙ ap (λ (b : Body). b.frozen) (sym emptied.follows.body) ∙ ap (λ (b : Body). b.frozen) (sym now.has_body);
+      settled = subst (λ (sh : Shape). All (IsSettled sh) (s.active ∷ s.frozen)) (sym now.has_shape)
+          (All-cons (IsSettled s.manifest.shape) s.active s.frozen (record { has_shape = stands.whole.has_shape; settled = is_quiet.settled }) stands.whole.settled);
+      hash_regions = stands.whole.hash_regions ∙ ap (λ (b : Body). b.hashed) (sym emptied.follows.body) ∙ ap (λ (b : Body). b.hashed) (sym now.has_body);
+      hashed = subst (λ (sh : Shape). All (IsHashOf sh) s.hashes) (sym now.has_shape) stands.whole.hashed;
+      sorted =
+          stands.whole.sorted ∙ ap (λ (sh : Shape). sorted_named sh s.manifest.current) (sym now.has_shape)
+          ∙ ap (λ (n : ℕ). let t : SortedState = record { shape = m.shape; region = n; count = s.manifest.current.sorted_count } in t) (ap (λ (b : Body). b.sorted) (sym emptied.follows.body ∙ sym now.has_body))
+          ∙ ap (λ (n : ℕ). let t : SortedState = record { shape = m.shape; region = m.current.sorted; count = n } in t) (ap (λ (b : Body). b.sorted_count) (sym emptied.follows.body ∙ sym now.has_body));
+      held = stands.whole.held;
+      under_way = under_way_in s after s.converting now.has_shape (ap (λ (b : Body). b.hashed) now.has_body ∙ ap (λ (b : Body). b.hashed) emptied.follows.body) (omega arith) stands.whole.under_way;
+      merging = merging_in s after s.merging now.has_shape refl (omega arith) stands.whole.merging;
+      most = subst (λ (sh : Shape). s.charge ≤ sh.sorted_capacity) (sym now.has_shape) stands.whole.most;
+    }
+
+    -- the new log has no rows
+    none_used : next.store.log.settled ≡ next.store.log.used
+    none_used = ap (λ (t : LogStoreState). t.log.settled) emptied.follows.store ∙ sym (ap (λ (t : LogStoreState). t.log.used) emptied.follows.store)
+
+    new_rows : all_rows new next.store.log ≡ []
+    unfolding rows_from
+    new_rows = ap (λ (n : ℕ). first_rows next.store.log.shape next.store.log.region new.shown n) (ap (λ (t : LogStoreState). t.log.used) emptied.follows.store)
+
+    now_active : IsTrue old.honest → HasActive [] frozen_stores
+    now_active h = new_active_law (shown_stores old s) next.body (
+        (whole_law old.shown (shown_stores old s) (shown_named old s stands h)).names next.body.active
+        ∙ ap (λ (b : Body). names_region b next.body.active) t_body
+        ∙ ap (λ (b : Body). names_region s.manifest.current b.active) emptied.follows.body
+        ∙ emptied.follows.lowest.free
+        )
+
+    old_active : IsLogStore new s.active
+    old_active = store_elsewhere old new s.active (slot_at (spare_slot s.manifest)) 4096 (record { log = stands.active; index = stands.indexed })
+        (stands.has_size ∙ ap device_size (sym stands.whole.has_shape)) sizes (outside_slot s.active.log.shape s.active.log.region (spare_slot s.manifest) slot_below) now.changes
+
+    next_active : IsLogStore new next.store
+    next_active = store_elsewhere old new next.store (slot_at (spare_slot s.manifest)) 4096 emptied.stands
+        (stands.has_size ∙ ap device_size (sym store_shape)) sizes (outside_slot next.store.log.shape next.store.log.region (spare_slot s.manifest) slot_below) now.changes
+
+    written_after : IfSome s.converting (HasWritten new (oldest_log after))
+    written_after = written_in new s (oldest_log after) s.converting (oldest_behind s.active s.frozen next.store s.active) stands.whole.under_way (written_stays old new s stands sizes now.changes)
+
+    fits : Fits new after frozen_stores
+    unfolding with_new_log frozen_may_become_current
+    fits = record {
+      has_size = sizes ∙ stands.has_size ∙ ap device_size (sym now.has_shape);
+      whole = frozen_whole;
+      idle = now.idle;
+      current = now.current;
+      active = next_active;
+      frozen = All-cons (IsFrozen new) s.active s.frozen (settled_frozen new s.active old_active is_quiet.settled) (frozen_stays old new s stands sizes now.changes);
+      hashed = hashed_stays old new s stands sizes now.changes;
+      located = located_stays old new s stands sizes now.changes;
+      digested = digested_stays old new s stands sizes now.changes;
+      written = written_after;
+      merged = merged_stays old new s stands sizes now.changes;
+      same_shape = frozen_may_become_current.has_shape ∙ sym now.has_shape;
+      same_body = frozen_may_become_current.has_body ∙ sym now.has_body;
+      named = now_named old new s next.body digests stands frozen_may_become_current sizes m now;
+      sound = λ h.
+          let own : with_log_rows m.current.active [] frozen_stores ≡ frozen_stores = own_rows frozen_stores m.current.active [] [] (ap (λ (b : Body). b.active) (frozen_may_become_current.has_body ∙ sym now.has_body)) (now_active (back h)) in
+          subst (λ (rows : List StoredRow). IsSound (with_log_rows m.current.active rows frozen_stores)) (sym new_rows) (subst IsSound (sym own) (frozen_may_become_current.sound (back h)));
+      said = λ h. subst (λ (o : Option Digests). AreDigestsOf o frozen_stores) (sym now.has_digests) (frozen_may_become_current.said (back h));
+      counted = λ h.
+          stands.counted (back h)
+          ∙ ap (λ (rows : List StoredRow). put_count (rows_of (shown_stores old s) ++ rows)) (none_waiting old s.active.log is_quiet.settled ∙ sym (none_waiting new next.store.log none_used))
+          ∙ ap (λ (rows : List StoredRow). put_count (rows ++ waiting_rows new next.store.log)) (sym frozen_rows);
+    }
+
+    pub frozen_advances : Advances [] old new s (active_replaced s m next.store)
+    unfolding frozen_may_become_current
+    frozen_advances = succeeds old new s next.body digests stands frozen_may_become_current sizes m now after fits now.has_shape
+        (λ h. ap (map command_of) (none_waiting new next.store.log none_used) ∙ ap (map command_of) (sym (none_waiting old s.active.log is_quiet.settled)))
+
+    pub has_frozen : HasFrozen next new s (active_replaced s m next.store)
+    has_frozen = record {
+      quiet = quiet new after none_used;
+      active = refl;
+      current = now.has_body;
+      frozen = omega arith;
+      hashes = refl;
+      sorted = refl;
+      index = refl;
+      digest = refl;
+      converting = refl;
+      merging = refl;
+      charge = refl;
+    }

@@ -1,0 +1,200 @@
+-- A conversion whose slots are all written: the stores in which its hash store replaces the oldest log.
+use Rattle.std.proofs.Common.{◌≡◌, ◌≢◌, ◌<◌, ℕ, ◌-◌, ◌*◌, IsTrue, List, ◌++◌, length, filter, get_or, Option, Some, Ok, ap, sym, ◌∙◌, subst, arith}
+use Rattle.std.specs.Prelude.{IfSome}
+use Rattle.std.proofs.lemmas.List.{get_or-map, length-map}
+use Rattle.silt_cuckoo.specs.Slots.{IsBucketCount}
+use Rattle.silt_disk.specs.Disk.{Content}
+use Rattle.silt_disk.specs.Layout.{Shape}
+use Rattle.silt_log.specs.Rows.{log_rows}
+use Rattle.silt_frame.specs.Rows.{has_known_kind, StoredRow, put_count}
+use Rattle.silt_log.specs.State.{all_rows, waiting_rows}
+use Rattle.silt_log_store.specs.State.{IsFrozenStore}
+use Rattle.silt_log_store.proofs.Buckets.{bucket_count_is}
+use Rattle.silt_manifest.specs.declared.body.Body.{Body}
+use Rattle.silt_log.specs.Parts.{Part, known_rows}
+use Rattle.silt_image.specs.Stores.{Stores, image_stores}
+use Rattle.silt_hash_store.specs.Slots.{hash_part, hash_rows}
+use Rattle.silt_image.specs.Meaning.{IsSound, part_digest, rows_of, with_log_rows}
+use Rattle.silt_event.specs.Rows.{map_of_rows}
+use Rattle.silt_image.proofs.Named.{whole_law}
+use Rattle.silt_event.proofs.Rows.{count_law}
+use Rattle.silt_conversion.specs.Conversion.{ConversionState, HasWritten, IsDigestOf, converted_rows}
+use Rattle.silt_engine.specs.Replacements.{HasOldest, ReplacesLog, with_converted}
+use Rattle.silt_conversion.specs.Laws.{IsTableOf}
+use Rattle.silt_conversion.proofs.Charging.{converted_charge}
+use Rattle.silt_engine.proofs.LogReplaced.{converts}
+use Rattle.silt_conversion.proofs.Writing.{all_charged, all_digested, all_due}
+use Rattle.silt_standing.specs.State.{IsUnderWay, EngineState, oldest_log, region_of}
+use Rattle.silt_standing.specs.Standing.{IsFrozen, Stands, base_map, shown_stores}
+use Rattle.silt_engine.specs.Conversion.{converted_body}
+use Rattle.silt_engine.proofs.Named.{named_body, named_here, named_shape, with_shape}
+use Rattle.silt_engine.proofs.Facts.{base_is, shown_named, shown_sound}
+use Rattle.silt_engine.proofs.Elsewhere.{frozen_named, not_active, scanned_all}
+use Rattle.silt_engine.proofs.ConvertStores.{oldest_named, oldest_named_with, rows_converted, rows_named}
+
+-- ---- the oldest log
+
+module _ (content : Content) (s : EngineState) (stands : Stands content s) (some : 0 < length s.frozen) where
+  last_inside : length s.frozen - 1 < length s.frozen
+  last_inside = omega (arith, some)
+
+  -- as it is
+  pub oldest_frozen : IsFrozen content (oldest_log s)
+  oldest_frozen = stands.frozen (length s.frozen - 1) s.active last_inside
+
+  pub oldest_shape : (oldest_log s).log.shape ≡ s.manifest.shape
+  oldest_shape = (stands.whole.settled (length s.frozen - 1) s.active last_inside).has_shape
+
+  -- its region is the last one that the body names
+  ids : length s.manifest.current.frozen ≡ length s.frozen
+  ids = ap length (sym stands.whole.frozen_regions) ∙ length-map s.frozen region_of
+
+  pub some_ids : 0 < length s.manifest.current.frozen
+  some_ids = omega (arith, some, ids)
+
+  abbrev last_id : ℕ
+  last_id = get_or s.manifest.current.frozen (length s.manifest.current.frozen - 1) 0
+
+  oldest_region : (oldest_log s).log.region ≡ last_id
+  oldest_region =
+      sym (get_or-map region_of s.frozen (length s.frozen - 1) s.active 0 last_inside)
+      ∙ ap (λ (l : List ℕ). get_or l (length s.frozen - 1) 0) stands.whole.frozen_regions
+      ∙ ap (λ (n : ℕ). get_or s.manifest.current.frozen (n - 1) 0) (sym ids)
+
+  -- its rows in an image
+  oldest_rows : (image : List ℕ) → log_rows (oldest_log s).log.shape (oldest_log s).log.region image ≡ log_rows s.manifest.shape last_id image
+  oldest_rows image =
+      ap (λ (sh : Shape). log_rows sh (oldest_log s).log.region image) oldest_shape
+      ∙ ap (λ (n : ℕ). log_rows s.manifest.shape n image) oldest_region
+
+  -- are those that are shown
+  shown_rows : IsTrue content.honest → log_rows s.manifest.shape last_id content.shown ≡ all_rows content (oldest_log s).log
+  shown_rows h = sym (oldest_rows content.shown) ∙ sym (scanned_all content (oldest_log s).log (oldest_frozen.rows h))
+
+  same_rows : IsTrue content.honest → (image : List ℕ) → image_stores image ≡ Ok (shown_stores content s) → log_rows s.manifest.shape last_id image ≡ log_rows s.manifest.shape last_id content.shown
+  same_rows h image named =
+      let same_shape = named_shape s.manifest.shape s.manifest.current content.shown in
+      let same_body = named_body s.manifest.shape s.manifest.current content.shown in
+      rows_named s.manifest.shape s.manifest.current (length s.manifest.current.frozen - 1) 0 content.shown image
+      (named_here s.manifest.shape s.manifest.current (shown_stores content s) image named same_shape same_body)
+      (omega (arith, some_ids))
+
+  -- in each possible crash image
+  pub oldest_stands : IsFrozenStore content (oldest_log s)
+  oldest_stands = record {
+    images = record {
+      each = λ h image left. oldest_rows image ∙ same_rows h image (stands.named.each h image left) ∙ shown_rows h;
+    };
+    index = oldest_frozen.indexed;
+  }
+
+  -- it is not the active log
+  not_the_active : IsTrue content.honest → last_id ≢ s.manifest.current.active
+  not_the_active h same =
+      not_active content s stands h (oldest_log s).log.region (frozen_named s stands.whole.frozen_regions (length s.frozen - 1) s.active last_inside) (oldest_region ∙ same)
+
+-- ---- the stores without it
+
+module _ (content : Content) (s : EngineState) (stands : Stands content s) (conversion : ConversionState) (was : s.converting ≡ Some conversion) where
+  pub way : IsUnderWay s conversion
+  way = subst (λ (o : Option ConversionState). IfSome o (IsUnderWay s)) was stands.whole.under_way
+
+  pub has_written : HasWritten content (oldest_log s) conversion
+  has_written = subst (λ (o : Option ConversionState). IfSome o (HasWritten content (oldest_log s))) was stands.written
+
+  abbrev rows : List StoredRow
+  rows = all_rows content (oldest_log s).log
+
+  abbrev t : Stores
+  t = shown_stores content s
+
+  t_shape : t.shape ≡ s.manifest.shape
+  t_shape = named_shape s.manifest.shape s.manifest.current content.shown
+
+  -- the record that is current then, the hash store, and the stores
+  abbrev pub ending_body : Body
+  ending_body = converted_body s.manifest.current conversion.region
+
+  abbrev pub ending_part : Part
+  ending_part = record { region = conversion.region; rows = converted_rows (shown_stores content s).shape (oldest_log s).table (all_rows content (oldest_log s).log) }
+
+  abbrev pub ending_stores : Stores
+  ending_stores = with_converted ending_body ending_part (shown_stores content s)
+
+  -- the oldest log has these rows, also once the waiting rows are settled
+  pub oldest : IsTrue content.honest → HasOldest rows t
+  oldest h = subst (λ (r : List StoredRow). HasOldest r t) (shown_rows content s stands way.some_frozen h) (oldest_named s.manifest.shape s.manifest.current 0 content.shown (some_ids content s stands way.some_frozen))
+
+  abbrev full : Stores
+  full = with_log_rows s.manifest.current.active (all_rows content s.active.log) (shown_stores content s)
+
+  pub oldest_full : IsTrue content.honest → HasOldest rows full
+  oldest_full h =
+      subst (λ (r : List StoredRow). HasOldest r full) (shown_rows content s stands way.some_frozen h)
+      (oldest_named_with s.manifest.shape s.manifest.current 0 content.shown s.manifest.current.active (all_rows content s.active.log) (some_ids content s stands way.some_frozen) (not_the_active content s stands way.some_frozen h))
+
+  -- and their table
+  pub table_of : IsTrue content.honest → IsTableOf t.shape rows (oldest_log s).table
+  table_of h =
+      let log_shape : (oldest_log s).log.shape ≡ t.shape = oldest_shape content s stands way.some_frozen ∙ sym t_shape in
+      let indexed = (oldest_frozen content s stands way.some_frozen).indexed in
+      subst (λ (sh : Shape). IsTableOf sh rows (oldest_log s).table) log_shape (record {
+        count = subst (λ (sh : Shape). IsBucketCount sh.buckets) (sym log_shape) (bucket_count_is t.shape.buckets (whole_law content.shown t (shown_named content s stands h)).limits.buckets);
+        known = indexed.known h;
+        indexed = indexed.indexed h;
+      })
+
+  -- the hash store may replace the log
+  replaces : IsTrue content.honest → ReplacesLog rows ending_part t ending_stores
+  replaces h = converts t ending_body rows (oldest_log s).table conversion.region (oldest h) (table_of h) (shown_sound content s stands h)
+
+  -- with the same map
+  pub ending_map : IsTrue content.honest → map_of_rows (rows_of ending_stores) ≡ base_map content s
+  ending_map h = (replaces h).map ∙ sym (base_is content s)
+
+  -- nothing is found in them
+  pub ending_sound : IsTrue content.honest → IsSound ending_stores
+  ending_sound h = (replaces h).sound
+
+  -- also once the waiting rows are settled
+  pub ending_full_sound : IsTrue content.honest → IsSound (with_log_rows s.manifest.current.active (all_rows content s.active.log) ending_stores)
+  ending_full_sound h =
+      let all : List StoredRow = all_rows content s.active.log in
+      let same : full.shape ≡ t.shape = with_shape s.manifest.current.active all t in
+      let sound : IsSound full = subst (λ (n : ℕ). IsSound (with_log_rows n all t)) stands.whole.active_region (stands.sound h) in
+      let is = (converts full ending_body rows (oldest_log s).table conversion.region (oldest_full h) (subst (λ (sh : Shape). IsTableOf sh rows (oldest_log s).table) (sym same) (table_of h)) sound).sound in
+      subst IsSound (sym (rows_converted s.manifest.current.active all ending_body ending_part t))
+      (subst (λ (sh : Shape). IsSound (with_converted ending_body (record { region = conversion.region; rows = converted_rows sh (oldest_log s).table rows }) full)) same is)
+
+  module _ (done : conversion.next ≡ 4 * conversion.shape.buckets) where
+    same_shape : conversion.shape ≡ t.shape
+    same_shape = way.has_shape ∙ sym t_shape
+
+    -- the slots show the hash store
+    pub ending_slots : IsTrue content.honest → hash_rows s.manifest.shape conversion.region content.shown ≡ ending_part.rows
+    ending_slots h =
+        ap (λ (sh : Shape). hash_rows sh conversion.region content.shown) (sym way.has_shape)
+        ∙ all_due content (oldest_log s) conversion done has_written h
+        ∙ ap (λ (sh : Shape). converted_rows sh (oldest_log s).table rows) same_shape
+
+    -- the digest of what was hashed is its digest
+    pub ending_digest : (digest : List ℕ) → IsDigestOf conversion.hasher digest → IsTrue content.honest → digest ≡ part_digest ending_part
+    ending_digest digest finalizes h =
+        all_digested content (oldest_log s) conversion digest done has_written h finalizes
+        ∙ ap (λ (sh : Shape). part_digest (hash_part sh content.shown conversion.region)) way.has_shape
+        ∙ ap (λ (l : List StoredRow). let part : Part = record { region = conversion.region; rows = l } in part_digest part) (ending_slots h)
+
+    -- the puts that went away do not count
+    pub ending_counted : IsTrue content.honest → (charge : ℕ) → charge ≡ s.charge - ((oldest_log s).puts - conversion.puts) → charge ≡ put_count (rows_of ending_stores ++ waiting_rows content s.active.log)
+    ending_counted h charge is =
+        let waiting : List StoredRow = waiting_rows content s.active.log in
+        let log_puts : (oldest_log s).puts ≡ put_count rows = (oldest_frozen content s stands way.some_frozen).indexed.counted h in
+        let part_puts : conversion.puts ≡ put_count (known_rows ending_part) =
+        all_charged content (oldest_log s) conversion done has_written h
+        ∙ ap (λ (sh : Shape). put_count (filter has_known_kind (converted_rows sh (oldest_log s).table rows))) same_shape in
+        let fewer = converted_charge t.shape rows (oldest_log s).table (table_of h) in
+        let moved = (replaces h).charge in
+        let behind = count_law (rows_of ending_stores) waiting in
+        let before = count_law (rows_of t) waiting in
+        let counted = stands.counted h in
+        omega (arith, is, log_puts, part_puts, fewer, moved, behind, before, counted)

@@ -1,0 +1,139 @@
+-- A slot of a conversion, written, and the slots settled.
+use Rattle.std.proofs.Common.{◌≡◌, ◌≢◌, ◌≤◌, ◌<◌, ℕ, ◌+◌, ◌*◌, false, IsTrue, List, [], Option, Some, None, Ok, inl, inr, refl, ap, sym, ◌∙◌, subst, arith}
+use Rattle.std.specs.Prelude.{IfSome}
+use Rattle.silt_disk.specs.Disk.{ChangesWithin, Content, LeavesOnly, LiesOutside, Settles, Stays, Torn, size}
+use Rattle.silt_disk.specs.Layout.{Shape, entries_len, gates_at, hash_at, hash_size, log_len, row_len, slots_len, sorted_at}
+use Rattle.silt_disk.proofs.Images.{failed_sync_within, left_after_failed_sync, left_after_sync, shown_left, sync_within, torn_wider}
+use Rattle.silt_disk.proofs.Regions.{regions_apart, up_least}
+use Rattle.silt_manifest.proofs.Laws.{current_record_elsewhere}
+use Rattle.silt_manifest.specs.declared.body.Body.{Body}
+use Rattle.silt_image.specs.Stores.{Stores, image_stores}
+use Rattle.silt_image.proofs.Frame.{free_hash_law, pieces_apart}
+use Rattle.silt_conversion.specs.Conversion.{ConversionState, HasWritten}
+use Rattle.silt_hash_store.specs.Slots.{hash_slot_at}
+use Rattle.silt_hash_store.proofs.Reading.{slot_inside}
+use Rattle.silt_hash_store.proofs.Elsewhere.{behind_logs}
+use Rattle.silt_merge.specs.State.{MergeState}
+use Rattle.silt_standing.specs.State.{IsUnderWay, EngineState, names_hash, oldest_log}
+use Rattle.silt_standing.specs.Standing.{Stands, shown_stores}
+use Rattle.silt_engine.specs.Calls.{Advances, Breaks, Remaps}
+use Rattle.silt_standing.specs.Standing.{SameDisk}
+use Rattle.silt_engine.proofs.Named.{named_body, named_shape}
+use Rattle.silt_engine.proofs.Facts.{active_below}
+use Rattle.silt_engine.proofs.Elsewhere.{named_below, not_among}
+use Rattle.silt_engine.proofs.Chains.{advances_break, advances_remap}
+use Rattle.silt_engine.proofs.Freezes.{IsApart, IsOutsideMerge, merged_on, stays_on, stays_with}
+
+-- ---- places
+
+-- a slot of another hash region
+slot_elsewhere : (shape : Shape) (region other slot : ℕ) → region ≢ other → slot < 4 * shape.buckets → LiesOutside (hash_at shape region) (slots_len shape) (hash_slot_at shape other slot) (row_len shape)
+slot_elsewhere shape region other slot differ below =
+    let rows = up_least (4 * shape.buckets * row_len shape) in
+    let ends : hash_slot_at shape other slot + row_len shape ≤ hash_at shape other + 4 * shape.buckets * row_len shape = slot_inside shape other slot (hash_at shape other + 4 * shape.buckets * row_len shape) (omega arith) below in
+    elim (pieces_apart (hash_at shape 0) region other (hash_size shape) differ) [
+      | inl before ↦ inr (omega (arith, before, rows))
+      | inr behind ↦ inl (omega (arith, behind, rows, ends))
+    ]
+
+-- the entries of each sorted region lie behind the slots
+entries_behind : (shape : Shape) (region slot sorted : ℕ) → region < shape.hashes → slot < 4 * shape.buckets → LiesOutside (sorted_at shape sorted) (entries_len shape) (hash_slot_at shape region slot) (row_len shape)
+entries_behind shape region slot sorted there below =
+    let regions = regions_apart shape in
+    let slots = regions.hashes region shape.hashes there in
+    let ends : hash_slot_at shape region slot + row_len shape ≤ hash_at shape region + 4 * shape.buckets * row_len shape = slot_inside shape region slot (hash_at shape region + 4 * shape.buckets * row_len shape) (omega arith) below in
+    inl (omega (arith, ends, slots, regions.hash_end sorted))
+
+-- a slot lies in its region
+in_region : (shape : Shape) (region slot : ℕ) (before image : List ℕ) → slot < 4 * shape.buckets → Torn (hash_slot_at shape region slot) (row_len shape) before image → Torn (hash_at shape region) (hash_size shape) before image
+in_region shape region slot before image below torn =
+    let rows = up_least (4 * shape.buckets * row_len shape) in
+    let ends : hash_slot_at shape region slot + row_len shape ≤ hash_at shape region + 4 * shape.buckets * row_len shape = slot_inside shape region slot (hash_at shape region + 4 * shape.buckets * row_len shape) (omega arith) below in
+    torn_wider (hash_at shape region) (hash_size shape) (omega arith) (omega (arith, ends, rows)) torn
+
+-- ---- a slot is written
+
+module _ (old new : Content) (s : EngineState) (region slot : ℕ) (stands : Stands old s) (free : names_hash s.manifest.current region ≡ false) (there : region < s.manifest.shape.hashes) (below : slot < 4 * s.manifest.shape.buckets)
+    (sizes : size new ≡ size old) (changes : ChangesWithin (hash_slot_at s.manifest.shape region slot) (row_len s.manifest.shape) old new) where
+  slot_disk : SameDisk old new
+  slot_disk = record { size = sizes; honest = changes.honest }
+
+  -- each possible crash image has the same stores
+  slot_named : LeavesOnly new (λ image. image_stores image ≡ Ok (shown_stores old s))
+  slot_named = record {
+    each = λ h image left.
+        let o : IsTrue old.honest = subst IsTrue changes.honest h in
+        let t : Stores = shown_stores old s in
+        let t_shape : t.shape ≡ s.manifest.shape = named_shape s.manifest.shape s.manifest.current old.shown in
+        let from = changes.left o image left in
+        free_hash_law from.0 image t region (stands.named.each o from.0 from.1) (subst (λ (sh : Shape). region < sh.hashes) (sym t_shape) there)
+        (ap (λ (b : Body). names_hash b region) (named_body s.manifest.shape s.manifest.current old.shown) ∙ free)
+        (subst (λ (sh : Shape). Torn (hash_at sh region) (hash_size sh) from.0 image) (sym t_shape) (in_region s.manifest.shape region slot from.0 image below from.2));
+  }
+
+  slot_apart : IsTrue old.honest → IsApart s.manifest.shape s.manifest.current (hash_slot_at s.manifest.shape region slot) (row_len s.manifest.shape)
+  slot_apart h = record {
+    active = behind_logs s.manifest.shape s.manifest.current.active region slot (active_below old s stands);
+    frozen = λ id named. behind_logs s.manifest.shape id region slot (named_below old s stands h id named);
+    hashed = λ id named. slot_elsewhere s.manifest.shape id region slot (not_among s.manifest.current.hashed region id free named) below;
+    sorted = entries_behind s.manifest.shape region slot s.manifest.current.sorted there below;
+  }
+
+  slot_before_entries : IsOutsideMerge s (hash_slot_at s.manifest.shape region slot) (row_len s.manifest.shape)
+  slot_before_entries = behind s.merging
+    where
+      behind : (o : Option MergeState) → IfSome o (λ merge. LiesOutside (sorted_at s.manifest.shape merge.region) (entries_len s.manifest.shape) (hash_slot_at s.manifest.shape region slot) (row_len s.manifest.shape))
+      behind None = tt
+      behind (Some merge) = entries_behind s.manifest.shape region slot merge.region there below
+
+  outside_active : LiesOutside (gates_at s.active.log.shape s.active.log.region) (log_len s.active.log.shape) (hash_slot_at s.manifest.shape region slot) (row_len s.manifest.shape)
+  outside_active =
+      subst (λ (sh : Shape). LiesOutside (gates_at sh s.active.log.region) (log_len sh) (hash_slot_at s.manifest.shape region slot) (row_len s.manifest.shape)) (sym stands.whole.has_shape)
+      (subst (λ (n : ℕ). LiesOutside (gates_at s.manifest.shape n) (log_len s.manifest.shape) (hash_slot_at s.manifest.shape region slot) (row_len s.manifest.shape)) (sym stands.whole.active_region)
+      (behind_logs s.manifest.shape s.manifest.current.active region slot (active_below old s stands)))
+
+  -- the stores still stand, with the conversion as it is then
+  pub slot_advances : (converting : Option ConversionState) → IfSome converting (IsUnderWay s) → IfSome converting (HasWritten new (oldest_log s)) → Advances [] old new s (record s { converting = converting })
+  slot_advances converting under_way written = stays_with old new s (hash_slot_at s.manifest.shape region slot) (row_len s.manifest.shape) stands sizes changes slot_apart outside_active
+      s.manifest converting s.merging refl refl refl stands.idle
+      (current_record_elsewhere s.manifest (hash_slot_at s.manifest.shape region slot) (row_len s.manifest.shape) old new (omega (arith, stands.has_size)) (inr (omega arith)) changes stands.current)
+      slot_named under_way written stands.whole.merging
+      (merged_on old new s (hash_slot_at s.manifest.shape region slot) (row_len s.manifest.shape) stands sizes changes slot_apart outside_active (λ h. slot_before_entries))
+
+  pub slot_map : (converting : Option ConversionState) → IfSome converting (IsUnderWay s) → IfSome converting (HasWritten new (oldest_log s)) → Remaps [] old new s (record s { converting = converting })
+  slot_map converting under_way written = advances_remap [] old new s (record s { converting = converting }) slot_disk stands (slot_advances converting under_way written)
+
+  pub slot_breaks : (converting : Option ConversionState) → IfSome converting (IsUnderWay s) → IfSome converting (HasWritten new (oldest_log s)) → Breaks old new s
+  slot_breaks converting under_way written = advances_break old new s (record s { converting = converting }) slot_disk (slot_advances converting under_way written)
+
+-- ---- the slots are settled
+
+module _ (old new : Content) (s : EngineState) (stands : Stands old s) (sizes : size new ≡ size old) where
+  -- if nothing is changed, and each image has the same stores, the stores still stand
+  still_advances : ChangesWithin 0 0 old new → LeavesOnly new (λ image. image_stores image ≡ Ok (shown_stores old s)) → Advances [] old new s s
+  still_advances changes named = stays_on old new s 0 0 stands sizes changes
+      (λ h. record { active = inl (omega arith); frozen = λ id there. inl (omega arith); hashed = λ id there. inl (omega arith); sorted = inl (omega arith) }) (inl (omega arith))
+      (λ h. nowhere s.converting) (λ h. nowhere_merged s.merging) s.manifest refl refl refl stands.idle
+      (current_record_elsewhere s.manifest 0 0 old new (omega (arith, stands.has_size)) (inl (omega arith)) changes stands.current) named
+    where
+      nowhere : (o : Option ConversionState) → IfSome o (λ conversion. LiesOutside (hash_at s.manifest.shape conversion.region) (slots_len s.manifest.shape) 0 0)
+      nowhere None = tt
+      nowhere (Some conversion) = inl (omega arith)
+
+      nowhere_merged : (o : Option MergeState) → IfSome o (λ merge. LiesOutside (sorted_at s.manifest.shape merge.region) (entries_len s.manifest.shape) 0 0)
+      nowhere_merged None = tt
+      nowhere_merged (Some merge) = inl (omega arith)
+
+  pub sync_advances : Settles old new → Advances [] old new s s
+  sync_advances settles = still_advances (sync_within 0 0 settles) (record {
+    each = λ h image left.
+        let o : IsTrue old.honest = subst IsTrue settles.honest h in
+        ap image_stores (left_after_sync settles o image left) ∙ stands.named.each o old.shown (shown_left old);
+  })
+
+  pub failed_advances : Stays old new → Advances [] old new s s
+  failed_advances stays = still_advances (failed_sync_within 0 0 stays) (record {
+    each = λ h image left.
+        let o : IsTrue old.honest = subst IsTrue stays.honest h in
+        stands.named.each o image (left_after_failed_sync stays o image left);
+  })

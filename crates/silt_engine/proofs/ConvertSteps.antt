@@ -1,0 +1,254 @@
+-- The steps of a conversion, at their exits.
+use Rattle.std.proofs.Common.{◌≡◌, ◌≤◌, ◌<◌, ℕ, ◌+◌, ◌-◌, ◌*◌, ◌^◌, ◌==◌, Bool, true, if◌then◌else◌, List, [], length, replicate, Option, Some, None, inl, inr, refl, ap, sym, ◌∙◌, subst, arith}
+use Rattle.std.specs.Prelude.{IfSome, slice_get}
+use Rattle.std.proofs.lemmas.Bool.{cases_eq, eq-eqb, ne_eqb}
+use Rattle.std.proofs.lemmas.Option.{get_or_from_slice_get, slice_get_within}
+use Rattle.silt_disk.specs.Disk.{ChangesWithin, Content, CountsFault, GaveAny, size}
+use Rattle.silt_disk.specs.declared.disk.Disk.{Ghosts}
+use Rattle.silt_disk.specs.Layout.{InLimits, Shape, row_len}
+use Rattle.silt_log_store.specs.State.{IsFrozenStore, LogStoreState}
+use Rattle.silt_log_store.proofs.Buckets.{bucket_count_is}
+use Rattle.silt_manifest.specs.Body.{is_well_formed}
+use Rattle.silt_manifest.specs.Standing.{current_slot}
+use Rattle.silt_manifest.specs.declared.body.Body.{Body}
+use Rattle.silt_manifest.specs.declared.digests.Digests.{Digests}
+use Rattle.silt_frame.specs.declared.digest.Digest.{Digest}
+use Rattle.silt_hash_store.specs.State.{HashState}
+use Rattle.silt_conversion.specs.Conversion.{ConversionState, FailsStep, HasWritten, IsDigestOf, Steps}
+use Rattle.silt_hash_store.specs.Slots.{hash_slot_at}
+use Rattle.silt_conversion.specs.declared.conversion.StepError.{StepError}
+use Rattle.silt_conversion.specs.declared.conversion.StepError.TheVariants as step_error
+use Rattle.silt_event.specs.declared.progress.Progress.{Progress}
+use Rattle.silt_event.specs.declared.progress.Progress.TheVariants.{Finished, Idle, Moved, Waiting}
+use Rattle.silt_standing.specs.State.{AreWhole, IsUnderWay, EngineState, names_hash, oldest_log}
+use Rattle.silt_standing.specs.Standing.{Stands}
+use Rattle.silt_engine.specs.Calls.{Advances, Breaks, Remaps}
+use Rattle.silt_engine.specs.Digests.{digests_with}
+use Rattle.silt_engine.specs.Conversion.{AreAllHashesNamed, ConvertErrorCause, Converts, EndsConversion, IsLowestFreeHash, IsNextStep, convert_turn, converted_body, is_work, progress_due, refusal_of_step, written_by}
+use Rattle.silt_engine.proofs.ConvertCounting.{hash_free, no_hash_free}
+use Rattle.silt_engine.proofs.ConvertDone.{has_written, oldest_stands, way}
+use Rattle.silt_engine.proofs.ConvertSlots.{slot_advances, slot_breaks, slot_map}
+
+-- ---- values that were read
+
+-- the last of the frozen logs is the oldest
+pub last_log : (s : EngineState) (log : LogStoreState) → Some log ≡ slice_get s.frozen (length s.frozen - 1) → (0 < length s.frozen) × (log ≡ oldest_log s)
+last_log s log is =
+    let inside = slice_get_within s.frozen (length s.frozen - 1) log (sym is) in
+    (omega (arith, inside), sym (get_or_from_slice_get s.frozen (length s.frozen - 1) log s.active (sym is)))
+
+-- ---- the progress that is due
+
+module _ (s : EngineState) where
+  abbrev due : Option ConversionState → Progress
+  due o = progress_due (length s.frozen) (length s.hashes) s.manifest.shape.hashes (4 * s.manifest.shape.buckets) (written_by o)
+
+  -- the next slot of a conversion that moves on is there
+  pub moves_below : (conversion : ConversionState) → s.converting ≡ Some conversion → IsUnderWay s conversion → convert_turn s ≡ Moved → conversion.next < 4 * conversion.shape.buckets
+  moves_below conversion was way turn = elim (cases_eq conversion.next (4 * s.manifest.shape.buckets)) [
+    | inl all ↦
+        let finished : convert_turn s ≡ Finished = ap due was ∙ ap (λ (b : Bool). if b then Finished else Moved) (eq-eqb conversion.next (4 * s.manifest.shape.buckets) all) in
+        absurd (let no : Moved ≡ Finished = sym turn ∙ finished in cc)
+    | inr more ↦ subst (λ (sh : Shape). conversion.next < 4 * sh.buckets) (sym way.has_shape) (omega (arith, more, way.most))
+  ]
+
+  -- all slots of one that finishes are written
+  all_written : (conversion : ConversionState) → s.converting ≡ Some conversion → IsUnderWay s conversion → convert_turn s ≡ Finished → conversion.next ≡ 4 * conversion.shape.buckets
+  all_written conversion was way turn = elim (cases_eq conversion.next (4 * s.manifest.shape.buckets)) [
+    | inl all ↦ subst (λ (sh : Shape). conversion.next ≡ 4 * sh.buckets) (sym way.has_shape) all
+    | inr more ↦
+        let moved : convert_turn s ≡ Moved = ap due was ∙ ap (λ (b : Bool). if b then Finished else Moved) (ne_eqb conversion.next (4 * s.manifest.shape.buckets) more) in
+        absurd (let no : Finished ≡ Moved = sym turn ∙ moved in cc)
+  ]
+
+  -- with frozen logs, no conversion in progress, and this many hash stores
+  pub begins_turn : s.converting ≡ None → 0 < length s.frozen → convert_turn s ≡ (if length s.hashes == s.manifest.shape.hashes then Waiting else Moved)
+  begins_turn none some = ap due none ∙ ap (λ (b : Bool). if b then Idle else if length s.hashes == s.manifest.shape.hashes then Waiting else Moved) (ne_eqb (length s.frozen) 0 (λ e. absurd (omega (arith, e, some))))
+
+  -- every hash region is in use
+  pub waits_turn : s.converting ≡ None → 0 < length s.frozen → length s.hashes ≡ s.manifest.shape.hashes → convert_turn s ≡ Waiting
+  waits_turn none some all = begins_turn none some ∙ ap (λ (b : Bool). if b then Waiting else Moved) (eq-eqb (length s.hashes) s.manifest.shape.hashes all)
+
+  -- one is free
+  pub moves_turn : s.converting ≡ None → 0 < length s.frozen → length s.hashes < s.manifest.shape.hashes → convert_turn s ≡ Moved
+  moves_turn none some fewer = begins_turn none some ∙ ap (λ (b : Bool). if b then Waiting else Moved) (ne_eqb (length s.hashes) s.manifest.shape.hashes (λ e. absurd (omega (arith, e, fewer))))
+
+-- ---- the end
+
+-- a conversion that finishes may end with the next body and these digests
+pub may_finish : (s : EngineState) (body : Body) (digests : Digests) (conversion : ConversionState) (digest sorted : Digest) (hashes : List HashState) → AreWhole s → s.converting ≡ Some conversion → convert_turn s ≡ Finished
+    → s.manifest.current.generation < 2 ^ 63 - 1 → body ≡ converted_body s.manifest.current conversion.region → IsDigestOf conversion.hasher digest.0 → hashes ≡ s.hashes → sorted.0 ≡ s.digest
+    → digests ≡ digests_with (Some digest) hashes sorted → EndsConversion s body digests
+may_finish s body digests conversion digest sorted hashes whole was turn unspent is digested hashes_are sorted_is digests_are = record {
+  conversion = conversion;
+  was = was;
+  done = all_written s conversion was (subst (λ (o : Option ConversionState). IfSome o (IsUnderWay s)) was whole.under_way) turn;
+  unspent = unspent;
+  is = is;
+  digest = digest.0;
+  digested = digested;
+  digests_are =
+      digests_are ∙ ap (λ (l : List HashState). digests_with (Some digest) l sorted) hashes_are
+      ∙ ap (λ (bytes : List ℕ). digests_with (Some digest) s.hashes (record { 0 = bytes })) sorted_is;
+}
+
+-- ---- a slot
+
+module _ (old new : Content) (s : EngineState) (log : LogStoreState) (before after : ConversionState) (stands : Stands old s) (log_is : log ≡ oldest_log s) (way : IsUnderWay s before)
+    (below : before.next < 4 * before.shape.buckets) (was_written : HasWritten old log before) (sizes : size new ≡ size old)
+    (changes : ChangesWithin (hash_slot_at before.shape before.region before.next) (row_len before.shape) old new) where
+  -- in the words of the stores
+  next_below : before.next < 4 * s.manifest.shape.buckets
+  next_below = subst (λ (sh : Shape). before.next < 4 * sh.buckets) way.has_shape below
+
+  slot_changes : ChangesWithin (hash_slot_at s.manifest.shape before.region before.next) (row_len s.manifest.shape) old new
+  slot_changes = subst (λ (sh : Shape). ChangesWithin (hash_slot_at sh before.region before.next) (row_len sh) old new) way.has_shape changes
+
+  -- ---- it was not written
+
+  pub failed_breaks : Breaks old new s
+  failed_breaks = slot_breaks old new s before.region before.next stands way.free way.there next_below sizes slot_changes None tt tt
+
+  pub failed_map : (converting : Option ConversionState) → Remaps [] old new s (record s { converting = converting })
+  failed_map converting = slot_map old new s before.region before.next stands way.free way.there next_below sizes slot_changes None tt tt
+
+  -- ---- it was written
+
+  module _ (steps : Steps log old new before after) (written : IsFrozenStore old log → HasWritten old log before → HasWritten new log after) where
+    -- the conversion is in progress
+    pub way_after : IsUnderWay s after
+    way_after = subst (IsUnderWay s) (sym steps.next) (record {
+      has_shape = way.has_shape;
+      some_frozen = way.some_frozen;
+      there = way.there;
+      free = way.free;
+      most = omega (arith, next_below);
+    })
+
+    written_after : HasWritten new (oldest_log s) after
+    written_after = subst (λ (l : LogStoreState). HasWritten new l after) log_is (written (subst (IsFrozenStore old) (sym log_is) (oldest_stands old s stands way.some_frozen)) was_written)
+
+    pub step_advances : Advances [] old new s (record s { converting = Some after })
+    step_advances = slot_advances old new s before.region before.next stands way.free way.there next_below sizes slot_changes (Some after) way_after written_after
+
+-- ---- the next slot of the conversion under way
+
+module _ (old new : Content) (s : EngineState) (log : LogStoreState) (before after : ConversionState) (stands : Stands old s) (read : Some log ≡ slice_get s.frozen (length s.frozen - 1))
+    (was : s.converting ≡ Some before) (turn : convert_turn s ≡ Moved) (sizes : size new ≡ size old) (changes : ChangesWithin (hash_slot_at before.shape before.region before.next) (row_len before.shape) old new) where
+  going : IsUnderWay s before
+  going = way old s stands before was
+
+  more : before.next < 4 * before.shape.buckets
+  more = moves_below s before was going turn
+
+  wrote : HasWritten old log before
+  wrote = subst (λ (l : LogStoreState). HasWritten old l before) (sym (last_log s log read).1) (has_written old s stands before was)
+
+  pub next_failed_breaks : Breaks old new s
+  next_failed_breaks = failed_breaks old new s log before after stands (last_log s log read).1 going more wrote sizes changes
+
+  pub next_failed_map : (converting : Option ConversionState) → Remaps [] old new s (record s { converting = converting })
+  next_failed_map = failed_map old new s log before after stands (last_log s log read).1 going more wrote sizes changes
+
+  module _ (steps : Steps log old new before after) (written : IsFrozenStore old log → HasWritten old log before → HasWritten new log after) where
+    pub next_advances : Advances [] old new s (record s { converting = Some after })
+    next_advances = step_advances old new s log before after stands (last_log s log read).1 going more wrote sizes changes steps written
+
+-- of the stores in memory with the conversion one slot on
+pub next_converts : (s : EngineState) (before after : ConversionState) (tags : List (Option ℕ)) → s.converting ≡ Some before → convert_turn s ≡ Moved
+    → after ≡ record before { next = before.next + 1; tags = tags; puts = after.puts; hasher = after.hasher } → Converts Moved s (record s { converting = Some after })
+next_converts s before after tags was turn next = record {
+  due = sym turn;
+  done = record {
+    conversion = after;
+    is = refl;
+    step = subst (λ (o : Option ConversionState). IsNextStep s o after) (sym was) (ap (λ (v : ConversionState). v.region) next, ap (λ (v : ConversionState). v.next) next);
+  };
+}
+
+-- ---- the first slot of a new one
+
+-- if no conversion is in progress, the first step begins one in a free region
+module _ (s : EngineState) (log : LogStoreState) (current : Body) (hashes region : ℕ) (read : Some log ≡ slice_get s.frozen (length s.frozen - 1)) (none : s.converting ≡ None) (whole : AreWhole s)
+    (sound : is_well_formed s.manifest.shape (current_slot s.manifest) s.manifest.current ≡ true) (same_current : current ≡ s.manifest.current) (hashes_are : hashes ≡ s.manifest.shape.hashes) where
+  some : 0 < length s.frozen
+  some = (last_log s log read).0
+
+  -- no region is free
+  pub begin_waits : AreAllHashesNamed hashes current → Converts Waiting s s
+  begin_waits all = record {
+    due = sym (waits_turn s none some (no_hash_free s (current_slot s.manifest) whole sound
+        (subst (λ (n : ℕ). AreAllHashesNamed n s.manifest.current) hashes_are (subst (λ (b : Body). AreAllHashesNamed hashes b) same_current all))));
+    done = refl;
+  }
+
+  module _ (lowest_read : IsLowestFreeHash hashes current region) where
+    pub lowest_here : IsLowestFreeHash s.manifest.shape.hashes s.manifest.current region
+    lowest_here = subst (λ (n : ℕ). IsLowestFreeHash n s.manifest.current region) hashes_are (subst (λ (b : Body). IsLowestFreeHash hashes b region) same_current lowest_read)
+
+    pub begin_turn : convert_turn s ≡ Moved
+    begin_turn = moves_turn s none some (hash_free s (current_slot s.manifest) region whole sound lowest_here.below lowest_here.free)
+
+    module _ (started : ConversionState) (is : started ≡ record { shape = log.log.shape; region = region; tags = replicate (4 * log.log.shape.buckets) None; next = 0; puts = 0; hasher = started.hasher }) (limits : InLimits s.manifest.shape) where
+      log_shape : log.log.shape ≡ s.manifest.shape
+      log_shape = ap (λ (l : LogStoreState). l.log.shape) (last_log s log read).1 ∙ (whole.settled (length s.frozen - 1) s.active (omega (arith, some))).has_shape
+
+      pub started_shape : started.shape ≡ s.manifest.shape
+      started_shape = ap (λ (v : ConversionState). v.shape) is ∙ log_shape
+
+      started_region : started.region ≡ region
+      started_region = ap (λ (v : ConversionState). v.region) is
+
+      started_none : started.next ≡ 0
+      started_none = ap (λ (v : ConversionState). v.next) is
+
+      started_way : IsUnderWay s started
+      started_way = record {
+        has_shape = started_shape;
+        some_frozen = some;
+        there = subst (λ (n : ℕ). n < s.manifest.shape.hashes) (sym started_region) lowest_here.below;
+        free = ap (names_hash s.manifest.current) started_region ∙ lowest_here.free;
+        most = omega (arith, started_none);
+      }
+
+      started_below : started.next < 4 * started.shape.buckets
+      started_below =
+          let least : 2 ≤ s.manifest.shape.buckets = (bucket_count_is s.manifest.shape.buckets limits.buckets).least in
+          let here : s.manifest.shape.buckets ≡ started.shape.buckets = ap (λ (sh : Shape). sh.buckets) (sym started_shape) in
+          omega (arith, least, here, started_none)
+
+      -- of the stores in memory with a conversion one slot on
+      module _ (after : ConversionState) (tags : List (Option ℕ)) (next : after ≡ record started { next = started.next + 1; tags = tags; puts = after.puts; hasher = after.hasher }) where
+        pub begin_converts : Converts Moved s (record s { converting = Some after })
+        begin_converts = record {
+          due = sym begin_turn;
+          done = record {
+            conversion = after;
+            is = refl;
+            step = subst (λ (o : Option ConversionState). IsNextStep s o after) (sym none) (
+              subst (IsLowestFreeHash s.manifest.shape.hashes s.manifest.current) (sym (ap (λ (v : ConversionState). v.region) next ∙ started_region)) lowest_here,
+              ap (λ (v : ConversionState). v.next) next ∙ ap (λ (n : ℕ). n + 1) started_none,
+            );
+          };
+        }
+
+      module _ (old new : Content) (after : ConversionState) (stands : Stands old s) (wrote : HasWritten old log started) (sizes : size new ≡ size old)
+          (changes : ChangesWithin (hash_slot_at started.shape started.region started.next) (row_len started.shape) old new) where
+        pub first_failed_breaks : Breaks old new s
+        first_failed_breaks = failed_breaks old new s log started after stands (last_log s log read).1 started_way started_below wrote sizes changes
+
+        pub first_failed_map : Remaps [] old new s s
+        first_failed_map = failed_map old new s log started after stands (last_log s log read).1 started_way started_below wrote sizes changes s.converting
+
+        module _ (steps : Steps log old new started after) (written : IsFrozenStore old log → HasWritten old log started → HasWritten new log after) where
+          pub first_advances : Advances [] old new s (record s { converting = Some after })
+          first_advances = step_advances old new s log started after stands (last_log s log read).1 started_way started_below wrote sizes changes steps written
+
+-- ---- why it was not
+
+module _ {D F : Type 0} (facts : Ghosts D F) (old new : D) (before after : EngineState) where
+  -- the cause in place of that of the step
+  pub step_cause : (error : StepError F) → FailsStep (GaveAny facts.gave) (CountsFault facts.failures facts.gave old new) old new error → after ≡ before → convert_turn before ≡ Moved → Breaks (facts.content old) (facts.content new) before
+      → Remaps [] (facts.content old) (facts.content new) before after → ConvertErrorCause facts old new before after (refusal_of_step error)
+  step_cause (step_error.Read fault) fails same turn breaks remaps = (same, fails.0, turn, fails.1)
+  step_cause (step_error.Write fault) fails same turn breaks remaps = (ap is_work turn, record { counted = fails; breaks = breaks; map = remaps })

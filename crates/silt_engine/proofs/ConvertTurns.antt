@@ -1,0 +1,295 @@
+-- The end of a conversion: the record that names the hash store, and the stores once it is current.
+use Rattle.std.proofs.Common.{inr, ◌≡◌, ◌≤◌, ◌<◌, ℕ, ◌-◌, IsTrue, List, [], ◌∷◌, ◌++◌, length, map, take, get_or, Option, Some, None, refl, ap, sym, ◌∙◌, subst, arith}
+use Rattle.std.specs.Prelude.{All, IfSome}
+use Rattle.std.proofs.lemmas.List.{length-map, take-map}
+use Rattle.std.proofs.lemmas.List.Elements.{All-cons, All-take}
+use Rattle.silt_cuckoo.specs.Index.{index_of_keys}
+use Rattle.silt_cuckoo.specs.Slots.{IsBucketCount}
+use Rattle.silt_disk.specs.Disk.{Content, LeavesOnly, Rests, Torn, size}
+use Rattle.silt_disk.specs.Layout.{Shape, device_size, slot_at}
+use Rattle.silt_disk.proofs.Images.{left_at_rest}
+use Rattle.silt_log.specs.Rows.{log_rows}
+use Rattle.silt_frame.specs.Rows.{StoredRow, keys_of, put_count}
+use Rattle.silt_log.specs.State.{all_rows}
+use Rattle.silt_log.specs.Calls.{KeepsRows}
+use Rattle.silt_log.proofs.Elsewhere.{log_rows_elsewhere}
+use Rattle.silt_log.specs.Parts.{part_rows}
+use Rattle.silt_log_store.specs.State.{IsFrozenStore}
+use Rattle.silt_log_store.proofs.Buckets.{bucket_count_is}
+use Rattle.silt_manifest.specs.Standing.{ManifestState, spare_slot}
+use Rattle.silt_manifest.specs.declared.body.Body.{Body}
+use Rattle.silt_manifest.specs.declared.digests.Digests.{Digests}
+use Rattle.silt_image.specs.Stores.{Stores, stores_named}
+use Rattle.silt_image.specs.Meaning.{AreDigestsOf, IsSound, rows_of, with_log_rows}
+use Rattle.silt_event.specs.Rows.{command_of}
+use Rattle.silt_image.proofs.Named.{whole_law}
+use Rattle.silt_conversion.specs.Conversion.{ConversionState, HasWritten, IsDigestOf, converted_rows}
+use Rattle.silt_hash_store.specs.Slots.{hash_rows}
+use Rattle.silt_hash_store.specs.State.{IsHashStore, IsHeldHash, HashState}
+use Rattle.silt_conversion.proofs.Writing.{store_stands}
+use Rattle.silt_merge.specs.State.{MergeState}
+use Rattle.silt_merge.specs.Merging.{HasMerged}
+use Rattle.silt_merge.proofs.Elsewhere.{oldest_stores_law}
+use Rattle.silt_sorted_store.specs.State.{SortedState}
+use Rattle.silt_standing.specs.State.{AreWhole, IsHashOf, IsMerging, IsSettled, IsUnderWay, EngineState, oldest_log, region_of, sorted_named}
+use Rattle.silt_standing.specs.Standing.{HasGathered, IsFrozen, Stands, full_image, shown_stores}
+use Rattle.silt_engine.specs.Calls.{Advances}
+use Rattle.silt_engine.specs.Succession.{MayBecomeCurrent, BecomesCurrent}
+use Rattle.silt_engine.specs.Conversion.{AreConverted, EndsConversion, Finishes, HasConvertedRows, MayReplace, converted_body, oldest_replaced, oldest_rows, store_of}
+use Rattle.silt_engine.proofs.Named.{named_shape}
+use Rattle.silt_engine.proofs.Facts.{shown_named}
+use Rattle.silt_engine.proofs.Elsewhere.{frozen_named, indexed_same, named_below, outside_slot, scanned_all}
+use Rattle.silt_engine.proofs.Standing.{Fits, shown_are}
+use Rattle.silt_engine.proofs.Wholes.{merging_in}
+use Rattle.silt_engine.proofs.ConvertCounting.{may_end}
+use Rattle.silt_engine.proofs.Remains.{active_stays, digested_stays, frozen_stays, hashed_stays, located_stays, merged_stays, slot_below, waiting_stays, written_stays}
+use Rattle.silt_engine.proofs.NextBodies.{now_named, succeeds}
+use Rattle.silt_engine.proofs.ConvertStores.{converted_named, converted_current, converted_shape}
+use Rattle.silt_engine.proofs.Said.{converted_said}
+use Rattle.silt_engine.proofs.ConvertDone.{ending_counted, ending_digest, ending_full_sound, ending_map, ending_slots, ending_sound, ending_stores, oldest_frozen, oldest_shape, oldest_stands, table_of, way}
+use Rattle.silt_engine.proofs.ConvertRows.{front_converted, front_named, no_part, oldest_same}
+use Rattle.silt_engine.proofs.MergeDone.{full_is}
+
+-- ---- the body that names the hash store
+
+module _ (old : Content) (s : EngineState) (body : Body) (digests : Digests) (stands : Stands old s) (rests : Rests old) (ends : EndsConversion s body digests) where
+  under_way : IsUnderWay s ends.conversion
+  under_way = way old s stands ends.conversion ends.was
+
+  -- the stores under it
+  abbrev converted_stores : Stores
+  converted_stores = ending_stores old s stands ends.conversion ends.was
+
+  some_ids : 0 < length s.manifest.current.frozen
+  some_ids = omega (arith, under_way.some_frozen, length-map s.frozen region_of, ap length stands.whole.frozen_regions)
+
+  -- it names them in each possible crash image, since nothing is pending
+  names : LeavesOnly old (λ image. stores_named s.manifest.shape body image ≡ converted_stores)
+  names = record {
+    each = λ h image left.
+        ap (λ (shown : List ℕ). stores_named s.manifest.shape body shown) (left_at_rest rests h image left)
+        ∙ ap (λ (b : Body). stores_named s.manifest.shape b old.shown) ends.is
+        ∙ converted_named s.manifest.shape s.manifest.current ends.conversion.region _ old.shown some_ids (ending_slots old s stands ends.conversion ends.was ends.done h);
+  }
+
+  -- the digests are theirs
+  said : IsTrue old.honest → AreDigestsOf (Some digests) converted_stores
+  said h =
+      subst (λ (d : Digests). AreDigestsOf (Some d) converted_stores) (sym ends.digests_are)
+      (converted_said old s stands h _ _ ends.digest (ending_digest old s stands ends.conversion ends.was ends.done ends.digest ends.digested h))
+
+  pub converted_may_become_current : MayBecomeCurrent old s body digests
+  converted_may_become_current = record {
+    follows = λ sound. may_end s body digests sound stands.whole ends;
+    stores = converted_stores;
+    has_shape = converted_shape _ _ _ ∙ named_shape s.manifest.shape s.manifest.current old.shown;
+    has_body = converted_current _ _ _ ∙ sym ends.is;
+    names = names;
+    sound = ending_sound old s stands ends.conversion ends.was;
+    said = said;
+    same_map = ending_map old s stands ends.conversion ends.was;
+    waiting = inr (ap (λ (b : Body). b.active) ends.is);
+  }
+
+  -- ---- once it is_current
+
+  module _ (new : Content) (sizes : size new ≡ size old) (m : ManifestState) (now : BecomesCurrent old new s body digests m) where
+    back : IsTrue new.honest → IsTrue old.honest
+    back h = subst IsTrue now.changes.honest h
+
+    current_is : m.current ≡ converted_body s.manifest.current ends.conversion.region
+    current_is = now.has_body ∙ ends.is
+
+    ids : length s.manifest.current.frozen ≡ length s.frozen
+    ids = ap length (sym stands.whole.frozen_regions) ∙ length-map s.frozen region_of
+
+    -- they are those that the body names
+    held_of : (digest : List ℕ) → IsHeldHash (store_of ends.conversion digest) → IsHashOf s.manifest.shape (store_of ends.conversion digest)
+    held_of digest held = record { has_shape = under_way.has_shape; held = held }
+
+    whole : (digest : List ℕ) → IsHeldHash (store_of ends.conversion digest) → AreWhole (oldest_replaced s m ends.conversion digest)
+    whole digest held = record {
+      has_shape = stands.whole.has_shape ∙ sym now.has_shape;
+      active_region = stands.whole.active_region ∙ ap (λ (b : Body). b.active) (sym current_is);
+      frozen_regions =
+          sym (take-map region_of (length s.frozen - 1) s.frozen)
+          ∙ ap (take (length s.frozen - 1)) stands.whole.frozen_regions
+          ∙ ap (λ (n : ℕ). take (n - 1) s.manifest.current.frozen) (sym ids)
+          ∙ ap (λ (b : Body). b.frozen) (sym current_is);
+      settled = subst (λ (sh : Shape). All (IsSettled sh) (take (length s.frozen - 1) s.frozen)) (sym now.has_shape) (All-take (IsSettled s.manifest.shape) (length s.frozen - 1) s.frozen stands.whole.settled);
+      hash_regions = ap (λ (l : List ℕ). ends.conversion.region ∷ l) stands.whole.hash_regions ∙ ap (λ (b : Body). b.hashed) (sym current_is);
+      hashed = subst (λ (sh : Shape). All (IsHashOf sh) (store_of ends.conversion digest ∷ s.hashes)) (sym now.has_shape) (All-cons (IsHashOf s.manifest.shape) (store_of ends.conversion digest) s.hashes (held_of digest held) stands.whole.hashed);
+      sorted =
+          stands.whole.sorted ∙ ap (λ (sh : Shape). sorted_named sh s.manifest.current) (sym now.has_shape)
+          ∙ ap (λ (n : ℕ). let t : SortedState = record { shape = m.shape; region = n; count = s.manifest.current.sorted_count } in t) (ap (λ (b : Body). b.sorted) (sym current_is))
+          ∙ ap (λ (n : ℕ). let t : SortedState = record { shape = m.shape; region = m.current.sorted; count = n } in t) (ap (λ (b : Body). b.sorted_count) (sym current_is));
+      held = stands.whole.held;
+      under_way = tt;
+      merging = merging_in s (oldest_replaced s m ends.conversion digest) s.merging now.has_shape refl (omega arith) stands.whole.merging;
+      most = subst (λ (sh : Shape). s.charge - ((oldest_log s).puts - ends.conversion.puts) ≤ sh.sorted_capacity) (sym now.has_shape) (let most = stands.whole.most in omega (arith, most));
+    }
+
+    pub may_replace : MayReplace s m
+    may_replace = record { conversion = ends.conversion; was = ends.was; done = ends.done; whole = whole }
+
+    -- the active log is as it was
+    keeps : KeepsRows old new s.active.log s.active.log
+    keeps = active_stays old new s stands sizes now.changes
+
+    -- and so is what the conversion wrote
+    slots_stay : HasWritten new (oldest_log s) ends.conversion
+    slots_stay = subst (λ (o : Option ConversionState). IfSome o (HasWritten new (oldest_log s))) ends.was (written_stays old new s stands sizes now.changes)
+
+    -- the oldest log is as it was in each possible crash image
+    last_inside : length s.frozen - 1 < length s.frozen
+    last_inside = omega (arith, under_way.some_frozen)
+
+    log_shape : (oldest_log s).log.shape ≡ s.manifest.shape
+    log_shape = oldest_shape old s stands under_way.some_frozen
+
+    log_rows_stay : IsTrue new.honest → (first image : List ℕ) → length first ≡ size old → Torn (slot_at (spare_slot s.manifest)) 4096 first image
+        → log_rows (oldest_log s).log.shape (oldest_log s).log.region image ≡ log_rows (oldest_log s).log.shape (oldest_log s).log.region first
+    log_rows_stay h first image long torn =
+        let there_is = named_below old s stands (back h) (oldest_log s).log.region (frozen_named s stands.whole.frozen_regions (length s.frozen - 1) s.active last_inside) in
+        let fits : device_size (oldest_log s).log.shape ≡ length first = ap device_size log_shape ∙ sym stands.has_size ∙ sym long in
+        log_rows_elsewhere (oldest_log s).log.shape (oldest_log s).log.region (slot_at (spare_slot s.manifest)) 4096 first image
+        (subst (λ (sh : Shape). (oldest_log s).log.region < sh.logs) (sym log_shape) there_is) (omega (arith, fits))
+        (outside_slot (oldest_log s).log.shape (oldest_log s).log.region (spare_slot s.manifest) (slot_below old new s stands sizes now.changes)) torn
+
+    oldest_stays : IsFrozenStore new (oldest_log s)
+    oldest_stays =
+        let is : IsFrozen new (oldest_log s) = frozen_stays old new s stands sizes now.changes (length s.frozen - 1) s.active last_inside in
+        let was : IsFrozen old (oldest_log s) = oldest_frozen old s stands under_way.some_frozen in
+        let log_stands : IsFrozenStore old (oldest_log s) = oldest_stands old s stands under_way.some_frozen in
+        record {
+          images = record {
+            each = λ h image left.
+                let from = now.changes.left (back h) image left in
+                log_rows_stay h from.0 image (from.1.size ∙ sym old.sizes) from.2
+                ∙ log_stands.images.each (back h) from.0 from.1
+                ∙ scanned_all old (oldest_log s).log (was.rows (back h))
+                ∙ sym (log_rows_stay h old.shown new.shown refl (now.changes.shown (back h)))
+                ∙ sym (scanned_all new (oldest_log s).log (is.rows h));
+          };
+          index = is.indexed;
+        }
+
+    -- there are as many buckets as the device has
+    count : IsTrue new.honest → IsBucketCount ends.conversion.shape.buckets
+    count h =
+        let limits = (whole_law old.shown (shown_stores old s) (shown_named old s stands (back h))).limits in
+        subst (λ (sh : Shape). IsBucketCount sh.buckets) (named_shape s.manifest.shape s.manifest.current old.shown ∙ sym under_way.has_shape) (bucket_count_is (shown_stores old s).shape.buckets limits.buckets)
+
+    -- ---- with the digest of what was written
+
+    module _ (digest : List ℕ) (digested : IsDigestOf ends.conversion.hasher digest) where
+      -- the stores in memory afterwards
+      abbrev after : EngineState
+      after = oldest_replaced s m ends.conversion digest
+
+      -- the new hash store matches the disk
+      store_is : IsHashStore new (store_of ends.conversion digest)
+      store_is = record {
+        sound = λ h. (store_stands new (oldest_log s) ends.conversion digest (count h) ends.done digested oldest_stays slots_stay).sound h;
+        tagged = λ h. (store_stands new (oldest_log s) ends.conversion digest (count h) ends.done digested oldest_stays slots_stay).tagged h;
+        counted = λ h. (store_stands new (oldest_log s) ends.conversion digest (count h) ends.done digested oldest_stays slots_stay).counted h;
+        digested = λ h. (store_stands new (oldest_log s) ends.conversion digest (count h) ends.done digested oldest_stays slots_stay).digested h;
+      }
+
+      -- a merge has gathered and written what it had: its stores are the oldest ones still
+      gathered_stays : IfSome s.merging (HasGathered new after)
+      gathered_stays = in_front s.merging stands.whole.merging (merged_stays old new s stands sizes now.changes)
+        where
+          in_front : (o : Option MergeState) → IfSome o (IsMerging s) → IfSome o (HasGathered new s) → IfSome o (HasGathered new after)
+          in_front None merging merged = tt
+          in_front (Some merge) merging merged =
+              let way : IsMerging s merge = merging in
+              subst (λ (l : List HashState). HasMerged new l s.sorted merge) (sym (oldest_stores_law (store_of ends.conversion digest ∷ []) s.hashes merge.stores way.most)) merged
+
+      fits : AreWhole (oldest_replaced s m ends.conversion digest) → Fits new after converted_stores
+      unfolding converted_may_become_current
+      fits is_whole = record {
+        has_size = sizes ∙ stands.has_size ∙ ap device_size (sym now.has_shape);
+        whole = is_whole;
+        idle = now.idle;
+        current = now.current;
+        active = record { log = keeps.stands; index = indexed_same old new s.active back (λ h. keeps.all (back h)) stands.indexed };
+        frozen = All-take (IsFrozen new) (length s.frozen - 1) s.frozen (frozen_stays old new s stands sizes now.changes);
+        hashed = All-cons (IsHashStore new) (store_of ends.conversion digest) s.hashes store_is (hashed_stays old new s stands sizes now.changes);
+        located = located_stays old new s stands sizes now.changes;
+        digested = digested_stays old new s stands sizes now.changes;
+        written = tt;
+        merged = gathered_stays;
+        same_shape = converted_may_become_current.has_shape ∙ sym now.has_shape;
+        same_body = converted_may_become_current.has_body ∙ sym now.has_body;
+        named = now_named old new s body digests stands converted_may_become_current sizes m now;
+        sound = λ h.
+            subst (λ (n : ℕ). IsSound (with_log_rows n (all_rows new s.active.log) converted_stores)) (ap (λ (b : Body). b.active) (sym current_is))
+            (subst (λ (rows : List StoredRow). IsSound (with_log_rows s.manifest.current.active rows converted_stores)) (sym (keeps.all (back h)))
+            (ending_full_sound old s stands ends.conversion ends.was (back h)));
+        said = λ h. subst (λ (o : Option Digests). AreDigestsOf o converted_stores) (sym now.has_digests) (converted_may_become_current.said (back h));
+        counted = λ h.
+            ending_counted old s stands ends.conversion ends.was ends.done (back h) (s.charge - ((oldest_log s).puts - ends.conversion.puts)) refl
+            ∙ ap (λ (rows : List StoredRow). put_count (rows_of converted_stores ++ rows)) (sym (waiting_stays old new s stands sizes now.changes (back h)));
+      }
+
+      -- and still stand
+      pub converted_advances : (finished : EngineState) → AreWhole finished → finished ≡ oldest_replaced s m ends.conversion digest → Advances [] old new s finished
+      unfolding converted_may_become_current
+      converted_advances finished is_whole is =
+          let whole_after : AreWhole (oldest_replaced s m ends.conversion digest) = subst AreWhole is is_whole in
+          subst (λ (t : EngineState). Advances [] old new s t) (sym is)
+          (succeeds old new s body digests stands converted_may_become_current sizes m now after (fits whole_after) now.has_shape (λ h. ap (map command_of) (waiting_stays old new s stands sizes now.changes h)))
+
+      -- its slots have the rows that are due
+      slots_now : AreWhole (oldest_replaced s m ends.conversion digest) → IsTrue old.honest
+          → hash_rows s.manifest.shape ends.conversion.region (full_image new after) ≡ converted_rows s.manifest.shape (oldest_log s).table (all_rows old (oldest_log s).log)
+      unfolding converted_may_become_current
+      slots_now is_whole h =
+          let here : IsTrue new.honest = subst IsTrue (sym now.changes.honest) h in
+          let stand : Stands new after = (converted_advances after is_whole refl).stands in
+          let fit : Fits new after converted_stores = fits is_whole in
+          let front : Stores → List StoredRow = λ t. part_rows (get_or t.hashes 0 no_part) in
+          ap (λ (sh : Shape). hash_rows sh ends.conversion.region (full_image new after)) (sym now.has_shape)
+          ∙ sym (front_named m.shape s.manifest.current ends.conversion.region (full_image new after))
+          ∙ ap (λ (b : Body). front (stores_named m.shape b (full_image new after))) (sym current_is)
+          ∙ ap front (full_is new after stand here)
+          ∙ ap (λ (t : Stores). front (with_log_rows m.current.active (all_rows new s.active.log) t)) (shown_are new after converted_stores fit.same_shape fit.same_body fit.named here)
+          ∙ front_converted _ _ _ _ _
+          ∙ ap (λ (sh : Shape). converted_rows sh (oldest_log s).table (all_rows old (oldest_log s).log)) (named_shape s.manifest.shape s.manifest.current old.shown)
+
+      -- which are the last rows of the log's keys, as the full image had them on a disk that shows the same stores
+      pub has_converted_rows : (first : Content) (finished : EngineState) → AreWhole finished → finished ≡ oldest_replaced s m ends.conversion digest → Stands first s → IsTrue first.honest → IsTrue old.honest
+          → shown_stores old s ≡ shown_stores first s → HasConvertedRows first new s finished
+      has_converted_rows first finished is_whole is stood was_honest h same =
+          let rows : List StoredRow = oldest_rows s.manifest.shape s.manifest.current (full_image first s) in
+          let log_rows_are : rows ≡ all_rows old (oldest_log s).log = oldest_same first old s stood stands ends.conversion ends.was was_honest h same in
+          let table_shape : (shown_stores old s).shape ≡ s.manifest.shape = named_shape s.manifest.shape s.manifest.current old.shown in
+          let converted : AreConverted s.manifest.shape rows (hash_rows s.manifest.shape ends.conversion.region (full_image new finished)) = record {
+            table = (oldest_log s).table;
+            indexed =
+                ap (λ (l : List StoredRow). index_of_keys s.manifest.shape.buckets (keys_of l)) log_rows_are
+                ∙ ap (λ (sh : Shape). index_of_keys sh.buckets (keys_of (all_rows old (oldest_log s).log))) (sym table_shape)
+                ∙ (table_of old s stands ends.conversion ends.was h).indexed;
+            are =
+                ap (λ (t : EngineState). hash_rows s.manifest.shape ends.conversion.region (full_image new t)) is
+                ∙ slots_now (subst AreWhole is is_whole) h
+                ∙ ap (converted_rows s.manifest.shape (oldest_log s).table) (sym log_rows_are);
+          } in
+          subst (λ (o : Option ConversionState). IfSome o (λ conversion. AreConverted s.manifest.shape rows (hash_rows s.manifest.shape conversion.region (full_image new finished)))) (sym ends.was) converted
+
+      -- the conversion is finished
+      pub converted_finishes : (finished : EngineState) → finished ≡ oldest_replaced s m ends.conversion digest → Finishes s finished
+      converted_finishes finished is = subst (λ (t : EngineState). Finishes s t) (sym is) (record {
+        conversion = ends.conversion;
+        was = ends.was;
+        none = refl;
+        shape = now.has_shape;
+        current = current_is;
+        active = refl;
+        frozen = refl;
+        sorted = refl;
+        index = refl;
+        digest = refl;
+        merging = refl;
+      })

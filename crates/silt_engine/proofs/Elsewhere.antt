@@ -1,0 +1,297 @@
+-- What a change in one place of the disk leaves of the logs, the hash stores, the entries, the conversion and the merge in other places.
+use Rattle.std.proofs.Common.{◌≡◌, ◌≢◌, ◌≤◌, ◌<◌, ℕ, ◌+◌, ◌*◌, ◌-◌, ◌%◌, ◌==◌, true, false, IsTrue, List, suc, length, map, get_or, Option, Some, None, inl, inr, ap, sym, ◌∙◌, subst, arith}
+use Rattle.std.specs.Prelude.{All, Contains, IfSome}
+use Rattle.std.specs.List.{list_any, list_all}
+use Rattle.std.proofs.lemmas.List.{get_or-map, length-map}
+use Rattle.std.proofs.lemmas.List.Elements.{All-drop}
+use Rattle.std.proofs.lemmas.List.Folds.{list_any_at}
+use Rattle.std.proofs.lemmas.List.FromFn.{length-map-range_with_len}
+use Rattle.std.proofs.lemmas.Bool.Decides.{nat_tests}
+use Rattle.silt_disk.specs.Disk.{ChangesWithin, Content, LiesOutside, size}
+use Rattle.silt_disk.specs.Layout.{Shape, device_size, entries_len, gates_at, hash_at, hash_size, log_len, log_size, row_len, slot_at, slots_len, sorted_at}
+use Rattle.silt_disk.proofs.Regions.{next_region, regions_apart, up_least}
+use Rattle.silt_log.specs.Rows.{first_rows, log_rows, open_count, row_at, rows_from}
+use Rattle.silt_frame.specs.Rows.{has_known_kind, StoredRow, keys_of, put_count}
+use Rattle.silt_log.specs.State.{InBounds, LogState, all_rows}
+use Rattle.silt_log.proofs.Counts.{count_most}
+use Rattle.silt_log.proofs.Exits.{log_inside}
+use Rattle.silt_log.proofs.Elsewhere.{log_rows_elsewhere}
+use Rattle.silt_log_store.specs.State.{IsIndexed, LogStoreState}
+use Rattle.silt_cuckoo.specs.Index.{index_of_keys}
+use Rattle.silt_conversion.specs.Conversion.{ConversionState, HasWritten}
+use Rattle.silt_hash_store.specs.State.{HashState, IsHashStore}
+use Rattle.silt_hash_store.proofs.Elsewhere.{hash_elsewhere}
+use Rattle.silt_conversion.proofs.Elsewhere.{written_elsewhere}
+use Rattle.silt_image.specs.Laws.{IsWhole}
+use Rattle.silt_image.proofs.Frame.{names_regions, pieces_apart}
+use Rattle.silt_image.proofs.Named.{apart_of, whole_law}
+use Rattle.silt_manifest.specs.Body.{is_well_formed}
+use Rattle.silt_manifest.specs.declared.body.Body.{Body}
+use Rattle.silt_merge.specs.State.{MergeState, oldest_stores}
+use Rattle.silt_merge.proofs.Elsewhere.{merged_elsewhere}
+use Rattle.silt_sorted_store.specs.State.{SortedState}
+use Rattle.silt_sorted_store.proofs.Elsewhere.{digest_elsewhere, indexed_elsewhere}
+use Rattle.silt_standing.specs.State.{IsHashOf, IsMerging, IsUnderWay, EngineState, hash_region_of, oldest_log, region_of}
+use Rattle.silt_standing.specs.Standing.{HasGathered, IsDigested, IsFrozen, IsLocated, Stands, shown_stores}
+use Rattle.silt_engine.proofs.Facts.{shown_named}
+use Rattle.silt_engine.proofs.Named.{named_body, named_shape}
+
+-- ---- places
+
+-- another log region lies outside
+pub outside_other : (shape : Shape) (region other : ℕ) → region ≢ other → LiesOutside (gates_at shape region) (log_len shape) (gates_at shape other) (log_size shape)
+outside_other shape region other differ =
+    let bodies = up_least (shape.log_capacity * row_len shape) in
+    elim (pieces_apart 12288 region other (log_size shape) differ) [
+      | inl before ↦ inr (omega (arith, before, bodies))
+      | inr behind ↦ inl behind
+    ]
+
+-- a manifest slot lies outside each log region
+pub outside_slot : (shape : Shape) (region slot : ℕ) → slot < 2 → LiesOutside (gates_at shape region) (log_len shape) (slot_at slot) 4096
+outside_slot shape region slot below = inl (omega (arith, below))
+
+-- a log region lies before the slots of each hash store
+log_ends : (size logs region rest : ℕ) → region < logs → 12288 + region * size + size ≤ 12288 + logs * size + rest
+log_ends size logs region rest below = omega (arith, next_region region logs size below)
+
+pub slots_behind_log : (shape : Shape) (region hash : ℕ) → region < shape.logs → LiesOutside (hash_at shape hash) (slots_len shape) (gates_at shape region) (log_size shape)
+slots_behind_log shape region hash below = inl (log_ends (log_size shape) shape.logs region (hash * hash_size shape) below)
+
+-- and so does a manifest slot
+pub slots_behind_manifest : (shape : Shape) (hash slot : ℕ) → slot < 2 → LiesOutside (hash_at shape hash) (slots_len shape) (slot_at slot) 4096
+slots_behind_manifest shape hash slot below = inl (omega (arith, below))
+
+-- entries lie behind the manifest
+pub entries_behind_manifest : (shape : Shape) (sorted slot : ℕ) → slot < 2 → LiesOutside (sorted_at shape sorted) (entries_len shape) (slot_at slot) 4096
+entries_behind_manifest shape sorted slot below = inl (omega (arith, below))
+
+-- ---- frozen logs
+
+-- there are as many rows as gates before the first closed one
+pub length-log_rows : (shape : Shape) (region : ℕ) (image : List ℕ) → length (log_rows shape region image) ≡ open_count shape region image
+unfolding log_rows rows_from
+length-log_rows shape region image = length-map-range_with_len (row_at shape region image) 0 (open_count shape region image)
+
+-- a log with the rows before the first closed gate
+pub scanned_all : (content : Content) (log : LogState) → log.used ≡ open_count log.shape log.region content.shown → all_rows content log ≡ log_rows log.shape log.region content.shown
+unfolding log_rows
+scanned_all content log counted = ap (λ (n : ℕ). first_rows log.shape log.region content.shown n) counted
+
+-- the table of a log's keys and the number of its puts depend on its rows alone
+pub indexed_same : (old new : Content) (store : LogStoreState) → (IsTrue new.honest → IsTrue old.honest) → (IsTrue new.honest → all_rows new store.log ≡ all_rows old store.log) → IsIndexed old store → IsIndexed new store
+indexed_same old new store back same indexed = record {
+  known = λ h. ap (list_all has_known_kind) (same h) ∙ indexed.known (back h);
+  indexed = λ h. ap (λ (rows : List StoredRow). index_of_keys store.log.shape.buckets (keys_of rows)) (same h) ∙ indexed.indexed (back h);
+  counted = λ h. indexed.counted (back h) ∙ ap put_count (sym (same h));
+}
+
+-- a change outside a frozen log's region leaves the log
+pub frozen_elsewhere : (old new : Content) (store : LogStoreState) (at count : ℕ) → size old ≡ device_size store.log.shape → ChangesWithin at count old new
+    → (IsTrue old.honest → (store.log.region < store.log.shape.logs) × LiesOutside (gates_at store.log.shape store.log.region) (log_len store.log.shape) at count) → IsFrozen old store → IsFrozen new store
+frozen_elsewhere old new store at count sized changes lies frozen =
+    let s : Shape = store.log.shape in
+    let r : ℕ = store.log.region in
+    let back : IsTrue new.honest → IsTrue old.honest = λ h. subst IsTrue changes.honest h in
+    let same : IsTrue new.honest → log_rows s r new.shown ≡ log_rows s r old.shown =
+    λ h. log_rows_elsewhere s r at count old.shown new.shown (lies (back h)).0 (omega (arith, sized)) (lies (back h)).1 (changes.shown (back h)) in
+    let counted : IsTrue new.honest → store.log.used ≡ open_count s r new.shown =
+    λ h. frozen.rows (back h) ∙ sym (length-log_rows s r old.shown) ∙ ap length (sym (same h)) ∙ length-log_rows s r new.shown in
+    record {
+      rows = counted;
+      indexed = indexed_same old new store back (λ h. scanned_all new store.log (counted h) ∙ same h ∙ sym (scanned_all old store.log (frozen.rows (back h)))) frozen.indexed;
+    }
+
+-- ---- the regions of frozen logs
+
+-- a number that no element of a list is
+pub not_among : (ids : List ℕ) (x id : ℕ) → list_any (λ other. other == x) ids ≡ false → Contains ids id → id ≢ x
+not_among ids x id none (k, inside, here) e =
+    let found : list_any (λ other. other == x) ids ≡ true = list_any_at (λ other. other == x) ids k id inside (grind (arith, nat_tests, here, e)) in
+    let no : false ≡ true = sym none ∙ found in
+    absurd (cc)
+
+-- the body names the region of each frozen log
+pub frozen_named : (s : EngineState) → map region_of s.frozen ≡ s.manifest.current.frozen → (k : ℕ) (d : LogStoreState) → k < length s.frozen → Contains s.manifest.current.frozen (region_of (get_or s.frozen k d))
+frozen_named s are k d inside = (
+  k,
+  omega (arith, inside, length-map s.frozen region_of, ap length are),
+  ap (λ (ids : List ℕ). get_or ids k (region_of (get_or s.frozen k d))) (sym are) ∙ get_or-map region_of s.frozen k d (region_of (get_or s.frozen k d)) inside,
+)
+
+module _ (content : Content) (s : EngineState) (stands : Stands content s) (honest : IsTrue content.honest) where
+  -- the current record is well formed
+  pub current_sound : is_well_formed s.manifest.shape (s.manifest.current.generation % 2) s.manifest.current ≡ true
+  current_sound =
+      let whole : IsWhole (shown_stores content s) content.shown = whole_law content.shown (shown_stores content s) (shown_named content s stands honest) in
+      let here : is_well_formed (shown_stores content s).shape ((shown_stores content s).body.generation % 2) (shown_stores content s).body ≡ true = whole.sound in
+      ap (λ (sh : Shape). is_well_formed sh (s.manifest.current.generation % 2) s.manifest.current) (sym (named_shape s.manifest.shape s.manifest.current content.shown))
+      ∙ ap (λ (b : Body). is_well_formed (shown_stores content s).shape (b.generation % 2) b) (sym (named_body s.manifest.shape s.manifest.current content.shown))
+      ∙ here
+
+  -- each region that it names is there
+  pub named_below : (region : ℕ) → Contains s.manifest.current.frozen region → region < s.manifest.shape.logs
+  named_below region (k, inside, here) =
+      (names_regions s.manifest.shape (s.manifest.current.generation % 2) s.manifest.current current_sound).logs region (suc k, omega (arith, inside), here)
+
+  -- also each hash region
+  pub hash_below : (region : ℕ) → Contains s.manifest.current.hashed region → region < s.manifest.shape.hashes
+  hash_below region named = (names_regions s.manifest.shape (s.manifest.current.generation % 2) s.manifest.current current_sound).hashes region named
+
+  -- and the frozen ones are not the active one
+  pub not_active : (region : ℕ) → Contains s.manifest.current.frozen region → region ≢ s.manifest.current.active
+  not_active region there = not_among s.manifest.current.frozen s.manifest.current.active region (apart_of s.manifest.shape (s.manifest.current.generation % 2) s.manifest.current current_sound) there
+
+-- a change outside the regions of the frozen logs leaves these
+pub all_frozen_elsewhere : (old new : Content) (s : EngineState) (at count : ℕ) → Stands old s → ChangesWithin at count old new
+    → (IsTrue old.honest → (region : ℕ) → Contains s.manifest.current.frozen region → LiesOutside (gates_at s.manifest.shape region) (log_len s.manifest.shape) at count) → All (IsFrozen new) s.frozen
+all_frozen_elsewhere old new s at count stands changes outside k d inside =
+    let store : LogStoreState = get_or s.frozen k d in
+    let is_shape : store.log.shape ≡ s.manifest.shape = (stands.whole.settled k d inside).has_shape in
+    frozen_elsewhere old new store at count (stands.has_size ∙ ap device_size (sym is_shape)) changes
+    (λ h. (
+      subst (λ (sh : Shape). store.log.region < sh.logs) (sym is_shape) (named_below old s stands h store.log.region (frozen_named s stands.whole.frozen_regions k d inside)),
+      subst (λ (sh : Shape). LiesOutside (gates_at sh store.log.region) (log_len sh) at count) (sym is_shape) (outside h store.log.region (frozen_named s stands.whole.frozen_regions k d inside)),
+    ))
+    (stands.frozen k d inside)
+
+-- ---- hash stores
+
+-- the body names the region of each hash store
+pub hash_named : (s : EngineState) → map hash_region_of s.hashes ≡ s.manifest.current.hashed → (k : ℕ) (d : HashState) → k < length s.hashes → Contains s.manifest.current.hashed (hash_region_of (get_or s.hashes k d))
+hash_named s are k d inside = (
+  k,
+  omega (arith, inside, length-map s.hashes hash_region_of, ap length are),
+  ap (λ (ids : List ℕ). get_or ids k (hash_region_of (get_or s.hashes k d))) (sym are) ∙ get_or-map hash_region_of s.hashes k d (hash_region_of (get_or s.hashes k d)) inside,
+)
+
+-- a change outside the slots of the hash stores leaves these
+pub all_hashed_elsewhere : (old new : Content) (s : EngineState) (at count : ℕ) → Stands old s → ChangesWithin at count old new
+    → (IsTrue old.honest → (region : ℕ) → Contains s.manifest.current.hashed region → LiesOutside (hash_at s.manifest.shape region) (slots_len s.manifest.shape) at count) → All (IsHashStore new) s.hashes
+all_hashed_elsewhere old new s at count stands changes outside k d inside =
+    let store : HashState = get_or s.hashes k d in
+    let is : IsHashOf s.manifest.shape store = stands.whole.hashed k d inside in
+    let back : IsTrue new.honest → IsTrue old.honest = λ h. subst IsTrue changes.honest h in
+    let fits : device_size store.shape ≤ size old = subst (λ (sh : Shape). device_size sh ≤ size old) (sym is.has_shape) (omega (arith, stands.has_size)) in
+    let stays : IsTrue old.honest → IsHashStore new store =
+    λ h. hash_elsewhere store old new at count is.held fits (subst (λ (sh : Shape). LiesOutside (hash_at sh store.region) (slots_len sh) at count) (sym is.has_shape) (outside h store.region (hash_named s stands.whole.hash_regions k d inside))) changes (stands.hashed k d inside) in
+    record {
+      sound = λ h. (stays (back h)).sound h;
+      tagged = λ h. (stays (back h)).tagged h;
+      counted = λ h. (stays (back h)).counted h;
+      digested = λ h. (stays (back h)).digested h;
+    }
+
+-- ---- the conversion
+
+-- no more gates are counted than there are
+pub open_most : (shape : Shape) (region : ℕ) (image : List ℕ) → gates_at shape region + shape.log_capacity ≤ length image → open_count shape region image ≤ shape.log_capacity
+unfolding open_count
+open_most shape region image fits = count_most (gates_at shape region) shape.log_capacity image fits
+
+-- a change outside a frozen log and the slots of its conversion leaves what this has written
+pub log_written_elsewhere : (old new : Content) (store : LogStoreState) (conversion : ConversionState) (at count : ℕ) → device_size store.log.shape ≤ size old → conversion.region < conversion.shape.hashes
+    → conversion.next ≤ 4 * conversion.shape.buckets → IsFrozen old store → ChangesWithin at count old new
+    → (IsTrue old.honest → (store.log.region < store.log.shape.logs) × LiesOutside (gates_at store.log.shape store.log.region) (log_len store.log.shape) at count × LiesOutside (hash_at conversion.shape conversion.region) (slots_len conversion.shape) at count)
+    → HasWritten old store conversion → HasWritten new store conversion
+log_written_elsewhere old new store conversion at count fits there most frozen changes lies is =
+    let plain : LogStoreState = record store { log = record store.log { settled = store.log.used; stale = false } } in
+    let plainly : HasWritten old plain conversion = record { shape = is.shape; due = is.due; tagged = is.tagged; charged = is.charged; hashed = is.hashed } in
+    let inside : IsTrue old.honest → gates_at store.log.shape store.log.region + store.log.shape.log_capacity ≤ size old =
+    λ h. let ends = log_inside store.log.shape store.log.region (lies h).0 in let gates = (regions_apart store.log.shape).gates store.log.region in omega (arith, ends, gates, fits) in
+    let bounds : IsTrue old.honest → InBounds plain.log = λ h. record {
+      region = (lies h).0;
+      order = omega arith;
+      room = let few = open_most store.log.shape store.log.region old.shown (inside h) in omega (arith, few, frozen.rows h);
+      gap = λ stale. absurd (let no : false ≡ true = stale in cc);
+    } in
+    let stays : IsTrue old.honest → HasWritten new plain conversion =
+    λ h. written_elsewhere plain conversion old new at count (bounds h) there most (subst (λ (sh : Shape). device_size sh ≤ size old) (sym is.shape) fits) (lies h).1 (lies h).2 changes plainly in
+    record {
+      shape = is.shape;
+      due = λ h. (stays (subst IsTrue changes.honest h)).due h;
+      tagged = is.tagged;
+      charged = λ h. (stays (subst IsTrue changes.honest h)).charged h;
+      hashed = λ h. (stays (subst IsTrue changes.honest h)).hashed h;
+    }
+
+-- a conversion in progress keeps what it has written if only bytes outside the frozen logs and its slots change
+pub written_all_elsewhere : (old new : Content) (s : EngineState) (at count : ℕ) (o : Option ConversionState) → Stands old s → ChangesWithin at count old new
+    → (IsTrue old.honest → (region : ℕ) → Contains s.manifest.current.frozen region → LiesOutside (gates_at s.manifest.shape region) (log_len s.manifest.shape) at count)
+    → (IsTrue old.honest → IfSome o (λ conversion. LiesOutside (hash_at s.manifest.shape conversion.region) (slots_len s.manifest.shape) at count))
+    → IfSome o (IsUnderWay s) → IfSome o (HasWritten old (oldest_log s)) → IfSome o (HasWritten new (oldest_log s))
+written_all_elsewhere old new s at count None stands changes outside apart under_way is = tt
+written_all_elsewhere old new s at count (Some conversion) stands changes outside apart under_way is =
+    let way : IsUnderWay s conversion = under_way in
+    let inside : length s.frozen - 1 < length s.frozen = omega (arith, way.some_frozen) in
+    let log : LogStoreState = oldest_log s in
+    let is_shape : log.log.shape ≡ s.manifest.shape = (stands.whole.settled (length s.frozen - 1) s.active inside).has_shape in
+    let named = frozen_named s stands.whole.frozen_regions (length s.frozen - 1) s.active inside in
+    log_written_elsewhere old new log conversion at count (subst (λ (sh : Shape). device_size sh ≤ size old) (sym is_shape) (omega (arith, stands.has_size)))
+    (subst (λ (sh : Shape). conversion.region < sh.hashes) (sym way.has_shape) way.there)
+    (subst (λ (sh : Shape). conversion.next ≤ 4 * sh.buckets) (sym way.has_shape) way.most)
+    (stands.frozen (length s.frozen - 1) s.active inside) changes
+    (λ h. (
+      subst (λ (sh : Shape). log.log.region < sh.logs) (sym is_shape) (named_below old s stands h log.log.region named),
+      subst (λ (sh : Shape). LiesOutside (gates_at sh log.log.region) (log_len sh) at count) (sym is_shape) (outside h log.log.region named),
+      subst (λ (sh : Shape). LiesOutside (hash_at sh conversion.region) (slots_len sh) at count) (sym way.has_shape) (apart h),
+    ))
+    is
+
+-- ---- the entries
+
+-- a change outside the entries of the sorted store leaves their index
+pub located_elsewhere : (old new : Content) (s : EngineState) (at count : ℕ) → Stands old s → ChangesWithin at count old new
+    → (IsTrue old.honest → LiesOutside (sorted_at s.manifest.shape s.manifest.current.sorted) (entries_len s.manifest.shape) at count) → IsLocated new s
+located_elsewhere old new s at count stands changes behind honest =
+    let is_shape : s.sorted.shape ≡ s.manifest.shape = ap (λ (t : SortedState). t.shape) stands.whole.sorted in
+    let is_region : s.sorted.region ≡ s.manifest.current.sorted = ap (λ (t : SortedState). t.region) stands.whole.sorted in
+    indexed_elsewhere s.sorted s.index old new at count stands.whole.held
+    (subst (λ (sh : Shape). device_size sh ≤ size old) (sym is_shape) (omega (arith, stands.has_size)))
+    (subst (λ (n : ℕ). LiesOutside (sorted_at s.sorted.shape n) (entries_len s.sorted.shape) at count) (sym is_region)
+    (subst (λ (sh : Shape). LiesOutside (sorted_at sh s.manifest.current.sorted) (entries_len sh) at count) (sym is_shape) (behind (subst IsTrue changes.honest honest))))
+    changes stands.located honest
+
+-- and their digest
+pub digested_elsewhere : (old new : Content) (s : EngineState) (at count : ℕ) → Stands old s → ChangesWithin at count old new
+    → (IsTrue old.honest → LiesOutside (sorted_at s.manifest.shape s.manifest.current.sorted) (entries_len s.manifest.shape) at count) → IsDigested new s
+digested_elsewhere old new s at count stands changes behind honest =
+    let is_shape : s.sorted.shape ≡ s.manifest.shape = ap (λ (t : SortedState). t.shape) stands.whole.sorted in
+    let is_region : s.sorted.region ≡ s.manifest.current.sorted = ap (λ (t : SortedState). t.region) stands.whole.sorted in
+    digest_elsewhere s.sorted s.digest old new at count stands.whole.held
+    (subst (λ (sh : Shape). device_size sh ≤ size old) (sym is_shape) (omega (arith, stands.has_size)))
+    (subst (λ (n : ℕ). LiesOutside (sorted_at s.sorted.shape n) (entries_len s.sorted.shape) at count) (sym is_region)
+    (subst (λ (sh : Shape). LiesOutside (sorted_at sh s.manifest.current.sorted) (entries_len sh) at count) (sym is_shape) (behind (subst IsTrue changes.honest honest))))
+    changes stands.digested honest
+
+-- ---- the merge
+
+-- a merge in progress keeps what it has gathered and written if only bytes outside its entries, those of the sorted store and the slots of
+-- the hash stores change
+pub merged_all_elsewhere : (old new : Content) (s : EngineState) (at count : ℕ) (o : Option MergeState) → Stands old s → ChangesWithin at count old new
+    → (IsTrue old.honest → (region : ℕ) → Contains s.manifest.current.hashed region → LiesOutside (hash_at s.manifest.shape region) (slots_len s.manifest.shape) at count)
+    → (IsTrue old.honest → LiesOutside (sorted_at s.manifest.shape s.manifest.current.sorted) (entries_len s.manifest.shape) at count)
+    → (IsTrue old.honest → IfSome o (λ merge. LiesOutside (sorted_at s.manifest.shape merge.region) (entries_len s.manifest.shape) at count))
+    → IfSome o (IsMerging s) → IfSome o (HasGathered old s) → IfSome o (HasGathered new s)
+merged_all_elsewhere old new s at count None stands changes outside behind apart merging is = tt
+merged_all_elsewhere old new s at count (Some merge) stands changes outside behind apart merging is =
+    let way : IsMerging s merge = merging in
+    let is_shape : s.sorted.shape ≡ s.manifest.shape = ap (λ (t : SortedState). t.shape) stands.whole.sorted in
+    let is_region : s.sorted.region ≡ s.manifest.current.sorted = ap (λ (t : SortedState). t.region) stands.whole.sorted in
+    let fits : device_size s.sorted.shape ≤ size old = subst (λ (sh : Shape). device_size sh ≤ size old) (sym is_shape) (omega (arith, stands.has_size)) in
+    let slots : IsTrue old.honest → All (λ (store : HashState). LiesOutside (hash_at s.sorted.shape store.region) (slots_len s.sorted.shape) at count) (oldest_stores merge.stores s.hashes) =
+    λ h. All-drop (λ (store : HashState). LiesOutside (hash_at s.sorted.shape store.region) (slots_len s.sorted.shape) at count) (length s.hashes - merge.stores) s.hashes
+    (λ k d inside. subst (λ (sh : Shape). LiesOutside (hash_at sh (get_or s.hashes k d).region) (slots_len sh) at count) (sym is_shape) (outside h (get_or s.hashes k d).region (hash_named s stands.whole.hash_regions k d inside))) in
+    let stays : IsTrue old.honest → HasGathered new s merge =
+    λ h. merged_elsewhere (oldest_stores merge.stores s.hashes) s.sorted merge old new at count stands.whole.held way.held fits
+    (subst (λ (sh : Shape). LiesOutside (sorted_at sh merge.region) (entries_len sh) at count) (sym is_shape) (apart h))
+    (subst (λ (n : ℕ). LiesOutside (sorted_at s.sorted.shape n) (entries_len s.sorted.shape) at count) (sym is_region)
+    (subst (λ (sh : Shape). LiesOutside (sorted_at sh s.manifest.current.sorted) (entries_len sh) at count) (sym is_shape) (behind h)))
+    (slots h) changes is in
+    record {
+      shape = is.shape;
+      counted = is.counted;
+      apart = is.apart;
+      hashed = λ h. (stays (subst IsTrue changes.honest h)).hashed h;
+      merged = λ h. (stays (subst IsTrue changes.honest h)).merged h;
+    }

@@ -1,0 +1,202 @@
+-- What the images of a disk on which the stores stand represent.
+use Rattle.std.proofs.Common.{◌≡◌, ◌≤◌, ◌<◌, ℕ, ◌+◌, ◌-◌, IsTrue, List, ◌++◌, length, map, replicate, Ok, inr, refl, ap, sym, ◌∙◌, subst, arith}
+use Rattle.std.proofs.lemmas.List.{length-replicate}
+use Rattle.silt_disk.specs.Disk.{Content, Left, LeavesOnly, Torn, size}
+use Rattle.silt_disk.specs.Layout.{Shape, device_size, gates_at, log_size}
+use Rattle.silt_disk.proofs.Images.{shown_left, torn_splice, torn_wider}
+use Rattle.silt_disk.proofs.Regions.{regions_apart, up_least}
+use Rattle.silt_log.specs.Rows.{log_rows}
+use Rattle.silt_frame.specs.Rows.{StoredRow, put_count}
+use Rattle.silt_log.specs.State.{InBounds, LogState, all_rows, settled_rows, waiting_rows}
+use Rattle.silt_log.specs.State as log
+use Rattle.silt_log.proofs.Elsewhere.{all_are_settled_and_waiting}
+use Rattle.silt_log.proofs.Exits.{log_inside}
+use Rattle.silt_event.specs.Commands.{Map, map_after}
+use Rattle.silt_image.specs.Stores.{Stores, image_digests, image_stores}
+use Rattle.silt_image.specs.Meaning.{HasActive, IsSound, StandsFor, image_charge, image_map, rows_of, with_log_rows}
+use Rattle.silt_event.specs.Rows.{command_of, map_of_rows}
+use Rattle.silt_image.proofs.Verdict.{rows_law}
+use Rattle.silt_disk.specs.Header.{header_of, version_of}
+use Rattle.silt_disk.proofs.Images.{torn_slice_before}
+use Rattle.silt_manifest.specs.Current.{where_found}
+use Rattle.silt_manifest.specs.Standing.{RecordIsCurrent, current_record}
+use Rattle.silt_manifest.proofs.Laws.{other_regions}
+use Rattle.silt_standing.specs.State.{EngineState}
+use Rattle.silt_standing.specs.Standing.{Stands, base_map, current_map, full_image, shown_stores}
+use Rattle.silt_engine.specs.Laws.{IsGoodWith}
+use Rattle.silt_engine.proofs.Named.{active_named, map_with_more, named_body, named_here, named_shape, region_torn, rows_with_more, said_with_rows, says_current, sound_settled, stands_for, stores_map, with_body, with_shape}
+
+-- the map of the settled rows
+pub base_is : (content : Content) (s : EngineState) → base_map content s ≡ map_of_rows (rows_of (shown_stores content s))
+unfolding base_map
+base_is content s = refl
+
+-- the charge of an image is that of its stores
+charge_is : (image : List ℕ) (t : Stores) → image_stores image ≡ Ok t → image_charge image ≡ put_count (rows_of t)
+unfolding image_charge
+charge_is image t is = ap put_count (rows_law image t is)
+
+-- opening the gates of the waiting rows changes their log's region alone
+pub full_torn : (content : Content) (l : LogState) → InBounds l → size content ≡ device_size l.shape → Torn (gates_at l.shape l.region) (log_size l.shape) content.shown (log.opened_image content l)
+full_torn content l bounds sized =
+    let ones : List ℕ = replicate (l.used - l.settled) 167 in
+    let long : length ones ≡ l.used - l.settled = length-replicate (l.used - l.settled) 167 in
+    let inside = log_inside l.shape l.region bounds.region in
+    let gates = (regions_apart l.shape).gates l.region in
+    let within : gates_at l.shape l.region + l.settled + length ones ≤ length content.shown = omega (arith, long, inside, gates, bounds.order, bounds.room, sized) in
+    torn_wider (gates_at l.shape l.region) (log_size l.shape) (omega arith) (omega (arith, long, bounds.order, bounds.room, up_least l.shape.log_capacity))
+    (torn_splice (gates_at l.shape l.region + l.settled) ones content.shown within)
+
+-- with the gates of a log's waiting rows open, the map of the stores that are shown, of which it is the active one, is that after their
+-- commands
+pub opened_map : (content : Content) (l : LogState) (t : Stores) → log.IsLog content l → size content ≡ device_size l.shape → t.shape ≡ l.shape → t.body.active ≡ l.region → IsTrue content.honest → image_stores content.shown ≡ Ok t
+    → image_map (log.opened_image content l) ≡ map_after (map_of_rows (rows_of t)) (map command_of (waiting_rows content l))
+opened_map content l t is sized same_shape same_region honest named =
+    let settled : List StoredRow = settled_rows content l in
+    let waiting : List StoredRow = waiting_rows content l in
+    let shown : log_rows l.shape l.region content.shown ≡ settled = is.images.each honest content.shown (shown_left content) in
+    let has : HasActive settled t = active_named l.shape t.body t settled content.shown named same_shape refl (ap (λ (n : ℕ). log_rows l.shape n content.shown) same_region ∙ shown) in
+    let all : image_stores (log.opened_image content l) ≡ Ok (with_log_rows l.region (settled ++ waiting) t) =
+    region_torn l.shape t l.region (settled ++ waiting) content.shown (log.opened_image content l) same_shape named is.bounds.region (full_torn content l is.bounds sized)
+    (is.full honest ∙ all_are_settled_and_waiting content l is.bounds.order) in
+    stores_map (with_log_rows l.region (settled ++ waiting) t) (log.opened_image content l) all ∙ map_with_more t l.region settled waiting same_region has waiting
+
+module _ (content : Content) (s : EngineState) (stands : Stands content s) where
+  -- the active log's region
+  pub active_below : s.manifest.current.active < s.manifest.shape.logs
+  active_below =
+      let here : s.active.log.region < s.active.log.shape.logs = stands.active.bounds.region in
+      subst (λ (n : ℕ). n < s.manifest.shape.logs) stands.whole.active_region (subst (λ (sh : Shape). s.active.log.region < sh.logs) stands.whole.has_shape here)
+
+  -- the active log's rows in an image
+  pub active_rows : (image : List ℕ) → log_rows s.manifest.shape s.manifest.current.active image ≡ log_rows s.active.log.shape s.active.log.region image
+  active_rows image = ap (λ (sh : Shape). log_rows sh s.manifest.current.active image) (sym stands.whole.has_shape) ∙ ap (λ (n : ℕ). log_rows s.active.log.shape n image) (sym stands.whole.active_region)
+
+  -- the active log's size
+  pub active_size : size content ≡ device_size s.active.log.shape
+  active_size = stands.has_size ∙ ap device_size (sym stands.whole.has_shape)
+
+  -- all rows of the active log
+  pub rows_split : all_rows content s.active.log ≡ settled_rows content s.active.log ++ waiting_rows content s.active.log
+  rows_split = all_are_settled_and_waiting content s.active.log stands.active.bounds.order
+
+  -- what is shown has these stores
+  pub shown_named : IsTrue content.honest → image_stores content.shown ≡ Ok (shown_stores content s)
+  shown_named honest = stands.named.each honest content.shown (shown_left content)
+
+  -- of which the first log is the active one
+  pub has_active : IsTrue content.honest → HasActive (settled_rows content s.active.log) (shown_stores content s)
+  has_active honest = active_named s.manifest.shape s.manifest.current (shown_stores content s) (settled_rows content s.active.log) content.shown (shown_named honest)
+      (named_shape s.manifest.shape s.manifest.current content.shown) (named_body s.manifest.shape s.manifest.current content.shown)
+      (active_rows content.shown ∙ stands.active.images.each honest content.shown (shown_left content))
+
+  -- the region of the active log in the stores
+  pub active_is : (shown_stores content s).body.active ≡ s.manifest.current.active
+  active_is = ap (λ b. b.active) (named_body s.manifest.shape s.manifest.current content.shown)
+
+  -- nothing is found, also with all rows
+  pub all_sound : IsTrue content.honest → IsSound (with_log_rows s.manifest.current.active (settled_rows content s.active.log ++ waiting_rows content s.active.log) (shown_stores content s))
+  all_sound honest =
+      subst (λ (rows : List StoredRow). IsSound (with_log_rows s.manifest.current.active rows (shown_stores content s))) rows_split
+      (subst (λ (n : ℕ). IsSound (with_log_rows n (all_rows content s.active.log) (shown_stores content s))) stands.whole.active_region (stands.sound honest))
+
+  -- nothing is found in what is shown
+  pub shown_sound : IsTrue content.honest → IsSound (shown_stores content s)
+  shown_sound honest = sound_settled (shown_stores content s) s.manifest.current.active (settled_rows content s.active.log) (waiting_rows content s.active.log) active_is (has_active honest) (all_sound honest)
+
+  -- the rows of the active log in the full image
+  pub full_rows : IsTrue content.honest → log_rows s.manifest.shape s.manifest.current.active (full_image content s) ≡ all_rows content s.active.log
+  full_rows honest = active_rows (full_image content s) ∙ stands.active.full honest
+
+  -- an image with a current record and stores of this shape has the record's digests
+  pub says_held : (image : List ℕ) (t : Stores) → image_stores image ≡ Ok t → t.shape ≡ s.manifest.shape → RecordIsCurrent s.manifest image → image_digests image ≡ s.manifest.digests
+  says_held image t is same_shape is_current = says_current s.manifest.shape t (current_record s.manifest) image is same_shape is_current
+
+  -- it is current in each possible crash image
+  pub left_is_current : IsTrue content.honest → (image : List ℕ) → Left content image → RecordIsCurrent s.manifest image
+  left_is_current honest image left = (stands.current.each honest image left).current
+
+  -- and in the full image
+  full_is_current : IsTrue content.honest → RecordIsCurrent s.manifest (full_image content s)
+  full_is_current honest =
+      let torn : Torn (gates_at s.active.log.shape s.active.log.region) (log_size s.active.log.shape) content.shown (full_image content s) = full_torn content s.active.log stands.active.bounds active_size in
+      let same_header : header_of (full_image content s) ≡ header_of content.shown =
+      torn_slice_before (gates_at s.active.log.shape s.active.log.region) (log_size s.active.log.shape) content.shown (full_image content s) torn 0 37 (omega arith) (omega arith) in
+      ap where_found (other_regions s.manifest.shape (gates_at s.active.log.shape s.active.log.region) (log_size s.active.log.shape) content.shown (full_image content s) (omega (arith, active_size)) (inr (omega arith)) torn
+      (ap version_of same_header))
+      ∙ left_is_current honest content.shown (shown_left content)
+
+  -- an image that is changed in the region of the active log
+  pub torn_active : (before image : List ℕ) (rows : List StoredRow) → image_stores before ≡ Ok (shown_stores content s) → Torn (gates_at s.active.log.shape s.active.log.region) (log_size s.active.log.shape) before image
+      → log_rows s.active.log.shape s.active.log.region image ≡ rows → image_stores image ≡ Ok (with_log_rows s.manifest.current.active rows (shown_stores content s))
+  torn_active before image rows named torn are =
+      region_torn s.manifest.shape (shown_stores content s) s.manifest.current.active rows before image (named_shape s.manifest.shape s.manifest.current content.shown) named active_below
+      (subst (λ (n : ℕ). Torn (gates_at s.manifest.shape n) (log_size s.manifest.shape) before image) stands.whole.active_region
+      (subst (λ (sh : Shape). Torn (gates_at sh s.active.log.region) (log_size sh) before image) stands.whole.has_shape torn))
+      (active_rows image ∙ are)
+
+  -- the stores of the full image
+  pub full_stores : IsTrue content.honest → image_stores (full_image content s) ≡ Ok (with_log_rows s.manifest.current.active (all_rows content s.active.log) (shown_stores content s))
+  full_stores honest = torn_active content.shown (full_image content s) (all_rows content s.active.log) (shown_named honest) (full_torn content s.active.log stands.active.bounds active_size) (stands.active.full honest)
+
+  -- an image with these rows in the active log: its map
+  pub map_with_rows : IsTrue content.honest → (image : List ℕ) (more : List StoredRow)
+      → image_stores image ≡ Ok (with_log_rows s.manifest.current.active (settled_rows content s.active.log ++ more) (shown_stores content s))
+      → image_map image ≡ map_after (base_map content s) (map command_of more)
+  map_with_rows honest image more is =
+      stores_map (with_log_rows s.manifest.current.active (settled_rows content s.active.log ++ more) (shown_stores content s)) image is
+      ∙ map_with_more (shown_stores content s) s.manifest.current.active (settled_rows content s.active.log) (waiting_rows content s.active.log) active_is (has_active honest) more
+      ∙ ap (λ (m : Map). map_after m (map command_of more)) (sym (base_is content s))
+
+  -- the map of the full image
+  pub full_map : IsTrue content.honest → image_map (full_image content s) ≡ current_map content s
+  full_map honest = map_with_rows honest (full_image content s) (waiting_rows content s.active.log)
+      (full_stores honest ∙ ap (λ (rows : List StoredRow). Ok (with_log_rows s.manifest.current.active rows (shown_stores content s))) rows_split)
+
+  -- the numbers of the full image
+  pub full_numbers : IsTrue content.honest → IsGoodWith s.manifest.shape s.manifest.current s.charge (full_image content s)
+  full_numbers honest =
+      let t : Stores = with_log_rows s.manifest.current.active (all_rows content s.active.log) (shown_stores content s) in
+      let split : t ≡ with_log_rows s.manifest.current.active (settled_rows content s.active.log ++ waiting_rows content s.active.log) (shown_stores content s) =
+      ap (λ (rows : List StoredRow). with_log_rows s.manifest.current.active rows (shown_stores content s)) rows_split in
+      let is : image_stores (full_image content s) ≡ Ok t = full_stores honest in
+      let same_shape : t.shape ≡ s.manifest.shape = with_shape s.manifest.current.active (all_rows content s.active.log) (shown_stores content s) ∙ named_shape s.manifest.shape s.manifest.current content.shown in
+      record {
+        stores = is ∙ ap Ok (sym (named_here s.manifest.shape s.manifest.current t (full_image content s) is same_shape
+            (with_body s.manifest.current.active (all_rows content s.active.log) (shown_stores content s) ∙ named_body s.manifest.shape s.manifest.current content.shown)));
+        good = (stands_for s.manifest.shape t s.manifest.digests (map_of_rows (rows_of t)) (full_image content s) is same_shape (subst IsSound (sym split) (all_sound honest))
+            (said_with_rows s.manifest.digests s.manifest.current.active (all_rows content s.active.log) (shown_stores content s) (stands.said honest))
+            (says_held (full_image content s) t is same_shape (full_is_current honest)) refl).good;
+        charged = charge_is (full_image content s) t is ∙ ap (λ (u : Stores). put_count (rows_of u)) split
+            ∙ ap put_count (rows_with_more (shown_stores content s) s.manifest.current.active (settled_rows content s.active.log) (waiting_rows content s.active.log) active_is (has_active honest) (waiting_rows content s.active.log))
+            ∙ sym (stands.counted honest);
+      }
+
+  -- the map of what is shown
+  pub shown_map : IsTrue content.honest → image_map content.shown ≡ base_map content s
+  shown_map honest = stores_map (shown_stores content s) content.shown (shown_named honest) ∙ sym (base_is content s)
+
+  -- each image represents the base
+  pub base_stands : IsTrue content.honest → (image : List ℕ) → image_stores image ≡ Ok (shown_stores content s) → RecordIsCurrent s.manifest image → StandsFor s.manifest.shape (base_map content s) image
+  base_stands honest image is is_current =
+      let same_shape = named_shape s.manifest.shape s.manifest.current content.shown in
+      stands_for s.manifest.shape (shown_stores content s) s.manifest.digests (base_map content s) image is
+      same_shape (shown_sound honest) (stands.said honest) (says_held image (shown_stores content s) is same_shape is_current) (sym (base_is content s))
+
+  pub base_safe : LeavesOnly content (StandsFor s.manifest.shape (base_map content s))
+  base_safe = record { each = λ honest image left. base_stands honest image (stands.named.each honest image left) (left_is_current honest image left) }
+
+  -- an image with these rows in the active log, in which nothing is found
+  pub stands_with_rows : IsTrue content.honest → (image : List ℕ) (more : List StoredRow)
+      → image_stores image ≡ Ok (with_log_rows s.manifest.current.active (settled_rows content s.active.log ++ more) (shown_stores content s)) → RecordIsCurrent s.manifest image
+      → IsSound (with_log_rows s.manifest.current.active (settled_rows content s.active.log ++ more) (shown_stores content s))
+      → StandsFor s.manifest.shape (map_after (base_map content s) (map command_of more)) image
+  stands_with_rows honest image more is is_current sound =
+      let t : Stores = with_log_rows s.manifest.current.active (settled_rows content s.active.log ++ more) (shown_stores content s) in
+      let same_shape : t.shape ≡ s.manifest.shape =
+      with_shape s.manifest.current.active (settled_rows content s.active.log ++ more) (shown_stores content s) ∙ named_shape s.manifest.shape s.manifest.current content.shown in
+      stands_for s.manifest.shape t s.manifest.digests (map_after (base_map content s) (map command_of more)) image is same_shape sound
+      (said_with_rows s.manifest.digests s.manifest.current.active (settled_rows content s.active.log ++ more) (shown_stores content s) (stands.said honest))
+      (says_held image t is same_shape is_current)
+      (map_with_more (shown_stores content s) s.manifest.current.active (settled_rows content s.active.log) (waiting_rows content s.active.log) active_is (has_active honest) more
+      ∙ ap (λ (m : Map). map_after m (map command_of more)) (sym (base_is content s)))

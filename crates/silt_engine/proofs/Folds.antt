@@ -1,0 +1,133 @@
+-- Rows done on a map in memory.
+use Rattle.std.proofs.Common.{◌≡◌, ◌<◌, ℕ, ◌+◌, ◌*◌, ◌==◌, Bool, cond, if◌then◌else◌, true, false, List, [], ◌∷◌, ◌++◌, ◌-◌, length, filter, map, take, drop, get_or, Some, None, refl, ap, sym, ◌∙◌, subst, arith}
+use Rattle.std.specs.Ordering.{nat_cmp, eq_by_cmp}
+use Rattle.std.specs.Cmp.Lexicographic.{slice_cmp}
+use Rattle.std.specs.BTreeMap.{BTreeMap}
+use Rattle.std.specs.BTreeMap as tree
+use Rattle.std.specs.FinMap.{empty, get, get-empty, get-insert, get-remove}
+use Rattle.std.specs.Map.{lookup}
+use Rattle.std.proofs.lemmas.Cmp.{eq_by_cmp_equiv, nat_list_cmp_total}
+use Rattle.std.proofs.lemmas.List.{drop_more, length-drop, map-append, take_all, take_more}
+use Rattle.std.proofs.lemmas.List.Elements.{filter-append}
+use Rattle.std.proofs.lemmas.Option.{get_or_from_slice_get, slice_get_within}
+use Rattle.silt_disk.specs.Layout.{Shape}
+use Rattle.silt_frame.specs.declared.key.Key.{Key}
+use Rattle.silt_hash_store.specs.Slots.{rows_before, slot_row, hash_rows}
+use Rattle.silt_hash_store.proofs.Slotting.{all_before, before_more}
+use Rattle.silt_event.specs.Commands.{Command, Map, changed, delete, map_after, put}
+use Rattle.silt_event.specs.Rows.{command_of}
+use Rattle.silt_log.specs.Parts.{oldest_first}
+use Rattle.silt_event.proofs.Rows.{map_after-append}
+use Rattle.silt_sorted_store.specs.OnlyRow.{HasEntry}
+use Rattle.silt_frame.specs.Rows.{entry_row, has_known_kind, StoredRow, key_cmp, stored_row}
+use Rattle.silt_frame.specs.declared.key.Kind.TheVariants.{Put}
+use Rattle.silt_engine.specs.Lookup.{AreEntriesOf}
+use Rattle.silt_engine.specs.Entries.{DoesRows}
+
+-- which of two keys is named first does not matter
+tied : (a b : List ℕ) → eq_by_cmp (slice_cmp nat_cmp) a b ≡ eq_by_cmp (slice_cmp nat_cmp) b a
+tied a b = (eq_by_cmp_equiv nat_list_cmp_total).symm a b
+
+-- a put was done
+pub does_put : (row : StoredRow) (key : Key) (before after : BTreeMap Key (List ℕ)) → row.kind ≡ 1 → row.key ≡ key.0 → tree.Updates key_cmp before after key (Some row.value) → DoesRows (row ∷ []) before after
+does_put row key before after kind same updates m are q =
+    let is : command_of row ≡ put key.0 row.value = ap (λ (n : ℕ). if n == 1 then put row.key row.value else delete row.key) kind ∙ ap (λ (k : List ℕ). put k row.value) same in
+    updates.0 q
+    ∙ ap (cond (eq_by_cmp (slice_cmp nat_cmp) key.0 q.0) (Some row.value)) (are q)
+    ∙ ap (λ (b : Bool). cond b (Some row.value) (get m q.0)) (tied key.0 q.0)
+    ∙ sym (get-insert nat_list_cmp_total m key.0 row.value q.0)
+    ∙ ap (λ (c : Command). get (changed m c) q.0) (sym is)
+
+-- a row that is this put was done
+pub does_row : (row : StoredRow) (key : Key) (value : List ℕ) (before after : BTreeMap Key (List ℕ)) → row.kind ≡ 1 → key.0 ≡ row.key → value ≡ row.value → DoesRows (stored_row Put key value ∷ []) before after → DoesRows (row ∷ []) before after
+does_row row key value before after kind same_key same_value does =
+    let is : stored_row Put key value ≡ row = ap (λ (n : ℕ). record { kind = n; key = key.0; value = value }) (sym kind)
+    ∙ ap (λ (k : List ℕ). record { kind = row.kind; key = k; value = value }) same_key
+    ∙ ap (λ (v : List ℕ). record { kind = row.kind; key = row.key; value = v }) same_value in
+    subst (λ (r : StoredRow). DoesRows (r ∷ []) before after) is does
+
+-- a delete was done
+pub does_delete : (row : StoredRow) (key : Key) (before after : BTreeMap Key (List ℕ)) → (row.kind == 1) ≡ false → row.key ≡ key.0 → tree.UpdatesBy key_cmp (key_cmp key) before after None → DoesRows (row ∷ []) before after
+does_delete row key before after kind same updates m are q =
+    let is : command_of row ≡ delete key.0 = ap (λ (b : Bool). if b then put row.key row.value else delete row.key) kind ∙ ap delete same in
+    updates.0 q
+    ∙ ap (cond (eq_by_cmp (slice_cmp nat_cmp) key.0 q.0) None) (are q)
+    ∙ ap (λ (b : Bool). cond b None (get m q.0)) (tied key.0 q.0)
+    ∙ sym (get-remove nat_list_cmp_total m key.0 q.0)
+    ∙ ap (λ (c : Command). get (changed m c) q.0) (sym is)
+
+-- no row was done
+pub does_none : (entries : BTreeMap Key (List ℕ)) → DoesRows [] entries entries
+does_none entries m are = are
+
+-- further rows were done
+pub does_more : (rows more : List StoredRow) (a b c : BTreeMap Key (List ℕ)) → DoesRows rows a b → DoesRows more b c → DoesRows (rows ++ more) a c
+does_more rows more a b c first second m are =
+    subst (λ (n : Map). AreEntriesOf n c) (sym (ap (map_after m) (map-append command_of rows more) ∙ map_after-append m (map command_of rows) (map command_of more)))
+    (second (map_after m (map command_of rows)) (first m are))
+
+-- one more row of some was done
+pub does_next : (rows : List StoredRow) (n : ℕ) (row : StoredRow) (a b c : BTreeMap Key (List ℕ)) → n < length rows → get_or rows n row ≡ row → DoesRows (take n rows) a b → DoesRows (row ∷ []) b c → DoesRows (take (n + 1) rows) a c
+does_next rows n row a b c inside is first second =
+    subst (λ (l : List StoredRow). DoesRows l a c) (sym (take_more rows n row inside ∙ ap (λ (r : StoredRow). take n rows ++ r ∷ []) is)) (does_more (take n rows) (row ∷ []) a b c first second)
+
+-- one more entry was done
+pub does_entry : (rows : List StoredRow) (place : ℕ) (bytes : List ℕ) (key : Key) (value : List ℕ) (a b c : BTreeMap Key (List ℕ)) → HasEntry rows place bytes → key.0 ≡ take 20 bytes → value ≡ drop 20 bytes
+    → DoesRows (take place rows) a b → DoesRows (stored_row Put key value ∷ []) b c → DoesRows (take (place + 1) rows) a c
+does_entry rows place bytes key value a b c there key_is value_is first second =
+    let row : StoredRow = entry_row bytes in
+    does_next rows place row a b c (slice_get_within rows place row there) (get_or_from_slice_get rows place row row there) first (does_row row key value b c refl key_is value_is second)
+
+-- ---- rows of hash stores
+
+-- a row of a known kind was done
+pub does_kept : (row : StoredRow) (before after : BTreeMap Key (List ℕ)) → has_known_kind row ≡ true → DoesRows (row ∷ []) before after → DoesRows (filter has_known_kind (row ∷ [])) before after
+does_kept row before after known does =
+    let kept : filter has_known_kind (row ∷ []) ≡ row ∷ [] = rw known refl in
+    subst (λ (l : List StoredRow). DoesRows l before after) (sym kept) does
+
+-- a row of another kind counts for nothing
+pub does_dropped : (row : StoredRow) (entries : BTreeMap Key (List ℕ)) → has_known_kind row ≡ false → DoesRows (filter has_known_kind (row ∷ [])) entries entries
+does_dropped row entries unknown =
+    let none : filter has_known_kind (row ∷ []) ≡ [] = rw unknown refl in
+    subst (λ (l : List StoredRow). DoesRows l entries entries) (sym none) (does_none entries)
+
+module _ (shape : Shape) (region : ℕ) (image : List ℕ) where
+  -- no slot was done
+  pub does_no_slot : (entries : BTreeMap Key (List ℕ)) → DoesRows (filter has_known_kind (rows_before shape region image 0)) entries entries
+  unfolding rows_before
+  does_no_slot entries = does_none entries
+
+  -- one slot more was done
+  pub does_slot : (slot : ℕ) (a b c : BTreeMap Key (List ℕ)) → DoesRows (filter has_known_kind (rows_before shape region image slot)) a b → DoesRows (filter has_known_kind (slot_row shape region image slot ∷ [])) b c
+      → DoesRows (filter has_known_kind (rows_before shape region image (slot + 1))) a c
+  does_slot slot a b c first second =
+      let split : filter has_known_kind (rows_before shape region image (slot + 1)) ≡ filter has_known_kind (rows_before shape region image slot) ++ filter has_known_kind (slot_row shape region image slot ∷ []) =
+      ap (filter has_known_kind) (before_more shape region image slot) ∙ filter-append has_known_kind (rows_before shape region image slot) (slot_row shape region image slot ∷ []) in
+      subst (λ (l : List StoredRow). DoesRows l a c) (sym split) (does_more (filter has_known_kind (rows_before shape region image slot)) (filter has_known_kind (slot_row shape region image slot ∷ [])) a b c first second)
+
+  -- all slots were done
+  pub does_slots : (count : ℕ) (a b : BTreeMap Key (List ℕ)) → count ≡ 4 * shape.buckets → DoesRows (filter has_known_kind (rows_before shape region image count)) a b → DoesRows (filter has_known_kind (hash_rows shape region image)) a b
+  does_slots count a b all does =
+      subst (λ (l : List StoredRow). DoesRows (filter has_known_kind l) a b) (ap (rows_before shape region image) all ∙ sym (all_before shape region image)) does
+
+-- ---- all rows
+
+-- from no entries
+pub does_all : (rows : List StoredRow) (first last : BTreeMap Key (List ℕ)) → tree.IsEmpty first → DoesRows rows first last → AreEntriesOf (map_after empty (map command_of rows)) last
+does_all rows first last none does = does empty (λ key. ap (lookup (tree.is_at (key_cmp key))) none ∙ sym (get-empty (slice_cmp nat_cmp) key.0))
+
+-- all of some rows were done
+pub does_whole : (rows : List StoredRow) (n : ℕ) (a b : BTreeMap Key (List ℕ)) → length rows ≡ n → DoesRows (take n rows) a b → DoesRows rows a b
+does_whole rows n a b counted does = subst (λ (l : List StoredRow). DoesRows l a b) (take_all n rows (omega (arith, counted))) does
+
+-- the bytes from a place on
+pub bytes_from : (bytes : List ℕ) (n : ℕ) → take (length bytes - n) (drop n bytes) ≡ drop n bytes
+bytes_from bytes n = take_all (length bytes - n) (drop n bytes) (omega (arith, length-drop n bytes))
+
+-- the rows of one more log, newer than those that were done
+pub does_log : {X : Type 0} (rows_of : X → List StoredRow) (logs : List X) (n k : ℕ) (log : X) (a b c : BTreeMap Key (List ℕ)) → k ≡ n + 1 → n < length logs → get_or logs n log ≡ log
+    → DoesRows (oldest_first (map rows_of (drop k logs))) a b → DoesRows (rows_of log) b c → DoesRows (oldest_first (map rows_of (drop n logs))) a c
+does_log rows_of logs n k log a b c next inside is first second =
+    let split : drop n logs ≡ log ∷ drop k logs = drop_more logs n log inside ∙ ap (λ x. x ∷ drop (n + 1) logs) is ∙ ap (λ (m : ℕ). log ∷ drop m logs) (sym next) in
+    subst (λ l. DoesRows (oldest_first (map rows_of l)) a c) (sym split) (does_more (oldest_first (map rows_of (drop k logs))) (rows_of log) a b c first second)

@@ -1,0 +1,113 @@
+-- An entry of a merge, written into the sorted region that the body does not name.
+use Rattle.std.proofs.Common.{◌≡◌, ◌≢◌, ◌<◌, ℕ, ◌*◌, IsTrue, [], Option, Some, None, Ok, inl, inr, refl, ap, sym, ◌∙◌, subst, arith}
+use Rattle.std.specs.Prelude.{IfSome}
+use Rattle.silt_disk.specs.Disk.{ChangesWithin, Content, LeavesOnly, LiesOutside, Torn, size}
+use Rattle.silt_disk.specs.Layout.{Shape, entries_len, entry_len, gates_at, hash_at, hash_size, log_len, log_size, row_len, slots_len, sorted_at, sorted_size}
+use Rattle.silt_disk.proofs.Regions.{regions_apart, up_least}
+use Rattle.silt_manifest.proofs.Laws.{current_record_elsewhere}
+use Rattle.silt_manifest.specs.declared.body.Body.{Body}
+use Rattle.silt_conversion.specs.Conversion.{ConversionState}
+use Rattle.silt_image.specs.Stores.{Stores, image_stores}
+use Rattle.silt_image.proofs.Frame.{free_sorted_law, pieces_apart}
+use Rattle.silt_merge.specs.State.{MergeState}
+use Rattle.silt_sorted_store.specs.State.{SortedState}
+use Rattle.silt_standing.specs.State.{IsMerging, IsUnderWay, EngineState}
+use Rattle.silt_standing.specs.Standing.{HasGathered, Stands, shown_stores}
+use Rattle.silt_engine.specs.Calls.{Advances, Breaks, Remaps}
+use Rattle.silt_standing.specs.Standing.{SameDisk}
+use Rattle.silt_engine.proofs.Named.{named_body, named_shape}
+use Rattle.silt_engine.proofs.Facts.{active_below}
+use Rattle.silt_engine.proofs.Elsewhere.{hash_below, named_below, written_all_elsewhere}
+use Rattle.silt_standing.proofs.Places.{log_ends_before}
+use Rattle.silt_engine.proofs.Chains.{advances_break, advances_remap}
+use Rattle.silt_engine.proofs.Freezes.{IsApart, IsOutsideConversion, stays_with}
+
+-- ---- places
+
+-- a sorted region lies behind each log
+behind_log : (shape : Shape) (region sorted : ℕ) → region < shape.logs → LiesOutside (gates_at shape region) (log_len shape) (sorted_at shape sorted) (sorted_size shape)
+behind_log shape region sorted below =
+    let bodies = up_least (shape.log_capacity * row_len shape) in
+    inr (omega (arith, log_ends_before (log_size shape) shape.logs region (shape.hashes * hash_size shape) (sorted * sorted_size shape) below, bodies))
+
+-- and behind each hash region
+behind_hash : (shape : Shape) (region sorted : ℕ) → region < shape.hashes → LiesOutside (hash_at shape region) (slots_len shape) (sorted_at shape sorted) (sorted_size shape)
+behind_hash shape region sorted below =
+    let regions = regions_apart shape in
+    let slots = regions.hashes region shape.hashes below in
+    inr (omega (arith, slots, regions.hash_end sorted))
+
+-- the other sorted region lies outside
+other_sorted : (shape : Shape) (region other : ℕ) → region ≢ other → LiesOutside (sorted_at shape region) (entries_len shape) (sorted_at shape other) (sorted_size shape)
+other_sorted shape region other differ =
+    let entries = up_least (shape.sorted_capacity * entry_len shape) in
+    elim (pieces_apart (sorted_at shape 0) region other (sorted_size shape) differ) [
+      | inl before ↦ inr (omega (arith, before, entries))
+      | inr behind ↦ inl (omega (arith, behind))
+    ]
+
+-- ---- an entry is written
+
+module _ (old new : Content) (s : EngineState) (region : ℕ) (stands : Stands old s) (there : region < 2) (apart : s.sorted.region ≢ region) (sizes : size new ≡ size old)
+    (changes : ChangesWithin (sorted_at s.manifest.shape region) (sorted_size s.manifest.shape) old new) where
+  entry_disk : SameDisk old new
+  entry_disk = record { size = sizes; honest = changes.honest }
+
+  -- the body names the other region
+  not_named : s.manifest.current.sorted ≢ region
+  not_named same = apart (ap (λ (t : SortedState). t.region) stands.whole.sorted ∙ same)
+
+  -- each possible crash image has the same stores
+  entry_named : LeavesOnly new (λ image. image_stores image ≡ Ok (shown_stores old s))
+  entry_named = record {
+    each = λ h image left.
+        let o : IsTrue old.honest = subst IsTrue changes.honest h in
+        let t : Stores = shown_stores old s in
+        let t_shape : t.shape ≡ s.manifest.shape = named_shape s.manifest.shape s.manifest.current old.shown in
+        let t_sorted : t.body.sorted ≡ s.manifest.current.sorted = ap (λ (b : Body). b.sorted) (named_body s.manifest.shape s.manifest.current old.shown) in
+        let from = changes.left o image left in
+        free_sorted_law from.0 image t region (stands.named.each o from.0 from.1) there (λ same. not_named (sym (same ∙ t_sorted)))
+        (subst (λ (sh : Shape). Torn (sorted_at sh region) (sorted_size sh) from.0 image) (sym t_shape) from.2);
+  }
+
+  entry_apart : IsTrue old.honest → IsApart s.manifest.shape s.manifest.current (sorted_at s.manifest.shape region) (sorted_size s.manifest.shape)
+  entry_apart h = record {
+    active = behind_log s.manifest.shape s.manifest.current.active region (active_below old s stands);
+    frozen = λ id named. behind_log s.manifest.shape id region (named_below old s stands h id named);
+    hashed = λ id named. behind_hash s.manifest.shape id region (hash_below old s stands h id named);
+    sorted = other_sorted s.manifest.shape s.manifest.current.sorted region not_named;
+  }
+
+  outside_active : LiesOutside (gates_at s.active.log.shape s.active.log.region) (log_len s.active.log.shape) (sorted_at s.manifest.shape region) (sorted_size s.manifest.shape)
+  outside_active =
+      subst (λ (sh : Shape). LiesOutside (gates_at sh s.active.log.region) (log_len sh) (sorted_at s.manifest.shape region) (sorted_size s.manifest.shape)) (sym stands.whole.has_shape)
+      (subst (λ (n : ℕ). LiesOutside (gates_at s.manifest.shape n) (log_len s.manifest.shape) (sorted_at s.manifest.shape region) (sorted_size s.manifest.shape)) (sym stands.whole.active_region)
+      (behind_log s.manifest.shape s.manifest.current.active region (active_below old s stands)))
+
+  outside_conversion : IsOutsideConversion s (sorted_at s.manifest.shape region) (sorted_size s.manifest.shape)
+  outside_conversion = behind s.converting stands.whole.under_way
+    where
+      behind : (o : Option ConversionState) → IfSome o (IsUnderWay s) → IfSome o (λ conversion. LiesOutside (hash_at s.manifest.shape conversion.region) (slots_len s.manifest.shape) (sorted_at s.manifest.shape region) (sorted_size s.manifest.shape))
+      behind None way = tt
+      behind (Some conversion) way =
+          let is : IsUnderWay s conversion = way in
+          behind_hash s.manifest.shape conversion.region region is.there
+
+  -- the stores still stand, with the merge as it is then
+  pub entry_advances : (merging : Option MergeState) → IfSome merging (IsMerging s) → IfSome merging (HasGathered new s) → Advances [] old new s (record s { merging = merging })
+  entry_advances merging is_merging merged = stays_with old new s (sorted_at s.manifest.shape region) (sorted_size s.manifest.shape) stands sizes changes entry_apart outside_active
+      s.manifest s.converting merging refl refl refl stands.idle
+      (current_record_elsewhere s.manifest (sorted_at s.manifest.shape region) (sorted_size s.manifest.shape) old new (omega (arith, stands.has_size)) (inr (omega arith)) changes stands.current)
+      entry_named stands.whole.under_way
+      (written_all_elsewhere old new s (sorted_at s.manifest.shape region) (sorted_size s.manifest.shape) s.converting stands changes (λ h. (entry_apart h).frozen) (λ h. outside_conversion) stands.whole.under_way stands.written)
+      is_merging merged
+
+  pub entry_map : (merging : Option MergeState) → IfSome merging (IsMerging s) → IfSome merging (HasGathered new s) → Remaps [] old new s (record s { merging = merging })
+  entry_map merging is_merging merged = advances_remap [] old new s (record s { merging = merging }) entry_disk stands (entry_advances merging is_merging merged)
+
+  -- also if it was not written
+  pub entry_breaks : Breaks old new s
+  entry_breaks = advances_break old new s (record s { merging = None }) entry_disk (entry_advances None tt tt)
+
+  pub entry_failed_map : Remaps [] old new s s
+  entry_failed_map = entry_map None tt tt

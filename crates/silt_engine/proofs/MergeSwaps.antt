@@ -1,0 +1,50 @@
+-- What is exchanged in memory at the end of a merge.
+use Rattle.std.proofs.Common.{◌≡◌, ℕ, ◌-◌, List, length, drop, take, Option, Some, None, ap, sym, ◌∙◌, subst, arith}
+use Rattle.std.proofs.lemmas.List.{length-drop, take_all}
+use Rattle.silt_hash_store.specs.State.{HashState}
+use Rattle.silt_manifest.specs.Standing.{ManifestState}
+use Rattle.silt_merge.specs.State.{MergeState, oldest_stores}
+use Rattle.silt_sorted_store.specs.Index.{IndexedState}
+use Rattle.silt_standing.specs.State.{AreWhole, EngineState}
+use Rattle.silt_engine.specs.Merge.{MayStandFor, charge_without, puts_in, sorted_replaced}
+
+-- a merge in progress is the one that was
+pub same_merge : (a b : MergeState) (o : Option MergeState) → o ≡ Some a → o ≡ Some b → a ≡ b
+same_merge a b o first second = let e : Some a ≡ Some b = sym first ∙ second in cc
+
+-- what a list has from a place on, as a slice
+pub from_on : (place : ℕ) (stores : List HashState) → take (length stores - place) (drop place stores) ≡ drop place stores
+from_on place stores = take_all (length stores - place) (drop place stores) (omega (arith, length-drop place stores))
+
+module _ (s : EngineState) (m : ManifestState) (store : IndexedState) (may : MayStandFor s m store) (ended : MergeState) (taken : Option MergeState) (taken_is : taken ≡ s.merging) (taken_some : taken ≡ Some ended) (count newer : ℕ) (count_is : count ≡ ended.stores)
+    (newer_is : newer ≡ length s.hashes - count) (merged hashes : List HashState) (merged_are : merged ≡ drop newer s.hashes) (hashes_are : hashes ≡ take newer s.hashes) (merging : Option MergeState) (merging_is : merging ≡ None)
+    (entries written without left gone dropped charge : ℕ) (entries_are : entries ≡ s.sorted.count) (written_is : written ≡ store.sorted.count) (without_is : without ≡ s.charge - puts_in merged) (left_is : left ≡ without - entries)
+    (gone_is : gone ≡ s.charge - left) (dropped_is : dropped ≡ gone - written) (charge_is : charge ≡ s.charge - dropped) where
+  pub counted : count ≡ may.merge.stores
+  counted = count_is ∙ ap (λ (v : MergeState). v.stores) (same_merge ended may.merge s.merging (sym taken_is ∙ taken_some) may.was)
+
+  newer_now : newer ≡ length s.hashes - may.merge.stores
+  newer_now = newer_is ∙ ap (λ (n : ℕ). length s.hashes - n) counted
+
+  without_now : without ≡ s.charge - puts_in (oldest_stores may.merge.stores s.hashes)
+  without_now = without_is ∙ ap (λ (l : List HashState). s.charge - puts_in l) (merged_are ∙ ap (λ (n : ℕ). drop n s.hashes) newer_now)
+
+  left_now : left ≡ charge_without s may.merge.stores
+  left_now = left_is ∙ ap (λ (n : ℕ). n - entries) without_now ∙ ap (λ (n : ℕ). (s.charge - puts_in (oldest_stores may.merge.stores s.hashes)) - n) entries_are
+
+  charge_now : charge ≡ s.charge - ((s.charge - charge_without s may.merge.stores) - store.sorted.count)
+  charge_now = charge_is ∙ ap (λ (n : ℕ). s.charge - n) (dropped_is ∙ ap (λ (n : ℕ). n - written) (gone_is ∙ ap (λ (n : ℕ). s.charge - n) left_now) ∙ ap (λ (n : ℕ). (s.charge - charge_without s may.merge.stores) - n) written_is)
+
+  abbrev parts : List HashState → Option MergeState → ℕ → EngineState
+  parts l o n = record s { manifest = m; hashes = l; sorted = store.sorted; index = store.index; digest = store.digest; merging = o; charge = n }
+
+  -- the stores afterwards
+  pub sorted_are : parts hashes merging charge ≡ sorted_replaced s m may.merge.stores store
+  sorted_are =
+      ap (λ (l : List HashState). parts l merging charge) (hashes_are ∙ ap (λ (n : ℕ). take n s.hashes) newer_now)
+      ∙ ap (λ (o : Option MergeState). parts (take (length s.hashes - may.merge.stores) s.hashes) o charge) merging_is
+      ∙ ap (parts (take (length s.hashes - may.merge.stores) s.hashes) None) charge_now
+
+  -- are whole
+  pub sorted_whole : AreWhole (record s { manifest = m; hashes = hashes; sorted = store.sorted; index = store.index; digest = store.digest; merging = merging; charge = charge })
+  sorted_whole = subst AreWhole (sym sorted_are) may.whole

@@ -1,0 +1,225 @@
+-- The end of a merge: the record that names its sorted store, and the stores once it is current.
+use Rattle.std.proofs.Common.{inr, ◌≡◌, ◌≤◌, ◌<◌, ℕ, ◌-◌, ◌*◌, ◌==◌, IsTrue, List, [], ◌++◌, length, map, take, Option, Some, None, refl, ap, sym, ◌∙◌, subst, arith}
+use Rattle.std.specs.Prelude.{All, IfSome}
+use Rattle.std.specs.List.{list_any}
+use Rattle.std.proofs.lemmas.List.{take-map}
+use Rattle.std.proofs.lemmas.List.Elements.{All-take}
+use Rattle.silt_disk.specs.Disk.{Content, LeavesOnly, Rests, size}
+use Rattle.silt_disk.specs.Layout.{Shape, device_size, slot_at}
+use Rattle.silt_disk.proofs.Images.{left_at_rest}
+use Rattle.silt_frame.specs.Rows.{StoredRow, put_count}
+use Rattle.silt_log.specs.State.{all_rows}
+use Rattle.silt_log.specs.Calls.{KeepsRows}
+use Rattle.silt_manifest.specs.Standing.{ManifestState, spare_slot}
+use Rattle.silt_manifest.specs.declared.body.Body.{Body}
+use Rattle.silt_manifest.specs.declared.digests.Digests.{Digests}
+use Rattle.silt_image.specs.Stores.{Stores, stores_named}
+use Rattle.silt_image.specs.Meaning.{AreDigestsOf, IsSound, entries_digest, rows_of, with_log_rows}
+use Rattle.silt_event.specs.Rows.{command_of}
+use Rattle.silt_conversion.specs.Conversion.{ConversionState}
+use Rattle.silt_hash_store.specs.State.{IsHashStore}
+use Rattle.silt_merge.specs.Rows.{merged_rows}
+use Rattle.silt_merge.specs.State.{MergeState}
+use Rattle.silt_sorted_store.specs.Index.{IndexedState}
+use Rattle.silt_sorted_store.specs.State.{IsHeldSorted, SortedState, entries_of, sorted_rows}
+use Rattle.silt_sorted_store.proofs.Elsewhere.{digest_elsewhere, indexed_elsewhere}
+use Rattle.silt_standing.specs.State.{AreWhole, IsHashOf, IsMerging, IsSettled, IsUnderWay, EngineState, hash_region_of, sorted_named}
+use Rattle.silt_standing.specs.Standing.{IsDigested, IsLocated, Stands, shown_stores}
+use Rattle.silt_engine.specs.Calls.{Advances}
+use Rattle.silt_engine.specs.Succession.{MayBecomeCurrent, BecomesCurrent}
+use Rattle.silt_engine.specs.Merge.{EndsMerge, EndsMerged, HasMergedEntries, MayStandFor, charge_without, merge_sources, merged_body, sorted_replaced}
+use Rattle.silt_engine.specs.Merge as spec
+use Rattle.silt_engine.proofs.Named.{named_shape}
+use Rattle.silt_engine.proofs.Elsewhere.{entries_behind_manifest, indexed_same}
+use Rattle.silt_engine.proofs.Standing.{Fits, shown_are}
+use Rattle.silt_engine.proofs.ConvertCounting.{hash_count, none_of_first}
+use Rattle.silt_engine.proofs.Remains.{active_stays, frozen_stays, hashed_stays, slot_below, waiting_stays, written_stays}
+use Rattle.silt_engine.proofs.NextBodies.{now_named, succeeds}
+use Rattle.silt_engine.proofs.MergeCounting.{may_end_merge}
+use Rattle.silt_engine.proofs.MergeStores.{merged_entries, merged_named, merged_current, merged_shape, sources_with, with_entries}
+use Rattle.silt_engine.proofs.Said.{merged_said}
+use Rattle.silt_engine.proofs.MergeDone.{entries_are, full_is, merged_counted, merged_full_sound, merged_map, merged_sound, merged_stores, way}
+
+-- a conversion is in progress in stores with fewer hash stores
+under_way_fewer : (s t : EngineState) (count : ℕ) (o : Option ConversionState) → t.manifest.shape ≡ s.manifest.shape → t.manifest.current.hashed ≡ take count s.manifest.current.hashed → t.frozen ≡ s.frozen → IfSome o (IsUnderWay s) → IfSome o (IsUnderWay t)
+under_way_fewer s t count None same_shape fewer same_frozen is = tt
+under_way_fewer s t count (Some conversion) same_shape fewer same_frozen is = record {
+  has_shape = is.has_shape ∙ sym same_shape;
+  some_frozen = omega (arith, is.some_frozen, ap length same_frozen);
+  there = subst (λ (sh : Shape). conversion.region < sh.hashes) (sym same_shape) is.there;
+  free = ap (λ (ids : List ℕ). list_any (λ id. id == conversion.region) ids) fewer ∙ none_of_first s.manifest.current.hashed count conversion.region is.free;
+  most = subst (λ (sh : Shape). conversion.next ≤ 4 * sh.buckets) (sym same_shape) is.most;
+}
+
+-- ---- the body that names the new sorted store
+
+module _ (old : Content) (s : EngineState) (body : Body) (digests : Digests) (store : IndexedState) (stands : Stands old s) (rests : Rests old) (ends : EndsMerge s body digests store) where
+  under_way : IsMerging s ends.merge
+  under_way = way old s ends.merge stands ends.was ends.done
+
+  -- the stores under it
+  abbrev now_stores : Stores
+  now_stores = merged_stores old s ends.merge stands ends.was ends.done body
+
+  -- it names them in each possible crash image, since nothing is pending
+  names : LeavesOnly old (λ image. stores_named s.manifest.shape body image ≡ now_stores)
+  names = record {
+    each = λ h image left.
+        ap (λ (shown : List ℕ). stores_named s.manifest.shape body shown) (left_at_rest rests h image left)
+        ∙ ap (λ (b : Body). stores_named s.manifest.shape b old.shown) ends.is
+        ∙ merged_named s.manifest.shape s.manifest.current ends.merge.stores ends.merge.region ends.merge.written old.shown
+        ∙ ap (λ (b : Body). merged_stores old s ends.merge stands ends.was ends.done b) (sym ends.is);
+  }
+
+  -- the digests are theirs
+  said : IsTrue old.honest → AreDigestsOf (Some digests) now_stores
+  said h =
+      subst (λ (d : Digests). AreDigestsOf (Some d) now_stores) (sym ends.digests_are)
+      (merged_said old s stands h body ends.merge.stores _ store
+      (ends.digested old stands h
+      ∙ ap (λ (t : SortedState). entries_digest (entries_of old t)) ends.entries
+      ∙ ap (λ (sh : Shape). entries_digest (sorted_rows sh ends.merge.region ends.merge.written old.shown)) under_way.has_shape))
+
+  pub merged_may_become_current : MayBecomeCurrent old s body digests
+  merged_may_become_current = record {
+    follows = λ sound. may_end_merge s body digests store sound stands.whole ends;
+    stores = now_stores;
+    has_shape = merged_shape _ _ _ _ ∙ named_shape s.manifest.shape s.manifest.current old.shown;
+    has_body = merged_current _ _ _ _;
+    names = names;
+    sound = merged_sound old s ends.merge stands ends.was ends.done body;
+    said = said;
+    same_map = merged_map old s ends.merge stands ends.was ends.done body;
+    waiting = inr (ap (λ (b : Body). b.active) ends.is);
+  }
+
+  -- ---- once it is_current
+
+  module _ (new : Content) (sizes : size new ≡ size old) (m : ManifestState) (now : BecomesCurrent old new s body digests m) where
+    back : IsTrue new.honest → IsTrue old.honest
+    back h = subst IsTrue now.changes.honest h
+
+    -- the stores in memory afterwards
+    abbrev after : EngineState
+    after = sorted_replaced s m ends.merge.stores store
+
+    current_is : m.current ≡ merged_body s.manifest.current ends.merge.stores ends.merge.region ends.merge.written
+    current_is = now.has_body ∙ ends.is
+
+    -- they are those that the body names
+    pub merged_whole : AreWhole (sorted_replaced s m ends.merge.stores store)
+    merged_whole = record {
+      has_shape = stands.whole.has_shape ∙ sym now.has_shape;
+      active_region = stands.whole.active_region ∙ ap (λ (b : Body). b.active) (sym current_is);
+      frozen_regions = stands.whole.frozen_regions ∙ ap (λ (b : Body). b.frozen) (sym current_is);
+      settled = subst (λ (sh : Shape). All (IsSettled sh) s.frozen) (sym now.has_shape) stands.whole.settled;
+      hash_regions =
+          sym (take-map hash_region_of (length s.hashes - ends.merge.stores) s.hashes)
+          ∙ ap (take (length s.hashes - ends.merge.stores)) stands.whole.hash_regions
+          ∙ ap (λ (n : ℕ). take (n - ends.merge.stores) s.manifest.current.hashed) (hash_count s stands.whole)
+          ∙ ap (λ (b : Body). b.hashed) (sym current_is);
+      hashed = subst (λ (sh : Shape). All (IsHashOf sh) (take (length s.hashes - ends.merge.stores) s.hashes)) (sym now.has_shape)
+          (All-take (IsHashOf s.manifest.shape) (length s.hashes - ends.merge.stores) s.hashes stands.whole.hashed);
+      sorted =
+          ends.entries
+          ∙ ap (λ (sh : Shape). let t : SortedState = record { shape = sh; region = ends.merge.region; count = ends.merge.written } in t) (under_way.has_shape ∙ sym now.has_shape)
+          ∙ ap (λ (b : Body). sorted_named m.shape b) (sym current_is);
+      held = subst IsHeldSorted (sym ends.entries) (record { region = under_way.held.there; room = under_way.held.room });
+      under_way = under_way_fewer s after (length s.manifest.current.hashed - ends.merge.stores) s.converting now.has_shape (ap (λ (b : Body). b.hashed) current_is) refl stands.whole.under_way;
+      merging = tt;
+      most = subst (λ (sh : Shape). s.charge - ((s.charge - charge_without s ends.merge.stores) - store.sorted.count) ≤ sh.sorted_capacity) (sym now.has_shape) (let most = stands.whole.most in omega (arith, most));
+    }
+
+    pub may_stand_for : MayStandFor s m store
+    may_stand_for = record { merge = ends.merge; was = ends.was; most = under_way.most; whole = merged_whole }
+
+    -- the active log is as it was
+    keeps : KeepsRows old new s.active.log s.active.log
+    keeps = active_stays old new s stands sizes now.changes
+
+    -- the index of the new entries is theirs still
+    store_shape : store.sorted.shape ≡ s.manifest.shape
+    store_shape = ap (λ (t : SortedState). t.shape) ends.entries ∙ under_way.has_shape
+
+    located : IsLocated new after
+    located = indexed_elsewhere store.sorted store.index old new (slot_at (spare_slot s.manifest)) 4096 merged_whole.held
+        (subst (λ (sh : Shape). device_size sh ≤ size old) (sym store_shape) (omega (arith, stands.has_size)))
+        (entries_behind_manifest store.sorted.shape store.sorted.region (spare_slot s.manifest) (slot_below old new s stands sizes now.changes))
+        now.changes (ends.located old stands)
+
+    -- and so is the digest
+    digested : IsDigested new after
+    digested = digest_elsewhere store.sorted store.digest old new (slot_at (spare_slot s.manifest)) 4096 merged_whole.held
+        (subst (λ (sh : Shape). device_size sh ≤ size old) (sym store_shape) (omega (arith, stands.has_size)))
+        (entries_behind_manifest store.sorted.shape store.sorted.region (spare_slot s.manifest) (slot_below old new s stands sizes now.changes))
+        now.changes (ends.digested old stands)
+
+    fits : Fits new after now_stores
+    unfolding merged_may_become_current
+    fits = record {
+      has_size = sizes ∙ stands.has_size ∙ ap device_size (sym now.has_shape);
+      whole = merged_whole;
+      idle = now.idle;
+      current = now.current;
+      active = record { log = keeps.stands; index = indexed_same old new s.active back (λ h. keeps.all (back h)) stands.indexed };
+      frozen = frozen_stays old new s stands sizes now.changes;
+      hashed = All-take (IsHashStore new) (length s.hashes - ends.merge.stores) s.hashes (hashed_stays old new s stands sizes now.changes);
+      located = located;
+      digested = digested;
+      written = written_stays old new s stands sizes now.changes;
+      merged = tt;
+      same_shape = merged_may_become_current.has_shape ∙ sym now.has_shape;
+      same_body = merged_may_become_current.has_body ∙ sym now.has_body;
+      named = now_named old new s body digests stands merged_may_become_current sizes m now;
+      sound = λ h.
+          subst (λ (n : ℕ). IsSound (with_log_rows n (all_rows new s.active.log) now_stores)) (ap (λ (b : Body). b.active) (sym current_is))
+          (subst (λ (rows : List StoredRow). IsSound (with_log_rows s.manifest.current.active rows now_stores)) (sym (keeps.all (back h)))
+          (merged_full_sound old s ends.merge stands ends.was ends.done body (back h)));
+      said = λ h. subst (λ (o : Option Digests). AreDigestsOf o now_stores) (sym now.has_digests) (merged_may_become_current.said (back h));
+      counted = λ h.
+          merged_counted old s ends.merge stands ends.was ends.done body (back h) (s.charge - ((s.charge - charge_without s ends.merge.stores) - store.sorted.count))
+          (ap (λ (t : SortedState). s.charge - ((s.charge - charge_without s ends.merge.stores) - t.count)) ends.entries)
+          ∙ ap (λ (rows : List StoredRow). put_count (rows_of now_stores ++ rows)) (sym (waiting_stays old new s stands sizes now.changes (back h)));
+    }
+
+    -- and still stand
+    goes : Advances [] old new s (sorted_replaced s m ends.merge.stores store)
+    unfolding merged_may_become_current
+    goes = succeeds old new s body digests stands merged_may_become_current sizes m now after fits now.has_shape (λ h. ap (map command_of) (waiting_stays old new s stands sizes now.changes h))
+
+    pub merged_advances : (finished : EngineState) → finished ≡ sorted_replaced s m ends.merge.stores store → Advances [] old new s finished
+    merged_advances finished is = subst (λ (t : EngineState). Advances [] old new s t) (sym is) goes
+
+    -- the merge is ended
+    pub ends_merged : (finished : EngineState) → finished ≡ sorted_replaced s m ends.merge.stores store → EndsMerged s finished
+    ends_merged finished is = subst (λ (t : EngineState). EndsMerged s t) (sym is) (record {
+      merge = ends.merge;
+      was = ends.was;
+      none = refl;
+      shape = now.has_shape;
+      current = current_is;
+      active = refl;
+      frozen = refl;
+      converting = refl;
+    })
+
+    -- its entries are the newest rows that are puts, of what it took on a disk that shows the same stores
+    entries_now : IsTrue old.honest → (spec.full_stores new after).entries ≡ merged_rows (merge_sources ends.merge.stores (shown_stores old s))
+    unfolding merged_may_become_current
+    entries_now h =
+        let here : IsTrue new.honest = subst IsTrue (sym now.changes.honest) h in
+        ap (λ (t : Stores). t.entries) (full_is new after goes.stands here)
+        ∙ with_entries m.current.active (all_rows new s.active.log) (shown_stores new after)
+        ∙ ap (λ (t : Stores). t.entries) (shown_are new after now_stores fits.same_shape fits.same_body fits.named here)
+        ∙ merged_entries _ _ _ _
+        ∙ entries_are old s ends.merge stands ends.was ends.done h
+
+    pub has_merged_entries : (first : Content) (finished : EngineState) → finished ≡ sorted_replaced s m ends.merge.stores store → Stands first s → IsTrue first.honest → IsTrue old.honest → shown_stores old s ≡ shown_stores first s → HasMergedEntries first new s finished
+    has_merged_entries first finished is stood was_honest h same =
+        subst (λ (o : Option MergeState). IfSome o (λ merge. (spec.full_stores new finished).entries ≡ merged_rows (merge_sources merge.stores (spec.full_stores first s)))) (sym ends.was) (
+        ap (λ (t : EngineState). (spec.full_stores new t).entries) is
+        ∙ entries_now h
+        ∙ ap (λ (t : Stores). merged_rows (merge_sources ends.merge.stores t)) same
+        ∙ ap merged_rows (sym (sources_with s.manifest.current.active ends.merge.stores (all_rows first s.active.log) (shown_stores first s)))
+        ∙ ap (λ (t : Stores). merged_rows (merge_sources ends.merge.stores t)) (sym (full_is first s stood was_honest))
+        )

@@ -1,0 +1,111 @@
+-- Stores that a body names, and the images that have them.
+use Rattle.std.proofs.Common.{◌≡◌, ◌<◌, ℕ, List, [], ◌++◌, map, take, Option, Some, None, Result, Ok, Err, refl, ap, sym, ◌∙◌, subst}
+use Rattle.std.proofs.lemmas.List.{append-nil}
+use Rattle.silt_disk.specs.Disk.{Torn}
+use Rattle.silt_disk.specs.Layout.{Shape, gates_at, log_size}
+use Rattle.silt_log.specs.Rows.{log_rows}
+use Rattle.silt_frame.specs.Rows.{StoredRow}
+use Rattle.silt_manifest.specs.Current.{manifest_found, current_manifest, where_found}
+use Rattle.silt_manifest.specs.declared.body.Body.{Body}
+use Rattle.silt_manifest.specs.declared.digests.Digests.{Digests}
+use Rattle.silt_manifest.specs.declared.slot.Damage.{Damage}
+use Rattle.silt_manifest.specs.declared.slot.SlotRecord.{SlotRecord}
+use Rattle.silt_event.specs.Commands.{Map, map_after}
+use Rattle.silt_image.specs.Stores.{Stores, image_digests, image_stores, stores_named}
+use Rattle.silt_image.specs.Meaning.{AreDigestsOf, HasActive, IsSound, StandsFor, image_map, rows_of, with_log_rows}
+use Rattle.silt_event.specs.Rows.{command_of, map_of_rows}
+use Rattle.silt_image.proofs.Named.{digests_law, stores_law, whole_law}
+use Rattle.silt_image.proofs.Frame.{log_region_law}
+use Rattle.silt_image.proofs.Rows.{append_law, own_rows_law}
+use Rattle.silt_event.proofs.Rows.{map_law}
+use Rattle.silt_image.proofs.Sound.{beginning_law}
+use Rattle.silt_image.proofs.Verdict.{rows_law, stands_law}
+
+-- ---- one image
+
+pub named_shape : (shape : Shape) (body : Body) (image : List ℕ) → (stores_named shape body image).shape ≡ shape
+unfolding stores_named
+named_shape shape body image = refl
+
+pub named_body : (shape : Shape) (body : Body) (image : List ℕ) → (stores_named shape body image).body ≡ body
+unfolding stores_named
+named_body shape body image = refl
+
+-- other rows of a log leave the shape and the body
+pub with_shape : (region : ℕ) (rows : List StoredRow) (t : Stores) → (with_log_rows region rows t).shape ≡ t.shape
+unfolding with_log_rows
+with_shape region rows t = refl
+
+pub with_body : (region : ℕ) (rows : List StoredRow) (t : Stores) → (with_log_rows region rows t).body ≡ t.body
+unfolding with_log_rows
+with_body region rows t = refl
+
+-- the stores of an image are those that their body names in it
+pub named_here : (shape : Shape) (body : Body) (t : Stores) (image : List ℕ) → image_stores image ≡ Ok t → t.shape ≡ shape → t.body ≡ body → stores_named shape body image ≡ t
+named_here shape body t image is same_shape same_body =
+    ap (λ (s : Shape). stores_named s body image) (sym same_shape) ∙ ap (λ (b : Body). stores_named t.shape b image) (sym same_body)
+    ∙ sym ((stores_law image t).0 is).named
+
+-- an image that is changed in a log region has the stores with that log's rows
+pub region_torn : (shape : Shape) (t : Stores) (region : ℕ) (rows : List StoredRow) (before image : List ℕ) → t.shape ≡ shape → image_stores before ≡ Ok t → region < shape.logs
+    → Torn (gates_at shape region) (log_size shape) before image → log_rows shape region image ≡ rows → image_stores image ≡ Ok (with_log_rows region rows t)
+region_torn shape t region rows before image same named below torn are =
+    let inside : region < t.shape.logs = subst (λ (s : Shape). region < s.logs) (sym same) below in
+    let here : Torn (gates_at t.shape region) (log_size t.shape) before image = subst (λ (s : Shape). Torn (gates_at s region) (log_size s) before image) (sym same) torn in
+    log_region_law before image t region named inside here ∙ ap (λ (r : List StoredRow). Ok (with_log_rows region r t)) (ap (λ (s : Shape). log_rows s region image) same ∙ are)
+
+-- the first log is the active one
+pub active_named : (shape : Shape) (body : Body) (t : Stores) (rows : List StoredRow) (image : List ℕ) → image_stores image ≡ Ok t → t.shape ≡ shape → t.body ≡ body → log_rows shape body.active image ≡ rows → HasActive rows t
+active_named shape body t rows image is same_shape same_body are =
+    subst (λ (r : List StoredRow). HasActive r t) (ap (λ (s : Shape). log_rows s t.body.active image) same_shape ∙ ap (λ (b : Body). log_rows shape b.active image) same_body ∙ are) (whole_law image t is).active
+
+-- the map of an image with stores
+pub stores_map : (t : Stores) (image : List ℕ) → image_stores image ≡ Ok t → image_map image ≡ map_of_rows (rows_of t)
+unfolding image_map
+stores_map t image is = ap map_of_rows (rows_law image t is)
+
+-- an image with sound stores and with these digests in its record, which are theirs
+pub stands_for : (shape : Shape) (t : Stores) (said : Option Digests) (m : Map) (image : List ℕ) → image_stores image ≡ Ok t → t.shape ≡ shape → IsSound t → AreDigestsOf said t → image_digests image ≡ said → map_of_rows (rows_of t) ≡ m → StandsFor shape m image
+stands_for shape t said m image is same_shape sound are says has_map =
+    subst (λ (n : Map). StandsFor shape n image) has_map
+    (subst (λ (s : Shape). StandsFor s (map_of_rows (rows_of t)) image) same_shape (stands_law image t is sound (subst (λ (o : Option Digests). AreDigestsOf o t) (sym says) are)))
+
+-- a current record was found
+pub found_current : (r : Result SlotRecord Damage) (found : SlotRecord) → where_found r ≡ Some found → r ≡ Ok found
+found_current (Ok other) found e = ap Ok (let same : other ≡ found = let g : Some other ≡ Some found = e in cc in same)
+found_current (Err damage) found e = absurd (let no : None ≡ Some found = e in cc)
+
+-- an image with stores has the digests of the current record
+pub says_current : (shape : Shape) (t : Stores) (found : SlotRecord) (image : List ℕ) → image_stores image ≡ Ok t → t.shape ≡ shape → current_manifest shape image ≡ Some found → image_digests image ≡ found.digests
+says_current shape t found image is same_shape is_current =
+    digests_law image t found is (ap (λ (s : Shape). manifest_found s image) same_shape ∙ found_current (manifest_found shape image) found is_current)
+
+-- the digests of stores do not depend on the rows of the logs
+pub said_with_rows : (said : Option Digests) (region : ℕ) (rows : List StoredRow) (t : Stores) → AreDigestsOf said t → AreDigestsOf said (with_log_rows region rows t)
+unfolding with_log_rows
+said_with_rows said region rows t are = record { hashed = are.hashed; sorted = are.sorted }
+
+-- ---- the rows of the active log
+
+module _ (t : Stores) (active : ℕ) (settled waiting : List StoredRow) (is : t.body.active ≡ active) (has : HasActive settled t) where
+  -- all rows with further ones in the active log
+  pub rows_with_more : (more : List StoredRow) → rows_of (with_log_rows active (settled ++ more) t) ≡ rows_of t ++ more
+  rows_with_more more = ap (λ (n : ℕ). rows_of (with_log_rows n (settled ++ more) t)) (sym is) ∙ append_law t settled more has
+
+  -- their map
+  pub map_with_more : (more : List StoredRow) → map_of_rows (rows_of (with_log_rows active (settled ++ more) t)) ≡ map_after (map_of_rows (rows_of t)) (map command_of more)
+  map_with_more more = ap map_of_rows (rows_with_more more) ∙ map_law (rows_of t) more
+
+  -- the log with its own rows
+  pub own_rows : with_log_rows active settled t ≡ t
+  own_rows = ap (λ (n : ℕ). with_log_rows n settled t) (sym is) ∙ own_rows_law t settled has
+
+  -- if nothing is found with all rows, nothing is with a beginning of the waiting ones
+  pub sound_some : (n : ℕ) → IsSound (with_log_rows active (settled ++ waiting) t) → IsSound (with_log_rows active (settled ++ take n waiting) t)
+  sound_some n sound = beginning_law t active n settled waiting sound
+
+  -- and with the settled ones alone
+  pub sound_settled : IsSound (with_log_rows active (settled ++ waiting) t) → IsSound t
+  sound_settled sound =
+      let none : take 0 waiting ≡ [] = refl in
+      subst IsSound (ap (λ (r : List StoredRow). with_log_rows active r t) (ap (λ (r : List StoredRow). settled ++ r) none ∙ append-nil settled) ∙ own_rows) (sound_some 0 sound)

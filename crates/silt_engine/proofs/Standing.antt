@@ -1,0 +1,155 @@
+-- When stores stand on a disk, from the stores that its images have.
+use Rattle.std.proofs.Common.{◌≡◌, ℕ, IsTrue, List, [], ◌∷◌, ◌++◌, Option, Some, None, Ok, inr, ap, sym, ◌∙◌, subst, arith}
+use Rattle.std.specs.Prelude.{All, IfSome}
+use Rattle.silt_disk.specs.Disk.{ChangesWithin, Content, LeavesOnly, LiesOutside, Torn, size}
+use Rattle.silt_disk.specs.Layout.{Shape, device_size, entries_len, gates_at, hash_at, log_size, slots_len, sorted_at}
+use Rattle.silt_disk.proofs.Images.{shown_left, torn_trans}
+use Rattle.silt_log.specs.Rows.{log_rows}
+use Rattle.silt_frame.specs.Rows.{StoredRow, put_count}
+use Rattle.silt_log.specs.State.{LogState, all_rows, settled_rows, waiting_rows}
+use Rattle.silt_log.specs.State as log
+use Rattle.silt_log_store.specs.State.{IsLogStore}
+use Rattle.silt_conversion.specs.Conversion.{ConversionState, HasWritten}
+use Rattle.silt_hash_store.specs.State.{IsHashStore}
+use Rattle.silt_image.specs.Stores.{Stores, image_stores}
+use Rattle.silt_image.specs.Meaning.{AreDigestsOf, IsSound, rows_of, with_log_rows}
+use Rattle.silt_manifest.specs.Standing.{IsCurrent}
+use Rattle.silt_manifest.proofs.Laws.{current_record_elsewhere}
+use Rattle.silt_standing.specs.State.{AreWhole, EngineState, oldest_log}
+use Rattle.silt_merge.specs.State.{MergeState}
+use Rattle.silt_standing.specs.Standing.{HasGathered, IsDigested, IsFrozen, IsLocated, Stands, shown_stores}
+use Rattle.silt_engine.proofs.Named.{named_here}
+use Rattle.silt_engine.proofs.Facts.{active_below, full_torn, torn_active}
+use Rattle.silt_engine.proofs.Elsewhere.{all_frozen_elsewhere, all_hashed_elsewhere, digested_elsewhere, located_elsewhere, merged_all_elsewhere, not_active, outside_other, slots_behind_log, written_all_elsewhere}
+use Rattle.silt_standing.proofs.Places.{entries_behind_log}
+
+-- the stores that are shown are those that all images have
+pub shown_are : (content : Content) (s : EngineState) (t : Stores) → t.shape ≡ s.manifest.shape → t.body ≡ s.manifest.current → LeavesOnly content (λ image. image_stores image ≡ Ok t) → IsTrue content.honest → shown_stores content s ≡ t
+shown_are content s t same_shape same_body named honest = named_here s.manifest.shape s.manifest.current t content.shown (named.each honest content.shown (shown_left content)) same_shape same_body
+
+-- what has to be known for stores to stand on a disk
+pub record Fits (content : Content) (s : EngineState) (t : Stores) : Type 0 where
+  pub has_size : size content ≡ device_size s.manifest.shape
+  pub whole : AreWhole s
+  pub idle : s.manifest.prepared ≡ None
+  pub current : IsCurrent s.manifest content
+  pub active : IsLogStore content s.active
+  pub frozen : All (IsFrozen content) s.frozen
+  pub hashed : All (IsHashStore content) s.hashes
+  pub located : IsLocated content s
+  pub digested : IsDigested content s
+  pub written : IfSome s.converting (HasWritten content (oldest_log s))
+  pub merged : IfSome s.merging (HasGathered content s)
+  pub same_shape : t.shape ≡ s.manifest.shape
+  pub same_body : t.body ≡ s.manifest.current
+  pub named : LeavesOnly content (λ image. image_stores image ≡ Ok t)
+  pub sound : IsTrue content.honest → IsSound (with_log_rows s.manifest.current.active (all_rows content s.active.log) t)
+  pub said : IsTrue content.honest → AreDigestsOf s.manifest.digests t
+  pub counted : IsTrue content.honest → s.charge ≡ put_count (rows_of t ++ waiting_rows content s.active.log)
+
+pub fits_stand : (content : Content) (s : EngineState) (t : Stores) → Fits content s t → Stands content s
+fits_stand content s t fits =
+    let is : IsTrue content.honest → shown_stores content s ≡ t = shown_are content s t fits.same_shape fits.same_body fits.named in
+    record {
+      has_size = fits.has_size;
+      whole = fits.whole;
+      idle = fits.idle;
+      current = fits.current;
+      active = fits.active.log;
+      indexed = fits.active.index;
+      frozen = fits.frozen;
+      hashed = fits.hashed;
+      located = fits.located;
+      digested = fits.digested;
+      written = fits.written;
+      merged = fits.merged;
+      named = record { each = λ h image left. fits.named.each h image left ∙ ap Ok (sym (is h)) };
+      sound = λ h. subst (λ (u : Stores). IsSound (with_log_rows s.active.log.region (all_rows content s.active.log) u)) (sym (is h))
+          (subst (λ (n : ℕ). IsSound (with_log_rows n (all_rows content s.active.log) t)) (sym fits.whole.active_region) (fits.sound h));
+      said = λ h. subst (λ (u : Stores). AreDigestsOf s.manifest.digests u) (sym (is h)) (fits.said h);
+      counted = λ h. fits.counted h ∙ ap (λ (u : Stores). put_count (rows_of u ++ waiting_rows content s.active.log)) (sym (is h));
+    }
+
+-- what comes before both of two lists can be left out
+pub after_same : {A : Type 0} (xs ys zs : List A) → xs ++ ys ≡ xs ++ zs → ys ≡ zs
+after_same [] ys zs e = e
+after_same (x ∷ xs) ys zs e = after_same xs ys zs (cc)
+
+-- ---- a change in the region of the active log
+
+module _ (old new : Content) (s : EngineState) (stands : Stands old s) (sizes : size new ≡ size old) (changes : ChangesWithin (gates_at s.active.log.shape s.active.log.region) (log_size s.active.log.shape) old new) where
+  pub back : IsTrue new.honest → IsTrue old.honest
+  back h = subst IsTrue changes.honest h
+
+  -- in the manifest's words
+  pub changes_active : ChangesWithin (gates_at s.manifest.shape s.manifest.current.active) (log_size s.manifest.shape) old new
+  changes_active =
+      subst (λ (n : ℕ). ChangesWithin (gates_at s.manifest.shape n) (log_size s.manifest.shape) old new) stands.whole.active_region
+      (subst (λ (sh : Shape). ChangesWithin (gates_at sh s.active.log.region) (log_size sh) old new) stands.whole.has_shape changes)
+
+  -- the same manifest is current
+  pub current_record_stays : IsCurrent s.manifest new
+  current_record_stays = current_record_elsewhere s.manifest (gates_at s.manifest.shape s.manifest.current.active) (log_size s.manifest.shape) old new (omega (arith, stands.has_size)) (inr (omega arith)) changes_active stands.current
+
+  -- the frozen logs match the disk as before
+  pub frozen_stay : All (IsFrozen new) s.frozen
+  frozen_stay = all_frozen_elsewhere old new s (gates_at s.manifest.shape s.manifest.current.active) (log_size s.manifest.shape) stands changes_active
+      (λ h region there. outside_other s.manifest.shape region s.manifest.current.active (not_active old s stands h region there))
+
+  -- the hash stores match the disk as before
+  pub hashed_stay : All (IsHashStore new) s.hashes
+  hashed_stay = all_hashed_elsewhere old new s (gates_at s.manifest.shape s.manifest.current.active) (log_size s.manifest.shape) stands changes_active
+      (λ h region there. slots_behind_log s.manifest.shape s.manifest.current.active region (active_below old s stands))
+
+  -- and the index of the entries is theirs as before
+  pub located_stays : IsLocated new s
+  located_stays = located_elsewhere old new s (gates_at s.manifest.shape s.manifest.current.active) (log_size s.manifest.shape) stands changes_active
+      (λ h. entries_behind_log s.manifest.shape s.manifest.current.active s.manifest.current.sorted (active_below old s stands))
+
+  -- and so is the digest
+  pub digested_stays : IsDigested new s
+  digested_stays = digested_elsewhere old new s (gates_at s.manifest.shape s.manifest.current.active) (log_size s.manifest.shape) stands changes_active
+      (λ h. entries_behind_log s.manifest.shape s.manifest.current.active s.manifest.current.sorted (active_below old s stands))
+
+  -- and a conversion has written what it had
+  pub written_stays : IfSome s.converting (HasWritten new (oldest_log s))
+  written_stays = written_all_elsewhere old new s (gates_at s.manifest.shape s.manifest.current.active) (log_size s.manifest.shape) s.converting stands changes_active
+      (λ h region there. outside_other s.manifest.shape region s.manifest.current.active (not_active old s stands h region there))
+      (λ h. behind s.converting)
+      stands.whole.under_way stands.written
+    where
+      behind : (o : Option ConversionState) → IfSome o (λ conversion. LiesOutside (hash_at s.manifest.shape conversion.region) (slots_len s.manifest.shape) (gates_at s.manifest.shape s.manifest.current.active) (log_size s.manifest.shape))
+      behind None = tt
+      behind (Some conversion) = slots_behind_log s.manifest.shape s.manifest.current.active conversion.region (active_below old s stands)
+
+  -- and a merge has gathered and written what it had
+  pub merged_stays : IfSome s.merging (HasGathered new s)
+  merged_stays = merged_all_elsewhere old new s (gates_at s.manifest.shape s.manifest.current.active) (log_size s.manifest.shape) s.merging stands changes_active
+      (λ h region there. slots_behind_log s.manifest.shape s.manifest.current.active region (active_below old s stands))
+      (λ h. entries_behind_log s.manifest.shape s.manifest.current.active s.manifest.current.sorted (active_below old s stands))
+      (λ h. behind s.merging)
+      stands.whole.merging stands.merged
+    where
+      behind : (o : Option MergeState) → IfSome o (λ merge. LiesOutside (sorted_at s.manifest.shape merge.region) (entries_len s.manifest.shape) (gates_at s.manifest.shape s.manifest.current.active) (log_size s.manifest.shape))
+      behind None = tt
+      behind (Some merge) = entries_behind_log s.manifest.shape s.manifest.current.active merge.region (active_below old s stands)
+
+  -- with these rows of the log in each image, each has the stores with them
+  pub named_with : (rows : List StoredRow) → LeavesOnly new (λ image. log_rows s.active.log.shape s.active.log.region image ≡ rows)
+      → LeavesOnly new (λ image. image_stores image ≡ Ok (with_log_rows s.manifest.current.active rows (shown_stores old s)))
+  named_with rows images = record {
+    each = λ h image left.
+        let from = changes.left (back h) image left in
+        torn_active old s stands from.0 image rows (stands.named.each (back h) from.0 from.1) from.2 (images.each h image left);
+  }
+
+  -- with these rows of the log in the full image, that has the stores with them
+  pub full_with : IsTrue new.honest → (l : LogState) (rows : List StoredRow) → l.shape ≡ s.active.log.shape → l.region ≡ s.active.log.region → log.InBounds l
+      → log_rows s.active.log.shape s.active.log.region (log.opened_image new l) ≡ rows
+      → image_stores (log.opened_image new l) ≡ Ok (with_log_rows s.manifest.current.active rows (shown_stores old s))
+  full_with h l rows same_shape same_region bounds are =
+      let opened : Torn (gates_at l.shape l.region) (log_size l.shape) new.shown (log.opened_image new l) = full_torn new l bounds (sizes ∙ stands.has_size ∙ ap device_size (sym stands.whole.has_shape ∙ sym same_shape)) in
+      let here : Torn (gates_at s.active.log.shape s.active.log.region) (log_size s.active.log.shape) new.shown (log.opened_image new l) =
+      subst (λ (n : ℕ). Torn (gates_at s.active.log.shape n) (log_size s.active.log.shape) new.shown (log.opened_image new l)) same_region
+      (subst (λ (sh : Shape). Torn (gates_at sh l.region) (log_size sh) new.shown (log.opened_image new l)) same_shape opened) in
+      torn_active old s stands old.shown (log.opened_image new l) rows (stands.named.each (back h) old.shown (shown_left old)) (torn_trans (changes.shown (back h)) here) are

@@ -1,0 +1,223 @@
+-- A lookup, at its exits.
+use Rattle.std.proofs.Common.{◌≡◌, ◌<◌, ◌+◌, ◌*◌, ℕ, true, false, IsTrue, List, [], length, get_or, Option, Some, None, inl, inr, refl, ap, sym, ◌∙◌, subst, arith}
+use Rattle.std.specs.Prelude.{IfSome}
+use Rattle.std.specs.FinMap.{get}
+use Rattle.std.proofs.lemmas.Bool.{cases_lt}
+use Rattle.std.proofs.lemmas.List.{get_or_default}
+use Rattle.silt_disk.specs.Disk.{Content}
+use Rattle.silt_frame.specs.Frame.{is_put}
+use Rattle.silt_frame.specs.declared.key.Kind.{Kind}
+use Rattle.silt_frame.specs.declared.key.Kind.TheVariants.{Put, Delete}
+use Rattle.silt_hash_store.specs.Lookup.{FindsRow}
+use Rattle.silt_hash_store.specs.Slots.{slot_row}
+use Rattle.silt_hash_store.specs.State.{HashState, IsHashStore}
+use Rattle.silt_hash_store.specs.Findings.{holds_key}
+use Rattle.silt_sorted_store.specs.Findings.{sorted_findings}
+use Rattle.silt_log.specs.Rows.{row_at}
+use Rattle.silt_log.specs.State.{all_rows}
+use Rattle.silt_log_store.specs.State.{IsIndexed, LogStoreState}
+use Rattle.silt_log_store.specs.LastRow.{FindsLast, HasNoRow}
+use Rattle.silt_log.specs.Found.{put_place}
+use Rattle.silt_log.specs.declared.found.Found.{Found}
+use Rattle.silt_frame.specs.Rows.{StoredRow}
+use Rattle.silt_sorted_store.specs.Index.{IsIndexOf}
+use Rattle.silt_sorted_store.specs.OnlyRow.{HasNoEntry, HasOnlyValue}
+use Rattle.silt_sorted_store.specs.State.{entries_of}
+use Rattle.silt_engine.specs.declared.lookup.Holder.{Holder}
+use Rattle.silt_engine.specs.declared.lookup.Holder.TheVariants.{Active, Frozen, Hashed}
+use Rattle.silt_standing.specs.State.{EngineState}
+use Rattle.silt_standing.specs.Standing.{Stands, current_map}
+use Rattle.silt_engine.specs.Lookup.{FindsFrozen, FindsHashed, FindsNewest, IsItsValue, frozen_at, hash_store_at, hash_rows_of, row_in}
+use Rattle.silt_engine.proofs.Lookups.{entries_sound, found_active, found_frozen, found_hashed, found_nowhere, found_value, past_hashed}
+
+-- what a frozen log finds, by its number
+log_finds : (content : Content) (s : EngineState) (items : List LogStoreState) (number : ℕ) (store : LogStoreState) (key : List ℕ) (o : Option Found)
+    → items ≡ s.frozen → number < length items → store ≡ get_or items number store → Stands content s → IsTrue content.honest
+    → (IsTrue content.honest → IsIndexed content store → FindsLast (all_rows content store.log) key o) → FindsLast (all_rows content (frozen_at s number).log) key o
+log_finds content s items number store key o are inside is stands honest finds =
+    let below : number < length s.frozen = subst (λ (l : List LogStoreState). number < length l) are inside in
+    let here : store ≡ frozen_at s number = is ∙ ap (λ (l : List LogStoreState). get_or l number store) are ∙ get_or_default s.frozen number store s.active below in
+    subst (λ (t : LogStoreState). FindsLast (all_rows content t.log) key o) here (finds honest (subst (IsIndexed content) (sym here) (stands.frozen number s.active below).indexed))
+
+-- a log of the frozen ones has a row of the key
+pub found_here : (content : Content) (s : EngineState) (items : List LogStoreState) (number : ℕ) (store : LogStoreState) (key : List ℕ) (o : Option Found) (found : Found)
+    → items ≡ s.frozen → number < length items → store ≡ get_or items number store → Stands content s → IsTrue content.honest
+    → (IsTrue content.honest → IsIndexed content store → FindsLast (all_rows content store.log) key o) → o ≡ Some found
+    → ((index : ℕ) → index < number → HasNoRow (all_rows content (frozen_at s index).log) key) → FindsFrozen content s key (Some (number, found))
+found_here content s items number store key o found are inside is stands honest finds some before =
+    (before, subst (FindsLast (all_rows content (frozen_at s number).log) key) some (log_finds content s items number store key o are inside is stands honest finds))
+
+-- what a hash store finds, by its number
+hash_finds : (content : Content) (s : EngineState) (items : List HashState) (number : ℕ) (store : HashState) (key : List ℕ) (o : Option Found)
+    → items ≡ s.hashes → number < length items → store ≡ get_or items number store → Stands content s → IsTrue content.honest
+    → (IsTrue content.honest → IsHashStore content store → FindsRow (hash_rows_of content store) key o) → FindsRow (hash_rows_of content (hash_store_at s number)) key o
+hash_finds content s items number store key o are inside is stands honest finds =
+    let none : HashState = record { shape = s.manifest.shape; region = 0; tags = []; puts = 0; digest = [] } in
+    let below : number < length s.hashes = subst (λ (l : List HashState). number < length l) are inside in
+    let here : store ≡ hash_store_at s number = is ∙ ap (λ (l : List HashState). get_or l number store) are ∙ get_or_default s.hashes number store none below in
+    subst (λ (t : HashState). FindsRow (hash_rows_of content t) key o) here (finds honest (subst (IsHashStore content) (sym here) (stands.hashed number none below)))
+
+-- a hash store has a row of the key
+pub hash_here : (content : Content) (s : EngineState) (items : List HashState) (number : ℕ) (store : HashState) (key : List ℕ) (o : Option Found) (found : Found)
+    → items ≡ s.hashes → number < length items → store ≡ get_or items number store → Stands content s → IsTrue content.honest
+    → (IsTrue content.honest → IsHashStore content store → FindsRow (hash_rows_of content store) key o) → o ≡ Some found
+    → ((index : ℕ) → index < number → holds_key key (hash_rows_of content (hash_store_at s index)) ≡ false) → FindsHashed content s key (Some (number, found))
+hash_here content s items number store key o found are inside is stands honest finds some before =
+    (before, subst (FindsRow (hash_rows_of content (hash_store_at s number)) key) some (hash_finds content s items number store key o are inside is stands honest finds))
+
+-- a result that is none
+pub none_of : {X : Type 0} (o : Option X) → ((x : X) → o ≡ Some x → ⊥) → o ≡ None
+none_of None not_some = refl
+none_of (Some x) not_some = absurd (not_some x refl)
+
+-- what holds of the numbers below one, and of that one
+one_more : (P : ℕ → Type 0) (number : ℕ) → ((index : ℕ) → index < number → P index) → P number → (index : ℕ) → index < number + 1 → P index
+one_more P number before here index below = elim (cases_lt index number) [
+  | inl less ↦ before index less
+  | inr past ↦ let same : number ≡ index = omega (arith, below, past) in subst P same here
+]
+
+-- a frozen log that has no row of the key is passed
+pub log_passed : (content : Content) (s : EngineState) (items : List LogStoreState) (number : ℕ) (store : LogStoreState) (key : List ℕ) (o : Option Found)
+    → items ≡ s.frozen → number < length items → store ≡ get_or items number store → Stands content s → IsTrue content.honest
+    → (IsTrue content.honest → IsIndexed content store → FindsLast (all_rows content store.log) key o) → ((found : Found) → o ≡ Some found → ⊥)
+    → ((index : ℕ) → index < number → HasNoRow (all_rows content (frozen_at s index).log) key) → (index : ℕ) → index < number + 1 → HasNoRow (all_rows content (frozen_at s index).log) key
+log_passed content s items number store key o are inside is stands honest finds not_some before =
+    one_more (λ index. HasNoRow (all_rows content (frozen_at s index).log) key) number before
+    (subst (FindsLast (all_rows content (frozen_at s number).log) key) (none_of o not_some) (log_finds content s items number store key o are inside is stands honest finds))
+
+-- and so is a hash store
+pub hash_passed : (content : Content) (s : EngineState) (items : List HashState) (number : ℕ) (store : HashState) (key : List ℕ) (o : Option Found)
+    → items ≡ s.hashes → number < length items → store ≡ get_or items number store → Stands content s → IsTrue content.honest
+    → (IsTrue content.honest → IsHashStore content store → FindsRow (hash_rows_of content store) key o) → ((found : Found) → o ≡ Some found → ⊥)
+    → ((index : ℕ) → index < number → holds_key key (hash_rows_of content (hash_store_at s index)) ≡ false) → (index : ℕ) → index < number + 1 → holds_key key (hash_rows_of content (hash_store_at s index)) ≡ false
+hash_passed content s items number store key o are inside is stands honest finds not_some before =
+    one_more (λ index. holds_key key (hash_rows_of content (hash_store_at s index)) ≡ false) number before
+    (subst (FindsRow (hash_rows_of content (hash_store_at s number)) key) (none_of o not_some) (hash_finds content s items number store key o are inside is stands honest finds))
+
+-- the active log has a row of the key
+pub newest_active : (content : Content) (s : EngineState) (key : List ℕ) (o : Option Found) (found : Found) → Stands content s → IsTrue content.honest
+    → (IsTrue content.honest → IsIndexed content s.active → FindsLast (all_rows content s.active.log) key o) → o ≡ Some found → FindsNewest content s key (Some (Active, found))
+newest_active content s key o found stands honest finds some =
+    found_active content s stands honest key found (subst (FindsLast (all_rows content s.active.log) key) some (finds honest stands.indexed))
+
+-- ---- where it has none, with the stores seen through their fields
+
+module _ (content : Content) (view s : EngineState) (is : view ≡ s) (key : List ℕ) (o : Option Found)
+    (finds : IsTrue content.honest → IsIndexed content view.active → FindsLast (all_rows content view.active.log) key o) (none : o ≡ None)
+    (walked : Option (ℕ × Found)) (walks : Stands content s → IsTrue content.honest → FindsFrozen content s key walked) (stands : Stands content s) (honest : IsTrue content.honest) where
+  -- the active log has no row of the key
+  active_lacks : HasNoRow (all_rows content s.active.log) key
+  active_lacks =
+      let found : FindsLast (all_rows content s.active.log) key o = subst (λ (v : EngineState). IsTrue content.honest → IsIndexed content v.active → FindsLast (all_rows content v.active.log) key o) is finds honest stands.indexed in
+      subst (FindsLast (all_rows content s.active.log) key) none found
+
+  -- and a frozen log has one
+  pub newest_frozen : (number : ℕ) (found : Found) → IfSome walked (λ row. (row.0 < length s.frozen) × (row.1.place < (frozen_at s row.0).log.used)) → walked ≡ Some (number, found)
+      → FindsNewest content s key (Some (Frozen number, found))
+  newest_frozen number found inside some =
+      let there : (number < length s.frozen) × (found.place < (frozen_at s number).log.used) = subst (λ (w : Option (ℕ × Found)). IfSome w (λ row. (row.0 < length s.frozen) × (row.1.place < (frozen_at s row.0).log.used))) some inside in
+      found_frozen content s stands honest key number found there.0 active_lacks (subst (FindsFrozen content s key) some (walks stands honest))
+
+  -- no log has one, and this is what the hash stores have
+  module _ (nowhere : walked ≡ None) (hash_walked : Option (ℕ × Found)) (hash_walks : Stands content s → IsTrue content.honest → FindsHashed content s key hash_walked) where
+    frozen_lack : FindsFrozen content s key None
+    frozen_lack = subst (FindsFrozen content s key) nowhere (walks stands honest)
+
+    -- a hash store has one
+    pub newest_hashed : (number : ℕ) (found : Found) → IfSome hash_walked (λ row. (row.0 < length s.hashes) × (row.1.place < 4 * s.manifest.shape.buckets)) → hash_walked ≡ Some (number, found)
+        → FindsNewest content s key (Some (Hashed number, found))
+    newest_hashed number found inside some =
+        let there : (number < length s.hashes) × (found.place < 4 * s.manifest.shape.buckets) = subst (λ (w : Option (ℕ × Found)). IfSome w (λ row. (row.0 < length s.hashes) × (row.1.place < 4 * s.manifest.shape.buckets))) some inside in
+        found_hashed content s stands honest key number found there.0 active_lacks frozen_lack (subst (FindsHashed content s key) some (hash_walks stands honest))
+
+    -- none has one
+    pub newest_nowhere : hash_walked ≡ None → FindsNewest content s key None
+    newest_nowhere gone = past_hashed content s stands honest key active_lacks frozen_lack (subst (FindsHashed content s key) gone (hash_walks stands honest))
+
+-- ---- the value beside the answer
+
+-- by the row of a holder
+its_value : (content : Content) (s : EngineState) (holder : Holder) (kind : Kind) (place : ℕ) (out : List ℕ) (value : ℕ → List ℕ) → ((n : ℕ) → value n ≡ (row_in content s holder n).value)
+    → IfSome (put_place (Some (record { kind = kind; place = place }))) (λ n. out ≡ value n) → IsItsValue content s holder (record { kind = kind; place = place }) out
+its_value content s holder Put place out value same has = has ∙ same place
+its_value content s holder Delete place out value same has = tt
+
+-- in the active log, which is seen through the stores' fields
+pub active_value : (content : Content) (view s : EngineState) → view ≡ s → (o : Option Found) (found : Found) (out : List ℕ) → o ≡ Some found
+    → IfSome (put_place o) (λ place. out ≡ (row_at view.active.log.shape view.active.log.region content.shown place).value) → IsItsValue content s Active found out
+active_value content view s is o found out some has =
+    its_value content s Active found.kind found.place out (λ n. (row_at view.active.log.shape view.active.log.region content.shown n).value)
+    (λ n. ap (λ (v : EngineState). (row_at v.active.log.shape v.active.log.region content.shown n).value) is)
+    (subst (λ (o : Option Found). IfSome (put_place o) (λ place. out ≡ (row_at view.active.log.shape view.active.log.region content.shown place).value)) some has)
+
+-- in a frozen log
+pub frozen_value : (content : Content) (s : EngineState) (items : List LogStoreState) (number : ℕ) (store : LogStoreState) (o : Option Found) (found : Found) (out : List ℕ)
+    → items ≡ s.frozen → number < length items → store ≡ get_or items number store → o ≡ Some found
+    → IfSome (put_place o) (λ place. out ≡ (row_at store.log.shape store.log.region content.shown place).value) → IsItsValue content s (Frozen number) found out
+frozen_value content s items number store o found out are inside is some has =
+    let below : number < length s.frozen = subst (λ (l : List LogStoreState). number < length l) are inside in
+    let here : store ≡ frozen_at s number = is ∙ ap (λ (l : List LogStoreState). get_or l number store) are ∙ get_or_default s.frozen number store s.active below in
+    its_value content s (Frozen number) found.kind found.place out (λ n. (row_at store.log.shape store.log.region content.shown n).value)
+    (λ n. ap (λ (t : LogStoreState). (row_at t.log.shape t.log.region content.shown n).value) here)
+    (subst (λ (o : Option Found). IfSome (put_place o) (λ place. out ≡ (row_at store.log.shape store.log.region content.shown place).value)) some has)
+
+-- in a hash store
+pub hashed_value : (content : Content) (s : EngineState) (items : List HashState) (number : ℕ) (store : HashState) (o : Option Found) (found : Found) (out : List ℕ)
+    → items ≡ s.hashes → number < length items → store ≡ get_or items number store → o ≡ Some found
+    → IfSome (put_place o) (λ place. out ≡ (slot_row store.shape store.region content.shown place).value) → IsItsValue content s (Hashed number) found out
+hashed_value content s items number store o found out are inside is some has =
+    let none : HashState = record { shape = s.manifest.shape; region = 0; tags = []; puts = 0; digest = [] } in
+    let below : number < length s.hashes = subst (λ (l : List HashState). number < length l) are inside in
+    let here : store ≡ hash_store_at s number = is ∙ ap (λ (l : List HashState). get_or l number store) are ∙ get_or_default s.hashes number store none below in
+    its_value content s (Hashed number) found.kind found.place out (λ n. (slot_row store.shape store.region content.shown n).value)
+    (λ n. ap (λ (t : HashState). (slot_row t.shape t.region content.shown n).value) here)
+    (subst (λ (o : Option Found). IfSome (put_place o) (λ place. out ≡ (slot_row store.shape store.region content.shown place).value)) some has)
+
+-- a put gives the key its value
+put_gives : (content : Content) (s : EngineState) (key : List ℕ) (holder : Holder) (kind : Kind) (place : ℕ) (out : List ℕ) → FindsNewest content s key (Some (holder, record { kind = kind; place = place }))
+    → IsItsValue content s holder (record { kind = kind; place = place }) out → is_put kind ≡ true → get (current_map content s) key ≡ Some out
+put_gives content s key holder Put place out finds has puts = finds ∙ ap Some (sym has)
+put_gives content s key holder Delete place out finds has puts = absurd (cc)
+
+-- and a delete gives it none
+delete_gives : (content : Content) (s : EngineState) (key : List ℕ) (holder : Holder) (kind : Kind) (place : ℕ) → FindsNewest content s key (Some (holder, record { kind = kind; place = place })) → is_put kind ≡ false
+    → get (current_map content s) key ≡ None
+delete_gives content s key holder Put place finds deletes = absurd (cc)
+delete_gives content s key holder Delete place finds deletes = finds
+
+-- the row that was found is a put, and this is the value
+pub found_put : (content : Content) (s : EngineState) (key : List ℕ) (walked : Option (Holder × Found)) (holder : Holder) (found : Found) (out : List ℕ) → FindsNewest content s key walked → walked ≡ Some (holder, found)
+    → IfSome walked (λ row. IsItsValue content s row.0 row.1 out) → is_put found.kind ≡ true → get (current_map content s) key ≡ Some out
+found_put content s key walked holder found out finds some has puts =
+    put_gives content s key holder found.kind found.place out (subst (FindsNewest content s key) some finds)
+    (subst (λ (w : Option (Holder × Found)). IfSome w (λ row. IsItsValue content s row.0 row.1 out)) some has) puts
+
+-- it is a delete
+pub found_delete : (content : Content) (s : EngineState) (key : List ℕ) (walked : Option (Holder × Found)) (holder : Holder) (found : Found) → FindsNewest content s key walked → walked ≡ Some (holder, found)
+    → is_put found.kind ≡ false → get (current_map content s) key ≡ None
+found_delete content s key walked holder found finds some deletes = delete_gives content s key holder found.kind found.place (subst (FindsNewest content s key) some finds) deletes
+
+-- ---- the answer of a lookup
+
+-- no log and no hash store has a row of the key; the entries are seen through the stores' fields
+module _ (content : Content) (view s : EngineState) (is : view ≡ s) (key : List ℕ) (walked : Option (Holder × Found)) (walks : Stands content s → IsTrue content.honest → FindsNewest content s key walked) (none : walked ≡ None)
+    (stands : Stands content s) (honest : IsTrue content.honest) where
+  newest : FindsNewest content s key None
+  newest = subst (FindsNewest content s key) none (walks stands honest)
+
+  -- what is found in entries without a finding, if the index is theirs
+  told : (P : List StoredRow → Type 0) → (sorted_findings (entries_of content view.sorted) ≡ [] → IsIndexOf (entries_of content view.sorted) view.index → P (entries_of content view.sorted)) → P (entries_of content s.sorted)
+  told P tells =
+      subst (λ (v : EngineState). sorted_findings (entries_of content v.sorted) ≡ [] → IsIndexOf (entries_of content v.sorted) v.index → P (entries_of content v.sorted)) is tells
+      (entries_sound content s stands honest) (stands.located honest)
+
+  -- its value was read
+  pub gets_value : (value : List ℕ) → (IsTrue content.honest → sorted_findings (entries_of content view.sorted) ≡ [] → IsIndexOf (entries_of content view.sorted) view.index → HasOnlyValue (entries_of content view.sorted) key value)
+      → get (current_map content s) key ≡ Some value
+  gets_value value reads = found_value content s stands honest key value newest (told (λ rows. HasOnlyValue rows key value) (reads honest))
+
+  -- there is none to read
+  pub gets_none : (IsTrue content.honest → sorted_findings (entries_of content view.sorted) ≡ [] → IsIndexOf (entries_of content view.sorted) view.index → HasNoEntry (entries_of content view.sorted) key)
+      → get (current_map content s) key ≡ None
+  gets_none lacks = found_nowhere content s stands honest key newest (told (λ rows. HasNoEntry rows key) (lacks honest))

@@ -1,0 +1,103 @@
+use Rattle.std.proofs.Common.{◌≡◌, ◌≤◌, ◌<◌, ◌-◌, ℕ, false, List, [], length, None, refl, ap, sym, ◌∙◌, subst, arith}
+use Rattle.std.specs.Prelude.{All}
+use Rattle.std.proofs.lemmas.List.{length-map}
+use Rattle.silt_disk.specs.Layout.{Shape}
+use Rattle.silt_hash_store.specs.State.{HashState}
+use Rattle.silt_event.specs.declared.progress.Progress.TheVariants.{Finished, Moved}
+use Rattle.silt_merge.specs.State.{is_done, oldest_stores}
+use Rattle.silt_sorted_store.specs.State.{SortedState}
+use Rattle.silt_standing.specs.State.{EngineState, hash_region_of}
+use Rattle.silt_standing.specs.Standing.{Stands}
+use Rattle.silt_engine.specs.Merge.{refusal_of_step}
+use Rattle.silt_engine.proofs.ConvertCounting.{sound_hashes}
+use Rattle.silt_engine.proofs.MergeSteps.{begin_merges, begun, failed_breaks, failed_map, first_lacks, first_turn, kept_by_step, some_stores, started_not_done, started_way, step_advances, step_cause, taken_shapes}
+use Rattle.silt_engine.proofs.Exits.{on_error}
+use Rattle.silt_engine.proofs.Viewing.{state_of}
+use Rattle.silt_engine.proofs.Works.{nothing_done, went}
+use Rattle.silt_disk.proofs.Costs.{most_none}
+use Rattle.silt_engine.proofs.engine.Engine.begin_merge.Goals as goal
+
+pub step-requires-clause-shapes : goal.step-requires-clause-shapes
+step-requires-clause-shapes g c κs within =
+    let stores : EngineState = state_of c.self.inside in
+    let none : stores.merging ≡ None = subst (λ (v : EngineState). v.merging ≡ None) (sym c.self.view_is) c.requires.none in
+    let some : 0 < length stores.hashes = some_stores stores.hashes _ c.is_empty.result c.is_empty.ensures c.if-is_empty.false c.self.inside.hashes.ok.0 in
+    let other : 1 - c.region-region.result ≡ 1 - stores.sorted.region = ap (λ (n : ℕ). 1 - n) c.region-region.ensures.value in
+    let way = started_way stores (1 - c.region-region.result) c.deref.result.now none some c.self.invariant.whole other c.deref.ensures.value c.entries-sorted.result.now c.entries-sorted.ensures c.in-Ok.merge c.in-Ok.ensures.start c.in-Ok.ensures.held in
+    subst (λ (l : List HashState). All (λ (store : HashState). store.shape ≡ c.in-Ok.merge.shape) (oldest_stores c.in-Ok.merge.stores l)) (sym c.deref-2.ensures.value) (taken_shapes stores c.in-Ok.merge c.self.invariant.whole way)
+
+pub returns-in_err-step-clause-err : goal.returns-in_err-step-clause-err
+returns-in_err-step-clause-err g c =
+    let stores : EngineState = state_of c.self.inside in
+    let none : stores.merging ≡ None = subst (λ (v : EngineState). v.merging ≡ None) (sym c.self.view_is) c.requires.none in
+    let some : 0 < length stores.hashes = some_stores stores.hashes _ c.is_empty.result c.is_empty.ensures c.if-is_empty.false c.self.inside.hashes.ok.0 in
+    let other : 1 - c.region-region.result ≡ 1 - stores.sorted.region = ap (λ (n : ℕ). 1 - n) c.region-region.ensures.value in
+    let way = started_way stores (1 - c.region-region.result) c.deref.result.now none some c.self.invariant.whole other c.deref.ensures.value c.entries-sorted.result.now c.entries-sorted.ensures c.in-Ok.merge c.in-Ok.ensures.start c.in-Ok.ensures.held in
+    let stands = subst (λ (v : EngineState). Stands (g.D.Disk.content c.args.disk.now) v) (sym c.self.view_is) c.requires.stands in
+    let breaks = failed_breaks _ _ stores c.in-Ok.merge c.step.new.self stands way c.step.ensures.size c.step.ensures.region in
+    let remaps = failed_map _ _ stores c.in-Ok.merge c.step.new.self stands way c.step.ensures.size c.step.ensures.region stores.merging in
+    rw (← c.self.view_is) (on_error c.from_residual.result (refusal_of_step c.in_err-step.field-0.0) _ c.from_residual.ensures.1
+    (step_cause g.D.Disk c.args.disk.now c.step.new.disk stores stores c.in_err-step.field-0.0 c.in_err-step.ensures.failures refl (first_turn stores none some)
+    (λ takes. first_lacks (g.D.Disk.content c.args.disk.now) stores none) breaks remaps))
+
+pub invariant_of-self : goal.invariant_of-self
+invariant_of-self g c =
+    let stores : EngineState = state_of c.self.inside in
+    let none : stores.merging ≡ None = subst (λ (v : EngineState). v.merging ≡ None) (sym c.self.view_is) c.requires.none in
+    let some : 0 < length stores.hashes = some_stores stores.hashes _ c.is_empty.result c.is_empty.ensures c.if-is_empty.false c.self.inside.hashes.ok.0 in
+    let other : 1 - c.region-region.result ≡ 1 - stores.sorted.region = ap (λ (n : ℕ). 1 - n) c.region-region.ensures.value in
+    let way = started_way stores (1 - c.region-region.result) c.deref.result.now none some c.self.invariant.whole other c.deref.ensures.value c.entries-sorted.result.now c.entries-sorted.ensures c.in-Ok.merge c.in-Ok.ensures.start c.in-Ok.ensures.held in
+    let gathered = begun stores (1 - c.region-region.result) c.deref.result.now none some c.self.invariant.whole other c.deref.ensures.value c.entries-sorted.result.now c.entries-sorted.ensures c.in-Ok.merge c.in-Ok.ensures.start c.in-Ok.ensures.held (g.D.Disk.content c.args.disk.now) (c.in-Ok.ensures.merged (g.D.Disk.content c.args.disk.now)) in
+    let stands = subst (λ (v : EngineState). Stands (g.D.Disk.content c.args.disk.now) v) (sym c.self.view_is) c.requires.stands in
+    let merged = kept_by_step (g.D.Disk.content c.args.disk.now) (g.D.Disk.content c.step.new.disk) stores c.deref-2.result.now c.entries-sorted.result.now c.in-Ok.merge c.step.new.self c.deref-2.ensures.value c.entries-sorted.ensures c.step.ensures.merged in
+    let goes = step_advances _ _ stores c.in-Ok.merge c.step.new.self stands way c.step.ensures.size c.step.ensures.region c.step.ensures.same c.step.ensures.held gathered merged in
+    record { whole = goes.stands.whole; enough = c.self.invariant.enough; enough_hashes = c.self.invariant.enough_hashes }
+
+pub returns-clause-works : goal.returns-clause-works
+returns-clause-works g c =
+    let stores : EngineState = state_of c.self.inside in
+    let none : stores.merging ≡ None = subst (λ (v : EngineState). v.merging ≡ None) (sym c.self.view_is) c.requires.none in
+    let some : 0 < length stores.hashes = some_stores stores.hashes _ c.is_empty.result c.is_empty.ensures c.if-is_empty.false c.self.inside.hashes.ok.0 in
+    let other : 1 - c.region-region.result ≡ 1 - stores.sorted.region = ap (λ (n : ℕ). 1 - n) c.region-region.ensures.value in
+    let way = started_way stores (1 - c.region-region.result) c.deref.result.now none some c.self.invariant.whole other c.deref.ensures.value c.entries-sorted.result.now c.entries-sorted.ensures c.in-Ok.merge c.in-Ok.ensures.start c.in-Ok.ensures.held in
+    let gathered = begun stores (1 - c.region-region.result) c.deref.result.now none some c.self.invariant.whole other c.deref.ensures.value c.entries-sorted.result.now c.entries-sorted.ensures c.in-Ok.merge c.in-Ok.ensures.start c.in-Ok.ensures.held (g.D.Disk.content c.args.disk.now) (c.in-Ok.ensures.merged (g.D.Disk.content c.args.disk.now)) in
+    let stands = subst (λ (v : EngineState). Stands (g.D.Disk.content c.args.disk.now) v) (sym c.self.view_is) c.requires.stands in
+    let merged = kept_by_step (g.D.Disk.content c.args.disk.now) (g.D.Disk.content c.step.new.disk) stores c.deref-2.result.now c.entries-sorted.result.now c.in-Ok.merge c.step.new.self c.deref-2.ensures.value c.entries-sorted.ensures c.step.ensures.merged in
+    rw (← c.self.view_is) (went g.D.Disk [] c.args.disk.now c.step.new.disk stores _ _ (record { size = c.step.ensures.size; honest = c.step.ensures.region.honest }) stands c.in_ok-step.ensures.failures
+    (step_advances _ _ stores c.in-Ok.merge c.step.new.self stands way c.step.ensures.size c.step.ensures.region c.step.ensures.same c.step.ensures.held gathered merged))
+
+pub returns-then-is_empty-clause-works : goal.returns-then-is_empty-clause-works
+returns-then-is_empty-clause-works g c = nothing_done g.D.Disk c.args.disk.now c.args.self.now _ c.requires.stands
+
+pub start-requires-clause-most : goal.start-requires-clause-most
+start-requires-clause-most g c =
+    let stores : EngineState = state_of c.self.inside in
+    let most = (sound_hashes stores.manifest.shape _ stores.manifest.current c.current-sound.ensures.sound).most in
+    let regions : c.hashes-limits.result ≡ stores.manifest.shape.hashes = c.hashes-limits.ensures.value ∙ ap (λ (sh : Shape). sh.hashes) c.geometry.ensures.value in
+    let limit : c.hashes-limits.result ≤ 16 = omega (arith, c.hashes-limits.ensures.value, c.hashes-limits.ensures.limits.hashes_most) in
+    let count : length c.deref.result.now ≡ length stores.manifest.current.hashed = ap length c.deref.ensures.value ∙ sym (length-map stores.hashes hash_region_of) ∙ ap length c.self.invariant.whole.hash_regions in
+    omega (arith, most, regions, limit, count)
+
+pub step-requires-clause-more : goal.step-requires-clause-more
+step-requires-clause-more g c κs within =
+    let stores : EngineState = state_of c.self.inside in
+    let none : stores.merging ≡ None = subst (λ (v : EngineState). v.merging ≡ None) (sym c.self.view_is) c.requires.none in
+    let some : 0 < length stores.hashes = some_stores stores.hashes _ c.is_empty.result c.is_empty.ensures c.if-is_empty.false c.self.inside.hashes.ok.0 in
+    let other : 1 - c.region-region.result ≡ 1 - stores.sorted.region = ap (λ (n : ℕ). 1 - n) c.region-region.ensures.value in
+    subst (λ (t : SortedState). is_done c.in-Ok.merge t ≡ false) (sym c.entries-sorted.ensures)
+    (started_not_done stores (1 - c.region-region.result) c.deref.result.now none some c.self.invariant.whole other c.deref.ensures.value c.entries-sorted.result.now c.entries-sorted.ensures c.in-Ok.merge c.in-Ok.ensures.start c.in-Ok.ensures.held)
+
+pub returns-clause-merges : goal.returns-clause-merges
+returns-clause-merges g c =
+    let stores : EngineState = state_of c.self.inside in
+    let none : stores.merging ≡ None = subst (λ (v : EngineState). v.merging ≡ None) (sym c.self.view_is) c.requires.none in
+    let some : 0 < length stores.hashes = some_stores stores.hashes _ c.is_empty.result c.is_empty.ensures c.if-is_empty.false c.self.inside.hashes.ok.0 in
+    let other : 1 - c.region-region.result ≡ 1 - stores.sorted.region = ap (λ (n : ℕ). 1 - n) c.region-region.ensures.value in
+    rw (← c.self.view_is) (begin_merges stores (1 - c.region-region.result) c.deref.result.now none some c.self.invariant.whole other c.deref.ensures.value c.entries-sorted.result.now c.entries-sorted.ensures c.in-Ok.merge c.in-Ok.ensures.start c.in-Ok.ensures.held
+    c.step.new.self c.step.ensures.same c.in_ok-step.ensures.ok)
+
+pub returns-clause-moves : goal.returns-clause-moves
+returns-clause-moves g c = λ is. let no : Moved ≡ Finished = is in cc
+
+pub returns-in_default-clause-made : goal.returns-in_default-clause-made
+returns-in_default-clause-made g c = most_none

@@ -1,0 +1,13 @@
+use Rattle.std.proofs.Common.{length, ap, ◌∙◌, arith}
+use Rattle.silt_disk.specs.Layout.{Shape}
+use Rattle.silt_standing.specs.State.{EngineState}
+use Rattle.silt_engine.proofs.MergeCounting.{few_hashes}
+use Rattle.silt_engine.proofs.Viewing.{state_of}
+use Rattle.silt_engine.proofs.engine.Engine.own_digests.Goals as goal
+
+pub digests_with-requires : goal.digests_with-requires
+digests_with-requires c =
+    let stores : EngineState = state_of c.self.inside in
+    let few = few_hashes stores c.hashes-limits.result c.self.invariant.whole c.current-sound.ensures.sound
+    (c.hashes-limits.ensures.value ∙ ap (λ (sh : Shape). sh.hashes) c.geometry.ensures.value) (omega (arith, c.hashes-limits.ensures.value, c.hashes-limits.ensures.limits.hashes_most)) in
+    omega (arith, few, ap length c.deref.ensures.value)

@@ -1,0 +1,5 @@
+use Rattle.silt_engine.proofs.LogReplaced.{converts}
+use Rattle.silt_engine.proofs.laws.converts_law.Goals as goal
+
+pub returns : goal.returns
+returns c = converts

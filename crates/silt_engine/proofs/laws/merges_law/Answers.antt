@@ -1,0 +1,5 @@
+use Rattle.silt_engine.proofs.StoresReplaced.{merges}
+use Rattle.silt_engine.proofs.laws.merges_law.Goals as goal
+
+pub returns : goal.returns
+returns c = merges

@@ -1,0 +1,261 @@
+// The merge of the hash stores and the sorted store into a new sorted store, one slot or one key a step.
+ghost use Rattle.std.specs.Prelude.{◌≡◌, ◌<◌, ◌≤◌, ◌-◌, ◌^◌, [], length, false, true, None, IsSome, IsTrue, IfOk, IfErr, IfSome, OnOk, MatchResult};
+ghost use Rattle.silt_disk.specs.Disk.{Costs, MakesAtMost};
+ghost use Rattle.silt_event.specs.declared.progress.Progress.TheVariants.{Finished, Moved};
+ghost use Rattle.silt_engine.specs.Calls.{BreaksOff, Works};
+ghost use Rattle.silt_engine.specs.Conversion.{is_work};
+ghost use Rattle.silt_engine.specs.Costs.{StepMakes, step_syncs, step_writes};
+ghost use Rattle.silt_engine.specs.Digests.{merged_digests};
+ghost use Rattle.silt_engine.specs.Merge.{EndsMerge, EndsMerged, HasMergedEntries, MayStandFor, MergeErrorCause, Merges, merge_turn, merged_body, puts_in, sorted_replaced};
+ghost use Rattle.silt_standing.specs.State.{AreWhole};
+ghost use Rattle.silt_standing.specs.Standing.{Stands};
+
+use crate::digests::digests_with;
+use crate::engine::{Engine, LAST_GENERATION};
+use silt_disk::Disk;
+use silt_event::Progress;
+use silt_hash_store::HashStore;
+use silt_manifest::{Body, Digests, Manifest};
+use silt_merge::{Merge, StepError};
+use silt_sorted_store::SortedStore;
+use std::alloc::Global;
+
+/// Why a step of merging was not done.
+#[derive(Debug, Drop)]
+pub enum MergeError<F> {
+    /// The manifest must be written, and the current record has the last generation. Nothing was changed.
+    Spent,
+    /// Out of memory for a row that waits for its key, or for what the merge or the new sorted store keeps. Nothing was
+    /// changed.
+    NoMemory,
+    /// A read failed. Nothing was changed.
+    Read(F),
+    /// A write or a sync failed.
+    Write(F),
+}
+
+impl<F> From<StepError<F>> for MergeError<F> {
+    ghost from_gives = { λ error merged. merged ≡ Rattle.silt_engine.specs.Merge.refusal_of_step error };
+
+    fn from(error: StepError<F>) -> Self {
+        match error {
+            StepError::NoMemory => MergeError::NoMemory,
+            StepError::Read(fault) => MergeError::Read(fault),
+            StepError::Write(fault) => MergeError::Write(fault),
+        }
+    }
+}
+
+// The record without this many of the oldest hash stores, and with this many entries in this sorted region.
+fn merged_body(body: &Body, count: usize, region: u32, written: u32) -> Body
+    requires count { count ≤ length body.now.hashed }
+    requires unspent { body.now.generation < 2 ^ 63 - 1 }
+    ensures { result ≡ merged_body body.now count region written }
+{
+    let mut hashed = body.hashed;
+    hashed.truncate(body.hashed.len() - count);
+    Body {
+        generation: body.generation + 1,
+        hashed,
+        sorted: region,
+        sorted_count: written,
+        ..*body
+    }
+}
+
+// A charge without the puts of these hash stores.
+fn without_puts(charge: u32, stores: &[HashStore]) -> u32
+    ensures { result ≡ charge - puts_in stores.now }
+{
+    let mut left = charge;
+    for store in stores {
+        left = left.saturating_sub(store.puts());
+    }
+    left
+}
+
+impl Engine {
+    /// The progress that the next step of merging makes, if nothing refuses it.
+    pub fn merge_turn(&self) -> Progress
+        ensures { result ≡ merge_turn self.now }
+    {
+        match &self.merging {
+            Some(merge) if merge.is_done(self.sorted.entries()) => Progress::Finished,
+            Some(_) => Progress::Moved,
+            None if self.hashes.is_empty() => Progress::Idle,
+            None => Progress::Moved,
+        }
+    }
+
+    // Begins the merge of all hash stores and the sorted store into the other sorted region, and does its first step.
+    fn begin_merge<D: Disk>(
+        &mut self,
+        alloc: Global,
+        disk: &mut D,
+    ) -> Result<Progress, MergeError<D::Fault>>
+        requires stands { Stands (D.content disk.old) self.old }
+        requires none { self.old.merging ≡ None }
+        ensures works { Works D.Disk [] disk.old disk.new self.old self.new result }
+        ensures merges { IfOk result (λ progress. Merges progress self.old self.new) }
+        ensures moves { IfOk result (λ progress. progress ≡ Finished → ⊥) }
+        ensures quiet { IfOk result (λ progress. is_work progress ≡ false → disk.new ≡ disk.old) }
+        ensures made { MatchResult result (StepMakes D.Disk disk.old disk.new self.old self.new)
+            (λ _. MakesAtMost D.writes D.syncs (step_writes (merge_turn self.old)) (step_syncs (merge_turn self.old)) disk.old disk.new) }
+        ensures err { IfErr result (MergeErrorCause D.Disk disk.old disk.new self.old self.new) }
+    {
+        if self.hashes.is_empty() {
+            return Ok(Progress::Idle);
+        }
+        let _sound = self.manifest.current(); // so there are no more hash stores than regions
+        let _limits = self.manifest.geometry().hashes();
+        let region = 1 - self.sorted.region();
+        let sorted = self.sorted.entries();
+        let Ok(mut merge) = Merge::start(alloc, &self.hashes, sorted, region) else {
+            return Err(MergeError::NoMemory);
+        };
+        merge.step(&self.hashes, sorted, disk)?;
+        self.merging = Some(merge);
+        Ok(Progress::Moved)
+    }
+
+    // Gathers the next slot, or decides the next key.
+    fn step_merge<D: Disk>(&mut self, disk: &mut D) -> Result<Progress, MergeError<D::Fault>>
+        requires stands { Stands (D.content disk.old) self.old }
+        requires some { IsSome self.old.merging }
+        requires turn { merge_turn self.old ≡ Moved }
+        ensures works { Works D.Disk [] disk.old disk.new self.old self.new result }
+        ensures merges { IfOk result (λ progress. Merges progress self.old self.new) }
+        ensures moves { IfOk result (λ progress. progress ≡ Moved) }
+        ensures made { MatchResult result (StepMakes D.Disk disk.old disk.new self.old self.new)
+            (λ _. MakesAtMost D.writes D.syncs (step_writes (merge_turn self.old)) (step_syncs (merge_turn self.old)) disk.old disk.new) }
+        ensures err { IfErr result (MergeErrorCause D.Disk disk.old disk.new self.old self.new) }
+    {
+        let Some(merge) = &mut self.merging else {
+            unreachable!()
+        };
+        merge.step(&self.hashes, self.sorted.entries(), disk)?;
+        Ok(Progress::Moved)
+    }
+
+    // Takes a manifest that names the sorted store of the merge. It replaces the old one and the hash stores that were
+    // merged. Its entries count, and their puts no longer do.
+    fn replace_sorted(&mut self, manifest: Manifest, sorted: SortedStore)
+        requires { MayStandFor self.old manifest sorted }
+        ensures replaced { IfSome self.old.merging (λ merge. self.new ≡ sorted_replaced self.old manifest merge.stores sorted) }
+        ensures whole { AreWhole self.new }
+    {
+        let Some(merge) = self.merging.take() else {
+            unreachable!()
+        };
+        let newer = self.hashes.len() - merge.stores() as usize;
+        let left = without_puts(self.charge, &self.hashes[newer..]).saturating_sub(
+            self.sorted.len(),
+        );
+        let gone = self.charge - left;
+        self.charge -= gone.saturating_sub(sorted.len()); // no more than went away, on an honest disk
+        self.hashes.truncate(newer);
+        self.sorted = sorted;
+        self.manifest = manifest;
+    }
+
+    // The digests of the stores without this many of the oldest hash stores, and with this sorted store.
+    fn merged_digests(&self, count: usize, sorted: &SortedStore) -> Digests
+        requires { count ≤ length self.now.hashes }
+        ensures { result ≡ merged_digests self.now count sorted.now }
+    {
+        let _sound = self.manifest.current(); // so there are no more hash stores than regions
+        let _limits = self.manifest.geometry().hashes();
+        let newer = &self.hashes[..self.hashes.len() - count];
+        digests_with(None, newer, *sorted.digest())
+    }
+
+    // Ends the merge, all of whose keys are decided: syncs the entries, and then has the manifest name the new sorted store, with the
+    // digests of the hash stores that stay.
+    fn end_merge<D: Disk>(
+        &mut self,
+        disk: &mut D,
+        body: &Body,
+        digests: &Digests,
+        sorted: SortedStore,
+    ) -> Result<(), D::Fault>
+        requires stands { Stands (D.content disk.old) self.old }
+        requires ends { EndsMerge self.old body.now digests.now sorted }
+        ensures works { Works D.Disk [] disk.old disk.new self.old self.new result }
+        ensures ends { OnOk result (EndsMerged self.old self.new) }
+        ensures entries { OnOk result (IsTrue (D.content disk.old).honest → HasMergedEntries (D.content disk.old) (D.content disk.new) self.old self.new) }
+        ensures made { Costs D.writes D.syncs 3 4 disk.old disk.new result }
+        ensures err { IfErr result (BreaksOff D.Disk disk.old disk.new self.old self.new) }
+    {
+        self.settle_work(disk)?;
+        let manifest = self.change_manifest(disk, body, digests)?;
+        self.replace_sorted(manifest, sorted);
+        Ok(())
+    }
+
+    // Finishes the merge, all of whose keys are decided, if the manifest has a generation left. The index of the new
+    // entries is made first, so if memory runs out the merge is as it was.
+    fn finish_merge<D: Disk>(
+        &mut self,
+        alloc: Global,
+        disk: &mut D,
+    ) -> Result<Progress, MergeError<D::Fault>>
+        requires stands { Stands (D.content disk.old) self.old }
+        requires turn { merge_turn self.old ≡ Finished }
+        ensures works { Works D.Disk [] disk.old disk.new self.old self.new result }
+        ensures merges { IfOk result (λ progress. Merges progress self.old self.new) }
+        ensures entries { OnOk result (IsTrue (D.content disk.old).honest → HasMergedEntries (D.content disk.old) (D.content disk.new) self.old self.new) }
+        ensures finishes { IfOk result (λ progress. progress ≡ Finished) }
+        ensures made { Costs D.writes D.syncs 3 4 disk.old disk.new result }
+        ensures err { IfErr result (MergeErrorCause D.Disk disk.old disk.new self.old self.new) }
+    {
+        let current = self.manifest.current();
+        if current.generation == LAST_GENERATION {
+            return Err(MergeError::Spent);
+        }
+        let Some(merge) = &self.merging else {
+            unreachable!()
+        };
+        let Ok(sorted) = merge.finish(alloc) else {
+            return Err(MergeError::NoMemory);
+        };
+        let count = merge.stores() as usize;
+        let body = merged_body(&current, count, sorted.region(), sorted.len());
+        let digests = self.merged_digests(count, &sorted);
+        match self.end_merge(disk, &body, &digests, sorted) {
+            Ok(()) => Ok(Progress::Finished),
+            Err(fault) => Err(MergeError::Write(fault)),
+        }
+    }
+
+    /// One step of merging. If none is in progress, and there are hash stores, the merge of all of them and of the
+    /// sorted store into the other sorted region begins. A step gathers one slot of a hash store, or decides one key.
+    /// The step after the last key syncs the entries and writes the next manifest record. It names the new sorted
+    /// store, and the merged hash stores no longer. A hash store that came meanwhile stays in front.
+    ///
+    /// # Errors
+    ///
+    /// `Spent` before anything else, if the manifest must be written; `Read` and `NoMemory`, and then nothing was
+    /// changed; `Write` with the fault of a write or of a sync.
+    pub fn merge<D: Disk>(
+        &mut self,
+        alloc: Global,
+        disk: &mut D,
+    ) -> Result<Progress, MergeError<D::Fault>>
+        requires stands { Stands (D.content disk.old) self.old }
+        ensures works { Works D.Disk [] disk.old disk.new self.old self.new result }
+        ensures merges { IfOk result (λ progress. Merges progress self.old self.new) }
+        ensures entries { IfOk result (λ progress. progress ≡ Finished → IsTrue (D.content disk.old).honest → HasMergedEntries (D.content disk.old) (D.content disk.new) self.old self.new) }
+        ensures quiet { IfOk result (λ progress. is_work progress ≡ false → disk.new ≡ disk.old) }
+        ensures made { MatchResult result (StepMakes D.Disk disk.old disk.new self.old self.new)
+            (λ _. MakesAtMost D.writes D.syncs (step_writes (merge_turn self.old)) (step_syncs (merge_turn self.old)) disk.old disk.new) }
+        ensures err { IfErr result (MergeErrorCause D.Disk disk.old disk.new self.old self.new) }
+    {
+        let Some(merge) = &self.merging else {
+            return self.begin_merge(alloc, disk);
+        };
+        if merge.is_done(self.sorted.entries()) {
+            return self.finish_merge(alloc, disk);
+        }
+        self.step_merge(disk)
+    }
+}
