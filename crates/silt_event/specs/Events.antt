@@ -87,6 +87,13 @@ Counts old (Accepted n) new = (n ≡ old + 1) × (new ≡ old + 1)
 Counts old (Acknowledged n) new = (n ≡ old) × (new ≡ old)
 Counts old reply new = new ≡ old
 
+-- each event gets its reply, one after the other
+module _ {A : Type 0} (answers : A → A → Event → PlainReply → Type 0) where
+  abbrev pub AnswersEach : A → List Event → List PlainReply → A → Type 0
+  AnswersEach old [] [] new = new ≡ old
+  AnswersEach old (event ∷ events) (reply ∷ replies) new = (mid : A) × answers old mid event reply × AnswersEach mid events replies new
+  AnswersEach old events replies new = ⊥
+
 -- ---- lists of events
 
 -- The replies to these events, in order, take the count and the map from the first to the last. Each reply is that of a plain map.

@@ -1,7 +1,7 @@
 // A type that replies to events.
-ghost use Rattle.std.specs.Prelude.{◌≡◌, ℕ};
+ghost use Rattle.std.specs.Prelude.{◌≡◌, ◌≤◌, ◌+◌, ◌++◌, ℕ, All, List, vec_capacity, vec_len};
 ghost use Rattle.silt_event.specs.declared.event.Event.{Event as EventOf};
-ghost use Rattle.silt_event.specs.Events.{HasValueOf, PlainReply};
+ghost use Rattle.silt_event.specs.Events.{AnswersEach, HasValueOf, PlainReply};
 
 use crate::{Event, Reply};
 use std::alloc::Global;
@@ -19,4 +19,18 @@ pub trait Answerer {
         requires { HasValueOf (value_len self.old) event }
         ensures stays { value_len self.new ≡ value_len self.old }
         ensures answers { answers self.old self.new event result };
+
+    /// Replies to events in order, and appends the replies to the list. The caller makes sure that each value has the
+    /// answerer's value length, and that the list has room. A layer in front of a store may treat the events as one batch.
+    fn answer_all(&mut self, alloc: Global, events: Vec<Event>, replies: &mut Vec<Reply<()>>)
+        requires values { All (HasValueOf (value_len self.old)) events.items }
+        requires room { vec_len replies.old + vec_len events ≤ vec_capacity replies.old }
+        ensures stays { value_len self.new ≡ value_len self.old }
+        ensures answers { (given : List PlainReply) × (replies.new.items ≡ replies.old.items ++ given)
+            × AnswersEach answers self.old events.items given self.new }
+    {
+        for event in events {
+            replies.push_reserved(self.answer(alloc, event));
+        }
+    }
 }

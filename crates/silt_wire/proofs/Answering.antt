@@ -10,8 +10,8 @@ use Rattle.silt_wire.specs.declared.sessions.SessionEnd.{SessionEnd}
 use Rattle.silt_wire.specs.declared.sessions.SessionEnd.TheVariants.{End, ReadFault, WriteFault, NoMemory}
 use Rattle.silt_wire.specs.Lines.{Parses, asked_by, is_blank}
 use Rattle.silt_wire.specs.Replies.{fault_line}
-use Rattle.silt_wire.specs.Sessions.{IsBeginning, asks, events_of, line_of, texts_of, AnswersEach, AnswersAll, AnswersSome, Ends, IsCut, SessionState}
-use Rattle.silt_event.specs.Events.{PlainReply}
+use Rattle.silt_wire.specs.Sessions.{IsBeginning, asks, events_of, line_of, texts_of, AnswersAll, AnswersSome, Ends, IsCut, SessionState}
+use Rattle.silt_event.specs.Events.{AnswersEach, PlainReply}
 use Rattle.silt_wire.specs.Sessions.{lines_after, rest_after}
 use Rattle.silt_wire.proofs.Streams.{rest_after-append, lines_after-append, Appends-append, Appends-keeps, Appends-none}
 

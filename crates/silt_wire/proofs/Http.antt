@@ -4,10 +4,10 @@ use Rattle.std.specs.Prelude.{IfSome, nat_lt}
 use Rattle.std.proofs.lemmas.Grind.{common_steps}
 use Rattle.std.proofs.lemmas.List.{append-nil, drop_more, length-take-le, take_all, take_more, take-take}
 use Rattle.std.specs.Io.KnownBytes.{Appends, Consumes, IsAtEnd}
-use Rattle.silt_event.specs.Events.{PlainReply}
+use Rattle.silt_event.specs.Events.{AnswersEach, PlainReply}
 use Rattle.silt_event.specs.declared.event.Event.{Event}
 use Rattle.silt_wire.specs.Http.{Guards, IsHttp, ends_line, handed_on, http_mark, is_passed, is_turned_away, line_after, open_after}
-use Rattle.silt_wire.specs.Sessions.{AnswersAll, AnswersEach, AnswersSome, Ends, IsBeginning, ServesAll, ServesSome, asks, lines_after}
+use Rattle.silt_wire.specs.Sessions.{AnswersAll, AnswersSome, Ends, IsBeginning, ServesAll, ServesSome, asks, lines_after}
 use Rattle.silt_wire.specs.declared.http_guard.FirstLine.{FirstLine}
 use Rattle.silt_wire.specs.declared.http_guard.FirstLine.TheVariants.{Open, Passed, Refused}
 use Rattle.silt_wire.specs.declared.sessions.SessionEnd.{SessionEnd}

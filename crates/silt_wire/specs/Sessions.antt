@@ -2,7 +2,7 @@
 use Rattle.std.specs.Prelude.{◌≡◌, ◌==◌, ℕ, List, [], ◌∷◌, ◌++◌, Option, Result, Ok, Err, if◌then◌else◌}
 use Rattle.std.specs.Io.KnownBytes.{Appends, Consumes, IsAtEnd}
 use Rattle.silt_event.specs.declared.event.Event.{Event}
-use Rattle.silt_event.specs.Events.{PlainReply}
+use Rattle.silt_event.specs.Events.{AnswersEach, PlainReply}
 use Rattle.silt_wire.specs.declared.line.LineFault.{LineFault}
 use Rattle.silt_wire.specs.declared.sessions.SessionEnd.{SessionEnd}
 use Rattle.silt_wire.specs.declared.sessions.SessionEnd.TheVariants.{End, ReadFault, WriteFault, NoMemory}
@@ -58,21 +58,15 @@ pub record SessionState (A : Type 0) : Type 0 where
 -- ---- what an answerer does
 
 module _ {A : Type 0} (answers : A → A → Event → PlainReply → Type 0) where
-  -- each event gets its reply, one after the other
-  abbrev pub AnswersEach : A → List Event → List PlainReply → A → Type 0
-  AnswersEach old [] [] new = new ≡ old
-  AnswersEach old (event ∷ events) (reply ∷ replies) new = (mid : A) × answers old mid event reply × AnswersEach mid events replies new
-  AnswersEach old events replies new = ⊥
-
   -- the answerer replied to all requests, and exactly their texts were written
   abbrev pub AnswersAll : List (Result Event LineFault) → A → A → Option (List ℕ) → Option (List ℕ) → Type 0
   AnswersAll asked old new before after =
-      (replies : List PlainReply) × AnswersEach old (events_of asked) replies new × Appends before after (texts_of asked replies)
+      (replies : List PlainReply) × AnswersEach answers old (events_of asked) replies new × Appends before after (texts_of asked replies)
 
   -- the answerer replied to a first part of the events, and a first part of their texts was written
   abbrev pub AnswersSome : List (Result Event LineFault) → A → A → Option (List ℕ) → Option (List ℕ) → Type 0
   AnswersSome asked old new before after =
-      (events : List Event) × (replies : List PlainReply) × (out : List ℕ) × IsBeginning events (events_of asked) × AnswersEach old events replies new
+      (events : List Event) × (replies : List PlainReply) × (out : List ℕ) × IsBeginning events (events_of asked) × AnswersEach answers old events replies new
       × IsBeginning out (texts_of asked replies) × Appends before after out
 
   -- the answerer replied to all lines that these bytes end, after those of a line in progress, and exactly the replies were written

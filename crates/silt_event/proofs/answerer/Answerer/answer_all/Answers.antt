@@ -1,0 +1,40 @@
+use Rattle.std.proofs.Common.{rules, ◌++◌, ◌∷◌, [], List, All, refl, sym, ◌∙◌, ap, subst, append_assoc}
+use Rattle.std.proofs.lemmas.List.{append-nil}
+use Rattle.std.proofs.lemmas.List.Elements.{All-rest}
+use Rattle.std.specs.Vec.Iter.{into_iter_items}
+use Rattle.silt_event.specs.declared.event.Event.{Event as EventOf}
+use Rattle.silt_event.specs.Events.{HasValueOf}
+use Rattle.silt_event.proofs.Answering.{each_more}
+use Rattle.silt_event.proofs.answerer.Answerer.answer_all.Goals as goal
+
+pub loop-event-init : goal.loop-event-init
+loop-event-init g c =
+    let given = c.into_iter-event-iterator.ensures.into_iter_gives in
+    record {
+      can = tt;
+      finite = tt;
+      stays = refl;
+      values = subst (λ (l : List EventOf). All (HasValueOf (g.Self.Answerer.value_len c.args.self.now)) l) (sym given.0) c.requires.values;
+      room = search rules;
+      told = ([], [], refl, sym (append-nil _), refl);
+    }
+
+pub loop-event-preserved : goal.loop-event-preserved
+loop-event-preserved g c =
+    let before = c.loop-event.invariant in
+    let (done, given, all, was, each) = before.told in
+    let items = c.in-Some.ensures.steps.0 in
+    record {
+      can = tt;
+      finite = tt;
+      stays = c.answer.ensures.stays ∙ before.stays;
+      values = All-rest (HasValueOf (g.Self.Answerer.value_len c.args.self.now)) c.in-Some.event (into_iter_items c.next.new.self) _ items before.values;
+      room = search rules;
+      told = (
+        _,
+        _,
+        append_assoc done (c.in-Some.event ∷ []) (into_iter_items c.next.new.self) ∙ ap (λ (l : List EventOf). done ++ l) (sym items) ∙ all,
+        c.push_reserved.ensures.items ∙ ap (λ l. l ++ c.answer.result ∷ []) was ∙ append_assoc _ given (c.answer.result ∷ []),
+        each_more g.Self.Answerer.answers _ _ _ done given c.in-Some.event c.answer.result each c.answer.ensures.answers,
+      );
+    }
