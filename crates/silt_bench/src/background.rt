@@ -2,17 +2,16 @@
 
 use crate::error::BenchError;
 use crate::turns::Turns;
-use silt_desk::{DeskId, Seat, Shared, Trace, Wakes};
+use silt_desk::{DeskId, Due, Seat, Shared, Trace, Wakes};
 use silt_device::Disk;
 use std::alloc::Global;
 use std::sync::Wait;
 use std::thread;
 use std::time::{Clock, Duration};
 
-// Whether the store has background work to do.
-fn wants_work<D: Disk, T: Trace, N: DeskId, R: Wait>(rt: &R, shared: &Shared<D, T, N>) -> bool {
-    let desk = shared.read(rt);
-    desk.wants_convert() || desk.wants_merge()
+// Which background work the store has to do.
+fn work_due<D: Disk, T: Trace, N: DeskId, R: Wait>(rt: &R, shared: &Shared<D, T, N>) -> Due {
+    shared.read(rt).due()
 }
 
 // Waits until the workers have left no background work to do.
@@ -22,10 +21,11 @@ fn finish_beside<D: Disk, T: Trace, N: DeskId, R: Wait + Clock>(
     wakes: &Wakes,
 ) {
     for _ in rt.forever() {
-        if !wants_work(rt, shared) {
+        let due = work_due(rt, shared);
+        if !due.converts && !due.merges {
             break;
         }
-        wakes.go(rt);
+        wakes.go(rt, due);
         thread::sleep(rt, Duration::from_millis(1));
     }
 }
@@ -40,7 +40,7 @@ pub enum Background {
 }
 
 impl Background {
-    /// The writer takes the steps that this many puts owe, or wakes the workers, since there may be work.
+    /// The writer takes the steps that this many puts owe, or wakes the workers that have work.
     pub fn go_on<D: Disk, T: Trace, N: DeskId, R: Wait>(
         &mut self,
         rt: &R,
@@ -52,7 +52,7 @@ impl Background {
         match self {
             Background::Turns(turns) => turns.take(alloc, &mut *shared.write(rt), seat, puts),
             Background::Workers(wakes) => {
-                wakes.go(rt);
+                wakes.go(rt, work_due(rt, shared));
                 Ok(())
             }
         }

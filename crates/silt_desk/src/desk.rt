@@ -9,6 +9,7 @@ ghost use Rattle.silt_desk.specs.Seats.{accepted_of, calls_of, fresh};
 use crate::call::{Note, plain};
 use crate::seat::{DeskId, Ledgers, MissingSeats, Seat};
 use crate::trace::{NotPrepared, Room, Trace};
+use crate::worker::Due;
 use silt_disk::{Disk, Geometry};
 use silt_event::{Progress, Refusal};
 use silt_frame::Key;
@@ -320,6 +321,17 @@ impl<D: Disk, T: Trace, N: DeskId> Desk<D, T, N> {
         ensures { result ≡ wants_merge self.now.core }
     {
         self.core.wants_merge()
+    }
+
+    /// Which background work there is to do.
+    pub fn due(&self) -> Due
+        ensures converts { result.converts ≡ wants_convert self.now.core }
+        ensures merges { result.merges ≡ wants_merge self.now.core }
+    {
+        Due {
+            converts: self.wants_convert(),
+            merges: self.wants_merge(),
+        }
     }
 
     /// Writes a key's value over `out`, and returns how many commands are accepted and whether the key has a value. It

@@ -41,5 +41,5 @@ pub use threads::join_over;
 pub use trace::{NotPrepared, Room, Trace};
 pub use wakes::Wakes;
 pub use worker::{
-    Gate, Hears, OpenGate, Spot, Turn, Wake, convert_once, converter, merge_once, merger,
+    Due, Gate, Hears, OpenGate, Spot, Turn, Wake, convert_once, converter, merge_once, merger,
 };

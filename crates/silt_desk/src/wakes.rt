@@ -1,6 +1,6 @@
 // The ways to wake the workers.
 
-use crate::worker::Wake;
+use crate::worker::{Due, Wake};
 use crossbeam_channel::Sender;
 use std::sync::Wait;
 
@@ -12,10 +12,15 @@ pub struct Wakes {
 }
 
 impl Wakes {
-    /// Tells both workers that there may be work.
-    pub fn go<R: Wait>(&self, rt: &R) {
-        wake(rt, &self.converter);
-        wake(rt, &self.merger);
+    /// Wakes each worker that has work. It leaves the others asleep: a worker takes the store's lock to find that it has
+    /// nothing to do.
+    pub fn go<R: Wait>(&self, rt: &R, due: Due) {
+        if due.converts {
+            wake(rt, &self.converter);
+        }
+        if due.merges {
+            wake(rt, &self.merger);
+        }
     }
 
     /// Tells both workers to end.

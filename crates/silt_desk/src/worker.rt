@@ -29,6 +29,13 @@ pub enum Wake {
     Stop,
 }
 
+/// Which background work a store has to do.
+#[derive(Clone, Copy, Debug, PartialEq, Eq)]
+pub struct Due {
+    pub converts: bool,
+    pub merges: bool,
+}
+
 /// Where a worker passes a gate.
 #[derive(Clone, Copy, Debug, PartialEq, Eq)]
 pub enum Spot {

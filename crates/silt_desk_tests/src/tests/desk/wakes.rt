@@ -1,7 +1,8 @@
-// Messages to the workers: both get one, and neither gets a second one for the same work.
+// Messages to the workers: each that has work gets one, and none gets a second one for the same work.
 
 use crossbeam_channel::Receiver;
-use silt_desk::{Wake, Wakes};
+use silt_desk::{Due, Wake, Wakes};
+use std::alloc::{AllocError, Global};
 use std::sync::Wait;
 use std::test::Fail;
 
@@ -16,11 +17,34 @@ fn both_workers_are_told_once(rt: HostRuntime) -> Result<(), Fail> {
     let (converter, to_convert) = crossbeam_channel::bounded(rt.alloc(), 2)?;
     let (merger, to_merge) = crossbeam_channel::bounded(rt.alloc(), 2)?;
     let wakes = Wakes { converter, merger };
-    wakes.go(&rt);
-    wakes.go(&rt);
+    let both = Due {
+        converts: true,
+        merges: true,
+    };
+    wakes.go(&rt, both);
+    wakes.go(&rt, both);
     let told = [heard(&rt, &to_convert), heard(&rt, &to_merge)];
     wakes.stop(&rt);
     let stopped = [heard(&rt, &to_convert), heard(&rt, &to_merge)];
     assert_eq!(rt; (told, stopped), ([(1, true); 2], [(1, false); 2]));
+    Ok(())
+}
+
+// How many messages each worker gets if this work is due.
+fn told<R: Wait>(rt: &R, alloc: Global, due: Due) -> Result<[usize; 2], AllocError> {
+    let (converter, to_convert) = crossbeam_channel::bounded(alloc, 2)?;
+    let (merger, to_merge) = crossbeam_channel::bounded(alloc, 2)?;
+    let wakes = Wakes { converter, merger };
+    wakes.go(rt, due);
+    Ok([to_convert.len(), to_merge.len()])
+}
+
+#[test]
+fn a_worker_without_work_is_left_asleep(rt: HostRuntime) -> Result<(), Fail> {
+    let mut found = Vec::new(rt.alloc());
+    for (converts, merges) in [(false, false), (true, false), (false, true)] {
+        found.push(told(&rt, rt.alloc(), Due { converts, merges })?)?;
+    }
+    assert_eq!(rt; found.as_slice(), [[0, 0], [1, 0], [0, 1]].as_slice());
     Ok(())
 }
