@@ -1,3 +1,4 @@
+pub mod Batches
 pub mod Http
 pub mod Lines
 pub mod Numbers

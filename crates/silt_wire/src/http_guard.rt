@@ -5,7 +5,7 @@ ghost use Rattle.std.specs.Io.KnownBytes.{Appends};
 ghost use Rattle.silt_wire.specs.Http.{Guards, IsHttp, guard_remaining, handed_on, is_passed, is_turned_away, line_after, open_after};
 ghost use Rattle.silt_wire.specs.Sessions.{Ends};
 
-use crate::sessions::{SessionEnd, session};
+use crate::sessions::{SessionEnd, session_over};
 use silt_event::Answerer;
 use std::alloc::Global;
 use std::io::{self, Read, Write};
@@ -126,16 +126,18 @@ impl<R: Read> Read for HttpGuard<R> {
     }
 }
 
-/// Replies to the lines of a client as `session` does. It writes no reply to an HTTP request, and ends at its first
+/// Replies to the lines of a client as `session_over` does. It writes no reply to an HTTP request, and ends at its first
 /// line.
 pub fn client_session<A: Answerer, R: Read + Drop, W: Write>(
     alloc: Global,
     value_len: usize,
+    buffer: &mut [u8],
     reader: R,
     writer: &mut W,
     answerer: &mut A,
 ) -> SessionEnd
-    requires { A.value_len answerer.old ≡ value_len }
+    requires len { A.value_len answerer.old ≡ value_len }
+    requires room { 0 < length buffer.old }
     ensures ends { (given : Option (List ℕ)) × (left : Option (List ℕ)) × Guards (R.remaining reader) given
         × Ends A.answers result value_len
         (record { answerer = answerer.old; remaining = given; contents = W.contents writer.old })
@@ -143,5 +145,5 @@ pub fn client_session<A: Answerer, R: Read + Drop, W: Write>(
     ensures http { IfSome (R.remaining reader) (λ bytes. IsHttp bytes → (answerer.new ≡ answerer.old) × Appends (W.contents writer.old) (W.contents writer.new) []) }
 {
     let mut guard = HttpGuard::new(reader);
-    session(alloc, value_len, &mut guard, writer, answerer)
+    session_over(alloc, value_len, buffer, &mut guard, writer, answerer)
 }

@@ -7,6 +7,7 @@
 //! and writes the replies to any writer. `client_session` does so too, but does not reply to HTTP requests.
 #![tactic(auto)]
 
+mod batch;
 mod http_guard;
 mod keys;
 mod line;
@@ -23,5 +24,5 @@ pub use line_buffer::{LineBuffer, Taken};
 pub use number::number_of;
 pub use reply::{print_fault, print_refusal, print_reply, refuse_line, write_refusal, write_reply};
 pub use report::{print_report, write_report};
-pub use sessions::{SessionEnd, session};
+pub use sessions::{SessionEnd, session, session_over};
 pub use silt_event::Answerer;

@@ -1,16 +1,16 @@
 // Sessions: lines from a reader, and an answerer's replies to a writer.
 ghost use Rattle.std.specs.Prelude.{◌≡◌, ◌≢◌, ◌≤◌, ◌<◌, ◌++◌, ◌∷◌, [], ℕ, List, Some, Ok, true, IfOk, OnOk, OnErr, IfErr, length, string_bytes, take};
 ghost use Rattle.std.specs.Io.KnownBytes.{Appends};
-ghost use Rattle.silt_event.specs.Events.{HasValueOf};
-ghost use Rattle.silt_event.specs.declared.reply.Reply.TheVariants.{Refused};
 ghost use Rattle.silt_wire.specs.LineBuffer.{HoldsBytes};
 ghost use Rattle.silt_wire.specs.Replies.{fault_line};
-ghost use Rattle.silt_wire.specs.Sessions.{AnswersAll, AnswersSome, Ends, IsBeginning, IsCut, ServesAll, ServesSome, asks, line_of, rest_after};
+ghost use Rattle.silt_wire.specs.Batches.{IsReady, fault_after, requests};
+ghost use Rattle.silt_wire.specs.Sessions.{Ends, IsBeginning, IsCut, ServesAll, ServesSome, asks, lines_after, rest_after};
 
+use crate::batch::Batch;
 use crate::line::LineFault;
 use crate::line_buffer::LineBuffer;
-use crate::reply::{print_fault, print_reply};
-use silt_event::{Answerer, Event, Reply};
+use crate::reply::print_fault;
+use silt_event::Answerer;
 use std::alloc::{AllocError, Global};
 use std::io::{ErrorKind, Read, Write};
 use thiserror::Error;
@@ -18,8 +18,8 @@ use thiserror::Error;
 /// The most reads of a session.
 const MOST_READS: u64 = (1 << 63) - 1;
 
-/// How many bytes of replies are written before a session goes on with more lines of a read.
-const ENOUGH_TEXT: usize = 65_536;
+/// How many bytes a session reads at once, at most.
+const READ_LEN: usize = 4_096;
 
 /// How a session ended.
 #[derive(Clone, Copy, Debug, PartialEq, Eq, Error)]
@@ -56,13 +56,34 @@ pub fn session<A: Answerer, R: Read, W: Write>(
         (record { answerer = answerer.new; remaining = R.remaining reader.new; contents = W.contents writer.new }) }
     ensures stays { A.value_len answerer.new ≡ value_len }
 {
+    let mut buffer = [0; READ_LEN];
+    session_over(alloc, value_len, &mut buffer, reader, writer, answerer)
+}
+
+/// Replies to the lines of a reader as `session` does. Each read fills as much of the buffer as the reader has.
+pub fn session_over<A: Answerer, R: Read, W: Write>(
+    alloc: Global,
+    value_len: usize,
+    buffer: &mut [u8],
+    reader: &mut R,
+    writer: &mut W,
+    answerer: &mut A,
+) -> SessionEnd
+    requires len { A.value_len answerer.old ≡ value_len }
+
+    // An empty buffer would look like the end of the reader.
+    requires room { 0 < length buffer.old }
+    ensures ends { Ends A.answers result value_len
+        (record { answerer = answerer.old; remaining = R.remaining reader.old; contents = W.contents writer.old })
+        (record { answerer = answerer.new; remaining = R.remaining reader.new; contents = W.contents writer.new }) }
+    ensures stays { A.value_len answerer.new ≡ value_len }
+{
     let Ok(mut pending) = LineBuffer::new(alloc) else {
         return SessionEnd::NoMemory;
     };
     let mut texts = String::new(alloc);
-    let mut buffer = [0; 4096];
     for _ in 0..MOST_READS {
-        match reader.read(&mut buffer) {
+        match reader.read(buffer) {
             Ok(0) => return SessionEnd::End,
             Ok(count) => match answer_read(
                 alloc,
@@ -177,8 +198,8 @@ fn write_bytes<W: Write>(writer: &mut W, bytes: &[u8]) -> bool
     false
 }
 
-// Takes bytes, and appends the replies to the lines that they end to the texts, until these are enough. Returns how
-// many bytes were taken.
+// Takes bytes until a line has no valid request or the possible replies are enough, and appends the replies to the
+// lines that they end to the texts. Returns how many bytes were taken.
 fn take_part<A: Answerer>(
     alloc: Global,
     value_len: usize,
@@ -197,107 +218,111 @@ fn take_part<A: Answerer>(
     ensures some { OnErr result ((p : List ℕ) → HoldsBytes pending.old p → ServesSome A.answers value_len p bytes.now
         answerer.old answerer.new (Some (string_bytes texts.old)) (Some (string_bytes texts.new))) }
 {
-    let mut done = 0;
-    while done < bytes.len() {
-        let (_, rest) = bytes.split_at(done);
-        done += take_line(alloc, value_len, rest, pending, texts, answerer)?;
-        if texts.len() >= ENOUGH_TEXT {
-            break;
-        }
+    let mut batch = Batch::new(alloc);
+    let gathered = gather(alloc, value_len, bytes, pending, &mut batch);
+    batch.answer(alloc, texts, answerer)?;
+    let gathered = gathered?;
+    if let Some(fault) = gathered.fault {
+        push_fault(alloc, fault, texts)?;
     }
-    Ok(done)
+    Ok(gathered.count)
 }
 
-// Takes bytes to the end of a line, and appends the reply to the line to the texts; or takes all, if they end no line.
-// Returns how many bytes were taken.
-fn take_line<A: Answerer>(
+// What was gathered of some bytes: how many were taken, and the fault of the last line, if it has no valid request.
+#[derive(Clone, Copy)]
+struct Gathered {
+    count: usize,
+    fault: Option<LineFault>,
+}
+
+// Takes bytes, and adds the events of the lines that they end to the batch, until a line has no valid request or the
+// batch is full. If out of memory, the batch has the events before.
+fn gather(
     alloc: Global,
     value_len: usize,
     bytes: &[u8],
     pending: &mut LineBuffer,
-    texts: &mut String,
-    answerer: &mut A,
-) -> Result<usize, AllocError>
-    requires len { A.value_len answerer.old ≡ value_len }
+    batch: &mut Batch,
+) -> Result<Gathered, AllocError>
+    requires ready { IsReady value_len batch.old }
     requires some { 0 < length bytes.now }
-    ensures stays { A.value_len answerer.new ≡ value_len }
-    ensures count { IfOk result (λ count. (0 < count) × (count ≤ length bytes.now)) }
-    ensures holds { IfOk result (λ count. (p : List ℕ) → HoldsBytes pending.old p → HoldsBytes pending.new (rest_after p (take count bytes.now))) }
-    ensures all { IfOk result (λ count. (p : List ℕ) → HoldsBytes pending.old p → ServesAll A.answers value_len p (take count bytes.now)
-        answerer.old answerer.new (Some (string_bytes texts.old)) (Some (string_bytes texts.new))) }
-    ensures some { OnErr result ((p : List ℕ) → HoldsBytes pending.old p → ServesSome A.answers value_len p bytes.now
-        answerer.old answerer.new (Some (string_bytes texts.old)) (Some (string_bytes texts.new))) }
+    ensures ready { IsReady value_len batch.new }
+    ensures count { IfOk result (λ gathered. (0 < gathered.count) × (gathered.count ≤ length bytes.now)) }
+    ensures holds { IfOk result (λ gathered. (p : List ℕ) → HoldsBytes pending.old p → HoldsBytes pending.new (rest_after p (take gathered.count bytes.now))) }
+    ensures all { IfOk result (λ gathered. (p : List ℕ) → HoldsBytes pending.old p
+        → requests batch.old ++ asks value_len (lines_after p (take gathered.count bytes.now)) ≡ requests batch.new ++ fault_after gathered.fault) }
+    ensures some { (p : List ℕ) → HoldsBytes pending.old p
+        → IsBeginning (requests batch.new) (requests batch.old ++ asks value_len (lines_after p bytes.now)) }
 {
-    let taken = pending.take(bytes)?;
-    if !taken.ends_line {
-        return Ok(taken.count);
+    let mut count = 0;
+    while count < bytes.len() {
+        let (_, rest) = bytes.split_at(count);
+        let line = gather_line(alloc, value_len, rest, pending, batch)?;
+        count += line.count;
+        if line.fault.is_some() || batch.is_full() {
+            return Ok(Gathered {
+                count,
+                fault: line.fault,
+            });
+        }
     }
-    answer_line(alloc, value_len, pending, texts, answerer)?;
-    pending.clear();
-    Ok(taken.count)
+    Ok(Gathered { count, fault: None })
 }
 
-// Appends the reply to the line that has ended to the texts, if the line is not blank.
-fn answer_line<A: Answerer>(
+// Takes bytes to the end of a line, and adds the event of the line to the batch; or takes all, if they end no line.
+fn gather_line(
+    alloc: Global,
+    value_len: usize,
+    bytes: &[u8],
+    pending: &mut LineBuffer,
+    batch: &mut Batch,
+) -> Result<Gathered, AllocError>
+    requires ready { IsReady value_len batch.old }
+    requires some { 0 < length bytes.now }
+    ensures ready { IsReady value_len batch.new }
+    ensures count { IfOk result (λ gathered. (0 < gathered.count) × (gathered.count ≤ length bytes.now)) }
+    ensures holds { IfOk result (λ gathered. (p : List ℕ) → HoldsBytes pending.old p → HoldsBytes pending.new (rest_after p (take gathered.count bytes.now))) }
+    ensures all { IfOk result (λ gathered. (p : List ℕ) → HoldsBytes pending.old p
+        → requests batch.old ++ asks value_len (lines_after p (take gathered.count bytes.now)) ≡ requests batch.new ++ fault_after gathered.fault) }
+    ensures err { OnErr result (requests batch.new ≡ requests batch.old) }
+{
+    let taken = pending.take(bytes)?;
+    let mut fault = None;
+    if taken.ends_line {
+        fault = gather_event(alloc, value_len, pending, batch)?;
+        pending.clear();
+    }
+    Ok(Gathered {
+        count: taken.count,
+        fault,
+    })
+}
+
+// Adds the event of the line that has ended to the batch, if the line is not blank. Returns the line's fault, if it has
+// no valid request.
+fn gather_event(
     alloc: Global,
     value_len: usize,
     pending: &LineBuffer,
-    texts: &mut String,
-    answerer: &mut A,
-) -> Result<(), AllocError>
-    requires { A.value_len answerer.old ≡ value_len }
-    ensures stays { A.value_len answerer.new ≡ value_len }
-    ensures all { OnOk result ((line : List ℕ) → HoldsBytes pending.now line → AnswersAll A.answers (asks value_len (line ∷ []))
-        answerer.old answerer.new (Some (string_bytes texts.old)) (Some (string_bytes texts.new))) }
-    ensures some { OnErr result ((line : List ℕ) → HoldsBytes pending.now line → AnswersSome A.answers (asks value_len (line ∷ []))
-        answerer.old answerer.new (Some (string_bytes texts.old)) (Some (string_bytes texts.new))) }
+    batch: &mut Batch,
+) -> Result<Option<LineFault>, AllocError>
+    requires { IsReady value_len batch.old }
+    ensures ready { IsReady value_len batch.new }
+    ensures all { IfOk result (λ fault. (line : List ℕ) → HoldsBytes pending.now line
+        → requests batch.old ++ asks value_len (line ∷ []) ≡ requests batch.new ++ fault_after fault) }
+    ensures err { OnErr result (requests batch.new ≡ requests batch.old) }
 {
     if pending.is_blank() {
-        return Ok(());
+        return Ok(None);
     }
     match pending.parse(alloc, value_len) {
-        Ok(event) => answer_event(alloc, event, texts, answerer),
-        Err(fault) => answer_fault(alloc, fault, texts),
+        Ok(event) => {
+            batch.push(event, value_len)?;
+            Ok(None)
+        }
+        Err(LineFault::NoMemory) => Err(AllocError),
+        Err(fault) => Ok(Some(fault)),
     }
-}
-
-// Appends the refusal of a line without a valid request to the texts. If out of memory for the line, there is no text.
-fn answer_fault(alloc: Global, fault: LineFault, texts: &mut String) -> Result<(), AllocError>
-    ensures told { OnOk result (fault ≢ LineFault.NoMemory) }
-    ensures ok { OnOk result (string_bytes texts.new ≡ string_bytes texts.old ++ fault_line fault) }
-    ensures err { OnErr result (string_bytes texts.new ≡ string_bytes texts.old) }
-{
-    match fault {
-        LineFault::NoMemory => Err(AllocError),
-        _ => push_fault(alloc, fault, texts),
-    }
-}
-
-// Appends the reply to an event to the texts.
-fn answer_event<A: Answerer>(
-    alloc: Global,
-    event: Event,
-    texts: &mut String,
-    answerer: &mut A,
-) -> Result<(), AllocError>
-    requires { HasValueOf (A.value_len answerer.old) event }
-    ensures stays { A.value_len answerer.new ≡ A.value_len answerer.old }
-    ensures all { OnOk result (AnswersAll A.answers (Ok event ∷ []) answerer.old answerer.new (Some (string_bytes texts.old)) (Some (string_bytes texts.new))) }
-    ensures some { OnErr result (AnswersSome A.answers (Ok event ∷ [])
-        answerer.old answerer.new (Some (string_bytes texts.old)) (Some (string_bytes texts.new))) }
-{
-    let reply = answerer.answer(alloc, event);
-    push_reply(alloc, &reply, texts)
-}
-
-// Appends a reply and a line feed to the texts. On an error nothing changes.
-fn push_reply(alloc: Global, reply: &Reply<()>, texts: &mut String) -> Result<(), AllocError>
-    ensures ok { OnOk result (string_bytes texts.new ≡ string_bytes texts.old ++ line_of reply.now) }
-    ensures err { OnErr result (string_bytes texts.new ≡ string_bytes texts.old) }
-{
-    let mut line = print_reply(alloc, reply)?;
-    line.push('\n')?;
-    texts.push_str(&line)
 }
 
 // Appends the reply to a line without a valid request, and a line feed, to the texts. On an error nothing changes.

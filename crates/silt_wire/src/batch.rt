@@ -1,0 +1,117 @@
+// Events that are gathered first and answered together.
+ghost use Rattle.std.specs.Prelude.{◌≡◌, ◌++◌, ◌∷◌, ℕ, List, Some, OnErr, OnOk, flat_map, string_bytes};
+ghost use Rattle.silt_event.specs.Events.{HasValueOf};
+ghost use Rattle.silt_wire.specs.Batches.{IsReady, requests};
+ghost use Rattle.silt_wire.specs.Sessions.{AnswersAll, AnswersSome, IsBeginning, line_of};
+
+use crate::reply::print_reply;
+use silt_event::{Answerer, Event, Reply};
+use std::alloc::{AllocError, Global};
+
+/// How many bytes of possible replies are enough for a batch.
+const ENOUGH_TEXT: usize = 65_536;
+
+/// The most bytes of a reply without a value, its line feed counted.
+const PLAIN_TEXT: usize = 40;
+
+/// Events in order, with room for a reply to each.
+#[derive(Drop)]
+pub(crate) struct Batch {
+    events: Vec<Event>,
+    replies: Vec<Reply<()>>,
+    /// How many bytes the replies may have.
+    possible_text: usize,
+}
+
+// How many bytes the reply to an event may have. Only the reply to a get has a value, in two digits for each byte.
+fn possible_text(event: &Event, value_len: usize) -> usize {
+    match event {
+        Event::Get(_) => value_len.saturating_mul(2).saturating_add(PLAIN_TEXT),
+        _ => PLAIN_TEXT,
+    }
+}
+
+impl Batch {
+    /// No events yet.
+    pub(crate) fn new(alloc: Global) -> Self
+        ensures empty { result.events.items ≡ [] }
+        ensures ready { (value_len : ℕ) → IsReady value_len result }
+    {
+        Batch {
+            events: Vec::new(alloc),
+            replies: Vec::new(alloc),
+            possible_text: 0,
+        }
+    }
+
+    /// Whether the possible replies are long enough, so that memory stays bounded.
+    pub(crate) fn is_full(&self) -> bool {
+        self.possible_text >= ENOUGH_TEXT
+    }
+
+    /// Adds an event. On an error the events stay.
+    pub(crate) fn push(&mut self, event: Event, value_len: usize) -> Result<(), AllocError>
+        requires ready { IsReady value_len self.old }
+        requires fits { HasValueOf value_len event }
+        ensures ready { IsReady value_len self.new }
+        ensures ok { OnOk result (self.new.events.items ≡ self.old.events.items ++ event ∷ []) }
+        ensures err { OnErr result (self.new.events.items ≡ self.old.events.items) }
+    {
+        self.events.reserve(1)?;
+        self.replies.reserve(self.events.len() + 1)?;
+        self.possible_text = self
+            .possible_text
+            .saturating_add(possible_text(&event, value_len));
+        self.events.push_reserved(event);
+        Ok(())
+    }
+
+    /// Replies to the events in one call, and appends the replies to the texts. If out of memory for a text, the texts
+    /// before it are appended.
+    pub(crate) fn answer<A: Answerer>(
+        self,
+        alloc: Global,
+        texts: &mut String,
+        answerer: &mut A,
+    ) -> Result<(), AllocError>
+        requires { IsReady (A.value_len answerer.old) self }
+        ensures stays { A.value_len answerer.new ≡ A.value_len answerer.old }
+        ensures all { OnOk result (AnswersAll A.answers (requests self)
+            answerer.old answerer.new (Some (string_bytes texts.old)) (Some (string_bytes texts.new))) }
+        ensures some { OnErr result (AnswersSome A.answers (requests self)
+            answerer.old answerer.new (Some (string_bytes texts.old)) (Some (string_bytes texts.new))) }
+    {
+        if self.events.is_empty() {
+            return Ok(());
+        }
+        let Batch {
+            events,
+            mut replies,
+            possible_text: _,
+        } = self;
+        answerer.answer_all(alloc, events, &mut replies);
+        push_replies(alloc, &replies, texts)
+    }
+}
+
+// Appends replies to the texts, each as a line. If out of memory, the lines before it are appended.
+fn push_replies(alloc: Global, replies: &[Reply<()>], texts: &mut String) -> Result<(), AllocError>
+    ensures ok { OnOk result (string_bytes texts.new ≡ string_bytes texts.old ++ flat_map line_of replies.now) }
+    ensures err { OnErr result ((out : List ℕ) × IsBeginning out (flat_map line_of replies.now)
+        × (string_bytes texts.new ≡ string_bytes texts.old ++ out)) }
+{
+    for reply in replies.iter() {
+        push_reply(alloc, reply, texts)?;
+    }
+    Ok(())
+}
+
+// Appends a reply and a line feed to the texts. On an error nothing changes.
+fn push_reply(alloc: Global, reply: &Reply<()>, texts: &mut String) -> Result<(), AllocError>
+    ensures ok { OnOk result (string_bytes texts.new ≡ string_bytes texts.old ++ line_of reply.now) }
+    ensures err { OnErr result (string_bytes texts.new ≡ string_bytes texts.old) }
+{
+    let mut line = print_reply(alloc, reply)?;
+    line.push('\n')?;
+    texts.push_str(&line)
+}
