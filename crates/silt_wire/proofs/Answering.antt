@@ -1,13 +1,16 @@
 -- Answering lines in two parts is answering them at once, and a beginning of a part is a beginning of the whole.
-use Rattle.std.proofs.Common.{IfOk, OnOk, OnErr, ◌≢◌, ◌≡◌, ◌-◌, arith, ◌+◌, ◌≤◌, take, drop, take-append-drop, inl, inr, ℕ, true, false, cond, Result, Ok, Err, List, [], ◌∷◌, ◌++◌, length, refl, sym, ap, ◌∙◌, append_assoc, Option, Some, None, subst}
-use Rattle.std.proofs.lemmas.List.{append-nil, length-drop, take_all}
+use Rattle.std.proofs.Common.{IfOk, OnErr, ◌≡◌, ◌-◌, arith, ◌+◌, ◌≤◌, take, drop, take-append-drop, flat_map, inl, inr, ℕ, true, false, cond, Result, Ok, Err, List, [], ◌∷◌, ◌++◌, length, refl, sym, ap, ◌∙◌, append_assoc, Option, Some, None, is_some, subst}
+use Rattle.std.proofs.lemmas.Grind.{flat_map-append}
+use Rattle.std.proofs.lemmas.List.{append-nil, length-drop, map-append, take_all}
 use Rattle.std.proofs.Math.Seq.{take-add}
 use Rattle.std.specs.Io.KnownBytes.{Appends, Consumes, Keeps}
 use Rattle.silt_event.specs.declared.event.Event.{Event}
 use Rattle.silt_wire.specs.declared.line.LineFault.{LineFault}
-use Rattle.silt_wire.specs.declared.line.LineFault.TheVariants as Fault
 use Rattle.silt_wire.specs.declared.sessions.SessionEnd.{SessionEnd}
 use Rattle.silt_wire.specs.declared.sessions.SessionEnd.TheVariants.{End, ReadFault, WriteFault, NoMemory}
+use Rattle.silt_wire.specs.Batches.{fault_after, valid}
+use Rattle.silt_wire.specs.LineBuffer.{HoldsBytes}
+use Rattle.silt_wire.specs.declared.line_buffer.LineBuffer.{LineBuffer}
 use Rattle.silt_wire.specs.Lines.{Parses, asked_by, is_blank}
 use Rattle.silt_wire.specs.Replies.{fault_line}
 use Rattle.silt_wire.specs.Sessions.{IsBeginning, asks, events_of, line_of, texts_of, AnswersAll, AnswersSome, Ends, IsCut, SessionState}
@@ -56,6 +59,65 @@ events_of-append (Err fault ∷ xs) ys = events_of-append xs ys
 pub asks_after-append : (v : ℕ) (p xs ys : List ℕ) → asks v (lines_after p (xs ++ ys)) ≡ asks v (lines_after p xs) ++ asks v (lines_after (rest_after p xs) ys)
 asks_after-append v p xs ys = ap (asks v) (lines_after-append p xs ys) ∙ asks-append v (lines_after p xs) (lines_after (rest_after p xs) ys)
 
+events_of-valid : (es : List Event) → events_of (valid es) ≡ es
+events_of-valid [] = refl
+events_of-valid (e ∷ es) = ap (λ l. e ∷ l) (events_of-valid es)
+
+-- the lines of the first replies
+pub lines-take : (rs : List PlainReply) (n : ℕ) → IsBeginning (flat_map line_of (take n rs)) (flat_map line_of rs)
+lines-take rs n = (flat_map line_of (drop n rs), sym (flat_map-append line_of (take n rs) (drop n rs)) ∙ ap (flat_map line_of) (take-append-drop n rs))
+
+-- ---- what is gathered
+
+pub asks-live : (v : ℕ) (line : List ℕ) (asked : Result Event LineFault) → is_blank line ≡ false → asked ≡ asked_by v line → asks v (line ∷ []) ≡ asked ∷ []
+asks-live v line asked e is = ap (λ b. cond b [] (asked_by v line ∷ [])) e ∙ ap (λ q. q ∷ []) (sym is)
+
+-- the batch gained the event that was asked for
+pub gathers-event : (old new : List Event) (event : Event) (asked : List (Result Event LineFault)) → asked ≡ Ok event ∷ [] → new ≡ old ++ event ∷ []
+    → valid old ++ asked ≡ valid new ++ []
+gathers-event old new event asked is e =
+    ap (λ l. valid old ++ l) is ∙ sym (map-append (λ x. Ok x) old (event ∷ [])) ∙ ap valid (sym e) ∙ sym (append-nil (valid new))
+
+pub fault_after-none : (fault : Option LineFault) (events : List (Result Event LineFault)) → is_some fault ≡ false → events ++ fault_after fault ≡ events
+fault_after-none None events e = append-nil events
+fault_after-none (Some fault) events e = absurd (cc)
+
+-- one part more of the bytes
+pub gathers-part : (v : ℕ) (p bytes rest : List ℕ) (done count : ℕ) (start before after : List (Result Event LineFault)) → rest ≡ drop done bytes
+    → start ++ asks v (lines_after p (take done bytes)) ≡ before
+    → before ++ asks v (lines_after (rest_after p (take done bytes)) (take count rest)) ≡ after
+    → start ++ asks v (lines_after p (take (done + count) bytes)) ≡ after
+gathers-part v p bytes rest done count start before after is h k =
+    let front = take done bytes in
+    let more = take count (drop done bytes) in
+    ap (λ l. start ++ asks v (lines_after p l)) (take-add done count bytes)
+    ∙ ap (λ l. start ++ l) (asks_after-append v p front more)
+    ∙ sym (append_assoc start (asks v (lines_after p front)) (asks v (lines_after (rest_after p front) more)))
+    ∙ ap (λ l. l ++ asks v (lines_after (rest_after p front) more)) h
+    ∙ ap (λ l. before ++ asks v (lines_after (rest_after p front) (take count l))) (sym is)
+    ∙ k
+
+-- what was gathered of a part is a beginning of what the whole asks for
+pub gathers-begins : (v : ℕ) (p bytes : List ℕ) (count : ℕ) (start after more : List (Result Event LineFault))
+    → start ++ asks v (lines_after p (take count bytes)) ≡ after ++ more → IsBeginning after (start ++ asks v (lines_after p bytes))
+gathers-begins v p bytes count start after more h =
+    let front = take count bytes in
+    let rest = asks v (lines_after (rest_after p front) (drop count bytes)) in (
+      more ++ rest,
+      sym (append_assoc after more rest)
+          ∙ ap (λ l. l ++ rest) (sym h)
+          ∙ append_assoc start (asks v (lines_after p front)) rest
+          ∙ ap (λ l. start ++ l) (sym (asks_after-append v p front (drop count bytes)))
+          ∙ ap (λ l. start ++ asks v (lines_after p l)) (take-append-drop count bytes),
+    )
+
+-- if nothing was gathered before
+pub gathered-only : (before : List Event) (asked after : List (Result Event LineFault)) → before ≡ [] → valid before ++ asked ≡ after → asked ≡ after
+gathered-only before asked after none h = ap (λ l. valid l ++ asked) (sym none) ∙ h
+
+pub begins-only : (before : List Event) (first asked : List (Result Event LineFault)) → before ≡ [] → IsBeginning first (valid before ++ asked) → IsBeginning first asked
+begins-only before first asked none h = (h.0, h.1 ∙ ap (λ l. valid l ++ asked) none)
+
 -- what is written for some lines is the first part of what is written for more
 texts_of-more : (xs ys : List (Result Event LineFault)) (rs : List PlainReply) → IsBeginning (texts_of xs rs) (texts_of (xs ++ ys) rs)
 texts_of-more [] ys rs = IsBeginning-none (texts_of ys rs)
@@ -84,9 +146,6 @@ module _ {A : Type 0} (answers : A → A → Event → PlainReply → Type 0) wh
       ap (λ l. line_of r ++ l) (texts_of-append h.0 b xs ys rs ss h.2) ∙ sym (append_assoc (line_of r) (texts_of xs rs) (texts_of ys ss))
 
   -- ---- one part after the other
-
-  pub all-none : (a : A) (w : Option (List ℕ)) → AnswersAll answers [] a a w w
-  all-none a w = ([], refl, Appends-none w)
 
   -- no text at all is a first part of any text
   some-none : (asked : List (Result Event LineFault)) (a : A) (w : Option (List ℕ)) → AnswersSome answers asked a a w w
@@ -158,12 +217,6 @@ module _ {A : Type 0} (answers : A → A → Event → PlainReply → Type 0) wh
   some-part n p bytes done a b c w v u h k =
       subst (λ xs. AnswersSome answers (asks n (lines_after p xs)) a c w u) (take-append-drop done bytes) (some-bytes n p (take done bytes) (drop done bytes) a b c w v u h k)
 
-  -- a beginning of what a part asks is one of what the whole asks
-  pub some-cut : (n : ℕ) (p bytes : List ℕ) (count : ℕ) (a b : A) (w v : Option (List ℕ)) → AnswersSome answers (asks n (lines_after p (take count bytes))) a b w v
-      → AnswersSome answers (asks n (lines_after p bytes)) a b w v
-  some-cut n p bytes count a b w v h =
-      subst (λ xs. AnswersSome answers (asks n (lines_after p xs)) a b w v) (take-append-drop count bytes) (some-front n p (take count bytes) (drop count bytes) a b w v h)
-
   -- all that a part asks is a beginning of what the whole asks
   pub some-taken : (n : ℕ) (p bytes : List ℕ) (count : ℕ) (a b : A) (w v : Option (List ℕ)) → AnswersAll answers (asks n (lines_after p (take count bytes))) a b w v
       → AnswersSome answers (asks n (lines_after p bytes)) a b w v
@@ -171,36 +224,44 @@ module _ {A : Type 0} (answers : A → A → Event → PlainReply → Type 0) wh
       subst (λ xs. AnswersSome answers (asks n (lines_after p xs)) a b w v) (take-append-drop count bytes)
       (some-front n p (take count bytes) (drop count bytes) a b w v (some-from_all (asks n (lines_after p (take count bytes))) a b w v h))
 
-  -- ---- one line
+  -- ---- a batch of events
 
-  pub all-blank : (n : ℕ) (line : List ℕ) (a : A) (w : Option (List ℕ)) → is_blank line ≡ true → AnswersAll answers (asks n (line ∷ [])) a a w w
-  all-blank n line a w e = subst (λ b. AnswersAll answers (cond b [] (asked_by n line ∷ [])) a a w w) (sym e) (all-none a w)
+  -- if each event has its reply, the texts are the replies as lines
+  texts_of-valid : (a b : A) (es : List Event) (rs : List PlainReply) → AnswersEach answers a es rs b → texts_of (valid es) rs ≡ flat_map line_of rs
+  texts_of-valid a b [] [] h = refl
+  texts_of-valid a b [] (r ∷ rs) h = absurd h
+  texts_of-valid a b (e ∷ es) [] h = absurd h
+  texts_of-valid a b (e ∷ es) (r ∷ rs) h = ap (λ l. line_of r ++ l) (texts_of-valid h.0 b es rs h.2)
 
-  pub all-live : (n : ℕ) (line : List ℕ) (asked : Result Event LineFault) (a b : A) (w v : Option (List ℕ)) → is_blank line ≡ false → asked ≡ asked_by n line
-      → AnswersAll answers (asked ∷ []) a b w v → AnswersAll answers (asks n (line ∷ [])) a b w v
-  all-live n line asked a b w v e is h =
-      subst (λ c. AnswersAll answers (cond c [] (asked_by n line ∷ [])) a b w v) (sym e) (subst (λ q. AnswersAll answers (q ∷ []) a b w v) is h)
+  pub all-events : (a b : A) (es : List Event) (rs : List PlainReply) (text more : List ℕ) → AnswersEach answers a es rs b
+      → more ≡ text ++ flat_map line_of rs → AnswersAll answers (valid es) a b (Some text) (Some more)
+  all-events a b es rs text more h e =
+      (rs, subst (λ l. AnswersEach answers a l rs b) (sym (events_of-valid es)) h, e ∙ ap (λ l. text ++ l) (sym (texts_of-valid a b es rs h)))
 
-  pub some-live : (n : ℕ) (line : List ℕ) (asked : Result Event LineFault) (a b : A) (w v : Option (List ℕ)) → is_blank line ≡ false → asked ≡ asked_by n line
-      → AnswersSome answers (asked ∷ []) a b w v → AnswersSome answers (asks n (line ∷ [])) a b w v
-  some-live n line asked a b w v e is h =
-      subst (λ c. AnswersSome answers (cond c [] (asked_by n line ∷ [])) a b w v) (sym e) (subst (λ q. AnswersSome answers (q ∷ []) a b w v) is h)
+  -- the texts of the first replies are there
+  pub some-events : (a b : A) (es : List Event) (rs : List PlainReply) (text more : List ℕ) → AnswersEach answers a es rs b
+      → (out : List ℕ) × IsBeginning out (flat_map line_of rs) × (more ≡ text ++ out) → AnswersSome answers (valid es) a b (Some text) (Some more)
+  some-events a b es rs text more h cut = (
+    es,
+    rs,
+    cut.0,
+    subst (λ l. IsBeginning es l) (sym (events_of-valid es)) (IsBeginning-all es),
+    h,
+    subst (λ l. IsBeginning cut.0 l) (sym (texts_of-valid a b es rs h)) cut.1,
+    cut.2,
+  )
 
-  pub all-event : (event : Event) (reply : PlainReply) (a b : A) (text more : List ℕ) → answers a b event reply → more ≡ text ++ line_of reply
-      → AnswersAll answers (Ok event ∷ []) a b (Some text) (Some more)
-  all-event event reply a b text more h e = (reply ∷ [], (b, h, refl), e ∙ ap (λ l. text ++ l) (sym (append-nil (line_of reply))))
+  -- what was done of the first requests is done of all
+  pub some-begun : (first asked : List (Result Event LineFault)) (a b : A) (w v : Option (List ℕ)) → IsBeginning first asked
+      → AnswersSome answers first a b w v → AnswersSome answers asked a b w v
+  some-begun first asked a b w v begins h = subst (λ q. AnswersSome answers q a b w v) begins.1 (some-more a b first begins.0 w v h)
 
-  pub some-event : (event : Event) (reply : PlainReply) (a b : A) (text more : List ℕ) → answers a b event reply → more ≡ text
-      → AnswersSome answers (Ok event ∷ []) a b (Some text) (Some more)
-  some-event event reply a b text more h e = (event ∷ [], reply ∷ [], [], IsBeginning-all (event ∷ []), (b, h, refl), IsBeginning-none _, e ∙ sym (append-nil text))
-
-  pub all-fault : (fault : LineFault) (a : A) (text more : List ℕ) → more ≡ text ++ fault_line fault
-      → AnswersAll answers (Err fault ∷ []) a a (Some text) (Some more)
-  all-fault fault a text more e = ([], refl, e ∙ ap (λ l. text ++ l) (sym (append-nil (fault_line fault))))
-
-  -- nothing was done and nothing was written
-  pub some-same : (asked : List (Result Event LineFault)) (a : A) (text more : List ℕ) → more ≡ text → AnswersSome answers asked a a (Some text) (Some more)
-  some-same asked a text more e = subst (λ t. AnswersSome answers asked a a (Some text) (Some t)) (sym e) (some-none asked a (Some text))
+  -- after the events comes the refusal of the last line
+  pub all-fault : (asked events : List (Result Event LineFault)) (fault : LineFault) (a b : A) (text mid more : List ℕ) → asked ≡ events ++ Err fault ∷ []
+      → AnswersAll answers events a b (Some text) (Some mid) → more ≡ mid ++ fault_line fault → AnswersAll answers asked a b (Some text) (Some more)
+  all-fault asked events fault a b text mid more is h e =
+      subst (λ q. AnswersAll answers q a b (Some text) (Some more)) (sym is)
+      (all-append a b b events (Err fault ∷ []) (Some text) (Some mid) (Some more) h ([], refl, e ∙ ap (λ l. mid ++ l) (sym (append-nil (fault_line fault)))))
 
   -- ---- what was gathered is written
 
@@ -227,22 +288,11 @@ pub asked-event : (asked : Result Event LineFault) (event : Event) → Parses as
 asked-event asked event (inl h) = h
 asked-event asked event (inr h) = absurd (cc)
 
-err-is : (x y : LineFault) (r : Result Event LineFault) → r ≡ Err x → r ≡ Err y → x ≡ y
-err-is x y r e h = cc
-
-pub asked-fault : (asked : Result Event LineFault) (fault : LineFault) → Parses asked (Err fault) → fault ≢ Fault.NoMemory → Err fault ≡ asked
-asked-fault asked fault (inl h) n = h
-asked-fault asked fault (inr h) n = absurd (n (err-is fault Fault.NoMemory (Err fault) refl h.0))
-
 -- ---- results
 
 pub on-err : {T E P : Type 0} (r : Result T E) → P → OnErr r P
 on-err (Ok x) p = tt
 on-err (Err e) p = p
-
-pub on-ok-both : {T E : Type 0} (P Q : Type 0) (r : Result T E) → OnOk r P → OnOk r Q → OnOk r (P × Q)
-on-ok-both P Q (Ok x) p q = (p, q)
-on-ok-both P Q (Err e) p q = tt
 
 -- what follows both from what is true on Ok and from what is true on Err
 pub if-either : {T E Q : Type 0} {P : T → Type 0} (r : Result T E) → ((x : T) → P x → Q) → IfOk r P → OnErr r Q → Q
@@ -279,3 +329,10 @@ wrote-front bytes done w v u h k = (take done bytes, IsBeginning-take bytes done
 -- what is pending after one part more of a slice
 pub rest_after-part : (p bytes : List ℕ) (done count : ℕ) → rest_after p (take (done + count) bytes) ≡ rest_after (rest_after p (take done bytes)) (take count (drop done bytes))
 rest_after-part p bytes done count = ap (λ xs. rest_after p xs) (take-add done count bytes) ∙ rest_after-append p (take done bytes) (take count (drop done bytes))
+
+-- what is pending after one part more, if these bytes are the rest
+pub holds-part : (pending : LineBuffer) (p bytes rest : List ℕ) (done count : ℕ) → rest ≡ drop done bytes
+    → HoldsBytes pending (rest_after (rest_after p (take done bytes)) (take count rest)) → HoldsBytes pending (rest_after p (take (done + count) bytes))
+holds-part pending p bytes rest done count is h =
+    let H = λ (r : List ℕ). HoldsBytes pending (rest_after (rest_after p (take done bytes)) (take count r)) in
+    subst (λ (q : List ℕ). HoldsBytes pending q) (sym (rest_after-part p bytes done count)) (subst H is h)

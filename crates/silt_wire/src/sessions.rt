@@ -1,5 +1,5 @@
 // Sessions: lines from a reader, and an answerer's replies to a writer.
-ghost use Rattle.std.specs.Prelude.{◌≡◌, ◌≢◌, ◌≤◌, ◌<◌, ◌++◌, ◌∷◌, [], ℕ, List, Some, Ok, true, IfOk, OnOk, OnErr, IfErr, length, string_bytes, take};
+ghost use Rattle.std.specs.Prelude.{◌≡◌, ◌≤◌, ◌<◌, ◌++◌, ◌∷◌, [], ℕ, List, Some, true, IfOk, OnOk, OnErr, IfErr, length, string_bytes, take};
 ghost use Rattle.std.specs.Io.KnownBytes.{Appends};
 ghost use Rattle.silt_wire.specs.LineBuffer.{HoldsBytes};
 ghost use Rattle.silt_wire.specs.Replies.{fault_line};
@@ -287,11 +287,14 @@ fn gather_line(
     ensures err { OnErr result (requests batch.new ≡ requests batch.old) }
 {
     let taken = pending.take(bytes)?;
-    let mut fault = None;
-    if taken.ends_line {
-        fault = gather_event(alloc, value_len, pending, batch)?;
-        pending.clear();
+    if !taken.ends_line {
+        return Ok(Gathered {
+            count: taken.count,
+            fault: None,
+        });
     }
+    let fault = gather_event(alloc, value_len, pending, batch)?;
+    pending.clear();
     Ok(Gathered {
         count: taken.count,
         fault,

@@ -1,52 +1,37 @@
-use Rattle.std.proofs.Common.{ℕ, List, Some, string_bytes, take, sym, subst, arith}
-use Rattle.silt_wire.specs.LineBuffer.{HoldsBytes}
-use Rattle.silt_wire.specs.Sessions.{ServesAll, ServesSome, rest_after}
-use Rattle.silt_wire.proofs.Answering.{all-part, on-err, rest_after-part, some-part}
+use Rattle.std.proofs.Common.{◌∙◌, ◌++◌, Some, ap, string_bytes, subst, sym}
+use Rattle.silt_wire.specs.Batches.{fault_after, requests}
+use Rattle.silt_wire.specs.Sessions.{AnswersAll}
+use Rattle.silt_wire.proofs.Answering.{all-fault, begins-only, gathered-only, on-err, some-begun, some-from_all}
 use Rattle.silt_wire.proofs.sessions.take_part.Goals as goal
 
-pub returns-in_err-done-clause-some : goal.returns-in_err-done-clause-some
-returns-in_err-done-clause-some g c =
-    let done = c.loop-done.done in
+pub gather-gathered-requires-clause-ready : goal.gather-gathered-requires-clause-ready
+gather-gathered-requires-clause-ready g c = c.new-batch.ensures.ready c.args.value_len
+
+pub returns-in_err-answer-clause-some : goal.returns-in_err-answer-clause-some
+returns-in_err-answer-clause-some g c =
     on-err c.from_residual.result (λ p h.
-    let before = c.loop-done.invariant.told p h in
-    let P = λ (r : List ℕ). ServesSome g.A.Answerer.answers c.args.value_len (rest_after p (take done c.args.bytes.now)) r c.loop-done.answerer c.take_line.new.answerer (Some (string_bytes c.loop-done.texts)) (Some (string_bytes c.take_line.new.texts)) in
-    some-part g.A.Answerer.answers c.args.value_len p c.args.bytes.now done _ _ _ (Some (string_bytes c.args.texts.now)) (Some (string_bytes c.loop-done.texts)) (Some (string_bytes c.take_line.new.texts)) before.all (subst P c.split_at.ensures.back (c.in_err-done.ensures.some _ before.holds)))
+    some-begun g.A.Answerer.answers (requests c.gather-gathered.new.batch) _ _ _ (Some (string_bytes c.args.texts.now)) (Some (string_bytes c.answer.new.texts))
+    (begins-only c.new-batch.result.events.items _ _ c.new-batch.ensures.empty (c.gather-gathered.ensures.some p h)) c.in_err-answer.ensures.some)
 
-pub returns-then-len-ge-ENOUGH_TEXT-clause-holds : goal.returns-then-len-ge-ENOUGH_TEXT-clause-holds
-returns-then-len-ge-ENOUGH_TEXT-clause-holds g c = λ p h.
-    let done = c.loop-done.done in
-    let count = c.in_ok-done.field-0 in
-    let bytes = c.args.bytes.now in
-    let before = c.loop-done.invariant.told p h in
-    let H = λ (r : List ℕ). HoldsBytes c.take_line.new.pending (rest_after (rest_after p (take done bytes)) (take count r)) in
-    subst (λ (q : List ℕ). HoldsBytes c.take_line.new.pending q) (sym (rest_after-part p bytes done count)) (subst H c.split_at.ensures.back (c.in_ok-done.ensures.holds _ before.holds))
+pub returns-in_err-gathered-clause-some : goal.returns-in_err-gathered-clause-some
+returns-in_err-gathered-clause-some g c =
+    on-err c.from_residual-in_err-gathered.result (λ p h.
+    some-begun g.A.Answerer.answers (requests c.gather-gathered.new.batch) _ _ _ (Some (string_bytes c.args.texts.now)) (Some (string_bytes c.answer.new.texts))
+    (begins-only c.new-batch.result.events.items _ _ c.new-batch.ensures.empty (c.gather-gathered.ensures.some p h))
+    (some-from_all g.A.Answerer.answers _ _ _ (Some (string_bytes c.args.texts.now)) (Some (string_bytes c.answer.new.texts)) c.in_ok-answer.ensures.all))
 
-pub returns-then-len-ge-ENOUGH_TEXT-clause-all : goal.returns-then-len-ge-ENOUGH_TEXT-clause-all
-returns-then-len-ge-ENOUGH_TEXT-clause-all g c = λ p h.
-    let done = c.loop-done.done in
-    let count = c.in_ok-done.field-0 in
-    let bytes = c.args.bytes.now in
-    let before = c.loop-done.invariant.told p h in
-    let P = λ (r : List ℕ). ServesAll g.A.Answerer.answers c.args.value_len (rest_after p (take done bytes)) (take count r) c.loop-done.answerer c.take_line.new.answerer (Some (string_bytes c.loop-done.texts)) (Some (string_bytes c.take_line.new.texts)) in
-    all-part g.A.Answerer.answers c.args.value_len p bytes done count _ _ _ (Some (string_bytes c.args.texts.now)) (Some (string_bytes c.loop-done.texts)) (Some (string_bytes c.take_line.new.texts)) before.all (subst P c.split_at.ensures.back (c.in_ok-done.ensures.all _ before.holds))
+pub returns-in_err-push_fault-clause-some : goal.returns-in_err-push_fault-clause-some
+returns-in_err-push_fault-clause-some g c =
+    let answered = subst (λ t. AnswersAll g.A.Answerer.answers (requests c.gather-gathered.new.batch) c.args.answerer.now c.answer.new.answerer (Some (string_bytes c.args.texts.now)) (Some t))
+    (sym c.in_err-push_fault.ensures.err) c.in_ok-answer.ensures.all in
+    on-err c.from_residual-in_err-push_fault.result (λ p h.
+    some-begun g.A.Answerer.answers (requests c.gather-gathered.new.batch) _ _ _ (Some (string_bytes c.args.texts.now)) (Some (string_bytes c.push_fault.new.texts))
+    (begins-only c.new-batch.result.events.items _ _ c.new-batch.ensures.empty (c.gather-gathered.ensures.some p h))
+    (some-from_all g.A.Answerer.answers _ _ _ (Some (string_bytes c.args.texts.now)) (Some (string_bytes c.push_fault.new.texts)) answered))
 
-pub loop-done-preserved : goal.loop-done-preserved
-loop-done-preserved g c =
-    let done = c.loop-done.done in
-    let count = c.in_ok-done.field-0 in
-    let bytes = c.args.bytes.now in
-    let back = c.split_at.ensures.back in
-    let bound = c.in_ok-done.ensures.count.1 in
-    let rest = c.split_at.ensures.back_len in
-    record {
-      within = omega arith;
-      stays = c.take_line.ensures.stays;
-      told = λ p h.
-          let before = c.loop-done.invariant.told p h in
-          let H = λ (r : List ℕ). HoldsBytes c.take_line.new.pending (rest_after (rest_after p (take done bytes)) (take count r)) in
-          let P = λ (r : List ℕ). ServesAll g.A.Answerer.answers c.args.value_len (rest_after p (take done bytes)) (take count r) c.loop-done.answerer c.take_line.new.answerer (Some (string_bytes c.loop-done.texts)) (Some (string_bytes c.take_line.new.texts)) in
-          record {
-            holds = subst (λ (q : List ℕ). HoldsBytes c.take_line.new.pending q) (sym (rest_after-part p bytes done count)) (subst H back (c.in_ok-done.ensures.holds _ before.holds));
-            all = all-part g.A.Answerer.answers c.args.value_len p bytes done count _ _ _ (Some (string_bytes c.args.texts.now)) (Some (string_bytes c.loop-done.texts)) (Some (string_bytes c.take_line.new.texts)) before.all (subst P back (c.in_ok-done.ensures.all _ before.holds));
-          };
-    }
+pub returns-in_ok-push_fault-clause-all : goal.returns-in_ok-push_fault-clause-all
+returns-in_ok-push_fault-clause-all g c = λ p h.
+    all-fault g.A.Answerer.answers _ (requests c.gather-gathered.new.batch) c.in-Some.fault _ _ (string_bytes c.args.texts.now) (string_bytes c.answer.new.texts) (string_bytes c.push_fault.new.texts)
+    (gathered-only c.new-batch.result.events.items _ _ c.new-batch.ensures.empty (c.in_ok-gathered.ensures.all p h)
+    ∙ ap (λ f. requests c.gather-gathered.new.batch ++ fault_after f) c.in-Some.is)
+    c.in_ok-answer.ensures.all c.in_ok-push_fault.ensures.ok

@@ -3,7 +3,7 @@ use Rattle.std.specs.Io.KnownBytes.{Consumes}
 use Rattle.silt_wire.specs.LineBuffer.{HoldsBytes}
 use Rattle.silt_wire.specs.Sessions.{AnswersAll, asks}
 use Rattle.silt_wire.specs.Sessions.{lines_after, rest_after}
-use Rattle.silt_wire.proofs.sessions.session.Given as goal
+use Rattle.silt_wire.proofs.sessions.session_over.Given as goal
 
 abbrev pub invariant-loop : goal.invariant-loop
 invariant-loop g l =

@@ -2,8 +2,8 @@ use Rattle.std.proofs.Common.{◌++◌, [], List, ℕ, sym, subst, take}
 use Rattle.silt_wire.specs.LineBuffer.{HoldsBytes}
 use Rattle.silt_wire.proofs.Answering.{Ends-cut, Ends-unbegun, all-bytes, some-bytes}
 use Rattle.silt_wire.proofs.Streams.{Consumes-append, Consumes-keeps, rest_after-append}
-use Rattle.silt_wire.proofs.sessions.session.Goals as goal
-use Rattle.silt_wire.proofs.sessions.session.Goals.{in-Ok-read+in-Ok-answer_read, in-Err}
+use Rattle.silt_wire.proofs.sessions.session_over.Goals as goal
+use Rattle.silt_wire.proofs.sessions.session_over.Goals.{in-Ok-read+in-Ok-answer_read, in-Err}
 
 pub returns-in_default-clause-ends : goal.returns-in_default-clause-ends
 returns-in_default-clause-ends g c = Ends-unbegun g.A.Answerer.answers c.args.value_len (record {
