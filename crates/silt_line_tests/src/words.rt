@@ -86,6 +86,32 @@ fn reads_how_long_a_connection_may_be_silent(rt: HostRuntime) -> Result<(), Fail
     is_idle_after(&rt, "silt serve disk --sessions 2 0 --idle 60", Some(60))
 }
 
+// Whether a command line names a service with batches.
+fn is_pipelined<S: AllocGlobal + Abort>(rt: &S, call: &str, pipeline: bool) -> Result<(), Fail> {
+    let words = words(rt, call)?;
+    let service = service_named(read_words(rt.alloc(), words.as_slice()));
+    assert_eq!(rt; service.map(|service| service.pipeline), Some(pipeline));
+    Ok(())
+}
+
+#[test]
+fn reads_whether_a_server_makes_batches(rt: HostRuntime) -> Result<(), Fail> {
+    is_pipelined(&rt, "silt serve disk 0", false)?;
+    is_pipelined(
+        &rt,
+        "silt serve disk 0 --idle 1 --audit 2 --sessions 3",
+        false,
+    )?;
+    is_pipelined(&rt, "silt serve disk 0 --pipeline", true)?;
+    is_pipelined(&rt, "silt serve --pipeline disk 0", true)?;
+    is_pipelined(&rt, "silt serve disk --pipeline -- 0", true)?;
+    is_pipelined(
+        &rt,
+        "silt serve disk --sessions 1 --pipeline --idle=2 0 --audit 3",
+        true,
+    )
+}
+
 /// A job on a file, by the first letter of its word, and whether its flag is given.
 #[derive(Clone, Copy)]
 struct OnFile<'a> {
@@ -249,6 +275,14 @@ fn refuses_options_that_are_not_the_jobs(rt: HostRuntime) -> Result<(), Fail> {
         "silt serve disk 0 --idle x",
         "silt serve disk 0 --idle 1 --idle 2",
         "silt run disk --idle 1",
+        "silt serve disk 0 --pipeline --pipeline",
+        "silt serve disk 0 --pipeline=true",
+        "silt serve disk 0 --pipeline=",
+        "silt serve disk 0 -- --pipeline",
+        "silt serve disk --pipeline",
+        "silt serve disk 0 --pipe",
+        "silt --pipeline serve disk 0",
+        "silt run disk --pipeline",
     ] {
         names_no_job(&rt, call)?;
     }

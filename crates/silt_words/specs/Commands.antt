@@ -63,7 +63,8 @@ plan_app = with_option (with_value (with_value (new_app (codes "plan")) (codes "
 
 abbrev pub serve_app : App
 serve_app =
-    with_option (with_option (with_option (with_value (with_file (new_app (codes "serve"))) (codes "PORT")) (codes "audit")) (codes "sessions")) (codes "idle")
+    with_flag (with_option (with_option (with_option (with_value (with_file (new_app (codes "serve"))) (codes "PORT"))
+    (codes "audit")) (codes "sessions")) (codes "idle")) (codes "pipeline")
 
 -- the program
 abbrev pub silt : App
@@ -116,7 +117,7 @@ flag_in rows name = option_map_or (λ text. bytes_eq text (codes "true")) (first
 abbrev pub service_in : List Row → Option NamedService
 service_in rows =
     option_and_then (λ file. option_and_then (λ port. option_and_then (λ audit. option_and_then (λ sessions. option_map (λ idle.
-    record { file = file; port = port; audit = audit; sessions = sessions; idle = idle })
+    record { file = file; port = port; audit = audit; sessions = sessions; idle = idle; pipeline = flag_in rows (codes "pipeline") })
     (limit_in rows (codes "idle"))) (limit_in rows (codes "sessions"))) (option_in rows (codes "audit"))) (port_in rows)) (file_in rows)
 
 -- what a store is to be planned for

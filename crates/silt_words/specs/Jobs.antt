@@ -13,10 +13,11 @@ pub record NamedService : Type 0 where
   pub audit : Option ℕ
   pub sessions : Option ℕ
   pub idle : Option ℕ
+  pub pipeline : Bool
 
 -- what a service is by that text
 abbrev pub named_service : Service → NamedService
-named_service service = record { file = service.file.now; port = service.port; audit = service.audit; sessions = service.sessions; idle = service.idle }
+named_service service = record { file = service.file.now; port = service.port; audit = service.audit; sessions = service.sessions; idle = service.idle; pipeline = service.pipeline }
 
 -- a job, by the text of its file's name
 pub data Named : Type 0 where

@@ -106,7 +106,8 @@ fn serve<'a>(alloc: Global) -> Result<Command<'a>, AllocError>
     let with_port = add_value(with_file, alloc, "PORT");
     let with_audit = add_option(with_port, alloc, "audit");
     let with_sessions = add_option(with_audit, alloc, "sessions");
-    add_option(with_sessions, alloc, "idle")
+    let with_idle = add_option(with_sessions, alloc, "idle");
+    add_flag(with_idle, alloc, "pipeline")
 }
 
 // The command with one more below it, if that one was made.

@@ -24,6 +24,8 @@ pub struct Service<'a> {
     pub sessions: Option<u32>,
     /// After how many seconds, at least one, a silent connection is closed. None if it never is.
     pub idle: Option<u32>,
+    /// Whether the commands that a connection sent together are done as one batch, with one flush.
+    pub pipeline: bool,
 }
 
 /// What a store is to be planned for.

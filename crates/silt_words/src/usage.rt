@@ -31,6 +31,7 @@ PORT  a port of this machine, at most 65535; 0 lets the system choose
 --audit N         records up to N calls in memory and refuses all later ones; the record is not printed
 --sessions M      ends after M sessions; 0 has no end
 --idle SECONDS    closes a connection that sends nothing for so long; 0 never does
+--pipeline        does the commands that a connection sent together with one flush
 ";
 
 /// What is wrong with words that name no job.
@@ -134,7 +135,7 @@ struct Choice {
     has_number: bool,
 }
 
-/// What may follow the word for a job: its values in order, and its options, at most three.
+/// What may follow the word for a job: its values in order, and its options, at most four.
 #[derive(Clone, Copy, Debug)]
 struct Form {
     values: &'static [&'static str],
@@ -171,6 +172,11 @@ const IDLE: Choice = Choice {
     has_number: true,
 };
 
+const PIPELINE: Choice = Choice {
+    name: "--pipeline",
+    has_number: false,
+};
+
 // What may follow this word for a job.
 fn form_of(job: &str) -> Option<Form> {
     let (values, options): (&'static [&'static str], &'static [Choice]) = match job {
@@ -179,7 +185,7 @@ fn form_of(job: &str) -> Option<Form> {
         "run" => (&["FILE"], &[TEND]),
         "tend" | "check" | "dump" => (&["FILE"], &[]),
         "plan" => (&["KEYS", "V"], &[MEMORY]),
-        "serve" => (&["FILE", "PORT"], &[AUDIT, SESSIONS, IDLE]),
+        "serve" => (&["FILE", "PORT"], &[AUDIT, SESSIONS, IDLE, PIPELINE]),
         _ => return None,
     };
     Some(Form { values, options })
@@ -205,7 +211,7 @@ struct Walk {
     /// The option whose number is the next word.
     awaited: Option<&'static str>,
     /// Which options of the form were met.
-    met: [bool; 3],
+    met: [bool; 4],
     /// Whether the word `--` was met. After it every word is a value.
     is_past_options: bool,
 }
@@ -216,7 +222,7 @@ impl Walk {
             form,
             place: 0,
             awaited: None,
-            met: [false; 3],
+            met: [false; 4],
             is_past_options: false,
         }
     }

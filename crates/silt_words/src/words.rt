@@ -82,6 +82,7 @@ fn service_of<'a>(matches: &ArgMatches<'a>) -> Option<Service<'a>>
         audit: option_at(matches, "audit")?,
         sessions: limit_at(matches, "sessions")?,
         idle: limit_at(matches, "idle")?,
+        pipeline: is_given(matches, "pipeline"),
     })
 }
 

@@ -10,4 +10,5 @@ returns c =
     let stands2 = one_more _ _ (λ old arg new adds. adds.globals) _ _ c.add_value-with_port.ensures stands1 in
     let stands3 = one_more _ _ (λ old arg new adds. adds.globals) _ _ c.add_option-with_audit.ensures stands2 in
     let stands4 = one_more _ _ (λ old arg new adds. adds.globals) _ _ c.add_option-with_sessions.ensures stands3 in
-    joins_as _ (λ old sub new adds. adds.shape) _ (one_more _ _ (λ old arg new adds. adds.globals) _ _ c.add_option.ensures stands4)
+    let stands5 = one_more _ _ (λ old arg new adds. adds.globals) _ _ c.add_option-with_idle.ensures stands4 in
+    joins_as _ (λ old sub new adds. adds.shape) _ (one_more _ _ (λ old arg new adds. adds.globals) _ _ c.add_flag.ensures stands5)
