@@ -151,11 +151,13 @@ fn limits_of(service: &Service<'_>) -> Limits
     ensures sessions { result.sessions ≡ unwrap_or service.now.sessions 0 }
     ensures audit { result.audit ≡ service.now.audit }
     ensures idle { result.idle ≡ service.now.idle }
+    ensures pipeline { result.pipeline ≡ service.now.pipeline }
 {
     Limits {
         sessions: service.sessions.unwrap_or(0),
         audit: calls_kept(service.audit),
         idle: service.idle,
+        pipeline: service.pipeline,
     }
 }
 

@@ -591,7 +591,7 @@ fn tells_a_port_that_is_in_use(rt: HostRuntime) -> Result<(), Fail> {
 }
 
 // Words that name no job, and what is wrong with them.
-const COMPLAINTS: [(&str, &str); 32] = [
+const COMPLAINTS: [(&str, &str); 34] = [
     ("silt", "no job is named"),
     ("silt prune disk", "there is no job 'prune'"),
     ("silt run", "FILE is missing"),
@@ -677,6 +677,14 @@ const COMPLAINTS: [(&str, &str); 32] = [
     (
         "silt serve disk 0 --idle",
         "--idle needs a number behind it",
+    ),
+    (
+        "silt serve disk 0 --pipeline --idle 1 --pipeline",
+        "--pipeline is given twice",
+    ),
+    (
+        "silt serve disk 0 --pipeline=1",
+        "'--pipeline=1' is no option here",
     ),
 ];
 
