@@ -1,5 +1,6 @@
 // What no contract says: texts, letter for letter.
 
+mod batches;
 mod sessions;
 mod swaps;
 
