@@ -272,6 +272,8 @@ class Reasons(ServedCase):
                             (("serve", "f", "0", "--audit"), "--audit needs a number behind it"),
                             (("serve", "f", "0", "--audit", "--idle", "1"), "--audit needs a number behind it"),
                             (("serve", "f", "0", "--audit", "1", "--audit=1"), "--audit is given twice"),
+                            (("serve", "f", "0", "--pipeline", "--pipeline"), "--pipeline is given twice"),
+                            (("serve", "f", "0", "--pipeline=1"), "'--pipeline=1' is no option here"),
                             (("serve", "f", "65536"), "PORT cannot be '65536': a port is at most 65535"),
                             (("run", "f", "--force"), "'--force' is no option here"),
                             (("format", "f", "2", "2", "4", "2", "2"), "S is missing")):
@@ -285,7 +287,7 @@ class Reasons(ServedCase):
         ended = self.silt("--help")
         self.assertEqual((ended.status, ended.out), (2, "usage\n"))
         for form in ("silt format FILE", "silt run FILE [--tend]", "silt tend FILE", "silt check FILE", "silt plan KEYS V", "silt serve FILE PORT",
-                     "--force", "--audit N", "--sessions M", "--idle SECONDS", "--memory BYTES"):
+                     "--force", "--audit N", "--sessions M", "--idle SECONDS", "--pipeline", "--memory BYTES"):
             self.assertIn(form, ended.err)
 
     def test_a_silent_connection(self):

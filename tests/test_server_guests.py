@@ -15,10 +15,12 @@ def request(first, *body):
 class Browsers(ServedCase):
     """A web page can make a browser send an HTTP request to a port of this machine."""
 
+    options = ()
+
     def setUp(self):
         super().setUp()
         self.store(ROOMY)
-        self.server = self.serve()
+        self.server = self.serve(*self.options)
         self.owner = self.client(self.server)
         self.assertEqual(self.owner.ask("put =abc 0102"), ["accepted 1"])
 
@@ -71,7 +73,7 @@ class Browsers(ServedCase):
     def test_such_sessions_count(self):
         self.owner.close()
         self.server.kill()
-        server = self.serve("--sessions", 2)
+        server = self.serve("--sessions", 2, *self.options)
         guest = self.client(server)
         guest.send_bytes(request("POST / HTTP/1.1", "put =abc 0506"))
         self.assertEqual(guest.rest(), [])
@@ -79,6 +81,12 @@ class Browsers(ServedCase):
         self.assertEqual(client.ask("get =abc"), ["value 0102"])
         client.close()
         self.check_calls(server.ended(), 0)
+
+
+class PipelinedBrowsers(Browsers):
+    """The lines behind a request come with it, and none is done as a batch."""
+
+    options = ("--pipeline",)
 
 
 class OneTooMany(ServedCase):
