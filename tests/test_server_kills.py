@@ -1,4 +1,5 @@
 """A server that is killed under load: each command that it accepted is there in the next run."""
+import itertools
 import signal
 import threading
 import time
@@ -9,6 +10,8 @@ from served import ServedCase
 
 # Logs of eight rows and few regions, so that freezes, conversions and merges go on all the time.
 BUSY = "4 4 8 4 3 200"
+# Logs that have room for all commands of a round, so that none is refused. Some rounds freeze a log.
+WIDE = "4 256 1024 8 8 30000"
 CLIENTS = 4
 KEYS = 6
 ROUNDS = 20
@@ -16,61 +19,75 @@ ROUNDS = 20
 
 class Writer:
     """A client with keys of its own. It knows their values by its accepted commands, and the
-    command that has no reply yet."""
+    commands that have no reply yet.
 
-    def __init__(self, number, random):
-        self.number, self.random = number, random
+    It sends `burst` commands in one write, and then waits for replies until `ahead` are due."""
+
+    def __init__(self, number, random, burst=1, ahead=0):
+        self.number, self.random, self.burst, self.ahead = number, random, burst, ahead
         self.values = {f"=client/{number}/{key}": "absent" for key in range(KEYS)}
-        self.pending = None
+        # The commands without a reply, in their order: the word of the due reply, the key and its value then.
+        self.pending = []
         self.turn = 0
         self.wrong = []
 
-    def next_command(self):
-        """A line, the word that its reply begins with, and a key with its value after it: a put of a
-        new value, or now and then a delete, a swap that differs, or one that does not."""
+    def next_command(self, values):
+        """A line, and the command that it makes of these values: a put of a new value, or now and
+        then a delete, a swap that differs, or one that does not."""
         self.turn += 1
-        key = self.random.choice(list(self.values))
-        now, new = self.values[key], f"{self.number:02x}{self.turn:06x}"
+        key = self.random.choice(list(values))
+        now, new = values[key], f"{self.number:02x}{self.turn:06x}"
         kind = self.random.randrange(6)
         if kind == 0:
-            return f"delete {key}", "accepted", key, "absent"
+            return f"delete {key}", ("accepted", key, "absent")
         if kind == 1:
-            return f"swap {key} ffffffff {new}", "differs", key, now
+            return f"swap {key} ffffffff {new}", ("differs", key, now)
         line = f"swap {key} {now.split()[1]} {new}" if kind == 2 and now != "absent" else f"put {key} {new}"
-        return line, "accepted", key, f"value {new}"
+        return line, ("accepted", key, f"value {new}")
+
+    def next_lines(self):
+        """The lines of one write. Their commands are pending."""
+        values, lines = self.states()[-1], []
+        for _ in range(self.burst):
+            line, command = self.next_command(values)
+            _, key, value = command
+            values = {**values, key: value}
+            self.pending.append(command)
+            lines.append(line)
+        return lines
+
+    def states(self):
+        """The values after none of the pending commands, the first, the first two, and so on."""
+        return list(itertools.accumulate(self.pending, lambda values, it: {**values, it[1]: it[2]}, initial=self.values))
 
     def run(self, client, counted):
-        """Sends one command after the other until the connection breaks."""
-        while True:
-            line, due, key, value = self.next_command()
-            self.pending = (key, value)
-            try:
-                client.send(line)
-                reply = client.reply()
-            except OSError:
-                reply = None
-            if reply is None:
-                return
-            self.take(due, key, value, reply)
-            counted()
+        """Sends commands and takes replies until the connection breaks."""
+        try:
+            while True:
+                client.send(*self.next_lines())
+                while len(self.pending) > self.ahead:
+                    reply = client.reply()
+                    if reply is None:
+                        return
+                    self.take(reply)
+                    counted()
+        except OSError:
+            pass
 
-    def take(self, due, key, value, reply):
-        """Notes the reply to the latest command."""
-        self.pending = None
+    def take(self, reply):
+        """Notes the reply to the first pending command. It may be refused only if no later one was
+        sent, since that relies on it."""
+        due, key, value = self.pending.pop(0)
         if reply.split()[0] == due:
             self.values[key] = value
-        elif reply not in ("refused 7 StoreFull", "refused 8 NoRoom"):
+        elif self.ahead or reply not in ("refused 7 StoreFull", "refused 8 NoRoom"):
             self.wrong.append(reply)
 
     def find(self, found):
-        """Takes over the values that a run found. Returns those that it may not find."""
-        lost = []
-        for key, value in found.items():
-            if value != self.values[key] and (key, value) != self.pending:
-                lost.append((key, value, self.values[key], self.pending))
-            self.values[key] = value
-        self.pending = None
-        return lost
+        """Takes over the values that a run found. Returns what they differ from: they are those
+        after the commands that have replies, and some first pending ones."""
+        states, self.values, self.pending = self.states(), found, []
+        return [] if found in states else states
 
 
 class Load:
@@ -102,15 +119,21 @@ class Load:
             thread.join()
 
 
-class Kills(ServedCase):
+class KillCase(ServedCase):
+    """A server of a store with such numbers and options, and its clients."""
+
+    geometry, options = BUSY, ()
+    # What each client sends in one write, and how many replies may be due when it sends again.
+    burst, ahead = 1, 0
+
     def setUp(self):
         super().setUp()
-        self.store(BUSY)
-        self.writers = [Writer(it, self.random) for it in range(CLIENTS)]
+        self.store(self.geometry)
+        self.writers = [Writer(it, self.random, self.burst, self.ahead) for it in range(CLIENTS)]
 
     def load_and_end(self, most, number):
         """Loads a server, and sends it this signal after a random number of replies."""
-        server = self.serve()
+        server = self.serve(*self.options)
         load = Load(self, server, self.writers)
         count = self.random.randrange(1, most)
         self.assertTrue(load.wait(count, limit=60), (count, server.errors()))
@@ -120,12 +143,16 @@ class Kills(ServedCase):
         self.assertEqual((ended.status, ended.err), (-number, ""), ended)
         self.assertEqual([it.wrong for it in self.writers], [[]] * CLIENTS)
 
+    def check_found(self, replies):
+        """These are the values that each client knows, by their keys."""
+        for writer in self.writers:
+            found = {key: replies[key] for key in writer.values}
+            self.assertEqual(writer.find(found), [], found)
+
     def check_kept(self):
         """A new run finds the values that each client knows."""
         keys = [key for it in self.writers for key in it.values]
-        replies = dict(zip(keys, self.found(*keys), strict=True))
-        for writer in self.writers:
-            self.assertEqual(writer.find({key: replies[key] for key in writer.values}), [])
+        self.check_found(dict(zip(keys, self.found(*keys), strict=True)))
 
     def check_rounds(self, rounds, most, number):
         generations = []
@@ -134,14 +161,16 @@ class Kills(ServedCase):
             numbers = self.check_whole()
             generations.append(numbers["generation"])
             self.check_kept()
-        return generations, numbers
+        self.assertEqual(generations, sorted(generations))
+        return generations[-1], numbers
 
+
+class Kills(KillCase):
     def test_killed_under_load(self):
         most = 600 if PROVED else 100
-        generations, numbers = self.check_rounds(scaled(ROUNDS), most, signal.SIGKILL)
-        self.assertEqual(generations, sorted(generations))
+        generation, numbers = self.check_rounds(scaled(ROUNDS), most, signal.SIGKILL)
         # Each freeze, and each end of a conversion or a merge, makes a generation.
-        self.assertGreater(generations[-1], ROUNDS * 3, generations)
+        self.assertGreater(generation, ROUNDS * 3)
         self.assertGreater(numbers["sorted entries"], 0)
 
     def test_terminated_under_load(self):
@@ -165,12 +194,54 @@ class Kills(ServedCase):
         for _ in range(5):
             self.load_and_end(100, signal.SIGKILL)
             server = self.serve()
-            client = self.client(server)
-            for writer in self.writers:
-                keys = list(writer.values)
-                found = dict(zip(keys, client.ask(*(f"get {key}" for key in keys)), strict=True))
-                self.assertEqual(writer.find(found), [])
+            keys = [key for it in self.writers for key in it.values]
+            replies = self.client(server).ask(*(f"get {key}" for key in keys))
+            self.check_found(dict(zip(keys, replies, strict=True)))
             server.kill()
+
+
+class PipelinedKills(KillCase):
+    """Each client has many commands under way. What is there is a beginning of what it sent."""
+
+    geometry, options = WIDE, ("--pipeline",)
+    burst, ahead = 25, 75
+
+    def test_killed_under_load(self):
+        most = 2000 if PROVED else 800
+        generation, _ = self.check_rounds(scaled(ROUNDS), most, signal.SIGKILL)
+        self.assertGreater(generation, ROUNDS // 4)
+
+
+class Judging(unittest.TestCase):
+    """What a writer says of the values that a run found."""
+
+    def writer(self):
+        """A writer whose first command has its reply, and whose next two have none."""
+        writer = Writer(0, None)
+        self.keys = list(writer.values)[:3]
+        writer.pending = [("accepted", key, f"value {number}") for number, key in enumerate(self.keys)]
+        writer.take("accepted 1")
+        return writer
+
+    def judged(self, *there):
+        """Whether these values may be there, for the first keys."""
+        writer = self.writer()
+        return not writer.find({**writer.values, **dict(zip(self.keys, there))})
+
+    def test_a_beginning_is_found(self):
+        for there in (["value 0"], ["value 0", "value 1"], ["value 0", "value 1", "value 2"]):
+            self.assertTrue(self.judged(*there), there)
+
+    def test_another_end_is_refused(self):
+        for there in (["absent"], ["value 0", "absent", "value 2"], ["absent", "value 1"], ["value 1"]):
+            self.assertFalse(self.judged(*there), there)
+
+    def test_another_reply_is_wrong(self):
+        for reply in ("differs", "unsettled 1", "refused 9 Failed"):
+            writer = Writer(0, None)
+            writer.pending = [("accepted", "=client/0/0", "value 0")]
+            writer.take(reply)
+            self.assertEqual((writer.wrong, writer.values["=client/0/0"]), ([reply], "absent"))
 
 
 if __name__ == "__main__":

@@ -2,9 +2,11 @@
 
 Whatever fails, a reply never says more than was done, and the store is whole in the next run.
 """
+import itertools
 import re
 import unittest
 
+from commands import answer, differs, done, is_command, tried
 from harness import PROVED, scaled
 from served import SMALL, ServedCase
 from watch import read_counts, watching
@@ -77,19 +79,82 @@ class Told:
         was = self.values[key] if reply.startswith("unsettled") else set()
         self.values[key] = was | {value}
 
+    def cut(self, lines):
+        """No reply came to the first of these lines."""
+        if is_command(lines[0]):
+            self.take(lines[0], "refused 5 Device", {"refused 5 Device"})
+
+    def check_found(self, found):
+        """A next run found one of its values for each key."""
+        for key, reply in zip(KEYS, found, strict=True):
+            self.case.assertIn(reply, self.values[key], key)
+
+
+class ToldAtOnce:
+    """What a client knows that sends all lines in one write: what is there is a beginning of what it sent."""
+
+    def __init__(self, case):
+        self.case = case
+        # The map after no command, the first, the first two, and so on, and how many of them a flush has settled.
+        self.maps, self.settled = [{}], 0
+        # The commands that may have been done, since no reply says so.
+        self.unknown = []
+        self.has_failed = False
+
+    def take(self, line, reply, refusals):
+        """Checks a reply, and notes what it says."""
+        what, values, accepted = (line, reply, self.maps), self.maps[-1], len(self.maps) - 1
+        if self.has_failed:
+            self.case.assertEqual(reply, "refused 9 Failed", what)
+        elif reply.startswith("refused "):
+            self.case.assertIn(reply, refusals, what)
+            self.has_failed = reply == "refused 9 Failed"
+            if reply == "refused 5 Device" and is_command(line):
+                self.unknown = [line]
+        elif is_command(line):
+            self.take_command(line, reply, what)
+        else:
+            due = f"acknowledged {accepted}" if line == "flush" else answer(values, line.split()[1])
+            self.case.assertEqual((reply, self.settled), (due, accepted), what)
+
+    def take_command(self, line, reply, what):
+        """A command that does not differ is done. If its flush was refused, so was that of all behind it."""
+        if differs(self.maps[-1], line):
+            self.case.assertEqual(reply, "differs", what)
+            return
+        is_settled = reply.startswith("accepted ") and self.settled == len(self.maps) - 1
+        word = "accepted" if is_settled else "unsettled"
+        self.case.assertEqual(reply, f"{word} {len(self.maps)}", what)
+        self.maps.append(done(self.maps[-1], line))
+        self.settled += is_settled
+        self.unknown = []
+
+    def cut(self, lines):
+        """No reply came to these lines."""
+        self.unknown = [it for it in lines if is_command(it)]
+
+    def check_found(self, found):
+        """A next run found the map after the settled commands and some first ones of the others."""
+        maps = self.maps[self.settled:-1] + list(itertools.accumulate(self.unknown, tried, initial=self.maps[-1]))
+        self.case.assertIn(found, [[answer(it, key) for key in KEYS] for it in maps])
+
 
 class Sweeps(ServedCase):
-    lines = LINES
+    lines, options = LINES, ()
     # 9 commands, a flush behind each, the flush, 9 steps of a conversion and 13 of a merge.
     calls = 9 + 9 + 1 + 9 + 13
+    # At least so many syncs, writes, reads and requests for memory are among what is tried.
+    least = 20
+
+    def told(self):
+        return Told(self)
 
     def calls_made(self, name):
         """How many calls of this name a server makes for all lines."""
         self.store(SMALL)
-        server = self.serve("--sessions", 1, env=watching(self, counts="counts"))
+        server = self.serve("--sessions", 1, *self.options, env=watching(self, counts="counts"))
         client = self.client(server)
-        for line in self.lines:
-            client.ask(line)
+        self.assertEqual(len(list(self.replies(client))), len(self.lines))
         client.close()
         self.check_calls(server.ended(), self.calls)
         return read_counts(self.path("counts"))[name]
@@ -97,7 +162,7 @@ class Sweeps(ServedCase):
     def sweep(self, call, error, refusals, most=scaled(MOST)):
         """Each of these calls fails in its turn, or some of them, if there are more."""
         made = self.calls_made(call)
-        self.assertGreater(made, 20, call)
+        self.assertGreater(made, self.least, call)
         numbers = range(1, made + 1)
         if made > most:
             numbers = sorted(self.random.sample(numbers, most))
@@ -111,37 +176,40 @@ class Sweeps(ServedCase):
     def check_fault(self, fault, refusals):
         """A server with this fault, a client of it, and what the next run finds."""
         self.silt("format", "store", *SMALL.split())
-        server = self.begin("store", 0, "--sessions", 1, env=watching(self, fail=fault))
-        told = Told(self)
+        server = self.begin("store", 0, "--sessions", 1, *self.options, env=watching(self, fail=fault))
+        told = self.told()
         if (server.line(1) or "").startswith("listening"):
             self.ask_all(server.listen(), told, refusals)
             self.connect_again(server)
         ended = server.ended()
         self.check_end(ended, told)
         self.check_whole()
-        for key, found in zip(KEYS, self.found(*KEYS), strict=True):
-            self.assertIn(found, told.values[key], key)
+        told.check_found(self.found(*KEYS))
 
     def ask_all(self, server, told, refusals):
-        """Sends one line after the other, until the server ends the session."""
+        """Sends one line after the other, until the server ends the session, and checks each reply."""
         try:
             client = self.client(server)
         except ConnectionError:
             return  # the server has ended
-        for line in self.lines:
-            reply = self.reply_to(client, line)
+        for number, reply in enumerate(self.replies(client)):
             if reply is None:
-                self.assertIn("refused 6 NoMemory", refusals, line)
-                if line.startswith(("put", "delete", "swap")):
-                    told.take(line, "refused 5 Device", {"refused 5 Device"})
+                self.assertIn("refused 6 NoMemory", refusals, self.lines[number])
+                told.cut(self.lines[number:])
                 break
-            told.take(line, reply, refusals)
+            told.take(self.lines[number], reply, refusals)
         client.close()
 
-    def reply_to(self, client, line):
-        """The reply to a line. None if the server has ended the session."""
+    def replies(self, client):
+        """The replies to the lines, each of which is sent behind the one before. The last one is None if the server has
+        ended the session."""
+        for line in self.lines:
+            yield self.reply_to(client, line)
+
+    def reply_to(self, client, *lines):
+        """The first reply to these lines. None if the server has ended the session."""
         try:
-            client.send(line)
+            client.send(*lines)
         except ConnectionError:
             return None
         return client.reply()
@@ -183,6 +251,24 @@ class Sweeps(ServedCase):
         # The first message to a worker is then the one that ends it.
         self.lines, self.calls = [], 0
         self.sweep("memory", "ENOMEM", {"refused 6 NoMemory"}, most=1000)
+
+
+class PipelinedSweeps(Sweeps):
+    """The client sends all lines in one write, and its commands are one batch."""
+
+    options = ("--pipeline",)
+    # One flush for all commands.
+    calls, least = 9 + 1 + 9 + 13, 12
+
+    def told(self):
+        return ToldAtOnce(self)
+
+    def replies(self, client):
+        if not self.lines:
+            return
+        yield self.reply_to(client, *self.lines)
+        for _ in self.lines[1:]:
+            yield client.reply()
 
 
 if __name__ == "__main__":
