@@ -4,7 +4,8 @@
 //! Words are in lower case, with single spaces between them. `parse_line` returns the event that a line asks for,
 //! `print_reply` the text of a reply, and `print_report` the text of a report. `LineBuffer` keeps the bytes of a line
 //! that has not ended. `session` reads lines from any reader, passes their events to a store, or another `Answerer`,
-//! and writes the replies to any writer. `client_session` does so too, but does not reply to HTTP requests.
+//! and writes the replies to any writer. `session_over` does so with a buffer of its caller, and so does `client_session`,
+//! which does not reply to HTTP requests.
 #![tactic(auto)]
 
 mod batch;

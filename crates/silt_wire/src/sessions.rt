@@ -18,7 +18,7 @@ use thiserror::Error;
 /// The most reads of a session.
 const MOST_READS: u64 = (1 << 63) - 1;
 
-/// How many bytes a session reads at once, at most.
+/// The length of the buffer that `session` reads into.
 const READ_LEN: usize = 4_096;
 
 /// How a session ended.
@@ -38,9 +38,10 @@ pub enum SessionEnd {
     NoMemory,
 }
 
-/// Replies to the lines of a reader, whose values have `value_len` bytes, until the reader has no more bytes. It writes
-/// the replies to all lines of one read before it reads again: together, or in parts if they are long. Bytes after the
-/// last line feed are no line. An interrupted read or write is tried again.
+/// Replies to the lines of a reader, whose values have `value_len` bytes, until the reader has no more bytes. It hands
+/// over the events of all lines of one read in one call, and writes the replies before it reads again. It divides a read
+/// after a line without a valid request, and when the replies may be long. Bytes after the last line feed are no line.
+/// An interrupted read or write is tried again.
 ///
 /// If out of memory for a line or for the text of a reply, the session ends. It still writes the replies before that.
 pub fn session<A: Answerer, R: Read, W: Write>(
@@ -60,7 +61,8 @@ pub fn session<A: Answerer, R: Read, W: Write>(
     session_over(alloc, value_len, &mut buffer, reader, writer, answerer)
 }
 
-/// Replies to the lines of a reader as `session` does. Each read fills as much of the buffer as the reader has.
+/// Replies to the lines of a reader as `session` does, and reads into this buffer. The longer it is, the more lines are
+/// handed over together.
 pub fn session_over<A: Answerer, R: Read, W: Write>(
     alloc: Global,
     value_len: usize,
@@ -131,8 +133,8 @@ fn answer_read<A: Answerer, W: Write>(
     Ok(())
 }
 
-// Replies to lines that the bytes end, until there are enough replies to write, and writes them. Returns how many bytes
-// were taken.
+// Replies to lines that the bytes end, in one call of the answerer, and writes the replies. Returns how many bytes were
+// taken.
 fn answer_part<A: Answerer, W: Write>(
     alloc: Global,
     value_len: usize,
@@ -198,8 +200,10 @@ fn write_bytes<W: Write>(writer: &mut W, bytes: &[u8]) -> bool
     false
 }
 
-// Takes bytes until a line has no valid request or the possible replies are enough, and appends the replies to the
-// lines that they end to the texts. Returns how many bytes were taken.
+// Takes bytes until a line has no valid request or the batch is full, and appends the replies to the lines that they end
+// to the texts. Returns how many bytes were taken.
+//
+// If out of memory for a line, the lines before it are still answered. Only then comes the error.
 fn take_part<A: Answerer>(
     alloc: Global,
     value_len: usize,
