@@ -58,7 +58,8 @@ class Writer:
 
     def states(self):
         """The values after none of the pending commands, the first, the first two, and so on."""
-        return list(itertools.accumulate(self.pending, lambda values, it: {**values, it[1]: it[2]}, initial=self.values))
+        changes = ({key: value} for _, key, value in self.pending)
+        return list(itertools.accumulate(changes, lambda values, it: {**values, **it}, initial=self.values))
 
     def run(self, client, counted):
         """Sends commands and takes replies until the connection breaks."""

@@ -281,7 +281,8 @@ class Clients(PipelineCase):
         self.assertEqual(len(line), LONGEST_LINE)
         slow.send_bytes(f"put {name} {values[0]}\nput =b {values[2]}\n{line[:8300]}".encode())
         self.assertEqual(slow.replies(2), ["accepted 1", "accepted 2"])
-        self.assertEqual(other.ask("get =b", f"put =b {values[1]}", "get =b"), [f"value {values[2]}", "accepted 3", f"value {values[1]}"])
+        replies = [f"value {values[2]}", "accepted 3", f"value {values[1]}"]
+        self.assertEqual(other.ask("get =b", f"put =b {values[1]}", "get =b"), replies)
         slow.send_bytes(f"{line[8300:]}\nget {name}\n".encode())
         self.assertEqual(slow.replies(2), ["accepted 4", f"value {values[1]}"])
 
