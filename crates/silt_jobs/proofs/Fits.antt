@@ -25,6 +25,11 @@ pub on_ok-weaker : {T E : Type 0} {P Q : Type 0} (result : Result T E) → OnOk 
 on_ok-weaker (Ok x) h step = step h
 on_ok-weaker (Err e) h step = h
 
+-- two facts of an Ok result are one
+pub on_ok_both : {T E : Type 0} (P Q : Type 0) (result : Result T E) → OnOk result P → OnOk result Q → OnOk result (P × Q)
+on_ok_both P Q (Ok x) first second = (first, second)
+on_ok_both P Q (Err e) first second = first
+
 -- no events fit
 pub first_fits : (value_len : ℕ) (first : Reading) → IsUnread first → Fits value_len first
 first_fits value_len first none = record {
