@@ -1,5 +1,5 @@
 -- Requests to the writer, and their replies.
-use Rattle.std.specs.Prelude.{ℕ, Option, Some, None, Result, Ok, Err}
+use Rattle.std.specs.Prelude.{◌≡◌, ℕ, Option, Some, None, Result, Ok, Err}
 use Rattle.silt_event.specs.Events.{PlainReply}
 use Rattle.silt_event.specs.declared.event.Event.{Event}
 use Rattle.silt_event.specs.declared.event.Event.TheVariants as event
@@ -8,6 +8,7 @@ use Rattle.silt_event.specs.declared.reply.Reply.TheVariants.{Accepted, Acknowle
 use Rattle.silt_inbox.specs.declared.answered.Answered.{Answered}
 use Rattle.silt_server.specs.declared.job.Request.{Request}
 use Rattle.silt_server.specs.declared.job.Request.TheVariants.{Put, Delete, Swap, Flush}
+use Rattle.silt_server.specs.declared.job.Task.{Task}
 
 -- the result of a flush at the desk, without its fault
 abbrev pub Flushed : Type 0
@@ -28,6 +29,13 @@ asked_event (Put key value) = event.Put key value
 asked_event (Delete key) = event.Delete key
 asked_event (Swap key old new) = event.Swap key old new
 asked_event Flush = event.Flush
+
+-- an event that is not for the writer: a look-up or a step
+abbrev pub IsNoRequest : Event → Type 0
+IsNoRequest (event.Get key) = Unit {0}
+IsNoRequest event.Convert = Unit {0}
+IsNoRequest event.Merge = Unit {0}
+IsNoRequest event = ⊥
 
 -- the reply to a flush with this result
 abbrev pub acknowledged : Flushed → PlainReply
@@ -51,6 +59,10 @@ reply_due (Delete key) (Some (Ok None)) flushed = None
 reply_due (Delete key) (Some answer) flushed = Some (changed answer flushed)
 reply_due (Swap key old new) (Some answer) flushed = Some (changed answer flushed)
 reply_due request None flushed = None
+
+-- a request for which nothing is done yet
+abbrev pub IsNew : Request → Task → Type 0
+IsNew request task = (task.request ≡ request) × (task.answer ≡ None) × (task.reply ≡ None)
 
 -- the reply in a message
 abbrev pub reply_in : Option Answered → Option PlainReply

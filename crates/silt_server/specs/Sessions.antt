@@ -1,5 +1,5 @@
 -- The replies to the events of a session.
-use Rattle.std.specs.Prelude.{◌≡◌, ◌⊎◌, ℕ, Bool, true}
+use Rattle.std.specs.Prelude.{◌≡◌, ◌⊎◌, ℕ, Bool, true, List, Some, slice_get}
 use Rattle.silt_disk.specs.declared.disk.Disk.{Ghosts}
 use Rattle.silt_frame.specs.declared.key.Key.{Key}
 use Rattle.silt_event.specs.Events.{PlainReply, plain}
@@ -10,6 +10,8 @@ use Rattle.silt_event.specs.declared.reply.Reply.{Reply}
 use Rattle.silt_event.specs.declared.reply.Reply.TheVariants.{Refused, NotServed}
 use Rattle.silt_inbox.specs.Answers.{is_allowed, event_kind}
 use Rattle.silt_store_set.specs.CoreState.{CoreState, Does}
+use Rattle.silt_server.specs.declared.unanswered.Unanswered.{Unanswered}
+use Rattle.silt_server.specs.declared.unanswered.Unanswered.TheVariants as unanswered
 
 module _ {D F : Type 0} (facts : Ghosts D F) where
   -- a look at this store, which changes nothing, gives this reply
@@ -28,3 +30,18 @@ pub record ClientState (A : Type 0) : Type 0 where
   pub value_len : ℕ
   pub asking : A
   pub is_lost : Bool
+
+-- at one place of the two lists are this event and this reply
+abbrev pub ArePaired : List Event → List PlainReply → Event → PlainReply → Type 0
+ArePaired events replies event reply = (i : ℕ) × (slice_get events i ≡ Some event) × (slice_get replies i ≡ Some reply)
+
+module _ {A : Type 0} where
+  -- a client that got no replies, for this cause: its session is lost, or it is as it was
+  abbrev pub IsWithout : ClientState A → ClientState A → Unanswered → Type 0
+  IsWithout old new unanswered.Lost = new.is_lost ≡ true
+  IsWithout old new unanswered.NoMemory = new ≡ old
+
+  -- an event of a client has the reply that is given to it, or that of a lost session, or out of memory
+  abbrev pub AnswersClient : (A → Event → PlainReply → Type 0) → ClientState A → ClientState A → Event → PlainReply → Type 0
+  AnswersClient gives old new event reply =
+      ((new.is_lost ≡ true) × (reply ≡ NotServed)) ⊎ ((reply ≡ Refused NoMemory) ⊎ gives old.asking event reply)

@@ -6,6 +6,7 @@ use crate::counting_listener::{CountingListener, Listens};
 use crate::limits::{Limits, limit_silence};
 use crate::outlet::Outlet;
 use crate::session_slots::{SessionSlot, free_slot};
+use crate::unanswered::Unanswered;
 use crate::written::turn_away;
 use silt_event::{Event, Reply};
 use silt_inbox::InboxId;
@@ -17,6 +18,12 @@ use std::sync::atomic::AtomicU64;
 use std::sync::{Mutex, Wait};
 use std::thread;
 use std::thread::Threads;
+
+/// How many bytes one read of a session takes.
+const READ_LEN: usize = 4_096;
+
+/// How many bytes one read of a session takes that pipelines.
+const PIPELINED_READ_LEN: usize = 65_536;
 
 // Whether an accept failed only for this connection, so that the next one may succeed.
 fn is_passing(kind: ErrorKind) -> bool {
@@ -58,7 +65,7 @@ fn admit<P: InboxId, R: Wait>(
 
 /// Serves the connections of a listener, as many sessions as the limits say, and returns when all have ended. Each
 /// session has a thread and a slot of its own. A connection without a slot or a thread is closed and not counted.
-/// `reply` gives the reply to an event of the session in the slot with a number.
+/// `reply` gives the replies to events of the session in the slot with a number.
 ///
 /// # Errors
 ///
@@ -68,7 +75,7 @@ pub fn accept_clients<
     L: Listens,
     S: Sync,
     P: InboxId + Send + Sync,
-    C: Fn(&S, usize, Event) -> Option<Reply<()>> + Sync,
+    C: Fn(&S, usize, Vec<Event>) -> Result<Vec<Reply<()>>, Unanswered> + Sync,
     R: Threads + Wait + Sync,
 >(
     rt: &R,
@@ -83,7 +90,7 @@ pub fn accept_clients<
     requires { C.IsAlwaysCallable reply.now }
     ensures { IfOk result (λ counting_listener. limits.sessions ≤ counting_listener.accepted) }
 {
-    let Limits { sessions, idle, .. } = limits;
+    let sessions = limits.sessions;
     thread::scope(
         thread::scope_env(),
         rt,
@@ -106,7 +113,7 @@ pub fn accept_clients<
                 let started = scope.spawn(
                     move ||
                         requires { C.IsAlwaysCallable reply.now }
-                    { serve_session(rt, alloc, shared, slot, number, reply, value_len, idle) },
+                    { serve_session(rt, alloc, shared, slot, number, reply, value_len, limits) },
                 );
                 if started.is_err() {
                     slot.lock(rt).leave();
@@ -123,7 +130,12 @@ pub fn accept_clients<
 }
 
 // Runs one session in its slot, and then frees the slot.
-fn serve_session<S, P: InboxId, C: Fn(&S, usize, Event) -> Option<Reply<()>>, R: Wait>(
+fn serve_session<
+    S,
+    P: InboxId,
+    C: Fn(&S, usize, Vec<Event>) -> Result<Vec<Reply<()>>, Unanswered>,
+    R: Wait,
+>(
     rt: &R,
     alloc: Global,
     shared: &S,
@@ -131,41 +143,47 @@ fn serve_session<S, P: InboxId, C: Fn(&S, usize, Event) -> Option<Reply<()>>, R:
     number: usize,
     reply: &C,
     value_len: usize,
-    idle: Option<u32>,
+    limits: Limits,
 )
     requires { C.IsAlwaysCallable reply.now }
 {
     let stream = slot.lock(rt).connection();
     if let Some(stream) = stream {
-        answer_lines(alloc, shared, number, reply, value_len, idle, &stream);
+        answer_lines(alloc, shared, number, reply, value_len, limits, &stream);
     }
     slot.lock(rt).leave();
 }
 
 // Replies to the lines of a connection.
-fn answer_lines<S, C: Fn(&S, usize, Event) -> Option<Reply<()>>>(
+fn answer_lines<S, C: Fn(&S, usize, Vec<Event>) -> Result<Vec<Reply<()>>, Unanswered>>(
     alloc: Global,
     shared: &S,
     number: usize,
     reply: &C,
     value_len: usize,
-    idle: Option<u32>,
+    limits: Limits,
     stream: &TcpStream,
 )
     requires { C.IsAlwaysCallable reply.now }
 {
     let _ = stream.set_nodelay(true); // without it replies come later
-    if limit_silence(stream, idle).is_err() {
+    if limit_silence(stream, limits.idle).is_err() {
         return;
     }
-    let ask = |event: Event| -> Option<Reply<()>>
+    let ask = |events: Vec<Event>| -> Result<Vec<Reply<()>>, Unanswered>
         requires { C.IsAlwaysCallable reply.now }
-    { reply(shared, number, event) };
-    let _ = answer_by(alloc, value_len, stream, AskBy { ask });
+    { reply(shared, number, events) };
+    let asking = AskBy { ask };
+    if limits.pipeline {
+        let _ = answer_pipelined(alloc, value_len, stream, asking);
+    } else {
+        let mut buffer = [0; READ_LEN];
+        let _ = answer_by(alloc, value_len, &mut buffer, stream, asking, false);
+    }
 }
 
-// Replies to the lines of a connection, with events sent this way.
-fn answer_by<A: Asking>(
+// Replies to the lines of a connection, whose client does not wait for a reply before the next line.
+fn answer_pipelined<A: Asking>(
     alloc: Global,
     value_len: usize,
     stream: &TcpStream,
@@ -173,8 +191,33 @@ fn answer_by<A: Asking>(
 ) -> SessionEnd
     requires { A.can_ask asking }
 {
+    let Ok(mut buffer) = vec![in alloc; 0u8; PIPELINED_READ_LEN] else {
+        return SessionEnd::NoMemory;
+    };
+    answer_by(
+        alloc,
+        value_len,
+        buffer.as_mut_slice(),
+        stream,
+        asking,
+        true,
+    )
+}
+
+// Replies to the lines of a connection, with events sent this way. The buffer has what one read gives.
+fn answer_by<A: Asking>(
+    alloc: Global,
+    value_len: usize,
+    buffer: &mut [u8],
+    stream: &TcpStream,
+    asking: A,
+    pipelines: bool,
+) -> SessionEnd
+    requires ask { A.can_ask asking }
+    requires room { 0 < length buffer.old }
+{
     let cut = AtomicU64::new(0);
-    let mut client = Client::new(value_len, asking, &cut);
+    let mut client = Client::new(value_len, asking, pipelines, &cut);
     let mut outlet = Outlet { stream, cut: &cut };
-    client_session(alloc, value_len, stream, &mut outlet, &mut client)
+    client_session(alloc, value_len, buffer, stream, &mut outlet, &mut client)
 }

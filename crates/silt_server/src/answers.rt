@@ -1,18 +1,21 @@
-// The reply to one event of a session.
-ghost use Rattle.std.specs.Prelude.{◌≡◌, ◌≢◌, ◌+◌, true, IfSome, IfNone, MatchResult, vec_len};
+// The replies to the events of a session.
+ghost use Rattle.std.specs.Prelude.{◌≢◌, ℕ, ◌+◌, ◌++◌, ◌∷◌, [], List, IfSome, IfNone, IfOk, OnOk, vec_len};
+ghost use Rattle.std.specs.List.{AllZip};
+ghost use Rattle.silt_event.specs.declared.event.Event.{Event as EventOf};
 ghost use Rattle.silt_event.specs.declared.event.Event.TheVariants as event_case;
-ghost use Rattle.silt_inbox.specs.Answers.{is_allowed, event_kind};
-ghost use Rattle.silt_server.specs.Requests.{asked_event};
+ghost use Rattle.silt_server.specs.Pipelines.{AnswersSome, HasRoom, IsEmpty};
+ghost use Rattle.silt_server.specs.Requests.{IsNoRequest};
 ghost use Rattle.silt_server.specs.Sessions.{AnswersGet, IsAnswer};
 
 use crate::job::{Job, Request};
+use crate::pipeline::Pipeline;
 use crate::session_slots::SessionSlot;
-use crossbeam_channel::Receiver;
+use crate::unanswered::Unanswered;
 use silt_desk::{Desk, DeskId, Shared, Trace};
 use silt_disk::Disk;
 use silt_event::{Event, Refusal, Reply};
 use silt_frame::{Key, Value};
-use silt_inbox::{Answered, EventKind, Feeder, Inbox, InboxId, NotPutReason};
+use silt_inbox::{Inbox, InboxId};
 use std::alloc::Global;
 use std::sync::{Mutex, Wait};
 
@@ -35,57 +38,6 @@ fn look_up<D: Disk, T: Trace, N: DeskId>(
     }
 }
 
-// The reply in a message, if it is one to an event of this kind.
-fn forwarded(answered: Answered, kind: EventKind) -> Option<Reply<()>>
-    ensures reply { IfSome result (λ reply. (answered.kind ≡ kind) × (reply ≡ answered.reply)) }
-    ensures allowed { IfSome result (λ reply. is_allowed kind reply ≡ true) }
-    ensures none { IfNone result (answered.kind ≢ kind) }
-{
-    if answered.kind() != kind {
-        return None;
-    }
-    Some(answered.into_reply())
-}
-
-// Puts a request into the inbox, and returns where its reply will come. If out of memory, nothing is put.
-fn put_request<P: InboxId, R: Wait>(
-    rt: &R,
-    alloc: Global,
-    inbox: &Inbox<Job, P>,
-    feeder: &mut Feeder<P>,
-    request: Request,
-) -> Result<Receiver<Answered>, NotPutReason>
-    ensures { MatchResult result (λ _. feeder.new ≡ feeder.old + 1) (λ _. feeder.new ≡ feeder.old) }
-{
-    let Ok((to, from)) = crossbeam_channel::bounded(alloc, 1) else {
-        return Err(NotPutReason::NoMemory);
-    };
-    match inbox.put(rt, feeder, Job::new(request, to)) {
-        Ok(()) => Ok(from),
-        Err(refused) => Err(refused.reason),
-    }
-}
-
-// Puts a request into the inbox and waits for its reply. None if no reply comes, or one to an event of another kind. If
-// out of memory, nothing is done.
-fn ask<P: InboxId, R: Wait>(
-    rt: &R,
-    alloc: Global,
-    inbox: &Inbox<Job, P>,
-    slot: &Mutex<SessionSlot<P>>,
-    request: Request,
-) -> Option<Reply<()>>
-    ensures { IfSome result (λ reply. is_allowed (event_kind (asked_event request)) reply ≡ true) }
-{
-    let kind = request.kind();
-    let put = put_request(rt, alloc, inbox, slot.lock(rt).feeder(), request);
-    match put {
-        Ok(replies) => forwarded(replies.recv(rt).ok()?, kind),
-        Err(NotPutReason::NoMemory) => Some(Reply::Refused(Refusal::NoMemory)),
-        Err(NotPutReason::Closed) => None,
-    }
-}
-
 // Looks a key up, at the same time as other threads. If out of memory for the value's buffer, nothing is looked up.
 fn find<D: Disk, T: Trace, N: DeskId, R: Wait>(
     rt: &R,
@@ -103,25 +55,99 @@ fn find<D: Disk, T: Trace, N: DeskId, R: Wait>(
     look_up(&*desk, key, out)
 }
 
-/// The reply to an event. Gets are looked up; puts, deletes, swaps and flushes go to the writer; steps are not served.
-/// None if no reply comes, or one that does not fit the event.
-pub fn answer<D: Disk, T: Trace, N: DeskId, P: InboxId, R: Wait>(
+// The reply to an event that is not for the writer: a get is looked up, and a step is not served.
+fn answer_here<D: Disk, T: Trace, N: DeskId, R: Wait>(
+    rt: &R,
+    alloc: Global,
+    shared: &Shared<D, T, N>,
+    value_len: usize,
+    event: &Event,
+) -> Option<Reply<()>>
+    requires { IsNoRequest event.now }
+    ensures { IfSome result (IsAnswer D.Disk event.now) }
+{
+    match event {
+        Event::Get(key) => find(rt, alloc, shared, value_len, key),
+        _ => Some(Reply::NotServed),
+    }
+}
+
+// Takes one more event. A request waits for the writer with those before it. Any other event waits until these are done.
+fn take<D: Disk, T: Trace, N: DeskId, P: InboxId, R: Wait>(
     rt: &R,
     alloc: Global,
     shared: &Shared<D, T, N>,
     inbox: &Inbox<Job, P>,
     value_len: usize,
     slot: &Mutex<SessionSlot<P>>,
+    pipeline: &mut Pipeline,
     event: Event,
-) -> Option<Reply<()>>
-    ensures { IfSome result (λ reply. IsAnswer D.Disk event reply) }
+) -> Result<(), Unanswered>
+    requires { HasRoom pipeline.old 1 }
+    ensures answers { OnOk result ((events : List EventOf) → AnswersSome D.Disk events pipeline.old → AnswersSome D.Disk (events ++ event ∷ []) pipeline.new) }
+    ensures room { OnOk result ((n : ℕ) → HasRoom pipeline.old (n + 1) → HasRoom pipeline.new n) }
 {
-    match event {
-        Event::Put(key, value) => ask(rt, alloc, inbox, slot, Request::Put(key, value)),
-        Event::Delete(key) => ask(rt, alloc, inbox, slot, Request::Delete(key)),
-        Event::Swap(key, old, new) => ask(rt, alloc, inbox, slot, Request::Swap(key, old, new)),
-        Event::Flush => ask(rt, alloc, inbox, slot, Request::Flush),
-        Event::Get(key) => find(rt, alloc, shared, value_len, &key),
-        Event::Convert | Event::Merge => Some(Reply::NotServed),
+    match Request::of(event) {
+        Ok(request) => pipeline.gather(request),
+        Err(event) => {
+            pipeline.settle(rt, alloc, inbox, slot)?;
+            let reply = answer_here(rt, alloc, shared, value_len, &event).ok_or(Unanswered::Lost)?;
+            pipeline.push(reply);
+        }
     }
+    Ok(())
+}
+
+// Takes all events, and waits until the last requests are done.
+fn take_all<D: Disk, T: Trace, N: DeskId, P: InboxId, R: Wait>(
+    rt: &R,
+    alloc: Global,
+    shared: &Shared<D, T, N>,
+    inbox: &Inbox<Job, P>,
+    value_len: usize,
+    slot: &Mutex<SessionSlot<P>>,
+    pipeline: &mut Pipeline,
+    events: Vec<Event>,
+) -> Result<(), Unanswered>
+    requires empty { IsEmpty pipeline.old }
+    requires room { HasRoom pipeline.old (vec_len events) }
+    ensures { OnOk result (AllZip (IsAnswer D.Disk) events.items pipeline.new.replies.items) }
+{
+    for event in events {
+        take(rt, alloc, shared, inbox, value_len, slot, pipeline, event)?;
+    }
+    pipeline.settle(rt, alloc, inbox, slot)
+}
+
+/// The replies to events, in order. Puts, deletes, swaps and flushes that follow each other are one job of the writer.
+/// A get is looked up when the requests before it are done. Steps are not served.
+///
+/// # Errors
+///
+/// No reply comes, or one that does not fit its event; or out of memory for the replies.
+pub fn answer_all<D: Disk, T: Trace, N: DeskId, P: InboxId, R: Wait>(
+    rt: &R,
+    alloc: Global,
+    shared: &Shared<D, T, N>,
+    inbox: &Inbox<Job, P>,
+    value_len: usize,
+    slot: &Mutex<SessionSlot<P>>,
+    events: Vec<Event>,
+) -> Result<Vec<Reply<()>>, Unanswered>
+    ensures { IfOk result (λ replies. AllZip (IsAnswer D.Disk) events.items replies.items) }
+{
+    let Ok(mut pipeline) = Pipeline::new(alloc, events.len()) else {
+        return Err(Unanswered::NoMemory);
+    };
+    take_all(
+        rt,
+        alloc,
+        shared,
+        inbox,
+        value_len,
+        slot,
+        &mut pipeline,
+        events,
+    )?;
+    Ok(pipeline.replies)
 }

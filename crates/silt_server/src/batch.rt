@@ -1,10 +1,11 @@
-// A batch of jobs: each is done, then all is flushed once, and then each has its reply.
+// A batch of jobs: the tasks of each are done, then all is flushed once, and then each task has its reply.
 ghost use Rattle.std.specs.Prelude.{◌≡◌};
-ghost use Rattle.silt_server.specs.Batches.{Flushes, Performs, PerformsAll, RepliesToAll, ServesBatch};
+ghost use Rattle.std.specs.List.{AllZip};
+ghost use Rattle.silt_server.specs.Batches.{Flushes, IsDueAt, Performs, PerformsAll, PerformsTask, RepliesTo, RepliesToAll, ServesBatch, StepsThrough};
 ghost use Rattle.silt_server.specs.Requests.{compared};
 
-use crate::job::{Answer, Job, Request, reply_after};
-use silt_desk::{Desk, DeskId, Gate, Seat, Shared, Spot, Trace, plain};
+use crate::job::{Answer, Job, Request, Task, reply_after};
+use silt_desk::{Desk, DeskId, Due, Gate, Seat, Shared, Spot, Trace, plain};
 use silt_disk::Disk;
 use silt_event::Refusal;
 use std::alloc::Global;
@@ -51,18 +52,38 @@ fn perform<D: Disk, T: Trace, N: DeskId>(
     }
 }
 
-// Flushes, and returns the result.
+// Flushes. Returns the result, and which background work there is to do then.
 fn flush<D: Disk, T: Trace, N: DeskId>(
     desk: &mut Desk<D, T, N>,
     alloc: Global,
     seat: &mut Seat<N>,
-) -> Result<u64, Refusal<()>>
-    ensures { Flushes D.Disk T.Trace desk.old desk.new seat.old seat.new result }
+) -> (Result<u64, Refusal<()>>, Due)
+    ensures flushes { Flushes D.Disk T.Trace desk.old desk.new seat.old seat.new result.0 }
+    ensures due { IsDueAt desk.new result.1 }
 {
-    plain(&desk.flush(alloc, seat))
+    let flushed = plain(&desk.flush(alloc, seat));
+    (flushed, desk.due())
 }
 
-// Does each job's request at the desk, in order, each under a guard of its own.
+// Does each task's request at the desk, in order, each under a guard of its own.
+fn perform_tasks<D: Disk, T: Trace, N: DeskId, G: Gate, R: Wait>(
+    rt: &R,
+    alloc: Global,
+    shared: &Shared<D, T, N>,
+    seat: &mut Seat<N>,
+    gate: &G,
+    tasks: &mut Vec<Task>,
+)
+    ensures { StepsThrough (PerformsTask D.Disk T.Trace) seat.old tasks.old.items tasks.new.items seat.new }
+{
+    for task in tasks.iter_mut() {
+        gate.pass(Spot::Writer);
+        let answer = perform(&mut *shared.write(rt), alloc, seat, &task.request);
+        task.answer = answer;
+    }
+}
+
+// Does the tasks of each job, in order.
 fn perform_all<D: Disk, T: Trace, N: DeskId, G: Gate, R: Wait>(
     rt: &R,
     alloc: Global,
@@ -74,25 +95,32 @@ fn perform_all<D: Disk, T: Trace, N: DeskId, G: Gate, R: Wait>(
     ensures { PerformsAll D.Disk T.Trace seat.old jobs.old.items jobs.new.items seat.new }
 {
     for job in jobs.iter_mut() {
-        gate.pass(Spot::Writer);
-        let answer = perform(&mut *shared.write(rt), alloc, seat, &job.request);
-        job.answer = answer;
+        perform_tasks(rt, alloc, shared, seat, gate, &mut job.tasks);
     }
 }
 
-// Gives each job its reply, by its own result and that of the flush.
+// Gives each task its reply, by its own result and that of the flush.
+fn reply_to_tasks(tasks: &mut Vec<Task>, flushed: &Result<u64, Refusal<()>>)
+    ensures { AllZip (RepliesTo flushed.now) tasks.old.items tasks.new.items }
+{
+    for task in tasks.iter_mut() {
+        let reply = reply_after(&task.request, &task.answer, flushed);
+        task.reply = reply;
+    }
+}
+
+// Gives the tasks of each job their replies.
 fn reply_to_all(jobs: &mut Vec<Job>, flushed: &Result<u64, Refusal<()>>)
     ensures { RepliesToAll flushed.now jobs.old.items jobs.new.items }
 {
     for job in jobs.iter_mut() {
-        let reply = reply_after(&job.request, &job.answer, flushed);
-        job.reply = reply;
+        reply_to_tasks(&mut job.tasks, flushed);
     }
 }
 
-/// Does each job's request at the desk, in order, each under a guard of its own. Then it flushes once and gives each
-/// job its reply; that of an accepted command depends on the flush. No reply is sent yet. It allocates no memory of its
-/// own.
+/// Does the tasks of each job at the desk, in order, each under a guard of its own. Then it flushes once and gives each
+/// task its reply; that of an accepted command depends on the flush. No reply is sent yet. It allocates no memory of
+/// its own. Returns which background work there is to do after the flush.
 pub fn serve_batch<D: Disk, T: Trace, N: DeskId, G: Gate, R: Wait>(
     rt: &R,
     alloc: Global,
@@ -100,12 +128,13 @@ pub fn serve_batch<D: Disk, T: Trace, N: DeskId, G: Gate, R: Wait>(
     seat: &mut Seat<N>,
     gate: &G,
     jobs: &mut Vec<Job>,
-)
+) -> Due
     ensures number { seat.new.number ≡ seat.old.number }
-    ensures batch { ServesBatch D.Disk T.Trace seat.old jobs.old.items jobs.new.items seat.new }
+    ensures batch { ServesBatch D.Disk T.Trace seat.old jobs.old.items jobs.new.items seat.new result }
 {
     perform_all(rt, alloc, shared, seat, gate, jobs);
     gate.pass(Spot::Writer);
-    let flushed = flush(&mut *shared.write(rt), alloc, seat);
+    let (flushed, due) = flush(&mut *shared.write(rt), alloc, seat);
     reply_to_all(jobs, &flushed);
+    due
 }

@@ -1,10 +1,10 @@
 // What goes from the sessions to the writer.
-ghost use Rattle.std.specs.Prelude.{◌≡◌, None, option_map};
+ghost use Rattle.std.specs.Prelude.{◌≡◌, MatchResult};
 ghost use Rattle.silt_inbox.specs.Answers.{event_kind};
-ghost use Rattle.silt_server.specs.Requests.{acknowledged, changed, asked_event, reply_due, reply_in};
+ghost use Rattle.silt_server.specs.Requests.{IsNew, IsNoRequest, acknowledged, changed, asked_event, reply_due, reply_in};
 
 use crossbeam_channel::Sender;
-use silt_event::{Refusal, Reply};
+use silt_event::{Event, Refusal, Reply};
 use silt_frame::{Key, Value};
 use silt_inbox::{Answered, EventKind};
 use std::sync::Wait;
@@ -31,45 +31,61 @@ impl Request {
             Request::Flush => EventKind::Flush,
         }
     }
+
+    /// The request of a command or of a flush. Any other event is handed back.
+    ///
+    /// # Errors
+    ///
+    /// The event, if it is not for the writer.
+    pub fn of(event: Event) -> Result<Request, Event>
+        ensures { MatchResult result (λ request. asked_event request ≡ event) (λ other. (other ≡ event) × IsNoRequest event) }
+    {
+        match event {
+            Event::Put(key, value) => Ok(Request::Put(key, value)),
+            Event::Delete(key) => Ok(Request::Delete(key)),
+            Event::Swap(key, old, new) => Ok(Request::Swap(key, old, new)),
+            Event::Flush => Ok(Request::Flush),
+            Event::Get(_) | Event::Convert | Event::Merge => Err(event),
+        }
+    }
 }
 
 /// The result of a command at the desk: the number of an accepted one, or `None` if a swap's old value differs.
 pub(crate) type Answer = Result<Option<u64>, Refusal<()>>;
 
-/// A request in progress: its result at the desk, its reply, and where the reply goes.
+/// A request in progress: its result at the desk, and its reply.
 #[derive(Drop)]
-pub struct Job {
+pub struct Task {
     pub request: Request,
     pub answer: Option<Result<Option<u64>, Refusal<()>>>,
     pub reply: Option<Answered>,
-    pub replies: Sender<Answered>,
 }
 
-impl Job {
+impl Task {
     /// A request for which nothing is done yet.
-    pub fn new(request: Request, replies: Sender<Answered>) -> Job
-        ensures request { (result.request ≡ request) × (result.replies ≡ replies) }
-        ensures none { (result.answer ≡ None) × (result.reply ≡ None) }
+    pub fn new(request: Request) -> Task
+        ensures { IsNew request result }
     {
-        Job {
+        Task {
             request,
             answer: None,
             reply: None,
-            replies,
         }
     }
+}
 
-    /// Sends the reply, if there is one. If there is none, the end of the channel shows this to its receiver.
+/// The tasks that a session hands over at once, and where they go back with their replies.
+#[derive(Drop)]
+pub struct Job {
+    pub tasks: Vec<Task>,
+    pub replies: Sender<Vec<Task>>,
+}
+
+impl Job {
+    /// Sends the tasks back with their replies. It takes no memory.
     pub(crate) fn send<R: Wait>(self, rt: &R) {
-        let Job {
-            request: _,
-            answer: _,
-            reply,
-            replies,
-        } = self;
-        if let Some(answered) = reply {
-            let _ = replies.send(rt, answered); // the session may have ended
-        }
+        let Job { tasks, replies } = self;
+        let _ = replies.send(rt, tasks); // the session may have ended
     }
 }
 

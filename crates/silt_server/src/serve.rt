@@ -10,12 +10,13 @@ ghost use Rattle.silt_server.specs.Serving.{BreaksServing, ServesAt, ServesKept,
 ghost use Rattle.silt_server.specs.Serving.{TellsServed, head_text, network_text, no_memory_text};
 
 use crate::admission::accept_clients;
-use crate::answers::answer;
+use crate::answers::answer_all;
 use crate::counting_listener::Listens;
 use crate::job::Job;
 use crate::limits::Limits;
 use crate::session_slots::{SessionSlot, slots_of};
 use crate::threads::run_beside;
+use crate::unanswered::Unanswered;
 use crate::work::writer;
 use crate::workers::Workers;
 use crate::written::{refuse, write_calls, write_listening, write_network_fault, write_opened};
@@ -380,9 +381,14 @@ fn run_threads<
     } = workers;
     let inbox = &inbox;
     let slots = slots.as_slice();
-    let reply = |desk: &Shared<D, T, N>, number: usize, event: Event| -> Option<Reply<()>> {
-        let slot = slots.get(number)?;
-        answer(rt, alloc, desk, inbox, value_len, slot, event)
+    let reply = |desk: &Shared<D, T, N>, number: usize, events: Vec<Event>| -> Result<
+        Vec<Reply<()>>,
+        Unanswered,
+    > {
+        match slots.get(number) {
+            Some(slot) => answer_all(rt, alloc, desk, inbox, value_len, slot, events),
+            None => Err(Unanswered::Lost),
+        }
     };
     let reply = &reply;
     let (merged, converted, written) = run_beside(

@@ -29,8 +29,9 @@ impl<P: InboxId> Jobs<P> for Inbox<Job, P> {
     }
 }
 
-/// Takes all jobs that wait, does each under a guard of its own, flushes once and then replies, until there are no more.
-/// After each batch it wakes the converter and the merger. Gives its seat and its taker back.
+/// Takes all jobs that wait, does their tasks, each under a guard of its own, flushes once and then replies, until there
+/// are no more. After each batch it wakes the converter and the merger if they have work. Gives its seat and its taker
+/// back.
 pub fn writer<D: Disk, T: Trace, N: DeskId, P: InboxId, I: Jobs<P>, G: Gate, R: Wait>(
     rt: &R,
     alloc: Global,
@@ -49,11 +50,11 @@ pub fn writer<D: Disk, T: Trace, N: DeskId, P: InboxId, I: Jobs<P>, G: Gate, R: 
         let Some(mut jobs) = inbox.take_all(rt, &mut taker) else {
             return (seat, taker);
         };
-        serve_batch(rt, alloc, shared, &mut seat, gate, &mut jobs);
+        let due = serve_batch(rt, alloc, shared, &mut seat, gate, &mut jobs);
         for job in jobs {
             job.send(rt);
         }
-        wakes.go(rt);
+        wakes.go(rt, due);
     }
     unreachable!()
 }

@@ -7,6 +7,7 @@ mod lines;
 mod looks;
 mod lost;
 mod network;
+mod pipelined;
 mod record;
 mod swaps;
 
@@ -57,6 +58,15 @@ fn limits_of(sessions: u32, audit: Option<u64>) -> Limits {
         sessions,
         audit,
         idle: None,
+        pipeline: false,
+    }
+}
+
+// The same with one flush for all commands of a read.
+fn pipelined_limits_of(sessions: u32, audit: Option<u64>) -> Limits {
+    Limits {
+        pipeline: true,
+        ..limits_of(sessions, audit)
     }
 }
 
@@ -69,29 +79,19 @@ struct Ended<D: Disk, X: Drop> {
     pub got: X,
 }
 
-// Runs a server of this many sessions in one thread, and its clients in another, until both are
-// done.
+// Runs a server within these limits in one thread, and its clients in another, until both are done.
 fn serve_beside<
     D: Disk,
     G: Gate + Sync,
     X: Drop,
     C: FnOnce(SocketAddr) -> X,
     R: Net<Listener = TcpListener, Stream = TcpStream> + Clock + Threads + Wait + Sync,
->(
-    rt: &R,
-    alloc: Global,
-    disk: D,
-    audit: Option<u64>,
-    sessions: u32,
-    gate: &G,
-    clients: C,
-) -> Result<Ended<D, X>, Fail>
+>(rt: &R, alloc: Global, disk: D, limits: Limits, gate: &G, clients: C) -> Result<Ended<D, X>, Fail>
     requires { C.IsAlwaysCallable clients }
 {
     let listener = TcpListener::bind(rt, ("127.0.0.1", 0u16))?;
     let addr = listener.local_addr()?;
     let listener = Patient { rt, listener };
-    let limits = limits_of(sessions, audit);
     let mut written = Vec::new(alloc);
     let (served, got) = thread::join(
         rt,
@@ -125,7 +125,7 @@ fn served<
 >(rt: &R, alloc: Global, disk: D, sessions: u32, gate: &G, clients: C) -> Result<Served<X>, Fail>
     requires { C.IsAlwaysCallable clients }
 {
-    let ended = serve_beside(rt, alloc, disk, None, sessions, gate, clients)?;
+    let ended = serve_beside(rt, alloc, disk, limits_of(sessions, None), gate, clients)?;
     let got = ended.got?;
     Ok((got, ended.status, ended.written))
 }

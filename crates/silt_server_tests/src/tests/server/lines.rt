@@ -1,7 +1,7 @@
 // A client that asks line by line, and the replies.
 
 use crate::tests::Open;
-use crate::tests::server::{Served, ask, asked, serve_beside};
+use crate::tests::server::{Served, ask, asked, limits_of, serve_beside};
 use silt_device::{Disk, Fill, MemDisk, Stop};
 use silt_event::{Layout, Report};
 use silt_fixtures::formatted;
@@ -62,7 +62,8 @@ fn five_put<
     D: Disk,
     R: Net<Listener = TcpListener, Stream = TcpStream> + Clock + Threads + Wait + Sync,
 >(rt: &R, alloc: Global, disk: D) -> Result<(Served<Vec<u8>>, Report), Fail> {
-    let ended = serve_beside(rt, alloc, disk, Some(100), 1, &Open, |addr: SocketAddr| {
+    let limits = limits_of(1, Some(100));
+    let ended = serve_beside(rt, alloc, disk, limits, &Open, |addr: SocketAddr| {
         ask(rt, alloc, addr, FIVE_PUTS)
     })?;
     let report = check(alloc, &ended.disk).ok().ok_or("a report")?;

@@ -3,10 +3,11 @@
 
 mod kept;
 
-use crate::tests::server::{connected, read_line, serve_beside};
+use crate::tests::server::{connected, limits_of, pipelined_limits_of, read_line, serve_beside};
 use crate::tests::{Open, opened};
 use silt_device::{Disk, Geometry};
 use silt_fixtures::formatted_with;
+use silt_server::Limits;
 use std::alloc::Global;
 use std::io::{self, Write};
 use std::net::{Net, SocketAddr, TcpListener, TcpStream};
@@ -42,6 +43,25 @@ impl Session {
             _ => format!(in alloc; "get =s{number}\n")?,
         };
         self.stream.write_all(line.as_bytes())
+    }
+
+    // Sends the commands of so many rounds.
+    fn ask_from(&mut self, alloc: Global, first: u32, rounds: u32) -> io::Result<()> {
+        for round in first..first.saturating_add(rounds) {
+            self.ask(alloc, round)?;
+        }
+        Ok(())
+    }
+
+    // How many of their replies are not those of a plain map.
+    fn count_wrong(&mut self, alloc: Global, first: u32, rounds: u32) -> io::Result<u32> {
+        let mut wrong = 0u32;
+        for round in first..first.saturating_add(rounds) {
+            if !self.is_answered(alloc, round)? {
+                wrong = wrong.saturating_add(1);
+            }
+        }
+        Ok(wrong)
     }
 
     // Whether the reply to the round's command is that of a plain map. A refused command changes
@@ -97,11 +117,12 @@ fn count_keys(sessions: &[Session]) -> u32 {
     keys
 }
 
-// All sessions ask at once, round by round.
+// All sessions ask at once, so many rounds before they read.
 fn ask_all<R: Net<Stream = TcpStream>>(
     rt: &R,
     alloc: Global,
     addr: SocketAddr,
+    rounds: u32,
 ) -> io::Result<Found> {
     let mut sessions = Vec::new(alloc);
     for number in 0..SESSIONS {
@@ -112,14 +133,12 @@ fn ask_all<R: Net<Stream = TcpStream>>(
         })?;
     }
     let mut wrong = 0u32;
-    for round in 0..COMMANDS {
+    for first in (0..COMMANDS).step_by(rounds as usize) {
         for session in sessions.iter_mut() {
-            session.ask(alloc, round)?;
+            session.ask_from(alloc, first, rounds)?;
         }
         for session in sessions.iter_mut() {
-            if !session.is_answered(alloc, round)? {
-                wrong = wrong.saturating_add(1);
-            }
+            wrong = wrong.saturating_add(session.count_wrong(alloc, first, rounds)?);
         }
     }
     let keys = count_keys(sessions.as_slice());
@@ -131,16 +150,10 @@ fn ask_all<R: Net<Stream = TcpStream>>(
 fn ask_beside<
     D: Disk,
     R: Net<Listener = TcpListener, Stream = TcpStream> + Clock + Threads + Wait + Sync,
->(rt: &R, alloc: Global, disk: D) -> Result<(Found, u8, u64), Fail> {
-    let ended = serve_beside(
-        rt,
-        alloc,
-        disk,
-        Some(400_000),
-        SESSIONS,
-        &Open,
-        |addr: SocketAddr| { ask_all(rt, alloc, addr) },
-    )?;
+>(rt: &R, alloc: Global, disk: D, limits: Limits, rounds: u32) -> Result<(Found, u8, u64), Fail> {
+    let ended = serve_beside(rt, alloc, disk, limits, &Open, |addr: SocketAddr| {
+        ask_all(rt, alloc, addr, rounds)
+    })?;
     let found = ended.got?;
     let entries = count_entries(alloc, ended.disk)?;
     Ok((found, ended.status, entries))
@@ -154,15 +167,31 @@ fn count_entries<D: Disk>(alloc: Global, disk: D) -> Result<u64, Fail> {
 }
 
 // At the end the store has exactly as many keys as its clients have given values to.
-#[test]
-fn many_sessions(rt: HostRuntime) -> Result<(), Fail> {
-    let alloc = rt.alloc();
+fn keeps_all<R: Net<Listener = TcpListener, Stream = TcpStream> + Clock + Threads + Wait + Sync>(
+    rt: &R,
+    alloc: Global,
+    limits: Limits,
+    rounds: u32,
+) -> Result<bool, Fail> {
     let geometry = Geometry::new(2, 16, 64, 8, 16, 4000)
         .ok()
         .ok_or("in limits")?;
-    let (found, status, entries) = ask_beside(&rt, alloc, formatted_with(alloc, geometry)?)?;
-    assert_eq!(rt; (status, found.wrong), (0, 0));
-    assert!(rt; found.keys > 0);
-    assert_eq!(rt; entries, u64::from(found.keys));
+    let disk = formatted_with(alloc, geometry)?;
+    let (found, status, entries) = ask_beside(rt, alloc, disk, limits, rounds)?;
+    let is_right = (status, found.wrong) == (0, 0) && found.keys > 0;
+    Ok(is_right && entries == u64::from(found.keys))
+}
+
+#[test]
+fn many_sessions(rt: HostRuntime) -> Result<(), Fail> {
+    let limits = limits_of(SESSIONS, Some(400_000));
+    assert!(rt; keeps_all(&rt, rt.alloc(), limits, 1)?);
+    Ok(())
+}
+
+#[test]
+fn many_sessions_that_pipeline(rt: HostRuntime) -> Result<(), Fail> {
+    let limits = pipelined_limits_of(SESSIONS, Some(400_000));
+    assert!(rt; keeps_all(&rt, rt.alloc(), limits, 20)?);
     Ok(())
 }

@@ -9,7 +9,7 @@ use silt_device::{Disk, Fill, MemDisk, Stop};
 use silt_event::Reply;
 use silt_fixtures::{formatted, key};
 use silt_frame::Value;
-use silt_server::{Job, Request, serve_batch};
+use silt_server::{Job, Request, Task, serve_batch};
 use silt_store_set::Core;
 use std::alloc::{AllocError, Global};
 use std::marker::Brand;
@@ -28,27 +28,44 @@ fn swap_of(alloc: Global, old: &[u8], new: &[u8]) -> Result<Request, AllocError>
     Ok(Request::Swap(key(1), old, new))
 }
 
-// Adds a job with this request. Nobody receives its reply.
-fn push_job(alloc: Global, jobs: &mut Vec<Job>, request: Request) -> Result<(), AllocError> {
-    let (to, _) = crossbeam_channel::bounded(alloc, 1)?;
-    jobs.push(Job::new(request, to))?;
-    Ok(())
+// A put, a swap that is accepted, one that differs, two with a value of another length, and a flush.
+fn six_requests(alloc: Global) -> Result<Vec<Request>, AllocError> {
+    let mut requests = Vec::new(alloc);
+    requests.push(Request::Put(key(1), value_of(alloc, &[0, 1])?))?;
+    requests.push(swap_of(alloc, &[0, 1], &[0, 2])?)?;
+    requests.push(swap_of(alloc, &[0, 1], &[0, 3])?)?;
+    requests.push(swap_of(alloc, &[2], &[0, 4])?)?;
+    requests.push(swap_of(alloc, &[0, 2], &[0, 4, 0])?)?;
+    requests.push(Request::Flush)?;
+    Ok(requests)
 }
 
-// A put, a swap that is accepted, one that differs, two with a value of another length, and a flush.
-fn six_jobs(alloc: Global) -> Result<Vec<Job>, AllocError> {
+// A job of these requests, which are as many. Nobody receives its replies.
+fn job_of(alloc: Global, requests: Vec<Request>) -> Result<Job, AllocError> {
+    let mut tasks = Vec::new(alloc);
+    for request in requests {
+        tasks.push(Task::new(request))?;
+    }
+    let (replies, _) = crossbeam_channel::bounded(alloc, 1)?;
+    Ok(Job { tasks, replies })
+}
+
+// The six requests in jobs of so many.
+fn six_in_jobs(alloc: Global, most: usize) -> Result<Vec<Job>, AllocError> {
     let mut jobs = Vec::new(alloc);
-    let put = Request::Put(key(1), value_of(alloc, &[0, 1])?);
-    push_job(alloc, &mut jobs, put)?;
-    push_job(alloc, &mut jobs, swap_of(alloc, &[0, 1], &[0, 2])?)?;
-    push_job(alloc, &mut jobs, swap_of(alloc, &[0, 1], &[0, 3])?)?;
-    push_job(alloc, &mut jobs, swap_of(alloc, &[2], &[0, 4])?)?;
-    push_job(alloc, &mut jobs, swap_of(alloc, &[0, 2], &[0, 4, 0])?)?;
-    push_job(alloc, &mut jobs, Request::Flush)?;
+    let mut requests = Vec::new(alloc);
+    for request in six_requests(alloc)? {
+        requests.push(request)?;
+        if requests.len() == most {
+            jobs.push(job_of(alloc, requests)?)?;
+            requests = Vec::new(alloc);
+        }
+    }
+    jobs.push(job_of(alloc, requests)?)?;
     Ok(jobs)
 }
 
-/// The reply to a job.
+/// The reply to a task.
 #[derive(Clone, Copy, PartialEq)]
 enum Got {
     Accepted(u64),
@@ -71,34 +88,31 @@ fn got_of(reply: Reply<()>) -> Got {
     }
 }
 
-// The reply to this job.
-fn got_by(job: Job) -> Got {
-    let Job {
-        request: _,
-        answer: _,
-        reply,
-        replies: _,
-    } = job;
-    match reply {
+// The reply to this task.
+fn got_by(task: Task) -> Got {
+    match task.reply {
         Some(answered) => got_of(answered.into_reply()),
         None => Got::Nothing,
     }
 }
 
-// The reply to each job, in order.
+// The reply to each task of each job, in order.
 fn all_got(alloc: Global, jobs: Vec<Job>) -> Result<Vec<Got>, AllocError> {
     let mut all = Vec::new(alloc);
     for job in jobs {
-        all.push(got_by(job))?;
+        for task in job.tasks {
+            all.push(got_by(task))?;
+        }
     }
     Ok(all)
 }
 
-// The replies to the six jobs, which a desk of this store serves as one batch.
+// The replies to the six requests in jobs of so many, which a desk of this store serves as one batch.
 fn serve_six<D: Disk, N: DeskId, R: Wait>(
     rt: &R,
     alloc: Global,
     core: Core<D>,
+    most: usize,
     calls: Blank,
     accepted: Blank,
 ) -> Result<Vec<Got>, Fail>
@@ -112,25 +126,34 @@ fn serve_six<D: Disk, N: DeskId, R: Wait>(
     };
     let shared: Shared<D, Count, N> = RwLock::new(desk);
     let mut seat = seats.pop().ok_or("a seat")?;
-    let mut jobs = six_jobs(alloc)?;
-    serve_batch(rt, alloc, &shared, &mut seat, &Open, &mut jobs);
+    let mut jobs = six_in_jobs(alloc, most)?;
+    let _ = serve_batch(rt, alloc, &shared, &mut seat, &Open, &mut jobs);
     Ok(all_got(alloc, jobs)?)
+}
+
+// The replies, whether each request is a job or some or all are one.
+const DUE: [Got; 6] = [
+    Got::Accepted(1),
+    Got::Accepted(2),
+    Got::Differs,
+    Got::Nothing,
+    Got::Nothing,
+    Got::Acknowledged(2),
+];
+
+// Whether the replies to jobs of so many requests are those.
+fn settles_in_jobs<R: Wait>(rt: &R, alloc: Global, most: usize) -> Result<bool, Fail> {
+    let core = opened(alloc, formatted(alloc)?)?;
+    let got = serve_six::<_, Brand, _>(rt, alloc, core, most, Blank::new(1), Blank::new(1))?;
+    Ok(got.as_slice() == DUE.as_slice())
 }
 
 #[test]
 fn settles_a_swap(rt: HostRuntime) -> Result<(), Fail> {
     let alloc = rt.alloc();
-    let core = opened(alloc, formatted(alloc)?)?;
-    let got = serve_six::<_, Brand, _>(&rt, alloc, core, Blank::new(1), Blank::new(1))?;
-    let due = [
-        Got::Accepted(1),
-        Got::Accepted(2),
-        Got::Differs,
-        Got::Nothing,
-        Got::Nothing,
-        Got::Acknowledged(2),
-    ];
-    assert!(rt; got.as_slice() == due.as_slice());
+    for most in [1, 4, 6, 7] {
+        assert!(rt; settles_in_jobs(&rt, alloc, most)?);
+    }
     Ok(())
 }
 
@@ -150,7 +173,7 @@ fn failing(alloc: Global) -> Result<MemDisk, Fail> {
 fn differs_where_the_flush_is_refused(rt: HostRuntime) -> Result<(), Fail> {
     let alloc = rt.alloc();
     let core = opened(alloc, failing(alloc)?)?;
-    let got = serve_six::<_, Brand, _>(&rt, alloc, core, Blank::new(1), Blank::new(1))?;
+    let got = serve_six::<_, Brand, _>(&rt, alloc, core, 4, Blank::new(1), Blank::new(1))?;
     let due = [
         Got::Unsettled(1),
         Got::Unsettled(2),

@@ -193,7 +193,7 @@ fn serve_all<R: Net<Listener = TcpListener, Stream = TcpStream> + Clock + Thread
     let (served, asked) = thread::join(
         rt,
         || serve_kept(rt, alloc, &listener, disk, 64),
-        || ask_all(rt, alloc, addr),
+        || ask_all(rt, alloc, addr, 1),
     );
     Ok((served, asked?))
 }
