@@ -72,6 +72,32 @@ fn answer_here<D: Disk, T: Trace, N: DeskId, R: Wait>(
     }
 }
 
+// Waits until the requests before are done, and then replies to an event that is not for the writer.
+fn answer_behind<D: Disk, T: Trace, N: DeskId, P: InboxId, R: Wait>(
+    rt: &R,
+    alloc: Global,
+    shared: &Shared<D, T, N>,
+    inbox: &Inbox<Job, P>,
+    value_len: usize,
+    slot: &Mutex<SessionSlot<P>>,
+    pipeline: &mut Pipeline,
+    event: &Event,
+) -> Result<(), Unanswered>
+    requires event { IsNoRequest event.now }
+    requires room { HasRoom pipeline.old 1 }
+    ensures answers { OnOk result ((events : List EventOf) → AnswersSome D.Disk events pipeline.old → AnswersSome D.Disk (events ++ event.now ∷ []) pipeline.new) }
+    ensures room { OnOk result ((n : ℕ) → HasRoom pipeline.old (n + 1) → HasRoom pipeline.new n) }
+{
+    pipeline.settle(rt, alloc, inbox, slot)?;
+    match answer_here(rt, alloc, shared, value_len, event) {
+        Some(reply) => {
+            pipeline.push(reply);
+            Ok(())
+        }
+        None => Err(Unanswered::Lost),
+    }
+}
+
 // Takes one more event. A request waits for the writer with those before it. Any other event waits until these are done.
 fn take<D: Disk, T: Trace, N: DeskId, P: InboxId, R: Wait>(
     rt: &R,
@@ -88,14 +114,12 @@ fn take<D: Disk, T: Trace, N: DeskId, P: InboxId, R: Wait>(
     ensures room { OnOk result ((n : ℕ) → HasRoom pipeline.old (n + 1) → HasRoom pipeline.new n) }
 {
     match Request::of(event) {
-        Ok(request) => pipeline.gather(request),
-        Err(event) => {
-            pipeline.settle(rt, alloc, inbox, slot)?;
-            let reply = answer_here(rt, alloc, shared, value_len, &event).ok_or(Unanswered::Lost)?;
-            pipeline.push(reply);
+        Ok(request) => {
+            pipeline.gather(request);
+            Ok(())
         }
+        Err(event) => answer_behind(rt, alloc, shared, inbox, value_len, slot, pipeline, &event),
     }
-    Ok(())
 }
 
 // Takes all events, and waits until the last requests are done.

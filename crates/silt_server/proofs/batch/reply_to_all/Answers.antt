@@ -1,6 +1,7 @@
 use Rattle.std.proofs.Common.{refl, sym, ◌∙◌}
 use Rattle.std.proofs.lemmas.List.{length-set}
-use Rattle.silt_server.proofs.Batches.{replies_end, replies_next, rest_next}
+use Rattle.silt_server.specs.Batches.{RepliesToAll, RepliesToJob}
+use Rattle.silt_server.proofs.Lists.{changed_all, zip_next, rest_next}
 use Rattle.silt_server.proofs.batch.reply_to_all.Goals as goal
 
 pub loop-job-init : goal.loop-job-init
@@ -10,7 +11,7 @@ pub loop-job-preserved : goal.loop-job-preserved
 loop-job-preserved c =
     let before = c.loop-job.invariant in
     record {
-      done = replies_next c.args.flushed.now c.deref_mut-job-items.result.now c.loop-job.job-items c.loop-job.job-index c.job-item.result _ c.loop-job-test.true before.same_length before.done before.rest (c.reply_after-reply.ensures, refl, refl, refl);
+      done = zip_next (RepliesToJob c.args.flushed.now) c.deref_mut-job-items.result.now c.loop-job.job-items c.loop-job.job-index c.job-item.result _ c.loop-job-test.true before.same_length before.rest before.done (c.reply_to_tasks.ensures, refl);
       rest = rest_next c.deref_mut-job-items.result.now c.loop-job.job-items c.loop-job.job-index _ before.rest;
       same_length = length-set c.loop-job.job-items c.loop-job.job-index _ ∙ before.same_length;
     }
@@ -18,4 +19,5 @@ loop-job-preserved c =
 pub returns : goal.returns
 returns c =
     let done = c.loop-job.invariant in
-    replies_end c.args.flushed.now c.deref_mut-job-items.result.now c.loop-job.job-items c.args.jobs.now.items c.loop-job.job-index c.args.jobs.now.len c.loop-job-test.false done.same_length c.deref_mut-job-items.ensures.value (sym c.deref_mut-job-items.ensures.len) done.done
+    changed_all (RepliesToAll c.args.flushed.now)
+    c.deref_mut-job-items.result.now c.loop-job.job-items c.args.jobs.now.items c.loop-job.job-index c.args.jobs.now.len c.loop-job-test.false done.same_length c.deref_mut-job-items.ensures.value (sym c.deref_mut-job-items.ensures.len) done.done

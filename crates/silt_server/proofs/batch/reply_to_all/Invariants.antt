@@ -2,7 +2,7 @@ use Rattle.std.proofs.Common.{◌≡◌, length, take, drop}
 use Rattle.silt_server.specs.Batches.{RepliesToAll}
 use Rattle.silt_server.proofs.batch.reply_to_all.Given as goal
 
--- the jobs so far have their replies, and the others are as they were
+-- the tasks of the jobs so far have their replies, and the others are as they were
 abbrev pub invariant-loop-job : goal.invariant-loop-job
 invariant-loop-job l = record {
   done : RepliesToAll l.flushed (take l.job-index l.initial.job-items) (take l.job-index l.job-items);
