@@ -16,7 +16,6 @@ use Rattle.silt_server.specs.Batches.{Flushes, Performs, PerformsAll, PerformsJo
 use Rattle.silt_server.specs.declared.job.Job.{Job}
 use Rattle.silt_server.specs.declared.job.Request.{Request}
 use Rattle.silt_server.specs.declared.job.Request.TheVariants.{Put, Delete, Swap, Flush}
-use Rattle.silt_server.specs.declared.job.Task.{Task}
 use Rattle.silt_server.proofs.Lists.{steps_keep}
 
 -- ---- a batch is done from one seat

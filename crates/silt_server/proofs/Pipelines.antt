@@ -1,5 +1,5 @@
 -- One event more of a session that asks several at once.
-use Rattle.std.proofs.Common.{◌≡◌, ◌≤◌, ℕ, ◌+◌, true, List, [], ◌∷◌, ◌++◌, append_assoc, length, map, refl, sym, ◌∙◌, ap, subst, arith, vec_capacity, vec_len}
+use Rattle.std.proofs.Common.{◌≡◌, ℕ, ◌+◌, List, [], ◌∷◌, ◌++◌, append_assoc, length, map, refl, sym, ◌∙◌, ap, subst, arith, vec_capacity, vec_len}
 use Rattle.std.specs.List.{AllZip}
 use Rattle.std.specs.Prelude.{OnOk, Result, Ok, Err}
 use Rattle.std.proofs.lemmas.List.{append-nil, length-append, map-append}
@@ -9,7 +9,7 @@ use Rattle.silt_event.specs.Events.{PlainReply}
 use Rattle.silt_event.specs.declared.event.Event.{Event}
 use Rattle.silt_event.specs.declared.refusal.Refusal.TheVariants as refusal
 use Rattle.silt_event.specs.declared.reply.Reply.TheVariants.{Refused}
-use Rattle.silt_inbox.specs.Answers.{is_allowed, event_kind}
+use Rattle.silt_inbox.specs.Answers.{event_kind}
 use Rattle.silt_inbox.specs.declared.answered.EventKind.{EventKind}
 use Rattle.silt_inbox.specs.declared.answered.EventKind.TheVariants as kind
 use Rattle.silt_server.specs.Pipelines.{Allows, AnswersSome, HasRoom, IsEmpty}

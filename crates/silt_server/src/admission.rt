@@ -1,5 +1,5 @@
 // Connections, each served in a thread of its own.
-ghost use Rattle.std.specs.Prelude.{◌≡◌, ◌<◌, ◌≤◌, length, IfOk, IfSome};
+ghost use Rattle.std.specs.Prelude.{◌<◌, ◌≤◌, length, IfOk, IfSome};
 
 use crate::client::{AskBy, Asking, Client};
 use crate::counting_listener::{CountingListener, Listens};

@@ -1,10 +1,10 @@
 // The events that a session asks at once, on their way to replies.
-ghost use Rattle.std.specs.Prelude.{◌≡◌, ◌≢◌, ◌≤◌, ◌<◌, ◌+◌, ◌++◌, ◌∷◌, [], List, true, false, IfNone, IfOk, IfSome, MatchResult, OnOk, length, vec_capacity, vec_len};
+ghost use Rattle.std.specs.Prelude.{◌≡◌, ◌≢◌, ◌≤◌, ◌<◌, ◌+◌, ◌++◌, ◌∷◌, [], List, false, IfNone, IfOk, IfSome, MatchResult, OnOk, length, vec_capacity, vec_len};
 ghost use Rattle.std.specs.List.{AllZip};
 ghost use Rattle.silt_event.specs.Events.{PlainReply};
-ghost use Rattle.silt_inbox.specs.Answers.{is_allowed, event_kind};
+ghost use Rattle.silt_inbox.specs.Answers.{event_kind};
 ghost use Rattle.silt_server.specs.Pipelines.{Allows, GathersTask, HasReply, IsEmpty};
-ghost use Rattle.silt_server.specs.Requests.{asked_event, reply_in};
+ghost use Rattle.silt_server.specs.Requests.{asked_event};
 
 use crate::job::{Job, Request, Task};
 use crate::session_slots::SessionSlot;

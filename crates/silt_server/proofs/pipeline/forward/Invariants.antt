@@ -1,4 +1,4 @@
-use Rattle.std.proofs.Common.{◌≡◌, ◌≤◌, ◌+◌, ◌++◌, List, length, take, vec_capacity, vec_len}
+use Rattle.std.proofs.Common.{◌≡◌, ◌+◌, ◌++◌, List, length, take, vec_capacity, vec_len}
 use Rattle.std.specs.List.{AllZip}
 use Rattle.std.specs.Vec.Iter.{into_iter_items}
 use Rattle.silt_event.specs.Events.{PlainReply}

@@ -1,7 +1,7 @@
 use Rattle.std.proofs.Common.{◌≢◌, ℕ, [], ap, arith, length, replicate, subst, sym, ◌∙◌}
 use Rattle.std.proofs.lemmas.Slice.Zip.{AllZip-long}
 use Rattle.silt_event.specs.Events.{AnswersEach}
-use Rattle.silt_server.specs.Sessions.{AnswersClient, ClientState}
+use Rattle.silt_server.specs.Sessions.{AnswersClient}
 use Rattle.silt_server.specs.Unanswered.{reply_without}
 use Rattle.silt_server.proofs.Clients.{given_each, without_each}
 use Rattle.silt_server.proofs.client.Client.ask_all.Goals as goal

@@ -1,4 +1,4 @@
-use Rattle.std.proofs.Common.{ℕ, ◌++◌, List, ap, length, replicate, subst, sym, vec_len, ◌∙◌}
+use Rattle.std.proofs.Common.{ℕ, ◌++◌, List, ap, replicate, subst, sym, vec_len, ◌∙◌}
 use Rattle.std.specs.List.{AllZip}
 use Rattle.silt_inbox.specs.declared.answered.EventKind.{EventKind}
 use Rattle.silt_server.specs.Pipelines.{Allows}

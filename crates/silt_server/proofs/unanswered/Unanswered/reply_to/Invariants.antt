@@ -1,4 +1,4 @@
-use Rattle.std.proofs.Common.{◌≡◌, ◌≤◌, ◌+◌, ◌++◌, replicate, vec_capacity, vec_len}
+use Rattle.std.proofs.Common.{◌≡◌, ◌+◌, ◌++◌, replicate, vec_capacity, vec_len}
 use Rattle.silt_server.specs.Unanswered.{reply_without}
 use Rattle.silt_server.proofs.unanswered.Unanswered.reply_to.Given as goal
 
