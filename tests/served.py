@@ -161,6 +161,9 @@ class Server:
 class ServedCase(WatchedCase):
     """A test with servers and clients, which end with it."""
 
+    # The options that each server of the test has.
+    options = ()
+
     def setUp(self):
         super().setUp()
         # A shell starts a background job with this signal ignored, which the server would inherit.
@@ -172,7 +175,7 @@ class ServedCase(WatchedCase):
 
     def serve(self, *options, name="store", port=0, env=None, **how):
         """A server of this store, which listens."""
-        return self.begin(name, port, *options, env=env, **how).listen()
+        return self.begin(name, port, *self.options, *options, env=env, **how).listen()
 
     def client(self, server):
         client = Client(server.port)

@@ -127,6 +127,12 @@ class ManyClients(ServedCase):
         self.assertGreaterEqual(sum(it.name == "fdatasync" for it in calls[row:]), 2, line)
 
 
+class ManyPipelinedClients(ManyClients):
+    """The same, where what each of them sent is one batch up to the next get."""
+
+    options = ("--pipeline",)
+
+
 class SlowClients(ServedCase):
     """Clients that send or receive slowly, or not at all."""
 
@@ -316,6 +322,12 @@ class BrokenClients(ServedCase):
         self.wait_until(lambda: len(os.listdir(f"{folder}/fd")) == DESCRIPTORS, "the end of all sessions")
         with open(f"{folder}/status") as status:
             return next(int(line.split()[1]) for line in status if line.startswith("VmRSS:"))
+
+
+class BrokenPipelinedClients(BrokenClients):
+    """The same noise and breaks, where a server gathers what it has read."""
+
+    options = ("--pipeline",)
 
 
 if __name__ == "__main__":

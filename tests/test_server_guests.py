@@ -15,12 +15,10 @@ def request(first, *body):
 class Browsers(ServedCase):
     """A web page can make a browser send an HTTP request to a port of this machine."""
 
-    options = ()
-
     def setUp(self):
         super().setUp()
         self.store(ROOMY)
-        self.server = self.serve(*self.options)
+        self.server = self.serve()
         self.owner = self.client(self.server)
         self.assertEqual(self.owner.ask("put =abc 0102"), ["accepted 1"])
 
@@ -73,7 +71,7 @@ class Browsers(ServedCase):
     def test_such_sessions_count(self):
         self.owner.close()
         self.server.kill()
-        server = self.serve("--sessions", 2, *self.options)
+        server = self.serve("--sessions", 2)
         guest = self.client(server)
         guest.send_bytes(request("POST / HTTP/1.1", "put =abc 0506"))
         self.assertEqual(guest.rest(), [])

@@ -123,7 +123,7 @@ class Load:
 class KillCase(ServedCase):
     """A server of a store with such numbers and options, and its clients."""
 
-    geometry, options = BUSY, ()
+    geometry = BUSY
     # What each client sends in one write, and how many replies may be due when it sends again.
     burst, ahead = 1, 0
 
@@ -134,7 +134,7 @@ class KillCase(ServedCase):
 
     def load_and_end(self, most, number):
         """Loads a server, and sends it this signal after a random number of replies."""
-        server = self.serve(*self.options)
+        server = self.serve()
         load = Load(self, server, self.writers)
         count = self.random.randrange(1, most)
         self.assertTrue(load.wait(count, limit=60), (count, server.errors()))

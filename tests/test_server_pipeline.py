@@ -67,7 +67,7 @@ class PipelineCase(ServedCase):
 
     def answers(self, *lines):
         """The replies to these lines, sent in one write, and the calls that the server made."""
-        server = self.serve("--sessions", 1, *self.options)
+        server = self.serve("--sessions", 1)
         replies = self.exchange(self.client(server), lines)
         return replies, self.calls_of(server.ended())
 
@@ -182,7 +182,7 @@ class Pipelined(PipelineCase):
     def test_lines_in_parts(self):
         """One client sends its lines in parts of any length, as a slow network hands them on."""
         lines = Commands(self.random, names(8), 2).lines(300)
-        server = self.serve("--sessions", 1, *self.options)
+        server = self.serve("--sessions", 1)
         client = self.client(server)
         data = "".join(line + "\n" for line in lines).encode()
         while data:
@@ -217,7 +217,7 @@ class Flushes(PipelineCase):
     lines = ["put =a 0001", "put =b 0002", "swap =a 0009 0003", "delete =b", "flush", "pot =a", "get =a"]
 
     def test_replies_come_behind_their_syncs(self):
-        server = self.serve("--sessions", 1, *self.options, env=watching(self, log="record"))
+        server = self.serve("--sessions", 1, env=watching(self, log="record"))
         client = self.client(server)
         for turn in range(3):
             puts = [f"put =key/{it} {turn:02x}{it:02x}" for it in range(40)]
@@ -230,7 +230,7 @@ class Flushes(PipelineCase):
     def check_failure(self, fault, words):
         """The flush of a batch fails with this fault, and the store takes nothing more."""
         self.store(WIDE)
-        server = self.serve("--sessions", 1, *self.options, env=watching(self, fail=fault))
+        server = self.serve("--sessions", 1, env=watching(self, fail=fault))
         client = self.client(server)
         late = ["refused 20 BadLine", "refused 9 Failed"]
         unsettled = ["unsettled 1", "unsettled 2", "differs", "unsettled 3", "refused 5 Device"]
@@ -262,7 +262,7 @@ class Flushes(PipelineCase):
             (0, ["refused 11 HistoryFull"] * 5, 0),
         ):
             self.store(WIDE)
-            server = self.serve("--sessions", 1, *self.options, "--audit", most)
+            server = self.serve("--sessions", 1, "--audit", most)
             client = self.client(server)
             self.assertEqual(client.ask(*puts), replies, most)
             client.close()
@@ -274,7 +274,7 @@ class Clients(PipelineCase):
 
     def test_half_a_line(self):
         self.store(LONG_VALUES)
-        server = self.serve(*self.options)
+        server = self.serve()
         slow, other = self.clients(server, 2)
         name, values = "=" + "n" * 8000, ["".join([f"{it:02x}"] * LONG_VALUE) for it in range(3)]
         line = f"swap {name} {values[0]} {values[1]}"
@@ -288,7 +288,7 @@ class Clients(PipelineCase):
 
     def test_a_client_that_never_reads(self):
         self.store("4096 64 256 2 1 1000")
-        server = self.serve(*self.options)
+        server = self.serve()
         deaf, other = self.clients(server, 2)
         # Some 16 MB of replies, more than the system keeps for a connection.
         turns = [f"{it:04x}" + "5a" * 4094 for it in range(200)]
@@ -315,7 +315,7 @@ class Clients(PipelineCase):
             pass
 
     def test_clients_side_by_side(self):
-        server = self.serve("--sessions", 8, *self.options)
+        server = self.serve("--sessions", 8)
         clients = self.clients(server, 8)
         for number, client in enumerate(clients):
             client.send(*(f"put =client/{number}/{it % 5} {it:04x}" for it in range(250)), f"get =client/{number}/4")
@@ -334,7 +334,7 @@ class Clients(PipelineCase):
 
     def test_resets(self):
         """Of a client that breaks off a beginning is done, and no other is disturbed."""
-        server = self.serve(*self.options)
+        server = self.serve()
         other = self.client(server)
         for number in range(10):
             client = self.client(server)

@@ -140,7 +140,7 @@ class ToldAtOnce:
 
 
 class Sweeps(ServedCase):
-    lines, options = LINES, ()
+    lines = LINES
     # 9 commands, a flush behind each, the flush, 9 steps of a conversion and 13 of a merge.
     calls = 9 + 9 + 1 + 9 + 13
     # At least so many syncs, writes, reads and requests for memory are among what is tried.
@@ -152,7 +152,7 @@ class Sweeps(ServedCase):
     def calls_made(self, name):
         """How many calls of this name a server makes for all lines."""
         self.store(SMALL)
-        server = self.serve("--sessions", 1, *self.options, env=watching(self, counts="counts"))
+        server = self.serve("--sessions", 1, env=watching(self, counts="counts"))
         client = self.client(server)
         self.assertEqual(len(list(self.replies(client))), len(self.lines))
         client.close()
