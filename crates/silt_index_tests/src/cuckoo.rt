@@ -4,6 +4,7 @@ ghost use Rattle.std.specs.Prelude.{◌≡◌, ◌+◌, ◌<◌, ◌≤◌, leng
 ghost use Rattle.silt_cuckoo.specs.Slots.{PlacesBelow, bucket_count};
 
 use silt_cuckoo::{Candidate, Table, key_buckets};
+use std::process::Abort;
 use std::test::Fail;
 
 /// Places a new entry, if the rule finds a path for it.
@@ -81,46 +82,77 @@ fn place_random_keys(table: &mut Table, seed: u64) -> u32
     200_000
 }
 
+/// Places entries of buckets 0 and 1 at the places 0 to 3, and of buckets 1 and 2 at the places 4 to 7: where each of
+/// the two ended.
+fn fill_eight(table: &mut Table) -> (u32, u32)
+    requires four { bucket_count table.old ≡ 4 }
+    requires empty { PlacesBelow table.old 0 }
+    ensures count { bucket_count table.new ≡ 4 }
+    ensures below { PlacesBelow table.new 8 }
+{
+    let first = fill(table, 0, 1, 0, 4);
+    let second = fill(table, 1, 2, 4, 8);
+    (first, second)
+}
+
+/// The rule finds this path for an entry of buckets 0 and 1.
+fn has_path(rt: &impl Abort, table: &Table, slots: &[u32]) -> Result<(), Fail>
+    requires four { bucket_count table.now ≡ 4 }
+{
+    let path = table.plan(0, 1).ok_or("no path")?;
+    assert_eq!(rt; path.slots(), slots);
+    Ok(())
+}
+
+/// The slots of a table hold these entries.
+fn has_entries(rt: &impl Abort, table: &Table, entries: &[Option<(u32, u32)>]) {
+    for (slot, entry) in entries.iter().enumerate() {
+        assert_eq!(rt; table.slot(slot), *entry, "slot {slot}");
+    }
+}
+
+/// The four slots of bucket 0 and those of buckets 1 to 3, once an entry of buckets 0 and 1 has moved two others.
+const MOVED: [Option<(u32, u32)>; 16] = [
+    Some((1, 8)),
+    Some((1, 1)),
+    Some((1, 2)),
+    Some((1, 3)),
+    Some((2, 4)),
+    Some((0, 0)),
+    Some((2, 6)),
+    Some((2, 7)),
+    Some((1, 5)),
+    None,
+    None,
+    None,
+    None,
+    None,
+    None,
+    None,
+];
+
 #[test]
 fn moves_entries_along_a_path(rt: HostRuntime) -> Result<(), Fail> {
     let mut table = Table::new(rt.alloc(), 4)?;
-    assert_eq!(rt; table.bucket_count(), 4);
-    assert_eq!(rt; fill(&mut table, 0, 1, 0, 4), 4);
-    assert_eq!(rt; fill(&mut table, 1, 2, 4, 8), 8);
-
-    let path = table.plan(0, 1).ok_or("no path")?;
-    assert_eq!(rt; path.slots(), [0, 5, 8].as_slice());
+    assert!(rt; table.bucket_count() == 4);
+    assert!(rt; fill_eight(&mut table) == (4, 8));
+    has_path(&rt, &table, &[0, 5, 8])?;
     assert!(rt; put(&mut table, 0, 1, 8));
-    let expected = [
-        Some((1, 8)),
-        Some((1, 1)),
-        Some((1, 2)),
-        Some((1, 3)),
-        Some((2, 4)),
-        Some((0, 0)),
-        Some((2, 6)),
-        Some((2, 7)),
-        Some((1, 5)),
-        None,
-        None,
-        None,
-        None,
-        None,
-        None,
-        None,
-        None,
-    ];
-    for (slot, entry) in expected.iter().enumerate() {
-        assert_eq!(rt; table.slot(slot), *entry, "slot {slot}");
-    }
+    has_entries(&rt, &table, &MOVED);
     Ok(())
+}
+
+/// The candidates of buckets 0 and 1, in their order.
+fn has_candidates(rt: &impl Abort, table: &Table, expected: &[Candidate])
+    requires four { bucket_count table.now ≡ 4 }
+{
+    assert_eq!(rt; table.candidates(0, 1).as_slice(), expected);
 }
 
 #[test]
 fn finds_the_candidates_in_order(rt: HostRuntime) -> Result<(), Fail> {
     let mut table = Table::new(rt.alloc(), 4)?;
-    fill(&mut table, 0, 1, 0, 4);
-    fill(&mut table, 1, 2, 4, 8);
+    fill_eight(&mut table);
     fill(&mut table, 0, 1, 8, 9);
     let expected = [
         Candidate { slot: 0, place: 8 },
@@ -129,20 +161,20 @@ fn finds_the_candidates_in_order(rt: HostRuntime) -> Result<(), Fail> {
         Candidate { slot: 3, place: 3 },
         Candidate { slot: 5, place: 0 },
     ];
-    assert_eq!(rt; table.candidates(0, 1).as_slice(), expected.as_slice());
+    has_candidates(&rt, &table, &expected);
 
     if table.slot(5).is_some() {
         table.replace(5, 9);
     }
-    assert_eq!(rt; table.slot(5), Some((0, 9)));
+    assert!(rt; table.slot(5) == Some((0, 9)));
     Ok(())
 }
 
 #[test]
 fn gives_up_at_the_fifth_key_of_one_bucket(rt: HostRuntime) -> Result<(), Fail> {
     let mut table = Table::new(rt.alloc(), 2)?;
-    assert_eq!(rt; key_buckets(&[5; 20], 2), (1, 1));
-    assert_eq!(rt; place_keys(&mut table, [0; 20], 0, 5), 4);
+    assert!(rt; key_buckets(&[5; 20], 2) == (1, 1));
+    assert!(rt; place_keys(&mut table, [0; 20], 0, 5) == 4);
     Ok(())
 }
 
@@ -151,7 +183,7 @@ fn gives_up_at_the_ninth_key_of_two_buckets(rt: HostRuntime) -> Result<(), Fail>
     let mut table = Table::new(rt.alloc(), 2)?;
     let mut key = [0; 20];
     key[3] = 1;
-    assert_eq!(rt; place_keys(&mut table, key, 4, 9), 8);
+    assert!(rt; place_keys(&mut table, key, 4, 9) == 8);
     Ok(())
 }
 

@@ -1,5 +1,5 @@
 //! Worked examples of codes and places.
-ghost use Rattle.std.specs.Prelude.{◌↔◌, IsTrue};
+ghost use Rattle.std.specs.Prelude.{◌↔◌, ◌≤◌, IsTrue};
 ghost use Rattle.silt_trie.specs.Code.{IsCodable};
 ghost use Rattle.silt_trie.specs.Coded.{bytes_of};
 
@@ -61,61 +61,109 @@ fn place(trie: &Trie, key: Key) -> Option<usize> {
     Some(trie.locate(&key))
 }
 
+/// A key has this place.
+fn is_at(rt: &impl Abort, trie: &Trie, key: Key, at: usize) {
+    assert_eq!(rt; place(trie, key), Some(at));
+}
+
+/// Each key has its own place.
+fn are_in_place(rt: &impl Abort, trie: &Trie, keys: &[Key]) {
+    for (at, key) in keys.iter().enumerate() {
+        is_at(rt, trie, *key, at);
+    }
+}
+
+/// A code is this.
+fn has_digits(rt: &impl Abort, alloc: Global, trie: &Trie, code: &[u8]) -> Result<(), AllocError> {
+    let text = digits(alloc, trie)?;
+    assert!(rt; trie.code_len() == code.len());
+    assert_eq!(rt; text.as_slice(), code);
+    Ok(())
+}
+
+/// The code of some keys is this, and of two more keys the first has the first place and the second the last.
+fn codes(
+    rt: &impl Abort,
+    alloc: Global,
+    (keys, depth): (&[Key], usize),
+    code: &[u8],
+    (first, last): (Key, Key),
+) -> Result<(), AllocError> {
+    let trie = encode(rt, alloc, keys, depth)?;
+    is_at(rt, &trie, first, 0);
+    is_at(rt, &trie, last, keys.len().saturating_sub(1));
+    has_digits(rt, alloc, &trie, code)
+}
+
 #[test]
 fn codes_two_keys(rt: HostRuntime) -> Result<(), Fail> {
-    let alloc = rt.alloc();
     let pairs: [(u8, u8, &[u8]); 3] = [
         (0b0000_0000, 0b1000_0000, b"010"),
         (0b0000_0000, 0b0100_0000, b"011010"),
         (0b1000_0000, 0b1100_0000, b"1010"),
     ];
     for (low, high, code) in pairs {
-        let trie = encode(&rt, alloc, &[key(low, 0), key(high, 0)], 0)?;
-        assert_eq!(rt; digits(alloc, &trie)?.as_slice(), code);
-        assert_eq!(rt; place(&trie, key(low, 0)), Some(0));
-        assert_eq!(rt; place(&trie, key(high, 0)), Some(1));
+        let (low, high) = (key(low, 0), key(high, 0));
+        codes(&rt, rt.alloc(), (&[low, high], 0), code, (low, high))?;
+    }
+    Ok(())
+}
+
+/// The code of no key has nothing.
+fn codes_none(rt: &impl Abort, alloc: Global) -> Result<(), AllocError> {
+    let none = encode(rt, alloc, &[], 0)?;
+    assert_eq!(rt; (none.len(), none.code_len()), (0, 0));
+    Ok(())
+}
+
+/// The code of one key has nothing, and any key is at its place.
+fn codes_one(rt: &impl Abort, alloc: Global) -> Result<(), AllocError> {
+    let one = encode(rt, alloc, &[key(0x35, 0x17)], 0)?;
+    assert!(rt; one.code_len() == 0);
+    for first in 0..=255u8 {
+        is_at(rt, &one, key(first, 0x80), 0);
     }
     Ok(())
 }
 
 #[test]
 fn codes_no_key_and_one(rt: HostRuntime) -> Result<(), Fail> {
-    let alloc = rt.alloc();
-    let none = encode(&rt, alloc, &[], 0)?;
-    assert_eq!(rt; none.len(), 0);
-    assert_eq!(rt; none.code_len(), 0);
-    let one = encode(&rt, alloc, &[key(0x35, 0x17)], 0)?;
-    assert_eq!(rt; one.code_len(), 0);
-    for first in 0..=255u8 {
-        assert_eq!(rt; place(&one, key(first, 0x80)), Some(0));
-    }
+    codes_none(&rt, rt.alloc())?;
+    codes_one(&rt, rt.alloc())?;
     Ok(())
 }
 
 #[test]
 fn codes_a_group(rt: HostRuntime) -> Result<(), Fail> {
-    let alloc = rt.alloc();
-    let trie = encode(&rt, alloc, &[key(0, 0), key(0, 0x40), key(0, 0x80)], 8)?;
-    assert_eq!(rt; digits(alloc, &trie)?.as_slice(), b"011010".as_slice());
-    assert_eq!(rt; place(&trie, key(0, 0x20)), Some(0));
-    assert_eq!(rt; place(&trie, key(0, 0xc0)), Some(2));
+    let group = [key(0, 0), key(0, 0x40), key(0, 0x80)];
+    codes(
+        &rt,
+        rt.alloc(),
+        (&group, 8),
+        b"011010",
+        (key(0, 0x20), key(0, 0xc0)),
+    )?;
     Ok(())
 }
 
-#[test]
-fn codes_keys_that_differ_in_their_last_bit(rt: HostRuntime) -> Result<(), Fail> {
-    let alloc = rt.alloc();
-    let mut last = [0; 20];
-    last[19] = 1;
-    let trie = encode(&rt, alloc, &[Key([0; 20]), Key(last)], 8)?;
+/// The code of two keys with one first byte that differ in their last bit: 151 bits that both have, and the last.
+fn code_of_last_bit(alloc: Global) -> Result<Vec<u8>, AllocError> {
     let mut code = Vec::new(alloc);
     for _ in 0..151 {
         code.extend_from_slice(b"011")?;
     }
     code.extend_from_slice(b"010")?;
-    assert_eq!(rt; trie.code_len(), 456);
-    assert_eq!(rt; digits(alloc, &trie)?.as_slice(), code.as_slice());
-    assert_eq!(rt; place(&trie, Key(last)), Some(1));
+    Ok(code)
+}
+
+#[test]
+fn codes_keys_that_differ_in_their_last_bit(rt: HostRuntime) -> Result<(), Fail> {
+    let mut last = [0; 20];
+    last[19] = 1;
+    let keys = [Key([0; 20]), Key(last)];
+    let code = code_of_last_bit(rt.alloc())?;
+    assert!(rt; code.len() == 456);
+    codes(&rt, rt.alloc(), (&keys, 8), &code, (keys[0], keys[1]))?;
     Ok(())
 }
 
@@ -127,31 +175,57 @@ fn keys_follow_each_other(rt: HostRuntime) {
     assert!(rt; follows(&key(0, 0), &key(1, 0), 7));
 }
 
-#[test]
-fn locates_ten_thousand_keys(rt: HostRuntime) -> Result<(), Fail> {
-    let alloc = rt.alloc();
-    let mut keys = Vec::new(alloc);
-    for number in 0..10_000u32 {
-        keys.push(Key(Sha1::digest(&number.to_be_bytes())))?;
-    }
-    keys.sort_unstable();
-    let mut rest = keys.as_slice();
+/// Each of these keys is found by their code.
+fn locates(rt: &impl Abort, alloc: Global, keys: &[Key], depth: usize) -> Result<(), AllocError> {
+    let trie = encode(rt, alloc, keys, depth)?;
+    are_in_place(rt, &trie, keys);
+    Ok(())
+}
+
+/// How many keys from the first one on have this first byte.
+fn count_of(keys: &[Key], first: u8) -> usize {
+    keys.iter().take_while(|key| key.0[0] == first).count()
+}
+
+/// The keys of each first byte are found by their code.
+fn locates_groups(rt: &impl Abort, alloc: Global, keys: &[Key]) -> Result<(), AllocError> {
+    let mut rest = keys;
     for first in 0..=255u8 {
-        let count = rest.iter().take_while(|key| key.0[0] == first).count();
-        let (group, others) = rest.split_at(count);
-        let trie = encode(&rt, alloc, group, 8)?;
-        for (at, key) in group.iter().enumerate() {
-            assert_eq!(rt; place(&trie, *key), Some(at));
-        }
+        let (group, others) = rest.split_at(count_of(rest, first).min(rest.len()));
+        locates(rt, alloc, group, 8)?;
         rest = others;
     }
-    assert_eq!(rt; rest.len(), 0);
-    let few = &keys[..keys.len().min(500)];
-    let trie = encode(&rt, alloc, few, 0)?;
-    for (at, key) in few.iter().enumerate() {
-        assert_eq!(rt; place(&trie, *key), Some(at));
-    }
+    assert!(rt; rest.is_empty());
     Ok(())
+}
+
+#[test]
+fn locates_ten_thousand_keys(rt: HostRuntime) -> Result<(), Fail> {
+    let keys = random_keys(rt.alloc(), 10_000, 255)?;
+    locates_groups(&rt, rt.alloc(), &keys)?;
+    locates(&rt, rt.alloc(), &keys[..keys.len().min(500)], 0)?;
+    Ok(())
+}
+
+/// Writes the code of three keys behind other codes: where it begins.
+fn write_group(
+    rt: &impl Abort,
+    bits: &mut BitWriter,
+    keys: &[Key; 3],
+) -> Result<usize, AllocError> {
+    let start = bits.len();
+    assert!(rt; is_codable(keys, 8));
+    write_code(bits, keys, 8)?;
+    Ok(start)
+}
+
+/// Each of three keys is found by their code, which begins with this bit.
+fn locates_group(rt: &impl Abort, bits: &BitWriter, keys: &[Key; 3], start: usize) {
+    let rest = bits.len().saturating_sub(start);
+    assert!(rt; start + rest == bits.len());
+    for (at, key) in keys.iter().enumerate() {
+        assert!(rt; locate_in(bits.reader(start, rest), 3, 8, key) == at);
+    }
 }
 
 #[test]
@@ -164,17 +238,10 @@ fn locates_in_one_buffer(rt: HostRuntime) -> Result<(), Fail> {
     let mut bits = BitWriter::new(rt.alloc());
     let mut starts = [0; 3];
     for (group, keys) in groups.iter().enumerate() {
-        starts[group] = bits.len();
-        assert!(rt; is_codable(keys, 8));
-        write_code(&mut bits, keys, 8)?;
+        starts[group] = write_group(&rt, &mut bits, keys)?;
     }
     for group in 0..3usize {
-        let (keys, start) = (&groups[group], starts[group]);
-        let rest = bits.len().saturating_sub(start);
-        assert!(rt; start + rest == bits.len());
-        for (at, key) in keys.iter().enumerate() {
-            assert_eq!(rt; locate_in(bits.reader(start, rest), 3, 8, key), at);
-        }
+        locates_group(&rt, &bits, &groups[group], starts[group]);
     }
     Ok(())
 }
@@ -214,27 +281,39 @@ fn misplaced(marked: &MarkedTrie, keys: &[Key], count: u32, firsts: u8) -> u32 {
     wrong
 }
 
+/// Marks of some keys, at this many levels, lead to them as a search does, among the first pseudo-random keys.
+fn marks_locate(
+    rt: &impl Abort,
+    alloc: Global,
+    keys: &[Key],
+    levels: usize,
+    count: u32,
+    firsts: u8,
+) -> Result<(), AllocError>
+    requires least { 8 ≤ levels }
+    requires most { levels ≤ 24 }
+{
+    assert!(rt; is_codable(keys, 0));
+    let marked = MarkedTrie::encode(alloc, keys, 0, 8, levels)?;
+    assert!(rt; marked.len() == keys.len());
+    assert!(rt; misplaced(&marked, keys, count, firsts) == 0);
+    Ok(())
+}
+
 #[test]
 fn marks_locate_as_a_search_does(rt: HostRuntime) -> Result<(), Fail> {
-    let alloc = rt.alloc();
-    let keys = random_keys(alloc, 6_000, 255)?;
-    assert!(rt; is_codable(&keys, 0));
-    for levels in [8, 11] {
-        let marked = MarkedTrie::encode(alloc, &keys, 0, 8, levels)?;
-        assert_eq!(rt; marked.len(), 6_000);
-        assert_eq!(rt; misplaced(&marked, &keys, 12_000, 255), 0);
-    }
+    let keys = random_keys(rt.alloc(), 6_000, 255)?;
+    assert!(rt; keys.len() == 6_000);
+    marks_locate(&rt, rt.alloc(), &keys, 8, 12_000, 255)?;
+    marks_locate(&rt, rt.alloc(), &keys, 11, 12_000, 255)?;
     Ok(())
 }
 
 #[test]
 fn marks_locate_in_many_keys_each(rt: HostRuntime) -> Result<(), Fail> {
-    let alloc = rt.alloc();
     for count in [1, 300, 4_000] {
-        let keys = random_keys(alloc, count, 1)?;
-        assert!(rt; is_codable(&keys, 0));
-        let marked = MarkedTrie::encode(alloc, &keys, 0, 8, 8)?;
-        assert_eq!(rt; misplaced(&marked, &keys, 6_000, 1), 0);
+        let keys = random_keys(rt.alloc(), count, 1)?;
+        marks_locate(&rt, rt.alloc(), &keys, 8, 6_000, 1)?;
     }
     Ok(())
 }
@@ -253,64 +332,90 @@ fn paired_keys(alloc: Global) -> Result<Vec<Key>, AllocError> {
     Ok(keys)
 }
 
-#[test]
-fn marks_code_that_is_too_long_to_skip(rt: HostRuntime) -> Result<(), Fail> {
-    let alloc = rt.alloc();
-    let keys = paired_keys(alloc)?;
-    assert!(rt; is_codable(&keys, 0));
-    let marked = MarkedTrie::encode(alloc, &keys, 0, 8, 8)?;
-    assert!(rt; marked.memory() > 257 * 72 + 2 * 8_192); // more than 65,535 bits on the left
+/// Each of these keys is at its place.
+fn are_marked(rt: &impl Abort, marked: &MarkedTrie, keys: &[Key]) {
     for (at, key) in keys.iter().enumerate() {
         assert_eq!(rt; marked.locate_marked(key), Some(at));
     }
+}
+
+#[test]
+fn marks_code_that_is_too_long_to_skip(rt: HostRuntime) -> Result<(), Fail> {
+    let keys = paired_keys(rt.alloc())?;
+    assert!(rt; is_codable(&keys, 0));
+    let marked = MarkedTrie::encode(rt.alloc(), &keys, 0, 8, 8)?;
+    assert!(rt; marked.memory() > 257 * 72 + 2 * 8_192); // more than 65,535 bits on the left
+    are_marked(&rt, &marked, &keys);
     Ok(())
 }
 
 #[test]
 fn marks_few_keys(rt: HostRuntime) -> Result<(), Fail> {
-    let alloc = rt.alloc();
     let keys = [key(0, 0), key(0, 0x40), key(0, 0x80)];
     assert!(rt; is_codable(&keys, 0));
-    let marked = MarkedTrie::encode(alloc, &keys, 0, 8, 9)?;
-    assert_eq!(rt; marked.memory(), 1 + 72 * 513); // six bits, and a mark for each of the prefixes and one behind them
-    assert_eq!(rt; marked.locate_marked(&key(0, 0)), Some(0));
-    assert_eq!(rt; marked.locate_marked(&key(0, 0x40)), Some(1));
-    assert_eq!(rt; marked.locate_marked(&key(0, 0x80)), Some(2));
-    assert_eq!(rt; marked.locate_marked(&key(1, 0)), None);
-    assert_eq!(rt; marked.locate_marked(&key(0xff, 0xff)), None);
+    let marked = MarkedTrie::encode(rt.alloc(), &keys, 0, 8, 9)?;
+    assert!(rt; marked.memory() == 1 + 72 * 513); // six bits, and a mark for each of the prefixes and one behind them
+    are_marked(&rt, &marked, &keys);
+    assert!(rt; marked.locate_marked(&key(1, 0)).is_none());
+    assert!(rt; marked.locate_marked(&key(0xff, 0xff)).is_none());
     Ok(())
 }
 
 #[test]
 fn chooses_levels(rt: HostRuntime) {
-    assert_eq!(rt; levels_for(0), 8);
-    assert_eq!(rt; levels_for(131_072), 8);
-    assert_eq!(rt; levels_for(131_073), 9);
-    assert_eq!(rt; levels_for(1_000_000), 11);
-    assert_eq!(rt; levels_for(16_000_000), 15);
-    assert_eq!(rt; levels_for(usize::MAX), 24);
+    let levels = [
+        levels_for(0),
+        levels_for(131_072),
+        levels_for(131_073),
+        levels_for(1_000_000),
+        levels_for(16_000_000),
+        levels_for(usize::MAX),
+    ];
+    assert_eq!(rt; levels, [8, 8, 9, 11, 15, 24]);
 }
 
-/// The trie that a builder makes of keys.
-fn build(rt: &impl Abort, alloc: Global, keys: &[Key]) -> Result<MarkedTrie, AllocError> {
-    let mut builder = MarkedTrieBuilder::new(alloc, keys.len());
+/// The trie that a builder for this many keys makes of some.
+fn build(
+    rt: &impl Abort,
+    alloc: Global,
+    keys: &[Key],
+    count: usize,
+) -> Result<MarkedTrie, AllocError> {
+    let mut builder = MarkedTrieBuilder::new(alloc, count);
     for key in keys {
-        assert!(rt; builder.len() < 10_000);
-        assert!(rt; builder.push(*key)?);
+        push(rt, &mut builder, *key)?;
     }
     builder.finish()
 }
 
+/// A builder takes a key.
+fn push(rt: &impl Abort, builder: &mut MarkedTrieBuilder, key: Key) -> Result<(), AllocError> {
+    assert!(rt; builder.len() < 10_000);
+    assert!(rt; builder.push(key)?);
+    Ok(())
+}
+
+/// How many bytes the marks of some keys take.
+fn memory_of(
+    rt: &impl Abort,
+    alloc: Global,
+    keys: &[Key],
+    levels: usize,
+) -> Result<usize, AllocError>
+    requires least { 8 ≤ levels }
+    requires most { levels ≤ 24 }
+{
+    assert!(rt; is_codable(keys, 0));
+    let marked = MarkedTrie::encode(alloc, keys, 0, 8, levels)?;
+    Ok(marked.memory())
+}
+
 /// What a builder makes of keys is what `encode` makes of them.
 fn check_built(rt: &impl Abort, alloc: Global, keys: &[Key]) -> Result<(), AllocError> {
-    assert!(rt; is_codable(keys, 0));
-    let built = build(rt, alloc, keys)?;
-    let encoded = MarkedTrie::encode(alloc, keys, 0, 8, levels_for(keys.len()))?;
+    let built = build(rt, alloc, keys, keys.len())?;
     assert!(rt; built.len() == keys.len());
-    assert!(rt; built.memory() == encoded.memory());
-    for (at, key) in keys.iter().enumerate() {
-        assert!(rt; built.locate_marked(key) == Some(at));
-    }
+    are_marked(rt, &built, keys);
+    assert!(rt; built.memory() == memory_of(rt, alloc, keys, levels_for(keys.len()))?);
     Ok(())
 }
 
@@ -329,15 +434,21 @@ fn builds_few_keys(rt: HostRuntime) -> Result<(), Fail> {
     Ok(())
 }
 
-#[test]
-fn builds_a_key_for_each_group(rt: HostRuntime) -> Result<(), Fail> {
-    let alloc = rt.alloc();
+/// A key for each first byte.
+fn keys_of_all_groups(alloc: Global) -> Result<Vec<Key>, AllocError> {
     let mut keys = Vec::new(alloc);
     for first in 0..=255u8 {
         keys.push(key(first, 7))?;
     }
-    check_built(&rt, alloc, &keys)?;
-    assert_eq!(rt; build(&rt, alloc, &keys)?.memory(), 72 * 257); // no bit of code
+    Ok(keys)
+}
+
+#[test]
+fn builds_a_key_for_each_group(rt: HostRuntime) -> Result<(), Fail> {
+    let keys = keys_of_all_groups(rt.alloc())?;
+    check_built(&rt, rt.alloc(), &keys)?;
+    let built = build(&rt, rt.alloc(), &keys, keys.len())?;
+    assert!(rt; built.memory() == 72 * 257); // no bit of code
     Ok(())
 }
 
@@ -350,48 +461,48 @@ fn builds_random_keys(rt: HostRuntime) -> Result<(), Fail> {
 
 #[test]
 fn builds_more_marks(rt: HostRuntime) -> Result<(), Fail> {
-    let alloc = rt.alloc();
-    let keys = random_keys(alloc, 500, 255)?;
-    let mut builder = MarkedTrieBuilder::new(alloc, 400_000);
-    for key in &keys {
-        assert!(rt; builder.len() < 10_000);
-        assert!(rt; builder.push(*key)?);
-    }
-    let built = builder.finish()?;
-    for (at, key) in keys.iter().enumerate() {
-        assert_eq!(rt; built.locate_marked(key), Some(at));
-    }
+    let keys = random_keys(rt.alloc(), 500, 255)?;
+    let built = build(&rt, rt.alloc(), &keys, 400_000)?;
+    are_marked(&rt, &built, &keys);
     Ok(())
+}
+
+/// A builder refuses a key.
+fn refuse(rt: &impl Abort, builder: &mut MarkedTrieBuilder, key: Key) -> Result<(), AllocError> {
+    assert!(rt; builder.len() < 10_000);
+    assert!(rt; !builder.push(key)?);
+    Ok(())
+}
+
+/// The trie that a builder makes of keys, where it refuses one after each.
+fn build_refusing(
+    rt: &impl Abort,
+    alloc: Global,
+    keys: &[Key; 3],
+    refused: &[Key; 3],
+) -> Result<MarkedTrie, AllocError> {
+    let mut builder = MarkedTrieBuilder::new(alloc, 3);
+    for at in 0..3usize {
+        push(rt, &mut builder, keys[at])?;
+        refuse(rt, &mut builder, refused[at])?;
+    }
+    builder.finish()
 }
 
 #[test]
 fn refuses_keys_that_do_not_rise(rt: HostRuntime) -> Result<(), Fail> {
-    let alloc = rt.alloc();
     let keys = [key(3, 1), key(3, 2), key(5, 0)];
     let refused = [key(3, 1), key(2, 9), key(5, 0)];
-    let mut builder = MarkedTrieBuilder::new(alloc, 3);
-    for at in 0..3usize {
-        assert!(rt; builder.len() < 10);
-        assert!(rt; builder.push(keys[at])?);
-        assert!(rt; builder.len() < 10);
-        assert!(rt; !builder.push(refused[at])?);
-    }
-    let built = builder.finish()?;
-    assert_eq!(rt; built.len(), 3);
-    for (at, key) in keys.iter().enumerate() {
-        assert_eq!(rt; built.locate_marked(key), Some(at));
-    }
+    let built = build_refusing(&rt, rt.alloc(), &keys, &refused)?;
+    assert!(rt; built.len() == 3);
+    are_marked(&rt, &built, &keys);
     Ok(())
 }
 
 #[test]
 fn takes_little_memory(rt: HostRuntime) -> Result<(), Fail> {
-    let alloc = rt.alloc();
-    let none = MarkedTrie::encode(alloc, &[], 0, 8, 8)?;
-    assert_eq!(rt; none.memory(), 257 * 72);
-    let keys = [key(0, 0), key(0, 0x40), key(0, 0x80)];
-    assert!(rt; is_codable(&keys, 0));
-    let few = MarkedTrie::encode(alloc, &keys, 0, 8, 8)?;
-    assert_eq!(rt; few.memory(), 257 * 72 + 1);
+    let few = [key(0, 0), key(0, 0x40), key(0, 0x80)];
+    assert!(rt; memory_of(&rt, rt.alloc(), &[], 8)? == 257 * 72);
+    assert!(rt; memory_of(&rt, rt.alloc(), &few, 8)? == 257 * 72 + 1);
     Ok(())
 }
