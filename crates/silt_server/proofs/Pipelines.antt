@@ -12,7 +12,7 @@ use Rattle.silt_event.specs.declared.reply.Reply.TheVariants.{Refused}
 use Rattle.silt_inbox.specs.Answers.{event_kind}
 use Rattle.silt_inbox.specs.declared.answered.EventKind.{EventKind}
 use Rattle.silt_inbox.specs.declared.answered.EventKind.TheVariants as kind
-use Rattle.silt_server.specs.Pipelines.{Allows, AnswersSome, HasRoom, IsEmpty}
+use Rattle.silt_server.specs.Pipelines.{Allows, AnswersSoFar, HasRoom, IsEmpty}
 use Rattle.silt_server.specs.Requests.{asked_event}
 use Rattle.silt_server.specs.Sessions.{IsAnswer}
 use Rattle.silt_server.specs.declared.job.Request.{Request}
@@ -43,12 +43,12 @@ module _ {D F : Type 0} (facts : Ghosts D F) where
   allowed_answers Flush reply allowed = allowed
 
   -- no event has a reply or waits
-  pub answers_none : (pipeline : Pipeline) → IsEmpty pipeline → AnswersSome facts [] pipeline
+  pub answers_none : (pipeline : Pipeline) → IsEmpty pipeline → AnswersSoFar facts [] pipeline
   answers_none pipeline empty = ([], [], refl, subst (λ (l : List PlainReply). AllZip (IsAnswer facts) [] l) (sym empty.0) tt, empty.1)
 
   -- a request more waits
   pub gathers_one : (events : List Event) (event : Event) (old new : Pipeline) (request : Request) → asked_event request ≡ event → new.replies ≡ old.replies
-      → new.kinds.items ≡ old.kinds.items ++ kind_of request ∷ [] → AnswersSome facts events old → AnswersSome facts (events ++ event ∷ []) new
+      → new.kinds.items ≡ old.kinds.items ++ kind_of request ∷ [] → AnswersSoFar facts events old → AnswersSoFar facts (events ++ event ∷ []) new
   gathers_one events event old new request is same kinds some =
       let (done, waiting, whole, zip, were) = some in (
         done,
@@ -62,7 +62,7 @@ module _ {D F : Type 0} (facts : Ghosts D F) where
 
   -- what waits has its replies
   pub settles_all : (events : List Event) (old new : Pipeline) (given : List PlainReply) → new.replies.items ≡ old.replies.items ++ given → AllZip Allows old.kinds.items given
-      → AnswersSome facts events old → AllZip (IsAnswer facts) events new.replies.items
+      → AnswersSoFar facts events old → AllZip (IsAnswer facts) events new.replies.items
   settles_all events old new given items allowed some =
       let (done, waiting, whole, zip, were) = some in
       let allows = subst (λ (l : List EventKind). AllZip Allows l given) were allowed in
@@ -72,7 +72,7 @@ module _ {D F : Type 0} (facts : Ghosts D F) where
       (zip_append (IsAnswer facts) done old.replies.items (map asked_event waiting) given zip last))
 
   -- the last requests have their replies
-  pub settles_last : {X E : Type 0} (result : Result X E) (events done : List Event) (old new : Pipeline) → done ≡ events → AnswersSome facts done old
+  pub settles_last : {X E : Type 0} (result : Result X E) (events done : List Event) (old new : Pipeline) → done ≡ events → AnswersSoFar facts done old
       → OnOk result ((given : List PlainReply) × (new.replies.items ≡ old.replies.items ++ given) × AllZip Allows old.kinds.items given)
       → OnOk result (AllZip (IsAnswer facts) events new.replies.items)
   settles_last (Ok x) events done old new is some told =
@@ -81,7 +81,7 @@ module _ {D F : Type 0} (facts : Ghosts D F) where
 
   -- an event more has its reply
   pub answers_one : (events : List Event) (event : Event) (old new : Pipeline) (reply : PlainReply) → AllZip (IsAnswer facts) events old.replies.items → IsAnswer facts event reply
-      → new.replies.items ≡ old.replies.items ++ reply ∷ [] → new.kinds.items ≡ [] → AnswersSome facts (events ++ event ∷ []) new
+      → new.replies.items ≡ old.replies.items ++ reply ∷ [] → new.kinds.items ≡ [] → AnswersSoFar facts (events ++ event ∷ []) new
   answers_one events event old new reply all one items none = (
     events ++ event ∷ [],
     [],

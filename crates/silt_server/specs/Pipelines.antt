@@ -35,7 +35,7 @@ HasRoom pipeline n =
     (vec_len pipeline.replies + vec_len pipeline.kinds + n ≤ vec_capacity pipeline.replies) × (vec_len pipeline.kinds + n ≤ vec_capacity pipeline.kinds)
 
 -- the first of these events have their replies, and the others are requests that wait
-abbrev pub AnswersSome : {D F : Type 0} → Ghosts D F → List Event → Pipeline → Type 0
-AnswersSome facts events pipeline =
+abbrev pub AnswersSoFar : {D F : Type 0} → Ghosts D F → List Event → Pipeline → Type 0
+AnswersSoFar facts events pipeline =
     (done : List Event) × (waiting : List Request) × (events ≡ done ++ map asked_event waiting)
     × AllZip (IsAnswer facts) done pipeline.replies.items × (pipeline.kinds.items ≡ map (λ r. event_kind (asked_event r)) waiting)

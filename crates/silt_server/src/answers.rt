@@ -3,7 +3,7 @@ ghost use Rattle.std.specs.Prelude.{◌≢◌, ℕ, ◌+◌, ◌++◌, ◌∷◌
 ghost use Rattle.std.specs.List.{AllZip};
 ghost use Rattle.silt_event.specs.declared.event.Event.{Event as EventOf};
 ghost use Rattle.silt_event.specs.declared.event.Event.TheVariants as event_case;
-ghost use Rattle.silt_server.specs.Pipelines.{AnswersSome, HasRoom, IsEmpty};
+ghost use Rattle.silt_server.specs.Pipelines.{AnswersSoFar, HasRoom, IsEmpty};
 ghost use Rattle.silt_server.specs.Requests.{IsNoRequest};
 ghost use Rattle.silt_server.specs.Sessions.{AnswersGet, IsAnswer};
 
@@ -85,7 +85,7 @@ fn answer_behind<D: Disk, T: Trace, N: DeskId, P: InboxId, R: Wait>(
 ) -> Result<(), Unanswered>
     requires event { IsNoRequest event.now }
     requires room { HasRoom pipeline.old 1 }
-    ensures answers { OnOk result ((events : List EventOf) → AnswersSome D.Disk events pipeline.old → AnswersSome D.Disk (events ++ event.now ∷ []) pipeline.new) }
+    ensures answers { OnOk result ((events : List EventOf) → AnswersSoFar D.Disk events pipeline.old → AnswersSoFar D.Disk (events ++ event.now ∷ []) pipeline.new) }
     ensures room { OnOk result ((n : ℕ) → HasRoom pipeline.old (n + 1) → HasRoom pipeline.new n) }
 {
     pipeline.settle(rt, alloc, inbox, slot)?;
@@ -110,7 +110,7 @@ fn take<D: Disk, T: Trace, N: DeskId, P: InboxId, R: Wait>(
     event: Event,
 ) -> Result<(), Unanswered>
     requires { HasRoom pipeline.old 1 }
-    ensures answers { OnOk result ((events : List EventOf) → AnswersSome D.Disk events pipeline.old → AnswersSome D.Disk (events ++ event ∷ []) pipeline.new) }
+    ensures answers { OnOk result ((events : List EventOf) → AnswersSoFar D.Disk events pipeline.old → AnswersSoFar D.Disk (events ++ event ∷ []) pipeline.new) }
     ensures room { OnOk result ((n : ℕ) → HasRoom pipeline.old (n + 1) → HasRoom pipeline.new n) }
 {
     match Request::of(event) {

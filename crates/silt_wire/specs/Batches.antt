@@ -6,7 +6,7 @@ use Rattle.silt_wire.specs.declared.batch.Batch.{Batch}
 use Rattle.silt_wire.specs.declared.line.LineFault.{LineFault}
 
 -- the values of the events have this length, and there is room for a reply to each event
-pub record IsReady (value_len : ℕ) (batch : Batch) : Type 0 where
+pub record IsAnswerable (value_len : ℕ) (batch : Batch) : Type 0 where
   pub values : All (HasValueOf value_len) batch.events.items
   pub none : batch.replies.items ≡ []
   pub room : vec_len batch.replies + vec_len batch.events ≤ vec_capacity batch.replies

@@ -1,7 +1,7 @@
 // Events that are gathered first and answered together.
 ghost use Rattle.std.specs.Prelude.{◌≡◌, ◌++◌, ◌∷◌, [], ℕ, List, Some, OnErr, OnOk, flat_map, string_bytes};
 ghost use Rattle.silt_event.specs.Events.{HasValueOf};
-ghost use Rattle.silt_wire.specs.Batches.{IsReady, requests};
+ghost use Rattle.silt_wire.specs.Batches.{IsAnswerable, requests};
 ghost use Rattle.silt_wire.specs.Sessions.{AnswersAll, AnswersSome, IsBeginning, line_of};
 
 use crate::reply::print_reply;
@@ -35,7 +35,7 @@ impl Batch {
     /// No events yet.
     pub(crate) fn new(alloc: Global) -> Self
         ensures empty { result.events.items ≡ [] }
-        ensures ready { (value_len : ℕ) → IsReady value_len result }
+        ensures ready { (value_len : ℕ) → IsAnswerable value_len result }
     {
         Batch {
             events: Vec::new(alloc),
@@ -51,9 +51,9 @@ impl Batch {
 
     /// Adds an event. On an error the events stay.
     pub(crate) fn push(&mut self, event: Event, value_len: usize) -> Result<(), AllocError>
-        requires ready { IsReady value_len self.old }
+        requires ready { IsAnswerable value_len self.old }
         requires fits { HasValueOf value_len event }
-        ensures ready { IsReady value_len self.new }
+        ensures ready { IsAnswerable value_len self.new }
         ensures ok { OnOk result (self.new.events.items ≡ self.old.events.items ++ event ∷ []) }
         ensures err { OnErr result (self.new.events.items ≡ self.old.events.items) }
     {
@@ -74,7 +74,7 @@ impl Batch {
         texts: &mut String,
         answerer: &mut A,
     ) -> Result<(), AllocError>
-        requires { IsReady (A.value_len answerer.old) self }
+        requires { IsAnswerable (A.value_len answerer.old) self }
         ensures stays { A.value_len answerer.new ≡ A.value_len answerer.old }
         ensures all { OnOk result (AnswersAll A.answers (requests self)
             answerer.old answerer.new (Some (string_bytes texts.old)) (Some (string_bytes texts.new))) }

@@ -3,7 +3,7 @@ ghost use Rattle.std.specs.Prelude.{◌≡◌, ◌≤◌, ◌<◌, ◌++◌, ◌
 ghost use Rattle.std.specs.Io.KnownBytes.{Appends};
 ghost use Rattle.silt_wire.specs.LineBuffer.{HoldsBytes};
 ghost use Rattle.silt_wire.specs.Replies.{fault_line};
-ghost use Rattle.silt_wire.specs.Batches.{IsReady, fault_after, requests};
+ghost use Rattle.silt_wire.specs.Batches.{IsAnswerable, fault_after, requests};
 ghost use Rattle.silt_wire.specs.Sessions.{Ends, IsBeginning, IsCut, ServesAll, ServesSome, asks, lines_after, rest_after};
 
 use crate::batch::Batch;
@@ -248,9 +248,9 @@ fn gather(
     pending: &mut LineBuffer,
     batch: &mut Batch,
 ) -> Result<Gathered, AllocError>
-    requires ready { IsReady value_len batch.old }
+    requires ready { IsAnswerable value_len batch.old }
     requires some { 0 < length bytes.now }
-    ensures ready { IsReady value_len batch.new }
+    ensures ready { IsAnswerable value_len batch.new }
     ensures count { IfOk result (λ gathered. (0 < gathered.count) × (gathered.count ≤ length bytes.now)) }
     ensures holds { IfOk result (λ gathered. (p : List ℕ) → HoldsBytes pending.old p → HoldsBytes pending.new (rest_after p (take gathered.count bytes.now))) }
     ensures all { IfOk result (λ gathered. (p : List ℕ) → HoldsBytes pending.old p
@@ -281,9 +281,9 @@ fn gather_line(
     pending: &mut LineBuffer,
     batch: &mut Batch,
 ) -> Result<Gathered, AllocError>
-    requires ready { IsReady value_len batch.old }
+    requires ready { IsAnswerable value_len batch.old }
     requires some { 0 < length bytes.now }
-    ensures ready { IsReady value_len batch.new }
+    ensures ready { IsAnswerable value_len batch.new }
     ensures count { IfOk result (λ gathered. (0 < gathered.count) × (gathered.count ≤ length bytes.now)) }
     ensures holds { IfOk result (λ gathered. (p : List ℕ) → HoldsBytes pending.old p → HoldsBytes pending.new (rest_after p (take gathered.count bytes.now))) }
     ensures all { IfOk result (λ gathered. (p : List ℕ) → HoldsBytes pending.old p
@@ -313,8 +313,8 @@ fn gather_event(
     pending: &LineBuffer,
     batch: &mut Batch,
 ) -> Result<Option<LineFault>, AllocError>
-    requires { IsReady value_len batch.old }
-    ensures ready { IsReady value_len batch.new }
+    requires { IsAnswerable value_len batch.old }
+    ensures ready { IsAnswerable value_len batch.new }
     ensures all { IfOk result (λ fault. (line : List ℕ) → HoldsBytes pending.now line
         → requests batch.old ++ asks value_len (line ∷ []) ≡ requests batch.new ++ fault_after fault) }
     ensures err { OnErr result (requests batch.new ≡ requests batch.old) }

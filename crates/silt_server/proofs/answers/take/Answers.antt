@@ -1,6 +1,6 @@
 use Rattle.std.proofs.Common.{◌++◌, ◌∷◌, [], List, OnOk, subst}
 use Rattle.silt_event.specs.declared.event.Event.{Event as EventOf}
-use Rattle.silt_server.specs.Pipelines.{AnswersSome}
+use Rattle.silt_server.specs.Pipelines.{AnswersSoFar}
 use Rattle.silt_server.proofs.Pipelines.{gathers_one, room_gathered}
 use Rattle.silt_server.proofs.answers.take.Goals as goal
 
@@ -15,5 +15,5 @@ returns-in-Ok-clause-room g c =
 pub returns-in-Err-clause-answers : goal.returns-in-Err-clause-answers
 returns-in-Err-clause-answers g c =
     subst
-    (λ (e : EventOf). OnOk c.answer_behind.result ((events : List EventOf) → AnswersSome g.D.Disk events c.args.pipeline.now → AnswersSome g.D.Disk (events ++ e ∷ []) c.answer_behind.new.pipeline))
+    (λ (e : EventOf). OnOk c.answer_behind.result ((events : List EventOf) → AnswersSoFar g.D.Disk events c.args.pipeline.now → AnswersSoFar g.D.Disk (events ++ e ∷ []) c.answer_behind.new.pipeline))
     c.in-Err.ensures.0 c.answer_behind.ensures.answers

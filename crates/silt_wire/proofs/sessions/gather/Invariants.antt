@@ -1,5 +1,5 @@
 use Rattle.std.proofs.Common.{◌≡◌, ◌≤◌, ◌-◌, ◌++◌, ℕ, List, length, take}
-use Rattle.silt_wire.specs.Batches.{IsReady, requests}
+use Rattle.silt_wire.specs.Batches.{IsAnswerable, requests}
 use Rattle.silt_wire.specs.LineBuffer.{HoldsBytes}
 use Rattle.silt_wire.specs.Sessions.{asks, lines_after, rest_after}
 use Rattle.silt_wire.proofs.sessions.gather.Given as goal
@@ -8,7 +8,7 @@ abbrev pub invariant-loop-count : goal.invariant-loop-count
 invariant-loop-count l =
     record {
       within : l.count ≤ length l.bytes;
-      ready : IsReady l.value_len l.batch;
+      ready : IsAnswerable l.value_len l.batch;
       told : (p : List ℕ) → HoldsBytes l.initial.pending p → record {
         holds : HoldsBytes l.pending (rest_after p (take l.count l.bytes));
         all : requests l.initial.batch ++ asks l.value_len (lines_after p (take l.count l.bytes)) ≡ requests l.batch;
