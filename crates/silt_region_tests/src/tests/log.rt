@@ -46,16 +46,28 @@ fn write_one<D: Disk>(log: &mut Log, disk: &mut D, done: &mut u32) -> Result<(),
     Ok(())
 }
 
+// A blank disk whose K-th write or sync fails.
+fn armed(alloc: Global, k: u32) -> Result<MemDisk, AllocError>
+    ensures { IfOk result (λ disk. size (memory_content disk) ≡ 45056) }
+{
+    let stops = one_stop(alloc, k)?;
+    Ok(blank(alloc, LEN)?.arm(stops))
+}
+
+// Whether the disk shows the open gate and the row.
+fn shows_row(disk: &MemDisk) -> bool {
+    shows(disk, 12_288, &[0xA7, 0, 0, 0]) && shows(disk, 16_384, &BODY) && shows(disk, 16_407, &[0])
+}
+
 // Writes a row on a blank disk whose K-th write or sync fails. Returns how many calls returned Ok, whether all did, and
 // whether the disk shows the open gate and the row.
 fn written(alloc: Global, k: u32) -> Result<(u32, bool, bool), Fail> {
-    let mut disk = blank(alloc, LEN)?.arm(one_stop(alloc, k)?);
-    let mut log = Log::new(alloc, four_rows()?, 0)?;
+    let geometry = four_rows()?;
+    let mut log = Log::new(alloc, geometry, 0)?;
+    let mut disk = armed(alloc, k)?;
     let mut done = 0;
     let ended = write_one(&mut log, &mut disk, &mut done).is_ok();
-    let gates = shows(&disk, 12_288, &[0xA7, 0, 0, 0]);
-    let body = shows(&disk, 16_384, &BODY) && shows(&disk, 16_407, &[0]);
-    Ok((done, ended, gates && body))
+    Ok((done, ended, shows_row(&disk)))
 }
 
 #[test]
@@ -127,22 +139,39 @@ fn first_row<D: Disk>(log: &Log, disk: &D) -> Option<(Key, [u8; 2])>
     Some((key, value))
 }
 
+// Scans a log with one row: the row, and how many the log has and how many are settled.
+fn scanned_one<D: Disk>(alloc: Global, log: &mut Log, disk: &D) -> Option<(Row, (u32, u32))>
+    requires { device_size log.old.shape ≤ size (D.content disk.now) }
+    ensures { log.new.shape ≡ log.old.shape }
+{
+    let (rows, counts) = scanned(alloc, log, disk)?;
+    if rows.len() != 1 {
+        return None;
+    }
+    Some((rows[0], counts))
+}
+
+// What a scan finds of a row, how many it counts, and the key and the value that are then read.
+type FirstRow = (Option<(Row, (u32, u32))>, Option<(Key, [u8; 2])>);
+
+// Scans a log whose second gate is closed, and reads its first row.
+fn scanned_gates(alloc: Global) -> Result<FirstRow, Fail> {
+    let geometry = four_rows()?;
+    let mut log = Log::new(alloc, geometry, 0)?;
+    let disk = crafted(alloc, &[0xA7, 0x55, 0xA7], &BODY)?;
+    let scanned = scanned_one(alloc, &mut log, &disk);
+    Ok((scanned, first_row(&log, &disk)))
+}
+
 #[test]
 fn a_scan_ends_at_the_first_closed_gate(rt: HostRuntime) -> Result<(), Fail> {
-    let alloc = rt.alloc();
-    let disk = crafted(alloc, &[0xA7, 0x55, 0xA7], &BODY)?;
-    let mut log = Log::new(alloc, four_rows()?, 0)?;
-    let scanned = scanned(alloc, &mut log, &disk);
-    let first = first_row(&log, &disk);
-    drop(disk);
-    let (rows, counts) = scanned.ok_or("a scan")?;
     let row = Row {
         kind: Kind::Put,
         key: Key(ABC),
         place: 0,
     };
-    assert_eq!(rt; rows.as_slice(), [row].as_slice());
-    assert_eq!(rt; (counts, first), ((1, 1), Some((Key(ABC), [1, 2]))));
+    let due = (Some((row, (1, 1))), Some((Key(ABC), [1, 2])));
+    assert_eq!(rt; scanned_gates(rt.alloc())?, due);
     Ok(())
 }
 
@@ -156,15 +185,22 @@ fn the_longest_log_is_made(rt: HostRuntime) -> Result<(), Fail> {
     Ok(())
 }
 
-#[test]
-fn an_unknown_kind_is_damage(rt: HostRuntime) -> Result<(), Fail> {
-    let alloc = rt.alloc();
+// The place at which a scan finds damage, if the first row has an unknown kind.
+fn damaged_place(alloc: Global) -> Result<Option<u32>, Fail> {
     let mut body = BODY;
     body[0] = 3;
+    let geometry = four_rows()?;
+    let mut log = Log::new(alloc, geometry, 0)?;
     let disk = crafted(alloc, &[0xA7, 0, 0], &body)?;
-    let mut log = Log::new(alloc, four_rows()?, 0)?;
-    let is_damage = matches!(log.scan(alloc, &disk), Err(ScanError::Damaged(0)));
-    assert!(rt; is_damage);
+    match log.scan(alloc, &disk) {
+        Err(ScanError::Damaged(place)) => Ok(Some(place)),
+        _ => Ok(None),
+    }
+}
+
+#[test]
+fn an_unknown_kind_is_damage(rt: HostRuntime) -> Result<(), Fail> {
+    assert!(rt; damaged_place(rt.alloc())? == Some(0));
     Ok(())
 }
 
@@ -181,6 +217,14 @@ fn seal<D: Disk>(alloc: Global, log: &mut Log, disk: &mut D) -> Option<bool>
     Some(log.seal(disk).is_ok())
 }
 
+// A disk with these gates and one row, whose K-th write or sync fails.
+fn crafted_and_armed(alloc: Global, gates: &[u8; 3], k: u32) -> Result<MemDisk, Fail>
+    ensures { IfOk result (λ disk. size (memory_content disk) ≡ 45056) }
+{
+    let stops = one_stop(alloc, k)?;
+    Ok(crafted(alloc, gates, &BODY)?.arm(stops))
+}
+
 // Scans and seals a log on a disk with these gates, whose K-th write or sync fails. The sync before
 // the scan is the first. Also returns whether the disk then shows the gates `left`.
 fn sealed(
@@ -189,8 +233,9 @@ fn sealed(
     k: u32,
     left: &[u8; 4],
 ) -> Result<(Option<bool>, bool), Fail> {
-    let mut disk = crafted(alloc, gates, &BODY)?.arm(one_stop(alloc, k)?);
-    let mut log = Log::new(alloc, four_rows()?, 0)?;
+    let geometry = four_rows()?;
+    let mut log = Log::new(alloc, geometry, 0)?;
+    let mut disk = crafted_and_armed(alloc, gates, k)?;
     let ended = seal(alloc, &mut log, &mut disk);
     Ok((ended, shows(&disk, 12_288, left)))
 }
