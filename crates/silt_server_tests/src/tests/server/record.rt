@@ -133,7 +133,8 @@ fn ask_all<R: Net<Stream = TcpStream>>(
         })?;
     }
     let mut wrong = 0u32;
-    for first in (0..COMMANDS).step_by(rounds as usize) {
+    let step = if rounds == 0 { 1 } else { rounds as usize };
+    for first in (0..COMMANDS).step_by(step) {
         for session in sessions.iter_mut() {
             session.ask_from(alloc, first, rounds)?;
         }

@@ -90,7 +90,12 @@ fn got_of(reply: Reply<()>) -> Got {
 
 // The reply to this task.
 fn got_by(task: Task) -> Got {
-    match task.reply {
+    let Task {
+        request: _,
+        answer: _,
+        reply,
+    } = task;
+    match reply {
         Some(answered) => got_of(answered.into_reply()),
         None => Got::Nothing,
     }
@@ -100,7 +105,8 @@ fn got_by(task: Task) -> Got {
 fn all_got(alloc: Global, jobs: Vec<Job>) -> Result<Vec<Got>, AllocError> {
     let mut all = Vec::new(alloc);
     for job in jobs {
-        for task in job.tasks {
+        let Job { tasks, replies: _ } = job;
+        for task in tasks {
             all.push(got_by(task))?;
         }
     }
