@@ -26,7 +26,9 @@ use std::time::Clock;
 
 /// The names of the numbers, in their order.
 pub const NAMES: &str =
-    "keys\tvalue bytes\tputs/s\tgets/s 1 thread\tgets/s 4 threads\tabsent/s 1 thread\tabsent/s 4 threads\topen ms\trss KiB\tpeak KiB\treads a get\treads an absent get\treads of opening\tput p99.9 us\tput longest us\tflush p50 us\tflush longest us";
+    "keys\tvalue bytes\tputs/s\tgets/s 1 thread\tgets/s 4 threads\tabsent/s 1 thread\t\
+    absent/s 4 threads\topen ms\trss KiB\tpeak KiB\treads a get\treads an absent get\t\
+    reads of opening\tput p99.9 us\tput longest us\tflush p50 us\tflush longest us";
 
 /// The most looks that are counted.
 const COUNTED: u64 = 100_000;
