@@ -57,7 +57,7 @@ static const uint64_t ABSENT = 1ull << 40;
 
 static char byte_of(uint64_t number) { return static_cast<char>(number % 251); }
 
-// A number of kibibytes that the system tells of this process: VmRSS is resident, VmHWM the most that was.
+// A number of kibibytes that the system reports for this process: VmRSS is resident, VmHWM the most that was.
 static long kib_of(const char *name) {
     FILE *file = fopen("/proc/self/status", "r");
     char line[256];

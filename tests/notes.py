@@ -8,7 +8,7 @@ HELP = {7: "merging drops what was overwritten or deleted (run with --tend, or s
         9: "an earlier write or sync failed, and running again opens the store anew"}
 
 
-def told_of_lines(data, out):
+def notes_of_lines(data, out):
     """What a run says that read these bytes and printed this text, if it printed `opened`."""
     *lines, rest = data.split(b"\n")
     numbers = [number for number, line in enumerate(lines, 1) if line not in (b"", b"\r")]
@@ -17,11 +17,11 @@ def told_of_lines(data, out):
     for number, reply in zip(numbers, replies):
         if reply.startswith("refused "):
             refused.setdefault(int(reply.split()[1]), []).append(number)
-    told = [told_of_refusals(kind, refused[kind]) for kind in sorted(refused)]
-    return "".join(told + ["silt: the last line has no line feed, and is not answered\n"] * (rest != b""))
+    notes = [notes_of_refusals(kind, refused[kind]) for kind in sorted(refused)]
+    return "".join(notes + ["silt: the last line has no line feed, and is not answered\n"] * (rest != b""))
 
 
-def told_of_refusals(kind, lines):
+def notes_of_refusals(kind, lines):
     """What it says of lines with these numbers that were refused for one reason."""
     noun, help_words = "line" if len(lines) == 1 else "lines", f"; {HELP[kind]}" if kind in HELP else ""
     return f"silt: {len(lines)} {noun} refused {kind} {NAMES[kind]}, first line {lines[0]}{help_words}\n"

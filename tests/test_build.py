@@ -87,7 +87,7 @@ class Build(Scripts):
         self.assertEqual((jobs["silt_low"], jobs["silt"]), (4, 4))
         self.assertLessEqual(jobs["silt_left"] + jobs["silt_right"], 4)
 
-    def test_tells_each_crate_and_how_many_are_left(self):
+    def test_prints_each_crate_and_how_many_are_left(self):
         lines = self.build("--jobs", "1").lines
         self.assertEqual(lines[0], "build: 4 of 4 crates to prove, on 1 processor")
         self.assertRegex(lines[1], r"^build: silt_low: proved in \d+:\d\d by 1 job; 3 left; \d+:\d\d so far$")

@@ -13,7 +13,7 @@ from commands import Commands, answer, differs, done, is_command, maps_after, na
 from crashes import cuts, image
 from harness import PROVED, scaled
 from layout import Layout, as_version_1
-from notes import told_of_lines
+from notes import notes_of_lines
 from watch import WatchedCase, read_record, watching
 
 # How many cuts this part makes of runs, of servers and of formattings, and how many of one life.
@@ -83,7 +83,7 @@ class CutCase(WatchedCase):
         lines = lines_after(layout, keys, value or "ee" * layout.values)
         text = "".join(line + "\n" for line in lines)
         ran = self.silt("run", "cut", text=text)
-        notes = told_of_lines(text.encode(), ran.out)
+        notes = notes_of_lines(text.encode(), ran.out)
         self.assertEqual((ran.status, ran.err, len(ran.lines)), (0, notes, len(lines) + 1), ran)
         self.assertEqual(path.read_bytes()[:37], content[:37], "a run wrote the header")
         held = {key: it.split()[1] for key, it in zip(keys, ran.lines[1:]) if it != "absent"}

@@ -1,4 +1,4 @@
-"""Damaged stores: check and run tell the finding that the rules name, and change no byte.
+"""Damaged stores: check and run report the finding that the rules name, and change no byte.
 
 Each damage says which refusal has to come, and the model has to find it too. The stores are of
 both versions of the layout.

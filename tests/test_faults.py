@@ -16,7 +16,7 @@ from dataclasses import dataclass
 from commands import answer, is_command, maps_after
 from failing import DEVICE, EVERY, GEOMETRY, LINES, LIVES, NO_STORE, Job, JobCase
 from harness import NUMBERS, PROGRAM, TIME_LIMIT, Ended
-from notes import input_of, told_of_lines
+from notes import input_of, notes_of_lines
 from watch import read_counts, watching
 
 
@@ -110,7 +110,7 @@ class Runs(FaultCase):
             self.judge_note(whole, ended)
             return
         is_open = any(it.file == "standard output" for it in calls[:at])
-        self.judge_told(fault, ended, calls, at, is_open)
+        self.judge_notes(fault, ended, calls, at, is_open)
         commands = self.judge_replies(job, fault, whole, ended, is_open)
         self.judge_file(left, commands, ended.lines)
 
@@ -119,13 +119,13 @@ class Runs(FaultCase):
         self.assertEqual((ended.status, ended.out), (whole.status, whole.out))
         self.assertLess(len(ended.err), len(whole.err))
 
-    def judge_told(self, fault, ended, calls, at, is_open):
+    def judge_notes(self, fault, ended, calls, at, is_open):
         """Why the session broke off comes first, then what is said of its lines, then the call that
         failed."""
-        lines = re.escape(told_of_lines(input_of(calls), ended.out)) if is_open else ""
+        lines = re.escape(notes_of_lines(input_of(calls), ended.out)) if is_open else ""
         reason = self.reason(fault, calls[at])
-        told = reason + lines if fault.call in ("read", "write") else lines + reason
-        self.assertRegex(ended.err, rf"\A{told}\Z")
+        notes = reason + lines if fault.call in ("read", "write") else lines + reason
+        self.assertRegex(ended.err, rf"\A{notes}\Z")
 
     def judge_replies(self, job, fault, whole, ended, is_open):
         """Judges what was answered. The commands that may have been accepted, in their order."""
@@ -197,7 +197,7 @@ class Runs(FaultCase):
         """As any run, on a map that has one key already."""
         left, at = self.left(), self.failed_call(fault, calls)
         is_open = any(it.file == "standard output" for it in calls[:at])
-        self.judge_told(fault, ended, calls, at, is_open)
+        self.judge_notes(fault, ended, calls, at, is_open)
         commands = self.judge_replies(job, fault, whole, ended, is_open)
         self.assertRegex(self.report(left), r"\Ageneration ")
         found = self.silt("run", "store", text="get =a\nget =b\n").lines[1:]
@@ -353,7 +353,7 @@ class Files(FaultCase):
     def judge_limited(self, job, commands, ended, is_ignored):
         if is_ignored or ended.status >= 0:
             self.assertEqual(ended.status, 0)
-            lines = re.escape(told_of_lines(job.text.encode(), ended.out))
+            lines = re.escape(notes_of_lines(job.text.encode(), ended.out))
             self.assertRegex(ended.err, rf"\A{lines}silt: store: a (sync|write at \d+): File too large \(os error 27\)\n\Z")
             after = ended.lines[ended.lines.index("refused 5 Device") + 1:]
             self.assertEqual({it for it in after if not it.startswith("refused 2")}, {"refused 9 Failed"})

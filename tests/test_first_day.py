@@ -1,4 +1,4 @@
-"""The first day with silt: what a newcomer does wrong destroys no data, leaves no work undone, and is told with its reason."""
+"""The first day with silt: what a newcomer does wrong destroys no data, leaves no work undone, and is reported with its reason."""
 import re
 import socket
 import unittest
@@ -247,13 +247,13 @@ class Reasons(ServedCase):
             self.assertEqual((ended.status, ended.out), (1, "refused 1 NotFormatted\n"), ended)
             self.assertEqual(ended.err, "silt: file: it is not a silt store; make one with silt format\n")
 
-    def test_a_check_tells_the_geometry_and_how_full_the_store_is(self):
+    def test_a_check_prints_the_geometry_and_how_full_the_store_is(self):
         self.store(SMALL, ["put =a 0102", "put =b 0304", "flush"])
         ended = self.check_report()
         self.assertEqual((ended.status, ended.lines[-2:]), (0, ["charge 2", "layout 2"]), ended)
         self.assertEqual(ended.err, f"silt: store: {NAMED}; charge 2 of 8\n")
 
-    def test_a_port_in_use_is_told_before_the_store_is_opened(self):
+    def test_a_port_in_use_is_reported_before_the_store_is_opened(self):
         path = self.store(SMALL, ["put =a 0102", "flush"])
         image = bytearray(path.read_bytes())
         image[16384] = 3
@@ -267,7 +267,7 @@ class Reasons(ServedCase):
         self.assertIn("a row of a log is damaged", damage_line)
 
     def test_words(self):
-        for words, told in ((("plan", "1_000", "100"), "KEYS cannot be '1_000': a number is written without separators"),
+        for words, reason in ((("plan", "1_000", "100"), "KEYS cannot be '1_000': a number is written without separators"),
                             (("format", "f", "2", "2", "4", "2", "2", "1,000"), "S cannot be '1,000': a number is written without separators"),
                             (("serve", "f", "0", "--audit"), "--audit needs a number behind it"),
                             (("serve", "f", "0", "--audit", "--idle", "1"), "--audit needs a number behind it"),
@@ -279,7 +279,7 @@ class Reasons(ServedCase):
                             (("format", "f", "2", "2", "4", "2", "2"), "S is missing")):
             ended = self.silt(*words)
             self.assertEqual((ended.status, ended.out), (2, "usage\n"), words)
-            self.assertTrue(ended.err.startswith(f"silt: {told}\n"), ended.err)
+            self.assertTrue(ended.err.startswith(f"silt: {reason}\n"), ended.err)
             self.assertIn("silt serve FILE PORT", ended.err)
         self.assertFalse(self.path("f").exists())
 

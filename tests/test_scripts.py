@@ -53,12 +53,12 @@ class Scripts(Case):
             expected = model.run_script(geometry, text)
             ran = self.silt("script", *geometry.numbers, text=text)
             if ran.lines != expected or ran.status or ran.err:
-                self.tell_difference(number, geometry, text, expected, ran)
+                self.show_difference(number, geometry, text, expected, ran)
             count_words(counts, expected)
             count_swaps(counts, text, expected)
         return counts
 
-    def tell_difference(self, number, geometry, text, expected, ran):
+    def show_difference(self, number, geometry, text, expected, ran):
         pairs = zip([*expected, None], [*ran.lines, None])
         first = next((i for i, (one, other) in enumerate(pairs) if one != other), len(expected))
         self.fail(

@@ -16,16 +16,16 @@ KILLS, BEFORE_A_KILL = 6, 800 if PROVED else 200
 
 
 class Counter:
-    """A client that counts up. `told` has the numbers whose swap was accepted, `cut` the one whose
+    """A client that counts up. `accepted` has the numbers whose swap was accepted, `cut` the one whose
     swap had no reply when the connection broke, and `wrong` what no store replies."""
 
     def __init__(self):
-        self.told, self.cut, self.wrong = [], None, []
+        self.accepted, self.cut, self.wrong = [], None, []
 
     def run(self, client, count):
         """Counts until so many swaps are accepted, or until the connection breaks."""
         least = 0
-        while len(self.told) < count:
+        while len(self.accepted) < count:
             found = self.ask(client, "get =counter")
             if found is None or not found.startswith("value "):
                 return self.note(found is None, found)
@@ -48,7 +48,7 @@ class Counter:
     def take(self, reply, now):
         """Notes the reply to a swap of this number. What the counter is at least, from then on."""
         if reply.startswith("accepted "):
-            self.told.append(now + 1)
+            self.accepted.append(now + 1)
             return now + 1
         if reply in ("refused 7 StoreFull", "refused 8 NoRoom"):
             time.sleep(0.01)  # the background work makes room
@@ -78,10 +78,10 @@ class Counts(ServedCase):
             thread.start()
         return counters, threads
 
-    def told(self, counters):
+    def accepted(self, counters):
         """All numbers whose swap was accepted. Each was swapped in once."""
         self.assertEqual([it.wrong for it in counters], [[]] * CLIENTS)
-        numbers = sorted(number for it in counters for number in it.told)
+        numbers = sorted(number for it in counters for number in it.accepted)
         self.assertEqual(len(numbers), len(set(numbers)), numbers)
         return numbers
 
@@ -91,7 +91,7 @@ class Counts(ServedCase):
         counters, threads = self.load(server, each)
         for thread in threads:
             thread.join()
-        self.assertEqual(self.told(counters), list(range(begin + 1, end + 1)))
+        self.assertEqual(self.accepted(counters), list(range(begin + 1, end + 1)))
         self.assertEqual(self.client(server).ask("get =counter"), [f"value {end:08x}"])
         server.kill()
         self.assertEqual(self.counted(), end)
@@ -104,7 +104,7 @@ class Counts(ServedCase):
         server = self.serve()
         counters, threads = self.load(server, BEFORE_A_KILL)
         least = self.random.randrange(1, BEFORE_A_KILL)
-        self.wait_until(lambda: sum(len(it.told) for it in counters) >= least, f"{least} counts")
+        self.wait_until(lambda: sum(len(it.accepted) for it in counters) >= least, f"{least} counts")
         server.send_signal(signal.SIGKILL)
         self.assertEqual(server.ended().status, -signal.SIGKILL)
         for thread in threads:
@@ -115,18 +115,18 @@ class Counts(ServedCase):
     def judge(self, begin, end, counters):
         """The file has each number whose swap was accepted. Any other is one whose swap had no
         reply, so at most one more for each client."""
-        told, cut = self.told(counters), {it.cut for it in counters}
+        accepted, cut = self.accepted(counters), {it.cut for it in counters}
         counted = set(range(begin + 1, end + 1))
-        self.assertLessEqual(set(told), counted)
-        self.assertLessEqual(counted - set(told), cut)
+        self.assertLessEqual(set(accepted), counted)
+        self.assertLessEqual(counted - set(accepted), cut)
         return end
 
     def test_a_wrong_count_is_refused(self):
         """The judge sees a count that is lost, one that nobody made, and one that was made twice."""
-        def counters(*told, cut=None):
+        def counters(*accepted, cut=None):
             made = [Counter() for _ in range(CLIENTS)]
-            for counter, numbers in zip(made, told):
-                counter.told = list(numbers)
+            for counter, numbers in zip(made, accepted):
+                counter.accepted = list(numbers)
             made[-1].cut = cut
             return made
 

@@ -29,7 +29,7 @@ CALL = r"a (read|write|sync)( at \d+)?: Input/output error \(os error 5\)"
 REPORT = rf"(silt: {CALL}; the store takes nothing more until it is opened again\n)?(silt: store: {CALL}\n)*"
 
 
-class Told:
+class Replies:
     """What a client knows of the store: the values that each key may have, and the commands."""
 
     def __init__(self, case):
@@ -90,7 +90,7 @@ class Told:
             self.case.assertIn(reply, self.values[key], key)
 
 
-class ToldAtOnce:
+class RepliesAtOnce:
     """What a client knows that sends all lines in one write: what is there is a beginning of what it sent."""
 
     def __init__(self, case):
@@ -146,8 +146,8 @@ class Sweeps(ServedCase):
     # At least so many syncs, writes, reads and requests for memory are among what is tried.
     least = 20
 
-    def told(self):
-        return Told(self)
+    def judge(self):
+        return Replies(self)
 
     def calls_made(self, name):
         """How many calls of this name a server makes for all lines."""
@@ -177,16 +177,16 @@ class Sweeps(ServedCase):
         """A server with this fault, a client of it, and what the next run finds."""
         self.silt("format", "store", *SMALL.split())
         server = self.begin("store", 0, "--sessions", 1, *self.options, env=watching(self, fail=fault))
-        told = self.told()
+        replies = self.judge()
         if (server.line(1) or "").startswith("listening"):
-            self.ask_all(server.listen(), told, refusals)
+            self.ask_all(server.listen(), replies, refusals)
             self.connect_again(server)
         ended = server.ended()
-        self.check_end(ended, told)
+        self.check_end(ended, replies)
         self.check_whole()
-        told.check_found(self.found(*KEYS))
+        replies.check_found(self.found(*KEYS))
 
-    def ask_all(self, server, told, refusals):
+    def ask_all(self, server, replies, refusals):
         """Sends one line after the other, until the server ends the session, and checks each reply."""
         try:
             client = self.client(server)
@@ -195,9 +195,9 @@ class Sweeps(ServedCase):
         for number, reply in enumerate(self.replies(client)):
             if reply is None:
                 self.assertIn("refused 6 NoMemory", refusals, self.lines[number])
-                told.cut(self.lines[number:])
+                replies.cut(self.lines[number:])
                 break
-            told.take(self.lines[number], reply, refusals)
+            replies.take(self.lines[number], reply, refusals)
         client.close()
 
     def replies(self, client):
@@ -221,7 +221,7 @@ class Sweeps(ServedCase):
         except ConnectionError:
             pass  # the server has ended
 
-    def check_end(self, ended, told):
+    def check_end(self, ended, replies):
         """The server ended well, or with a reason, and reported each failure of the store."""
         if ended.status == 1:
             reasons = {"refused 5 Device", "refused 6 NoMemory", "silt: out of memory", "silt: store: out of memory"}
@@ -229,7 +229,7 @@ class Sweeps(ServedCase):
             return
         self.assertEqual(ended.status, 0, ended)
         self.assertTrue(re.fullmatch(REPORT, ended.err), ended)
-        if told.has_failed:
+        if replies.has_failed:
             self.assertIn("takes nothing more", ended.err)
             self.assertIn("silt: store: ", ended.err)
 
@@ -260,8 +260,8 @@ class PipelinedSweeps(Sweeps):
     # One flush for all commands.
     calls, least = 9 + 1 + 9 + 13, 12
 
-    def told(self):
-        return ToldAtOnce(self)
+    def judge(self):
+        return RepliesAtOnce(self)
 
     def replies(self, client):
         if not self.lines:

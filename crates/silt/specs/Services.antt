@@ -5,19 +5,19 @@ use Rattle.silt_disk.specs.Layout.{Shape}
 use Rattle.silt_disk.specs.declared.disk.Disk.{Ghosts}
 use Rattle.silt_event.specs.declared.refusal.Refusal.{Refusal}
 use Rattle.silt_recovery.specs.Opening.{LeavesNoOther}
-use Rattle.silt_server.specs.Serving.{IsServed, ServesKept, TellsNotServed}
+use Rattle.silt_server.specs.Serving.{IsServed, ServesKept, PrintsNotServed}
 use Rattle.silt_store_set.specs.CoreInvariant.{LeavesBegun}
 use Rattle.silt_store_set.specs.CoreState.{CoreState, Opens}
-use Rattle.silt_jobs.specs.Files.{TellsNoDisk}
-use Rattle.silt_jobs.specs.Jobs.{TellsOpening}
+use Rattle.silt_jobs.specs.Files.{PrintsNoDisk}
+use Rattle.silt_jobs.specs.Jobs.{PrintsOpening}
 
 -- a note says that the server cannot listen on this port, or there is none
 abbrev pub MayTellPort : {N : Type 0} → (N → N → ℕ → Type 0) → ℕ → N → N → Type 0
-MayTellPort told_port port old new = (new ≡ old) ⊎ told_port old new port
+MayTellPort reported_port port old new = (new ≡ old) ⊎ reported_port old new port
 
 -- There may be a note about the port, and then a note reports what the refusal says about the disk of a file.
-abbrev pub ToldUnserved : {N F : Type 0} → (N → N → ℕ → Type 0) → (N → N → List ℕ → Refusal F → Type 0) → N → N → ℕ → List ℕ → Refusal F → Type 0
-ToldUnserved {N} told_port told old new port file refusal = (mid : N) × MayTellPort told_port port old mid × told mid new file refusal
+abbrev pub ReportedUnserved : {N F : Type 0} → (N → N → ℕ → Type 0) → (N → N → List ℕ → Refusal F → Type 0) → N → N → ℕ → List ℕ → Refusal F → Type 0
+ReportedUnserved {N} reported_port reported old new port file refusal = (mid : N) × MayTellPort reported_port port old mid × reported mid new file refusal
 
 -- The store on a disk was served to the end. If its calls were kept, they are a history of the store that is left.
 abbrev pub EndsServe : {D F : Type 0} → Ghosts D F → Option ℕ → D → Option (List ℕ) → Option (List ℕ) → Type 0
@@ -25,10 +25,10 @@ EndsServe facts audit new before after = IsServed (facts.content new) before aft
 
 module _ {D F : Type 0} (facts : Ghosts D F) where
   -- the line says why the store on a disk was not opened, and so does a note; or why the opened store was not served to the end
-  abbrev pub TellsServe : (Refusal F → Type 0) → D → D → Option (List ℕ) → Option (List ℕ) → Type 0
-  TellsServe told old new before after =
-      TellsOpening facts told old new before after
-      ⊎ ((core : CoreState D) × Opens facts (facts.content old) core × TellsNotServed facts (λ port. Unit {0}) core new before after)
+  abbrev pub PrintsServe : (Refusal F → Type 0) → D → D → Option (List ℕ) → Option (List ℕ) → Type 0
+  PrintsServe reported old new before after =
+      PrintsOpening facts reported old new before after
+      ⊎ ((core : CoreState D) × Opens facts (facts.content old) core × PrintsNotServed facts (λ port. Unit {0}) core new before after)
 
   -- What a server leaves, however it ends: each possible crash image was possible before or represents the map that was shown;
   -- or all of them represent one map after some first part of one list of commands.
@@ -37,11 +37,11 @@ module _ {D F : Type 0} (facts : Ghosts D F) where
 
   -- The disk that the source opened was served to the end, and is returned as a server leaves it. Notes say which of its calls failed.
   abbrev pub ServesFile : (D → Type 0) → (D → Type 0) → Option ℕ → Option D → Option (List ℕ) → Option (List ℕ) → Type 0
-  ServesFile told_failures Opened audit given before after =
-      (old : D) × Opened old × IsSomeAnd given (λ new. EndsServe facts audit new before after × LeavesServed old new × told_failures new)
+  ServesFile reported_failures Opened audit given before after =
+      (old : D) × Opened old × IsSomeAnd given (λ new. EndsServe facts audit new before after × LeavesServed old new × reported_failures new)
 
   -- the line says that the source opened no disk, or why the opened one, returned as a server leaves it, was not served to the end
-  abbrev pub TellsServeFile : {E : Type 0} → (Refusal F → Type 0) → (D → Type 0) → (E → Type 0) → Option D → Option (List ℕ) → Option (List ℕ) → Type 0
-  TellsServeFile told Opened NotOpened given before after =
-      TellsNoDisk NotOpened before after
-      ⊎ ((old : D) × Opened old × IsSomeAnd given (λ new. TellsServe told old new before after × LeavesServed old new))
+  abbrev pub PrintsServeFile : {E : Type 0} → (Refusal F → Type 0) → (D → Type 0) → (E → Type 0) → Option D → Option (List ℕ) → Option (List ℕ) → Type 0
+  PrintsServeFile reported Opened NotOpened given before after =
+      PrintsNoDisk NotOpened before after
+      ⊎ ((old : D) × Opened old × IsSomeAnd given (λ new. PrintsServe reported old new before after × LeavesServed old new))

@@ -5,15 +5,15 @@ ghost use Rattle.std.specs.Result.{result_unwrap_or};
 ghost use Rattle.silt_words.specs.declared.job.Job.{Job as JobOf};
 ghost use Rattle.silt_words.specs.Commands.{job_named};
 ghost use Rattle.silt_wire.specs.Statuses.{IsStatus};
-ghost use Rattle.silt_jobs.specs.Notes.{ToldFailures, ToldRefusal, ToldSession};
-ghost use Rattle.silt.specs.Programs.{Answers, EndsJob, NamesJob, TellsJob, TellsWords};
+ghost use Rattle.silt_jobs.specs.Notes.{ReportedFailures, ReportedRefusal, ReportedSession};
+ghost use Rattle.silt.specs.Programs.{Answers, EndsJob, NamesJob, PrintsJob, PrintsWords};
 
 use crate::service::serve_file;
 use silt_device::DiskSource;
 use silt_disk::Disk;
 use silt_jobs::{
     FaultNotes, KeepsError, KeepsLines, KeepsTally, Notes, SourceNotes, Watched, check_file,
-    dump_file, format_file, run_file, run_script, tell_error_of, tend_file, write_plan,
+    dump_file, format_file, report_error_of, run_file, run_script, tend_file, write_plan,
 };
 use silt_store_set::Served;
 use silt_words::{Job, WordsError, read_words};
@@ -44,17 +44,17 @@ pub fn program<
 where
     S::Disk: Served + Watched,
     ensures done { result ≡ 0 → (job : JobOf) × NamesJob (map string_bytes words.now) job
-        × EndsJob S.Disk.Disk N.Notes (ToldRefusal N.told_fault N.told_damage N.told_no_store)
-        (ToldSession N.told_failure S.Disk.Watched.kept_read S.Disk.Watched.last_failure N.told_end N.told_tally notes.old notes.new
+        × EndsJob S.Disk.Disk N.Notes (ReportedRefusal N.reported_fault N.reported_damage N.reported_no_store)
+        (ReportedSession N.reported_failure S.Disk.Watched.kept_read S.Disk.Watched.last_failure N.reported_end N.reported_tally notes.old notes.new
         (R.kept_error reader.new) (W.kept_error writer.new) (R.kept_lines reader.new) (W.kept_tally writer.new))
-        (ToldFailures N.told_failure S.Disk.Watched.kept_read S.Disk.Watched.last_failure notes.old notes.new) notes.old notes.new
+        (ReportedFailures N.reported_failure S.Disk.Watched.kept_read S.Disk.Watched.last_failure notes.old notes.new) notes.old notes.new
         (S.opened source) (S.shared source) (S.found source) S.resized job
         (R.remaining reader.old) (R.remaining reader.new) (W.contents writer.old) (W.contents writer.new) }
-    ensures usage { result ≡ 2 → (job_named (map string_bytes words.now) ≡ None) × N.told_words notes.old notes.new (map string_bytes words.now)
+    ensures usage { result ≡ 2 → (job_named (map string_bytes words.now) ≡ None) × N.reported_words notes.old notes.new (map string_bytes words.now)
         × Appends (W.contents writer.old) (W.contents writer.new) (codes "usage\n") }
 {
     let ended = answer(rt, alloc, source, words, reader, writer, notes);
-    tell_error_of(&ended, notes);
+    report_error_of(&ended, notes);
     status_of(ended)
 }
 
@@ -87,10 +87,10 @@ pub fn answer<
 ) -> io::Result<u8>
 where
     S::Disk: Served + Watched,
-    ensures { IfOk result (λ status. Answers S.Disk.Disk N.Notes (ToldRefusal N.told_fault N.told_damage N.told_no_store) N.told_error
-        (ToldSession N.told_failure S.Disk.Watched.kept_read S.Disk.Watched.last_failure N.told_end N.told_tally notes.old notes.new
+    ensures { IfOk result (λ status. Answers S.Disk.Disk N.Notes (ReportedRefusal N.reported_fault N.reported_damage N.reported_no_store) N.reported_error
+        (ReportedSession N.reported_failure S.Disk.Watched.kept_read S.Disk.Watched.last_failure N.reported_end N.reported_tally notes.old notes.new
         (R.kept_error reader.new) (W.kept_error writer.new) (R.kept_lines reader.new) (W.kept_tally writer.new))
-        (ToldFailures N.told_failure S.Disk.Watched.kept_read S.Disk.Watched.last_failure notes.old notes.new) notes.old notes.new
+        (ReportedFailures N.reported_failure S.Disk.Watched.kept_read S.Disk.Watched.last_failure notes.old notes.new) notes.old notes.new
         (S.opened source) (S.not_opened source) (S.shared source) (S.not_shared source)
         (S.found source) (S.not_found source) S.resized S.not_resized
         (map string_bytes words.now) status (R.remaining reader.old) (R.remaining reader.new) (W.contents writer.old) (W.contents writer.new)) }
@@ -98,18 +98,18 @@ where
     match read_words(alloc, words) {
         Ok(job) => do_job(rt, alloc, source, job, reader, writer, notes),
         Err(error) => {
-            tell_unread(error, words, notes);
+            report_unread(error, words, notes);
             refuse_words(error, writer)
         }
     }
 }
 
 // Reports why the words name no job, if that is why no job was read.
-fn tell_unread<N: Notes>(error: WordsError, words: &[String], notes: &mut N)
-    ensures { error ≡ WordsError.Usage → N.told_words notes.old notes.new (map string_bytes words.now) }
+fn report_unread<N: Notes>(error: WordsError, words: &[String], notes: &mut N)
+    ensures { error ≡ WordsError.Usage → N.reported_words notes.old notes.new (map string_bytes words.now) }
 {
     match error {
-        WordsError::Usage => notes.tell_words(words),
+        WordsError::Usage => notes.report_words(words),
         WordsError::NoMemory => {}
     }
 }
@@ -132,17 +132,17 @@ fn do_job<
 ) -> io::Result<u8>
 where
     S::Disk: Served + Watched,
-    ensures told { IfOk result (IsStatus (TellsJob S.Disk.Disk N.Notes (ToldRefusal N.told_fault N.told_damage N.told_no_store) N.told_error
-        (ToldSession N.told_failure S.Disk.Watched.kept_read S.Disk.Watched.last_failure N.told_end N.told_tally notes.old notes.new
+    ensures printed { IfOk result (IsStatus (PrintsJob S.Disk.Disk N.Notes (ReportedRefusal N.reported_fault N.reported_damage N.reported_no_store) N.reported_error
+        (ReportedSession N.reported_failure S.Disk.Watched.kept_read S.Disk.Watched.last_failure N.reported_end N.reported_tally notes.old notes.new
         (R.kept_error reader.new) (W.kept_error writer.new) (R.kept_lines reader.new) (W.kept_tally writer.new))
-        (ToldFailures N.told_failure S.Disk.Watched.kept_read S.Disk.Watched.last_failure notes.old notes.new) notes.old notes.new
+        (ReportedFailures N.reported_failure S.Disk.Watched.kept_read S.Disk.Watched.last_failure notes.old notes.new) notes.old notes.new
         (S.opened source) (S.not_opened source) (S.shared source) (S.not_shared source)
         (S.found source) (S.not_found source) S.resized S.not_resized
         job.entry (R.remaining reader.old) (R.remaining reader.new) (W.contents writer.old) (W.contents writer.new))) }
-    ensures done { result ≡ Ok 0 → EndsJob S.Disk.Disk N.Notes (ToldRefusal N.told_fault N.told_damage N.told_no_store)
-        (ToldSession N.told_failure S.Disk.Watched.kept_read S.Disk.Watched.last_failure N.told_end N.told_tally notes.old notes.new
+    ensures done { result ≡ Ok 0 → EndsJob S.Disk.Disk N.Notes (ReportedRefusal N.reported_fault N.reported_damage N.reported_no_store)
+        (ReportedSession N.reported_failure S.Disk.Watched.kept_read S.Disk.Watched.last_failure N.reported_end N.reported_tally notes.old notes.new
         (R.kept_error reader.new) (W.kept_error writer.new) (R.kept_lines reader.new) (W.kept_tally writer.new))
-        (ToldFailures N.told_failure S.Disk.Watched.kept_read S.Disk.Watched.last_failure notes.old notes.new) notes.old notes.new
+        (ReportedFailures N.reported_failure S.Disk.Watched.kept_read S.Disk.Watched.last_failure notes.old notes.new) notes.old notes.new
         (S.opened source) (S.shared source) (S.found source) S.resized job.entry
         (R.remaining reader.old) (R.remaining reader.new) (W.contents writer.old) (W.contents writer.new) }
 {
@@ -168,7 +168,7 @@ where
 ///
 /// The writer's.
 pub fn refuse_words<W: Write>(error: WordsError, writer: &mut W) -> io::Result<u8>
-    ensures { IfOk result (λ status. TellsWords error status (W.contents writer.old) (W.contents writer.new)) }
+    ensures { IfOk result (λ status. PrintsWords error status (W.contents writer.old) (W.contents writer.new)) }
 {
     match error {
         WordsError::Usage => {

@@ -3,15 +3,15 @@ ghost use Rattle.std.specs.Prelude.{◌≡◌, None, Ok, IfOk, IfSome, is_some, 
 ghost use Rattle.silt_disk.specs.Layout.{Shape};
 ghost use Rattle.silt_store_set.specs.CoreInvariant.{LeavesBegun};
 ghost use Rattle.silt_wire.specs.Statuses.{IsStatus};
-ghost use Rattle.silt_server.specs.Serving.{TellsNotServed};
-ghost use Rattle.silt.specs.Services.{EndsServe, LeavesServed, ServesFile, TellsServe, TellsServeFile, ToldUnserved};
-ghost use Rattle.silt_jobs.specs.Notes.{NotOpenedTold, ToldFailures, ToldRefusal};
+ghost use Rattle.silt_server.specs.Serving.{PrintsNotServed};
+ghost use Rattle.silt.specs.Services.{EndsServe, LeavesServed, ServesFile, PrintsServe, PrintsServeFile, ReportedUnserved};
+ghost use Rattle.silt_jobs.specs.Notes.{NotOpenedReported, ReportedFailures, ReportedRefusal};
 
 use crate::listener::PatientListener;
 use silt_desk::OpenGate;
 use silt_device::DiskSource;
 use silt_disk::Disk;
-use silt_jobs::{FaultNotes, Notes, SourceNotes, Watched, refuse, refuse_opening, tell_failures};
+use silt_jobs::{FaultNotes, Notes, SourceNotes, Watched, refuse, refuse_opening, report_failures};
 use silt_server::{Limits, refuse_network, serve_on};
 use silt_store_set::{Core, Refusal};
 use silt_words::Service;
@@ -43,12 +43,12 @@ pub fn serve_file<
 ) -> (Option<S::Disk>, io::Result<u8>)
 where
     S::Disk: Watched,
-    ensures told { IfOk result.1 (IsStatus (TellsServeFile S.Disk.Disk
-        (ToldUnserved N.told_port (ToldRefusal N.told_fault N.told_damage N.told_no_store) notes.old notes.new service.now.port service.now.file.now)
+    ensures printed { IfOk result.1 (IsStatus (PrintsServeFile S.Disk.Disk
+        (ReportedUnserved N.reported_port (ReportedRefusal N.reported_fault N.reported_damage N.reported_no_store) notes.old notes.new service.now.port service.now.file.now)
         (S.opened source service.now.file.now)
-        (NotOpenedTold (S.not_opened source) (N.told_error notes.old notes.new) service.now.file.now) result.0 (W.contents writer.old) (W.contents writer.new))) }
+        (NotOpenedReported (S.not_opened source) (N.reported_error notes.old notes.new) service.now.file.now) result.0 (W.contents writer.old) (W.contents writer.new))) }
     ensures served { result.1 ≡ Ok 0 → ServesFile S.Disk.Disk
-        (ToldFailures N.told_failure S.Disk.Watched.kept_read S.Disk.Watched.last_failure notes.old notes.new service.now.file.now)
+        (ReportedFailures N.reported_failure S.Disk.Watched.kept_read S.Disk.Watched.last_failure notes.old notes.new service.now.file.now)
         (S.opened source service.now.file.now) service.now.audit result.0 (W.contents writer.old) (W.contents writer.new) }
 {
     match source.open(service.file) {
@@ -57,7 +57,7 @@ where
             (Some(disk), status)
         }
         Err(error) => {
-            notes.tell_error(service.file, &error);
+            notes.report_error(service.file, &error);
             (None, refuse(alloc, &Refusal::Device(()), writer))
         }
     }
@@ -79,18 +79,18 @@ fn serve_disk<
     notes: &mut N,
 ) -> (D, io::Result<u8>)
     ensures served { result.1 ≡ Ok 0 → EndsServe D.Disk service.now.audit result.0 (W.contents writer.old) (W.contents writer.new) }
-    ensures failed { result.1 ≡ Ok 0 → ToldFailures N.told_failure D.kept_read D.last_failure notes.old notes.new service.now.file.now result.0 }
-    ensures told { IfOk result.1 (IsStatus (TellsServe D.Disk
-        (ToldUnserved N.told_port (ToldRefusal N.told_fault N.told_damage N.told_no_store) notes.old notes.new service.now.port service.now.file.now)
+    ensures failed { result.1 ≡ Ok 0 → ReportedFailures N.reported_failure D.kept_read D.last_failure notes.old notes.new service.now.file.now result.0 }
+    ensures printed { IfOk result.1 (IsStatus (PrintsServe D.Disk
+        (ReportedUnserved N.reported_port (ReportedRefusal N.reported_fault N.reported_damage N.reported_no_store) notes.old notes.new service.now.port service.now.file.now)
         disk result.0 (W.contents writer.old) (W.contents writer.new))) }
     ensures left { LeavesServed D.Disk disk result.0 }
 {
     let listener = bind(rt, service.port, notes);
-    disk.tell_at_once();
+    disk.report_at_once();
     match Core::open(alloc, disk) {
         Ok(core) => {
             let (disk, status) = serve_store(rt, alloc, core, listener, service, writer, notes);
-            tell_failures(service.file, &disk, notes);
+            report_failures(service.file, &disk, notes);
             (disk, status)
         }
         Err(fault) => refuse_opening(alloc, fault, service.file, writer, notes),
@@ -104,12 +104,12 @@ fn bind<H: Net<Listener = TcpListener, Stream = TcpStream>, N: Notes>(
     notes: &mut N,
 ) -> Option<TcpListener>
     ensures bound { IfSome result (λ _. notes.new ≡ notes.old) }
-    ensures told { result ≡ None → N.told_port notes.old notes.new port }
+    ensures printed { result ≡ None → N.reported_port notes.old notes.new port }
 {
     match TcpListener::bind(rt, ("127.0.0.1", port)) {
         Ok(listener) => Some(listener),
         Err(error) => {
-            notes.tell_port(port, &error);
+            notes.report_port(port, &error);
             None
         }
     }
@@ -132,7 +132,7 @@ fn serve_store<
 ) -> (D, io::Result<u8>)
     ensures served { result.1 ≡ Ok 0 → EndsServe D.Disk service.now.audit result.0 (W.contents writer.old) (W.contents writer.new) }
     ensures bound { result.1 ≡ Ok 0 → is_some listener ≡ true }
-    ensures told { IfOk result.1 (IsStatus (TellsNotServed D.Disk (λ port. Unit {0}) core result.0 (W.contents writer.old) (W.contents writer.new))) }
+    ensures printed { IfOk result.1 (IsStatus (PrintsNotServed D.Disk (λ port. Unit {0}) core result.0 (W.contents writer.old) (W.contents writer.new))) }
     ensures left { (shape : Shape) × LeavesBegun (D.content result.0) shape }
     ensures quiet { result.1 ≡ Ok 0 → notes.new ≡ notes.old }
 {
@@ -142,7 +142,7 @@ fn serve_store<
     let listener = PatientListener::new(listener, rt);
     let limits = limits_of(service);
     let (disk, status) = serve_on(rt, alloc, &listener, core, limits, &OpenGate, writer);
-    tell_listener(service.port, listener.failure(), &status, notes);
+    report_listener(service.port, listener.failure(), &status, notes);
     (disk, status)
 }
 
@@ -162,7 +162,7 @@ fn limits_of(service: &Service<'_>) -> Limits
 }
 
 // Reports why the listener of this port failed, if the server failed.
-fn tell_listener<N: Notes>(
+fn report_listener<N: Notes>(
     port: u16,
     failure: Option<io::Error>,
     status: &io::Result<u8>,
@@ -174,7 +174,7 @@ fn tell_listener<N: Notes>(
         Ok(0) => {}
         _ => {
             if let Some(error) = failure {
-                notes.tell_port(port, &error);
+                notes.report_port(port, &error);
             }
         }
     }

@@ -322,7 +322,7 @@ fn ends_by_a_writer_that_fails(rt: HostRuntime) -> Result<(), Fail> {
 
 // Out of memory for the words is reported, and no file is opened.
 #[test]
-fn tells_want_of_memory_for_the_words(rt: HostRuntime) -> Result<(), Fail> {
+fn reports_no_memory_for_the_words(rt: HostRuntime) -> Result<(), Fail> {
     let mut out = Vec::new(rt.alloc());
     let code = refuse_words(WordsError::NoMemory, &mut out).unwrap_or(0);
     assert_eq!(rt; code, 1);

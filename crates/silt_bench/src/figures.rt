@@ -60,9 +60,9 @@ pub struct Memory {
 /// The memory of this process.
 pub fn memory_of_process<R: Files>(rt: &R, alloc: Global) -> Memory {
     match fs::read_to_string(&(rt, alloc), "/proc/self/status") {
-        Ok(told) => Memory {
-            resident: number_of(told.as_str(), "VmRSS:"),
-            most: number_of(told.as_str(), "VmHWM:"),
+        Ok(text) => Memory {
+            resident: number_of(text.as_str(), "VmRSS:"),
+            most: number_of(text.as_str(), "VmHWM:"),
         },
         Err(_) => Memory {
             resident: 0,

@@ -112,11 +112,11 @@ fn grow_at<
 ) -> Result<(), BenchError> {
     let mut writer = Writer::new(seat, Background::Turns(Turns::new(plan.stores, plan.keys)));
     fill_all(rt, alloc, shared, &mut writer, plan)?;
-    tell_names(rt, detail)?;
+    print_names(rt, detail)?;
     let rows = u64::from(plan.geometry.log_capacity());
     let mut keys = plan.keys;
     for stores in 0..plan.stores {
-        tell_state(rt, shared, reads, keys, plan.gets, stores, detail)?;
+        print_state(rt, shared, reads, keys, plan.gets, stores, detail)?;
         let end = keys.saturating_add(rows);
         fill(rt, alloc, shared, &mut writer, plan, keys, end)?;
         keys = end;
@@ -125,7 +125,7 @@ fn grow_at<
 }
 
 // Prints the names of the numbers.
-fn tell_names<R: Print>(rt: &R, detail: Detail) -> Result<(), BenchError> {
+fn print_names<R: Print>(rt: &R, detail: Detail) -> Result<(), BenchError> {
     print!(rt; "hash stores\treads a get\treads an absent get")?;
     match detail {
         Detail::Reads => println!(rt; "")?,
@@ -135,7 +135,7 @@ fn tell_names<R: Print>(rt: &R, detail: Detail) -> Result<(), BenchError> {
 }
 
 // Prints what gets of this many keys cost for each number of hash stores.
-fn tell_state<
+fn print_state<
     D: Disk,
     T: Trace + Send + Sync,
     N: DeskId + Send + Sync,

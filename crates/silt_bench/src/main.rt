@@ -64,7 +64,7 @@ fn run<
         (Some(Job::Store(work, plan)), Some(path)) => measure_file(rt, alloc, path, &plan, work),
         (Some(Job::Growth(plan)), Some(path)) => grow_file(rt, alloc, path, &plan),
         (Some(Job::Index { keys, gets }), _) => measure_index(rt, alloc, keys, gets),
-        (Some(Job::Counts), _) => tell_counts(rt, alloc),
+        (Some(Job::Counts), _) => print_counts(rt, alloc),
         _ => Err(BenchError::Words),
     }
 }
@@ -86,7 +86,7 @@ fn grow_file<
 }
 
 // Prints the counts, which are the same on each machine.
-fn tell_counts<R: Threads + Wait + Clock + Print + Sync>(
+fn print_counts<R: Threads + Wait + Clock + Print + Sync>(
     rt: &R,
     alloc: Global,
 ) -> Result<(), BenchError> {

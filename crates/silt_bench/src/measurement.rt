@@ -75,7 +75,7 @@ pub fn measure<D: Disk, R: Threads + Wait + Clock + Print + Files + Sync>(
     )?;
     let (disk, open) = open_by_clock(rt, alloc, disk)?;
     let counted = count_opened(rt, alloc, disk, plan)?;
-    tell(rt, plan, &seen, open, &counted)
+    print_numbers(rt, plan, &seen, open, &counted)
 }
 
 // Fills a new store at a desk and measures looks at it. Returns its disk and the measures.
@@ -233,7 +233,7 @@ fn count_looks<D: Disk, T: Trace, N: DeskId, R: Wait>(
 }
 
 // Prints the numbers.
-fn tell<R: Print>(
+fn print_numbers<R: Print>(
     rt: &R,
     plan: &Plan,
     seen: &Seen,

@@ -69,25 +69,25 @@ module _ {D F : Type 0} (facts : Ghosts D F) where
   }
 
   -- a step that is no progress is refused
-  convert_refused : (mid new : CoreState D) (told : Reply F) (reply : PlainReply) → ConvertCause facts mid new told → reply ≡ plain told → is_progress reply ≡ false → is_refused told ≡ true
+  convert_refused : (mid new : CoreState D) (reported : Reply F) (reply : PlainReply) → ConvertCause facts mid new reported → reply ≡ plain reported → is_progress reply ≡ false → is_refused reported ≡ true
   convert_refused mid new (Progress progress) reply cause is none = absurd (cc)
   convert_refused mid new (Refused refusal) reply cause is none = refl
-  convert_refused mid new told reply cause is none = absurd cause
+  convert_refused mid new reported reply cause is none = absurd cause
 
-  merge_refused : (mid new : CoreState D) (told : Reply F) (reply : PlainReply) → MergeCause facts mid new told → reply ≡ plain told → is_progress reply ≡ false → is_refused told ≡ true
+  merge_refused : (mid new : CoreState D) (reported : Reply F) (reply : PlainReply) → MergeCause facts mid new reported → reply ≡ plain reported → is_progress reply ≡ false → is_refused reported ≡ true
   merge_refused mid new (Progress progress) reply cause is none = absurd (cc)
   merge_refused mid new (Refused refusal) reply cause is none = refl
-  merge_refused mid new told reply cause is none = absurd cause
+  merge_refused mid new reported reply cause is none = absurd cause
 
-  step_refused : (mid new : CoreState D) (event : Event) (told : Reply F) (reply : PlainReply) → IsTrue (is_step event) → Does facts mid new event told → reply ≡ plain told
-      → is_progress reply ≡ false → is_refused told ≡ true
-  step_refused mid new Convert told reply step does is none = convert_refused mid new told reply does.cause is none
-  step_refused mid new Merge told reply step does is none = merge_refused mid new told reply does.cause is none
-  step_refused mid new (Put key value) told reply step does is none = absurd (cc)
-  step_refused mid new (Delete key) told reply step does is none = absurd (cc)
-  step_refused mid new (Swap key before after) told reply step does is none = absurd (cc)
-  step_refused mid new (Get key) told reply step does is none = absurd (cc)
-  step_refused mid new Flush told reply step does is none = absurd (cc)
+  step_refused : (mid new : CoreState D) (event : Event) (reported : Reply F) (reply : PlainReply) → IsTrue (is_step event) → Does facts mid new event reported → reply ≡ plain reported
+      → is_progress reply ≡ false → is_refused reported ≡ true
+  step_refused mid new Convert reported reply step does is none = convert_refused mid new reported reply does.cause is none
+  step_refused mid new Merge reported reply step does is none = merge_refused mid new reported reply does.cause is none
+  step_refused mid new (Put key value) reported reply step does is none = absurd (cc)
+  step_refused mid new (Delete key) reported reply step does is none = absurd (cc)
+  step_refused mid new (Swap key before after) reported reply step does is none = absurd (cc)
+  step_refused mid new (Get key) reported reply step does is none = absurd (cc)
+  step_refused mid new Flush reported reply step does is none = absurd (cc)
 
   -- two steps more
   pub going_two : (old mid next new : CoreState D) (first second : Event) (reply next_reply : PlainReply) (turn : ℕ) → IsTrue (is_step first) → IsTrue (is_step second) → Going old mid turn
@@ -109,10 +109,10 @@ module _ {D F : Type 0} (facts : Ghosts D F) where
   progress_idle mid new Moved is same idle = absurd (cc)
   progress_idle mid new Finished is same idle = absurd (cc)
 
-  idle_cause : (mid new : CoreState D) (told : Reply F) → ConvertCause facts mid new told → is_idle (plain told) ≡ true → convert_due new ≡ Idle
+  idle_cause : (mid new : CoreState D) (reported : Reply F) → ConvertCause facts mid new reported → is_idle (plain reported) ≡ true → convert_due new ≡ Idle
   idle_cause mid new (Progress progress) cause idle = progress_idle mid new progress cause.1 cause.2 idle
   idle_cause mid new (Refused refusal) cause idle = absurd (cc)
-  idle_cause mid new told cause idle = absurd cause
+  idle_cause mid new reported cause idle = absurd cause
 
   pub idle_done : (mid new : CoreState D) (reply : PlainReply) → DoesPlain facts mid new Convert reply → is_idle reply ≡ true → convert_due new ≡ Idle
   idle_done mid new reply does idle = idle_cause mid new does.0 does.1.cause (ap is_idle (sym does.2) ∙ idle)
@@ -176,7 +176,7 @@ module _ {D F : Type 0} (facts : Ghosts D F) where
   refusal_for_room Spent is = absurd (cc)
   refusal_for_room HistoryFull is = absurd (cc)
 
-  reply_for_room : (told : Reply F) → plain told ≡ Refused NoRoom → told ≡ Refused NoRoom
+  reply_for_room : (reported : Reply F) → plain reported ≡ Refused NoRoom → reported ≡ Refused NoRoom
   reply_for_room (Refused refusal) is = ap (λ (r : Refusal F). Refused r) (refusal_for_room refusal (cc))
   reply_for_room (Accepted n) is = absurd (cc)
   reply_for_room (Acknowledged n) is = absurd (cc)
@@ -199,8 +199,8 @@ module _ {D F : Type 0} (facts : Ghosts D F) where
 
   has_room : (mid new : CoreState D) (event : Event) (reply : PlainReply) → DoesPlain facts mid new event reply → convert_due mid ≡ Idle → reply ≢ Refused NoRoom
   has_room mid new event reply does idle is =
-      let told = reply_for_room does.0 (sym does.2 ∙ is) in
-      room_cause mid new event (subst (λ (r : Reply F). Cause facts mid new event r) told does.1.cause) idle
+      let reported = reply_for_room does.0 (sym does.2 ∙ is) in
+      room_cause mid new event (subst (λ (r : Reply F). Cause facts mid new event r) reported does.1.cause) idle
 
   -- and then the event is done
   pub tends_then : (old mid new : TendedState D) (event : Event) (reply : PlainReply) → Tends facts old mid → DoesPlain facts mid.core new.core event reply → new.tends ≡ mid.tends

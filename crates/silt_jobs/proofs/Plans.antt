@@ -6,7 +6,7 @@ use Rattle.std.specs.Option.{option_map}
 use Rattle.std.proofs.lemmas.List.{drop_all, drop_more}
 use Rattle.silt_disk.specs.Layout.{Shape}
 use Rattle.silt_words.specs.declared.job.PlanRequest.{PlanRequest}
-use Rattle.silt_jobs.specs.Plans.{TellsPlan, first_planned, is_needed, is_planned, is_possible, plan_text, shape_planned}
+use Rattle.silt_jobs.specs.Plans.{PrintsPlan, first_planned, is_needed, is_planned, is_possible, plan_text, shape_planned}
 
 -- what was chosen, if it is possible
 chosen : (possible : Bool) (shape geometry : Shape) → Some geometry ≡ (if possible then Some shape else None) → (possible ≡ true) × (geometry ≡ shape)
@@ -84,17 +84,17 @@ none_left r whole counts at past rest = ap (option_map (shape_planned r)) (sym (
 
 -- ---- what is written
 
-pub tells_plan : (r : PlanRequest) (found : Option ℕ) (geometry : Shape) (memory : ℕ) (before after : Option (List ℕ)) → Some geometry ≡ option_map (shape_planned r) found
-    → memory ≡ 1043 * geometry.buckets + 21 * r.keys → Appends before after (plan_text geometry memory) → TellsPlan r found 0 before after
-tells_plan r (Some buckets) geometry memory before after is takes told =
+pub reports_plan : (r : PlanRequest) (found : Option ℕ) (geometry : Shape) (memory : ℕ) (before after : Option (List ℕ)) → Some geometry ≡ option_map (shape_planned r) found
+    → memory ≡ 1043 * geometry.buckets + 21 * r.keys → Appends before after (plan_text geometry memory) → PrintsPlan r found 0 before after
+reports_plan r (Some buckets) geometry memory before after is takes reported =
     let same : geometry ≡ shape_planned r buckets = cc in (
       refl,
       subst (λ (s : Shape). Appends before after (plan_text s (1043 * s.buckets + 21 * r.keys))) same
-          (subst (λ (m : ℕ). Appends before after (plan_text geometry m)) takes told),
+          (subst (λ (m : ℕ). Appends before after (plan_text geometry m)) takes reported),
     )
-tells_plan r None geometry memory before after is takes told = absurd (cc)
+reports_plan r None geometry memory before after is takes reported = absurd (cc)
 
-pub tells_none : (r : PlanRequest) (found : Option ℕ) (before after : Option (List ℕ)) → None ≡ option_map (shape_planned r) found → Appends before after (codes "no plan\n")
-    → TellsPlan r found 1 before after
-tells_none r (Some buckets) before after is told = absurd (cc)
-tells_none r None before after is told = (refl, told)
+pub reports_none : (r : PlanRequest) (found : Option ℕ) (before after : Option (List ℕ)) → None ≡ option_map (shape_planned r) found → Appends before after (codes "no plan\n")
+    → PrintsPlan r found 1 before after
+reports_none r (Some buckets) before after is reported = absurd (cc)
+reports_none r None before after is reported = (refl, reported)

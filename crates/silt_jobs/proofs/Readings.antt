@@ -12,20 +12,20 @@ use Rattle.silt_wire.specs.Sessions.{lines_after, rest_after}
 use Rattle.silt_jobs.specs.Stops.{stop_of}
 use Rattle.silt_wire.proofs.Streams.{lines_after-append, piece-line, piece-open}
 use Rattle.silt_jobs.specs.declared.script_lines.Reading.{Reading}
-use Rattle.silt_jobs.specs.Scripts.{TakesAsked, TakesLine, TakesLines, TakesBytes, TakesTold}
+use Rattle.silt_jobs.specs.Scripts.{TakesAsked, TakesLine, TakesLines, TakesBytes, TakesRequest}
 
 -- if memory did not run out, a line was parsed as what it asks for
 parsed-is : (asked parsed : Result Event LineFault) → Parses asked parsed → parsed ≢ Err NoMemory → parsed ≡ asked
-parsed-is asked parsed (inl is) told = is
-parsed-is asked parsed (inr wanted) told = absurd (told wanted.0)
+parsed-is asked parsed (inl is) reported = is
+parsed-is asked parsed (inr wanted) reported = absurd (reported wanted.0)
 
 -- a line that is not blank and no stop line is taken as what it asks for
 pub TakesLine-asked : (value_len : ℕ) (line : List ℕ) (parsed : Result Event LineFault) (old new : Reading) → is_blank line ≡ false → stop_of line ≡ None → Parses (asked_by value_len line) parsed
     → parsed ≢ Err NoMemory → TakesAsked parsed old new → TakesLine value_len line old new
-TakesLine-asked value_len line parsed old new live other parses told takes =
-    let asked = subst (λ a. TakesAsked a old new) (parsed-is (asked_by value_len line) parsed parses told) takes in
-    let line_told = subst (λ s. TakesTold value_len line s old new) (sym other) asked in
-    subst (λ b. MatchBool b (new ≡ old) (TakesTold value_len line (stop_of line) old new)) (sym live) line_told
+TakesLine-asked value_len line parsed old new live other parses reported takes =
+    let asked = subst (λ a. TakesAsked a old new) (parsed-is (asked_by value_len line) parsed parses reported) takes in
+    let line_reported = subst (λ s. TakesRequest value_len line s old new) (sym other) asked in
+    subst (λ b. MatchBool b (new ≡ old) (TakesRequest value_len line (stop_of line) old new)) (sym live) line_reported
 
 -- the line that these bytes end is taken
 pub TakesBytes-line : (value_len : ℕ) (begun bytes : List ℕ) (taken : Taken) (pending : LineBuffer) (old new : Reading) → taken.ends_line ≡ true → TakesPiece begun bytes taken pending

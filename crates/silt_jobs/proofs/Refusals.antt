@@ -15,13 +15,13 @@ pub bad_geometry_line : (F : Type 0) → reply_line {F = F} (Refused BadGeometry
 bad_geometry_line F = ap (λ (digits : List ℕ). (codes "refused " ++ (digits ++ codes " BadGeometry")) ++ 10 ∷ []) (decimal_digit 2 (search (arith)))
 
 -- this line reports that memory ran out
-pub tells_no_memory : {F : Type 0} (refusal : Refusal F) (before after : Option (List ℕ)) → refusal ≡ NoMemory → Appends before after (codes "refused 6 NoMemory\n")
+pub reports_no_memory : {F : Type 0} (refusal : Refusal F) (before after : Option (List ℕ)) → refusal ≡ NoMemory → Appends before after (codes "refused 6 NoMemory\n")
     → Appends before after (reply_line (Refused refusal))
-tells_no_memory {F} refusal before after is told =
-    subst (λ (r : Refusal F). Appends before after (reply_line (Refused r))) (sym is) (subst (λ (text : List ℕ). Appends before after text) (no_memory_line F) told)
+reports_no_memory {F} refusal before after is reported =
+    subst (λ (r : Refusal F). Appends before after (reply_line (Refused r))) (sym is) (subst (λ (text : List ℕ). Appends before after text) (no_memory_line F) reported)
 
 -- this line reports a refused geometry
-pub tells_bad_geometry : {E : Type 0} (F : Type 0) (result : Result ℕ E) (before after : Option (List ℕ)) → IfOk result (λ status. (status ≡ 1) × Appends before after (reply_line {F = F} (Refused BadGeometry)))
+pub reports_bad_geometry : {E : Type 0} (F : Type 0) (result : Result ℕ E) (before after : Option (List ℕ)) → IfOk result (λ status. (status ≡ 1) × Appends before after (reply_line {F = F} (Refused BadGeometry)))
     → IfOk result (λ status. (status ≡ 1) × Appends before after (codes "refused 2 BadGeometry\n"))
-tells_bad_geometry F (Ok status) before after h = (h.0, subst (λ (text : List ℕ). Appends before after text) (bad_geometry_line F) h.1)
-tells_bad_geometry F (Err error) before after h = h
+reports_bad_geometry F (Ok status) before after h = (h.0, subst (λ (text : List ℕ). Appends before after text) (bad_geometry_line F) h.1)
+reports_bad_geometry F (Err error) before after h = h

@@ -2,7 +2,7 @@
 use Rattle.std.proofs.Common.{◌≡◌, ◌≢◌, List, [], ◌∷◌, ℕ, None, refl, ap, ◌∙◌}
 use Rattle.silt_wire.specs.Lines.{words_of}
 use Rattle.silt_wire.proofs.Cuts.{words_of-some}
-use Rattle.silt_jobs.specs.Stops.{stop_of_words, told_stop}
+use Rattle.silt_jobs.specs.Stops.{stop_of_words, reported_stop}
 
 -- one word is no stop
 pub stop-one : (text : List ℕ) → words_of text ≡ text ∷ [] → stop_of_words (words_of text) ≡ None
@@ -15,7 +15,7 @@ unfolding stop_of_words
 stop-two text word rest words last = ap stop_of_words (words ∙ ap (λ more. word ∷ more) last)
 
 -- three may be one
-pub stop-three : (text word rest k fill : List ℕ) → words_of text ≡ word ∷ words_of rest → words_of rest ≡ k ∷ words_of fill → words_of fill ≡ fill ∷ [] → stop_of_words (words_of text) ≡ told_stop word k fill
+pub stop-three : (text word rest k fill : List ℕ) → words_of text ≡ word ∷ words_of rest → words_of rest ≡ k ∷ words_of fill → words_of fill ≡ fill ∷ [] → stop_of_words (words_of text) ≡ reported_stop word k fill
 unfolding stop_of_words
 stop-three text word rest k fill words more last = ap stop_of_words (words ∙ ap (λ parts. word ∷ parts) (more ∙ ap (λ parts. k ∷ parts) last))
 

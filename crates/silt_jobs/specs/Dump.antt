@@ -9,8 +9,8 @@ use Rattle.silt_frame.specs.Rows.{key_cmp}
 use Rattle.silt_frame.specs.declared.key.Key.{Key}
 use Rattle.silt_image.specs.Meaning.{image_map}
 use Rattle.silt_engine.specs.Lookup.{AreEntriesOf}
-use Rattle.silt_jobs.specs.Files.{TellsNoDisk}
-use Rattle.silt_jobs.specs.Jobs.{TellsCheck}
+use Rattle.silt_jobs.specs.Files.{PrintsNoDisk}
+use Rattle.silt_jobs.specs.Jobs.{PrintsCheck}
 
 -- the line that puts this value at this key
 abbrev pub put_line : Key → List ℕ → List ℕ

@@ -39,16 +39,16 @@ module _ {D F : Type 0} (facts : Ghosts D F) where
   Looks disk (Ok holding) = IsTrue (facts.content disk).honest → HoldsData (facts.content disk) holding
   Looks disk (Err fault) = GaveAny facts.gave disk fault
 
-module _ {N F : Type 0} (notes : NotesOf N) (told_refusal : N → N → List ℕ → Refusal F → Type 0) (file : List ℕ) (force : Bool) where
+module _ {N F : Type 0} (notes : NotesOf N) (reported_refusal : N → N → List ℕ → Refusal F → Type 0) (file : List ℕ) (force : Bool) where
   -- The data on the disk of this file may be overwritten: there is none, or a store that a note reports, or force allows anything.
   abbrev pub MayOverwrite : Result Holding F → N → N → Type 0
   MayOverwrite (Ok Nothing) old new = new ≡ old
-  MayOverwrite (Ok (Store store)) old new = notes.told_store old new file store
+  MayOverwrite (Ok (Store store)) old new = notes.reported_store old new file store
   MayOverwrite (Ok Other) old new = (force ≡ true) × (new ≡ old)
   MayOverwrite (Err fault) old new = (force ≡ true) × (new ≡ old)
 
   -- The data stays without force, and a note says why: it is other data, or it could not be read.
   abbrev pub MustStay : Result Holding F → N → N → Type 0
-  MustStay (Ok Other) old new = (force ≡ false) × notes.told_other old new file
-  MustStay (Err fault) old new = (force ≡ false) × told_refusal old new file (Device fault)
+  MustStay (Ok Other) old new = (force ≡ false) × notes.reported_other old new file
+  MustStay (Err fault) old new = (force ≡ false) × reported_refusal old new file (Device fault)
   MustStay found old new = ⊥

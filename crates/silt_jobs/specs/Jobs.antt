@@ -32,8 +32,8 @@ abbrev pub formatted_line : ℕ → List ℕ
 formatted_line bytes = codes "formatted " ++ (decimal bytes ++ codes "\n")
 
 -- one line was written, which says that the job is refused
-abbrev pub Tells : {F : Type 0} → Refusal F → Option (List ℕ) → Option (List ℕ) → Type 0
-Tells refusal before after = Appends before after (reply_line (Refused refusal))
+abbrev pub Prints : {F : Type 0} → Refusal F → Option (List ℕ) → Option (List ℕ) → Type 0
+Prints refusal before after = Appends before after (reply_line (Refused refusal))
 
 -- the status by the end of a session
 abbrev pub status_of : SessionEnd → ℕ
@@ -61,12 +61,12 @@ module _ {D F : Type 0} (facts : Ghosts D F) where
   AnswersReader tend end old new remaining left before after =
       (opened : Option (List ℕ)) × Appends before opened (codes "opened\n") × AnswersLines tend end old new remaining left opened after
 
-module _ {D F : Type 0} (facts : Ghosts D F) (tend : Bool) (told_session : SessionEnd → D → Type 0) where
+module _ {D F : Type 0} (facts : Ghosts D F) (tend : Bool) (reported_session : SessionEnd → D → Type 0) where
   -- one life on a disk: the store was opened, its session had this end, the disk is as the store left it, and the notes say so
   abbrev pub EndsRun : SessionEnd → D → D → Option (List ℕ) → Option (List ℕ) → Option (List ℕ) → Option (List ℕ) → Type 0
   EndsRun end old new remaining left before after =
       (first : CoreState D) × (last : CoreState D) × Opens facts (facts.content old) first
-      × AnswersReader facts tend end first last remaining left before after × (new ≡ last.disk) × told_session end new
+      × AnswersReader facts tend end first last remaining left before after × (new ≡ last.disk) × reported_session end new
 
   -- one life whose session did not reach the end of the lines
   abbrev pub BreaksRun : D → D → Option (List ℕ) → Option (List ℕ) → Option (List ℕ) → Option (List ℕ) → Type 0
@@ -77,16 +77,16 @@ module _ {D F : Type 0} (facts : Ghosts D F) where
   abbrev pub EndsTending : CoreState D → CoreState D → ℕ → Option (List ℕ) → Option (List ℕ) → Type 0
   EndsTending old new status before after =
       ((status ≡ 0) × ((steps : Steps) × TendsAll facts old new steps × Appends before after (tended_line steps)))
-      ⊎ ((status ≡ 1) × ((refusal : Refusal F) × TakesSteps facts old new × Tells refusal before after))
+      ⊎ ((status ≡ 1) × ((refusal : Refusal F) × TakesSteps facts old new × Prints refusal before after))
 
-module _ {D F : Type 0} (facts : Ghosts D F) (told_failures : D → Type 0) where
+module _ {D F : Type 0} (facts : Ghosts D F) (reported_failures : D → Type 0) where
   -- The store was opened on a disk, `opened` was written, its background work ended with this status, and the disk is as the store left
   -- it.
   abbrev pub TendsTo : ℕ → D → D → Option (List ℕ) → Option (List ℕ) → Type 0
   TendsTo status old new before after =
       (first : CoreState D) × (last : CoreState D) × Opens facts (facts.content old) first
       × ((opened : Option (List ℕ)) × Appends before opened (codes "opened\n") × EndsTending facts first last status opened after)
-      × (new ≡ last.disk) × told_failures new
+      × (new ≡ last.disk) × reported_failures new
 
   -- all background work was done, and the number of steps was written
   abbrev pub EndsTend : D → D → Option (List ℕ) → Option (List ℕ) → Type 0
@@ -98,39 +98,39 @@ module _ {D F : Type 0} (facts : Ghosts D F) (told_failures : D → Type 0) wher
 
 -- the report of the disk was written, and a note has its six numbers, if they could be read again, and its charge
 abbrev pub EndsCheck : {D F : Type 0} → Ghosts D F → (Shape → ℕ → Type 0) → D → Option (List ℕ) → Option (List ℕ) → Type 0
-EndsCheck facts told_charge disk before after =
+EndsCheck facts reported_charge disk before after =
     (report : Report) × (IsTrue (facts.content disk).honest → IsReported (facts.content disk).shown report) × Appends before after (report_text report)
-    × (((shape : Shape) × HasShape (facts.content disk) shape × told_charge shape report.charge) ⊎ LacksShape facts disk)
+    × (((shape : Shape) × HasShape (facts.content disk) shape × reported_charge shape report.charge) ⊎ LacksShape facts disk)
 
 -- an empty store of this shape was made of the disk, and its length was written
 abbrev pub EndsFormat : {D F : Type 0} → Ghosts D F → Shape → D → Option (List ℕ) → Option (List ℕ) → Type 0
 EndsFormat facts shape new before after =
     (size (facts.content new) ≡ device_size shape) × LeavesOnly (facts.content new) (StandsFor shape empty) × Appends before after (formatted_line (device_size shape))
 
-module _ {D F : Type 0} (facts : Ghosts D F) (told : Refusal F → Type 0) where
+module _ {D F : Type 0} (facts : Ghosts D F) (reported : Refusal F → Type 0) where
   -- the line says why the store was not opened on the disk, and so does a note
-  abbrev pub TellsOpening : D → D → Option (List ℕ) → Option (List ℕ) → Type 0
-  TellsOpening old new before after = (refusal : Refusal F) × OpeningCause facts (facts.content old) new refusal × Tells refusal before after × told refusal
+  abbrev pub PrintsOpening : D → D → Option (List ℕ) → Option (List ℕ) → Type 0
+  PrintsOpening old new before after = (refusal : Refusal F) × OpeningCause facts (facts.content old) new refusal × Prints refusal before after × reported refusal
 
   -- the line says what is wrong with the disk, or why it could not be read, and so does a note
-  abbrev pub TellsCheck : D → Option (List ℕ) → Option (List ℕ) → Type 0
-  TellsCheck disk before after =
+  abbrev pub PrintsCheck : D → Option (List ℕ) → Option (List ℕ) → Type 0
+  PrintsCheck disk before after =
       (error : OpenError F) × IsRefusedLook (λ finding. IsTrue (facts.content disk).honest → IsFound (facts.content disk).shown finding) (GaveAny facts.gave disk) error
-      × Tells (refusal_of_opening error) before after × told (refusal_of_opening error)
+      × Prints (refusal_of_opening error) before after × reported (refusal_of_opening error)
 
   -- the line says why the disk was not formatted, and so does a note
-  abbrev pub TellsFormat : Shape → D → D → Option (List ℕ) → Option (List ℕ) → Type 0
-  TellsFormat shape old new before after =
-      (error : FormatError F) × FormatCause facts.content (GaveAny facts.gave) shape old new error × Tells (refusal_of_formatting error) before after
-      × told (refusal_of_formatting error)
+  abbrev pub PrintsFormat : Shape → D → D → Option (List ℕ) → Option (List ℕ) → Type 0
+  PrintsFormat shape old new before after =
+      (error : FormatError F) × FormatCause facts.content (GaveAny facts.gave) shape old new error × Prints (refusal_of_formatting error) before after
+      × reported (refusal_of_formatting error)
 
 -- the line says that the store was not opened on the disk, or the session on it broke off; notes say why
-abbrev pub TellsRun : {D F : Type 0} → Ghosts D F → Bool → (Refusal F → Type 0) → (SessionEnd → D → Type 0)
+abbrev pub PrintsRun : {D F : Type 0} → Ghosts D F → Bool → (Refusal F → Type 0) → (SessionEnd → D → Type 0)
     → D → D → Option (List ℕ) → Option (List ℕ) → Option (List ℕ) → Option (List ℕ) → Type 0
-TellsRun facts tend told_refusal told_session old new remaining left before after =
-    TellsOpening facts told_refusal old new before after ⊎ BreaksRun facts tend told_session old new remaining left before after
+PrintsRun facts tend reported_refusal reported_session old new remaining left before after =
+    PrintsOpening facts reported_refusal old new before after ⊎ BreaksRun facts tend reported_session old new remaining left before after
 
 -- the line says that the store was not opened on the disk, or that a step of its background work was refused; notes say why
-abbrev pub TellsTend : {D F : Type 0} → Ghosts D F → (Refusal F → Type 0) → (D → Type 0) → D → D → Option (List ℕ) → Option (List ℕ) → Type 0
-TellsTend facts told_refusal told_failures old new before after =
-    TellsOpening facts told_refusal old new before after ⊎ BreaksTend facts told_failures old new before after
+abbrev pub PrintsTend : {D F : Type 0} → Ghosts D F → (Refusal F → Type 0) → (D → Type 0) → D → D → Option (List ℕ) → Option (List ℕ) → Type 0
+PrintsTend facts reported_refusal reported_failures old new before after =
+    PrintsOpening facts reported_refusal old new before after ⊎ BreaksTend facts reported_failures old new before after

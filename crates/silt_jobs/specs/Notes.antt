@@ -12,48 +12,48 @@ use Rattle.silt_jobs.specs.declared.tally.Tally.{Tally}
 
 -- A note reports the refusal if it has a disk's fault or a damaged part (with its offset, if that is known), or says that there is no
 -- store.
-abbrev pub IsTold : {F : Type 0} → (F → Type 0) → (Place → Option ℕ → Type 0) → Type 0 → Refusal F → Type 0
-IsTold fault damage no_store (Device f) = fault f
-IsTold fault damage no_store (Damaged place) = (at : Option ℕ) × damage place at
-IsTold fault damage no_store NotFormatted = no_store
-IsTold fault damage no_store refusal = Unit {0}
+abbrev pub IsNoted : {F : Type 0} → (F → Type 0) → (Place → Option ℕ → Type 0) → Type 0 → Refusal F → Type 0
+IsNoted fault damage no_store (Device f) = fault f
+IsNoted fault damage no_store (Damaged place) = (at : Option ℕ) × damage place at
+IsNoted fault damage no_store NotFormatted = no_store
+IsNoted fault damage no_store refusal = Unit {0}
 
 -- between these states of the notes, a note reported what a refusal says about the disk of a file
-abbrev pub ToldRefusal : {N F : Type 0} → (N → N → List ℕ → F → Type 0) → (N → N → List ℕ → Place → Option ℕ → Type 0) → (N → N → List ℕ → Type 0)
+abbrev pub ReportedRefusal : {N F : Type 0} → (N → N → List ℕ → F → Type 0) → (N → N → List ℕ → Place → Option ℕ → Type 0) → (N → N → List ℕ → Type 0)
     → N → N → List ℕ → Refusal F → Type 0
-ToldRefusal told_fault told_damage told_no_store old new file = IsTold (told_fault old new file) (told_damage old new file) (told_no_store old new file)
+ReportedRefusal reported_fault reported_damage reported_no_store old new file = IsNoted (reported_fault old new file) (reported_damage old new file) (reported_no_store old new file)
 
 -- there is no disk at this path, and a note says why
-abbrev pub NotOpenedTold : {E : Type 0} → (List ℕ → E → Type 0) → (List ℕ → E → Type 0) → List ℕ → E → Type 0
-NotOpenedTold NotOpened told path error = NotOpened path error × told path error
+abbrev pub NotOpenedReported : {E : Type 0} → (List ℕ → E → Type 0) → (List ℕ → E → Type 0) → List ℕ → E → Type 0
+NotOpenedReported NotOpened reported path error = NotOpened path error × reported path error
 
 -- a note reports a failed call, if one failed
-abbrev pub ToldCall : {N : Type 0} → (N → N → Failure → Type 0) → Option Failure → N → N → Type 0
-ToldCall told None old new = new ≡ old
-ToldCall told (Some failure) old new = told old new failure
+abbrev pub ReportedCall : {N : Type 0} → (N → N → Failure → Type 0) → Option Failure → N → N → Type 0
+ReportedCall reported None old new = new ≡ old
+ReportedCall reported (Some failure) old new = reported old new failure
 
 -- A note says why a session broke off, with the error of its reader or writer if that is why. There is none if it reached the end of its
 -- lines.
-abbrev pub ToldEnd : {N : Type 0} → (N → N → SessionEnd → Option StreamError → Type 0) → Option StreamError → Option StreamError → SessionEnd → N → N → Type 0
-ToldEnd told reading writing End old new = new ≡ old
-ToldEnd told reading writing ReadFault old new = told old new ReadFault reading
-ToldEnd told reading writing WriteFault old new = told old new WriteFault writing
-ToldEnd told reading writing NoMemory old new = told old new NoMemory None
+abbrev pub ReportedEnd : {N : Type 0} → (N → N → SessionEnd → Option StreamError → Type 0) → Option StreamError → Option StreamError → SessionEnd → N → N → Type 0
+ReportedEnd reported reading writing End old new = new ≡ old
+ReportedEnd reported reading writing ReadFault old new = reported old new ReadFault reading
+ReportedEnd reported reading writing WriteFault old new = reported old new WriteFault writing
+ReportedEnd reported reading writing NoMemory old new = reported old new NoMemory None
 
 -- notes say why a session broke off, if it did, and then which lines were refused
-abbrev pub ToldLines : {N : Type 0} → (N → N → SessionEnd → Option StreamError → Type 0) → (N → N → InputLines → Tally → Type 0)
+abbrev pub ReportedLines : {N : Type 0} → (N → N → SessionEnd → Option StreamError → Type 0) → (N → N → InputLines → Tally → Type 0)
     → Option StreamError → Option StreamError → InputLines → Tally → SessionEnd → N → N → Type 0
-ToldLines {N} told_end told_tally reading writing lines tally end old new = (mid : N) × ToldEnd told_end reading writing end old mid × told_tally mid new lines tally
+ReportedLines {N} reported_end reported_tally reading writing lines tally end old new = (mid : N) × ReportedEnd reported_end reading writing end old mid × reported_tally mid new lines tally
 
-module _ {N D : Type 0} (told_failure : N → N → List ℕ → Failure → Type 0) (kept_read : D → Option Failure → Type 0) (last_failure : D → Option Failure) where
+module _ {N D : Type 0} (reported_failure : N → N → List ℕ → Failure → Type 0) (kept_read : D → Option Failure → Type 0) (last_failure : D → Option Failure) where
   -- notes say which read failed first on the disk of this file, and then which write or sync failed last
-  abbrev pub ToldFailures : N → N → List ℕ → D → Type 0
-  ToldFailures old new file disk =
-      (read : Option Failure) × kept_read disk read × (mid : N) × ToldCall (λ from to. told_failure from to file) read old mid
-      × ToldCall (λ from to. told_failure from to file) (last_failure disk) mid new
+  abbrev pub ReportedFailures : N → N → List ℕ → D → Type 0
+  ReportedFailures old new file disk =
+      (read : Option Failure) × kept_read disk read × (mid : N) × ReportedCall (λ from to. reported_failure from to file) read old mid
+      × ReportedCall (λ from to. reported_failure from to file) (last_failure disk) mid new
 
   -- notes say how a session on the disk of this file ended, then which lines were refused, and then which calls of the disk failed
-  abbrev pub ToldSession : (N → N → SessionEnd → Option StreamError → Type 0) → (N → N → InputLines → Tally → Type 0) → N → N
+  abbrev pub ReportedSession : (N → N → SessionEnd → Option StreamError → Type 0) → (N → N → InputLines → Tally → Type 0) → N → N
       → Option StreamError → Option StreamError → InputLines → Tally → List ℕ → SessionEnd → D → Type 0
-  ToldSession told_end told_tally old new reading writing lines tally file end disk =
-      (mid : N) × ToldLines told_end told_tally reading writing lines tally end old mid × ToldFailures mid new file disk
+  ReportedSession reported_end reported_tally old new reading writing lines tally file end disk =
+      (mid : N) × ReportedLines reported_end reported_tally reading writing lines tally end old mid × ReportedFailures mid new file disk

@@ -59,7 +59,7 @@ plan_text s memory =
     ++ (number_after (codes "\nmemory ") memory ++ codes "\n")))))))
 
 -- the plan of the most buckets that can be planned was written, or that there is none
-abbrev pub TellsPlan : PlanRequest → Option ℕ → ℕ → Option (List ℕ) → Option (List ℕ) → Type 0
-TellsPlan r (Some buckets) status before after =
+abbrev pub PrintsPlan : PlanRequest → Option ℕ → ℕ → Option (List ℕ) → Option (List ℕ) → Type 0
+PrintsPlan r (Some buckets) status before after =
     (status ≡ 0) × Appends before after (plan_text (shape_planned r buckets) (memory_planned r buckets))
-TellsPlan r None status before after = (status ≡ 1) × Appends before after (codes "no plan\n")
+PrintsPlan r None status before after = (status ≡ 1) × Appends before after (codes "no plan\n")

@@ -67,13 +67,13 @@ TakesAsked (Ok event) old new = TakesEvent event old new
 TakesAsked (Err fault) old new = TakesFault fault old new
 
 -- the stop of a stop line, and else the request of the line
-abbrev pub TakesTold : ℕ → List ℕ → Option StopOf → Reading → Reading → Type 0
-TakesTold value_len line (Some stop) old new = TakesStop stop old new
-TakesTold value_len line None old new = TakesAsked (asked_by value_len line) old new
+abbrev pub TakesRequest : ℕ → List ℕ → Option StopOf → Reading → Reading → Type 0
+TakesRequest value_len line (Some stop) old new = TakesStop stop old new
+TakesRequest value_len line None old new = TakesAsked (asked_by value_len line) old new
 
 -- a blank line is skipped
 abbrev pub TakesLine : ℕ → List ℕ → Reading → Reading → Type 0
-TakesLine value_len line old new = MatchBool (is_blank line) (new ≡ old) (TakesTold value_len line (stop_of line) old new)
+TakesLine value_len line old new = MatchBool (is_blank line) (new ≡ old) (TakesRequest value_len line (stop_of line) old new)
 
 -- one line after the other
 abbrev pub TakesLines : ℕ → List (List ℕ) → Reading → Reading → Type 0
@@ -123,15 +123,15 @@ event_text (Some (NotOpened refusal)) at = []
 event_text (Some (Opened replies)) at = next_text (slice_get replies.items at)
 
 -- the text of a line without a valid request: its refusal, or none if its life was not opened
-abbrev pub fault_told : {F : Type 0} → Option (LifeReply F) → LineFault → List ℕ
-fault_told None fault = []
-fault_told (Some (NotOpened refusal)) fault = []
-fault_told (Some (Opened replies)) fault = fault_line fault
+abbrev pub fault_reported : {F : Type 0} → Option (LifeReply F) → LineFault → List ℕ
+fault_reported None fault = []
+fault_reported (Some (NotOpened refusal)) fault = []
+fault_reported (Some (Opened replies)) fault = fault_line fault
 
 -- the text for a line in its place: for a stop line `stopped`, and the beginning of the next life
 abbrev pub mark_text : {F : Type 0} → List (LifeReply F) → LinePlace → Mark → List ℕ
 mark_text lives place Event = event_text (slice_get lives place.life) place.reply
-mark_text lives place (Refused fault) = fault_told (slice_get lives place.life) fault
+mark_text lives place (Refused fault) = fault_reported (slice_get lives place.life) fault
 mark_text lives place Stop = codes "stopped\n" ++ opening_text (slice_get lives (place.life + 1))
 
 -- the place after a line
@@ -185,5 +185,5 @@ ScriptCause shape BadGeometry = ¬ InLimits shape
 ScriptCause shape refusal = NewStoreCause shape refusal
 
 -- one line was written, which says why the whole script is refused
-abbrev pub TellsRefusal : Shape → Option (List ℕ) → Option (List ℕ) → Type 0
-TellsRefusal shape before after = (refusal : Refusal MemFault) × ScriptCause shape refusal × Appends before after (reply_line (RefusedReply refusal))
+abbrev pub PrintsRefusal : Shape → Option (List ℕ) → Option (List ℕ) → Type 0
+PrintsRefusal shape before after = (refusal : Refusal MemFault) × ScriptCause shape refusal × Appends before after (reply_line (RefusedReply refusal))

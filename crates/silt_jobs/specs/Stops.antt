@@ -25,12 +25,12 @@ stop_with (Some k) None = None
 stop_with (Some k) (Some fill) = Some (record { k = k; fill = fill })
 
 -- the stop of three words
-abbrev pub told_stop : List ℕ → List ℕ → List ℕ → Option Stop
-told_stop word k fill = if bytes_eq word (codes "stop") then stop_with (number_of k) (fill_of fill) else None
+abbrev pub reported_stop : List ℕ → List ℕ → List ℕ → Option Stop
+reported_stop word k fill = if bytes_eq word (codes "stop") then stop_with (number_of k) (fill_of fill) else None
 
 -- the stop in the words of a line: there are three words
 unfoldable pub stop_of_words : List (List ℕ) → Option Stop
-stop_of_words (word ∷ k ∷ fill ∷ []) = told_stop word k fill
+stop_of_words (word ∷ k ∷ fill ∷ []) = reported_stop word k fill
 stop_of_words words = None
 
 -- the stop in a line

@@ -27,8 +27,8 @@ abbrev pub counted_in : List Refusals → ℕ → ℕ → List Refusals
 counted_in refused kind line = cond (nat_lt kind 24) (slice_set refused kind (counted (get_or refused kind none_refused) line)) refused
 
 -- no line yet
-abbrev pub untold : Tally
-untold = record { ended = 0; begun = []; refused = replicate 24 none_refused }
+abbrev pub unreported : Tally
+unreported = record { ended = 0; begun = []; refused = replicate 24 none_refused }
 
 -- a line has ended
 abbrev pub line_ended : Tally → Tally

@@ -5,12 +5,12 @@ ghost use Rattle.std.specs.Io.KnownBytes.{Appends};
 ghost use Rattle.silt_frame.specs.Rows.{key_cmp};
 ghost use Rattle.silt_wire.specs.Statuses.{IsStatus};
 ghost use Rattle.silt_jobs.specs.Dump.{DumpsFile, EndsDump, entry_lines, put_line};
-ghost use Rattle.silt_jobs.specs.Files.{TellsCheckFile};
-ghost use Rattle.silt_jobs.specs.Jobs.{TellsCheck};
-ghost use Rattle.silt_jobs.specs.Notes.{NotOpenedTold, ToldRefusal};
+ghost use Rattle.silt_jobs.specs.Files.{PrintsCheckFile};
+ghost use Rattle.silt_jobs.specs.Jobs.{PrintsCheck};
+ghost use Rattle.silt_jobs.specs.Notes.{NotOpenedReported, ReportedRefusal};
 
 use crate::damage::damage_at;
-use crate::notes::{FaultNotes, SourceNotes, tell_refusal};
+use crate::notes::{FaultNotes, SourceNotes, report_refusal};
 use crate::refusal::refuse;
 use silt_device::DiskSource;
 use silt_disk::Disk;
@@ -75,8 +75,8 @@ pub fn dump_on<D: Disk, W: Write, N: FaultNotes<D::Fault>>(
     writer: &mut W,
     notes: &mut N,
 ) -> io::Result<u8>
-    ensures told { IfOk result (IsStatus (TellsCheck D.Disk
-        (ToldRefusal N.told_fault N.told_damage N.told_no_store notes.old notes.new file.now) disk.now (W.contents writer.old) (W.contents writer.new))) }
+    ensures printed { IfOk result (IsStatus (PrintsCheck D.Disk
+        (ReportedRefusal N.reported_fault N.reported_damage N.reported_no_store notes.old notes.new file.now) disk.now (W.contents writer.old) (W.contents writer.new))) }
     ensures dumped { result ≡ Ok 0 → EndsDump D.Disk disk.now (W.contents writer.old) (W.contents writer.new) }
 {
     match read_entries(alloc, disk) {
@@ -86,7 +86,7 @@ pub fn dump_on<D: Disk, W: Write, N: FaultNotes<D::Fault>>(
         }
         Err(error) => {
             let refusal = Refusal::from(error);
-            tell_refusal(file, &refusal, damage_at(disk, &refusal), notes);
+            report_refusal(file, &refusal, damage_at(disk, &refusal), notes);
             refuse(alloc, &refusal, writer)
         }
     }
@@ -110,9 +110,9 @@ pub fn dump_file<
     writer: &mut W,
     notes: &mut N,
 ) -> (Option<S::Disk>, io::Result<u8>)
-    ensures told { IfOk result.1 (IsStatus (TellsCheckFile S.Disk.Disk
-        (ToldRefusal N.told_fault N.told_damage N.told_no_store notes.old notes.new path.now)
-        (S.shared source path.now) (NotOpenedTold (S.not_shared source) (N.told_error notes.old notes.new) path.now)
+    ensures printed { IfOk result.1 (IsStatus (PrintsCheckFile S.Disk.Disk
+        (ReportedRefusal N.reported_fault N.reported_damage N.reported_no_store notes.old notes.new path.now)
+        (S.shared source path.now) (NotOpenedReported (S.not_shared source) (N.reported_error notes.old notes.new) path.now)
         result.0 (W.contents writer.old) (W.contents writer.new))) }
     ensures dumped { result.1 ≡ Ok 0 → DumpsFile S.Disk.Disk (S.shared source path.now) result.0 (W.contents writer.old) (W.contents writer.new) }
 {
@@ -122,7 +122,7 @@ pub fn dump_file<
             (Some(disk), status)
         }
         Err(error) => {
-            notes.tell_error(path, &error);
+            notes.report_error(path, &error);
             (None, refuse(alloc, &Refusal::Device(()), writer))
         }
     }

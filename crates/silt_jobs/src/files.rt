@@ -3,8 +3,8 @@ ghost use Rattle.std.specs.Prelude.{◌≡◌, Ok, IfOk, Result as ResultOf, cod
 ghost use Rattle.std.specs.Io.KnownBytes.{Appends};
 ghost use Rattle.silt_disk.specs.Layout.{InLimits};
 ghost use Rattle.silt_wire.specs.Statuses.{IsStatus};
-ghost use Rattle.silt_jobs.specs.Files.{ChecksFile, FormatsFile, FormatsFound, RunsFile, TellsCheckFile, TellsFormatFile, TellsFound, TellsRunFile, TellsTendFile, TendsFile};
-ghost use Rattle.silt_jobs.specs.Notes.{NotOpenedTold, ToldFailures, ToldRefusal, ToldSession};
+ghost use Rattle.silt_jobs.specs.Files.{ChecksFile, FormatsFile, FormatsFound, RunsFile, PrintsCheckFile, PrintsFormatFile, PrintsFound, PrintsRunFile, PrintsTendFile, TendsFile};
+ghost use Rattle.silt_jobs.specs.Notes.{NotOpenedReported, ReportedFailures, ReportedRefusal, ReportedSession};
 ghost use Rattle.silt_jobs.specs.Numbers.{shape_asked};
 ghost use Rattle.silt_jobs.specs.HeldData.{Looks};
 ghost use Rattle.silt_jobs.specs.declared.held_data.Holding.{Holding as HoldingOf};
@@ -46,21 +46,21 @@ pub fn format_file<
     notes: &mut N,
 ) -> (Option<S::Disk>, io::Result<u8>)
     ensures refused { ¬ InLimits (shape_asked numbers.now) → IfOk result.1 (λ status. (status ≡ 1) × Appends (W.contents writer.old) (W.contents writer.new) (codes "refused 2 BadGeometry\n")) }
-    ensures told { IfOk result.1 (IsStatus (TellsFormatFile S.Disk.Disk N.Notes (ToldRefusal N.told_fault N.told_damage N.told_no_store) S.resized
-        (S.found source) path.now numbers.now force notes.old notes.new N.told_error (S.not_found source) S.not_resized
+    ensures printed { IfOk result.1 (IsStatus (PrintsFormatFile S.Disk.Disk N.Notes (ReportedRefusal N.reported_fault N.reported_damage N.reported_no_store) S.resized
+        (S.found source) path.now numbers.now force notes.old notes.new N.reported_error (S.not_found source) S.not_resized
         result.0 (W.contents writer.old) (W.contents writer.new))) }
-    ensures formatted { result.1 ≡ Ok 0 → FormatsFile S.Disk.Disk N.Notes (ToldRefusal N.told_fault N.told_damage N.told_no_store) S.resized
+    ensures formatted { result.1 ≡ Ok 0 → FormatsFile S.Disk.Disk N.Notes (ReportedRefusal N.reported_fault N.reported_damage N.reported_no_store) S.resized
         (S.found source) path.now numbers.now force notes.old notes.new
         result.0 (W.contents writer.old) (W.contents writer.new) }
 {
     let Ok(geometry) = geometry_of(numbers) else {
-        notes.tell_numbers(numbers);
+        notes.report_numbers(numbers);
         return (None, refuse(alloc, &Refusal::<()>::BadGeometry, writer));
     };
     match source.find(path) {
         Ok(disk) => format_found::<S, W, N>(alloc, disk, path, geometry, force, writer, notes),
         Err(error) => {
-            notes.tell_error(path, &error);
+            notes.report_error(path, &error);
             (None, refuse(alloc, &Refusal::Device(()), writer))
         }
     }
@@ -80,11 +80,11 @@ fn format_found<
     writer: &mut W,
     notes: &mut N,
 ) -> (Option<S::Disk>, io::Result<u8>)
-    ensures told { IfOk result.1 (IsStatus ((look : ResultOf HoldingOf S.Disk.Fault) × Looks S.Disk.Disk disk look
-        × TellsFound S.Disk.Disk N.Notes (ToldRefusal N.told_fault N.told_damage N.told_no_store) S.resized
-        path.now geometry force notes.old notes.new disk look N.told_error S.not_resized result.0 (W.contents writer.old) (W.contents writer.new))) }
+    ensures printed { IfOk result.1 (IsStatus ((look : ResultOf HoldingOf S.Disk.Fault) × Looks S.Disk.Disk disk look
+        × PrintsFound S.Disk.Disk N.Notes (ReportedRefusal N.reported_fault N.reported_damage N.reported_no_store) S.resized
+        path.now geometry force notes.old notes.new disk look N.reported_error S.not_resized result.0 (W.contents writer.old) (W.contents writer.new))) }
     ensures formatted { result.1 ≡ Ok 0 → (look : ResultOf HoldingOf S.Disk.Fault) × Looks S.Disk.Disk disk look
-        × FormatsFound S.Disk.Disk N.Notes (ToldRefusal N.told_fault N.told_damage N.told_no_store) S.resized
+        × FormatsFound S.Disk.Disk N.Notes (ReportedRefusal N.reported_fault N.reported_damage N.reported_no_store) S.resized
         path.now geometry force notes.old notes.new disk look result.0 (W.contents writer.old) (W.contents writer.new) }
 {
     if !may_overwrite(alloc, &disk, path, force, notes) {
@@ -96,7 +96,7 @@ fn format_found<
             (Some(disk), status)
         }
         Err(error) => {
-            notes.tell_error(path, &error);
+            notes.report_error(path, &error);
             (None, refuse(alloc, &Refusal::Device(()), writer))
         }
     }
@@ -125,14 +125,14 @@ pub fn run_file<
 ) -> (Option<S::Disk>, io::Result<u8>)
 where
     S::Disk: Served + Watched,
-    ensures told { IfOk result.1 (IsStatus (TellsRunFile S.Disk.Disk tend
-        (ToldRefusal N.told_fault N.told_damage N.told_no_store notes.old notes.new path.now)
-        (ToldSession N.told_failure S.Disk.Watched.kept_read S.Disk.Watched.last_failure N.told_end N.told_tally notes.old notes.new
+    ensures printed { IfOk result.1 (IsStatus (PrintsRunFile S.Disk.Disk tend
+        (ReportedRefusal N.reported_fault N.reported_damage N.reported_no_store notes.old notes.new path.now)
+        (ReportedSession N.reported_failure S.Disk.Watched.kept_read S.Disk.Watched.last_failure N.reported_end N.reported_tally notes.old notes.new
         (R.kept_error reader.new) (W.kept_error writer.new) (R.kept_lines reader.new) (W.kept_tally writer.new) path.now)
-        (S.opened source path.now) (NotOpenedTold (S.not_opened source) (N.told_error notes.old notes.new) path.now)
+        (S.opened source path.now) (NotOpenedReported (S.not_opened source) (N.reported_error notes.old notes.new) path.now)
         result.0 (R.remaining reader.old) (R.remaining reader.new) (W.contents writer.old) (W.contents writer.new))) }
     ensures answered { result.1 ≡ Ok 0 → RunsFile S.Disk.Disk tend
-        (ToldSession N.told_failure S.Disk.Watched.kept_read S.Disk.Watched.last_failure N.told_end N.told_tally notes.old notes.new
+        (ReportedSession N.reported_failure S.Disk.Watched.kept_read S.Disk.Watched.last_failure N.reported_end N.reported_tally notes.old notes.new
         (R.kept_error reader.new) (W.kept_error writer.new) (R.kept_lines reader.new) (W.kept_tally writer.new) path.now)
         (S.opened source path.now) result.0 (R.remaining reader.old) (R.remaining reader.new) (W.contents writer.old) (W.contents writer.new) }
 {
@@ -142,7 +142,7 @@ where
             (Some(disk), status)
         }
         Err(error) => {
-            notes.tell_error(path, &error);
+            notes.report_error(path, &error);
             (None, refuse(alloc, &Refusal::Device(()), writer))
         }
     }
@@ -167,13 +167,13 @@ pub fn tend_file<
 ) -> (Option<S::Disk>, io::Result<u8>)
 where
     S::Disk: Watched,
-    ensures told { IfOk result.1 (IsStatus (TellsTendFile S.Disk.Disk
-        (ToldRefusal N.told_fault N.told_damage N.told_no_store notes.old notes.new path.now)
-        (ToldFailures N.told_failure S.Disk.Watched.kept_read S.Disk.Watched.last_failure notes.old notes.new path.now)
-        (S.opened source path.now) (NotOpenedTold (S.not_opened source) (N.told_error notes.old notes.new) path.now)
+    ensures printed { IfOk result.1 (IsStatus (PrintsTendFile S.Disk.Disk
+        (ReportedRefusal N.reported_fault N.reported_damage N.reported_no_store notes.old notes.new path.now)
+        (ReportedFailures N.reported_failure S.Disk.Watched.kept_read S.Disk.Watched.last_failure notes.old notes.new path.now)
+        (S.opened source path.now) (NotOpenedReported (S.not_opened source) (N.reported_error notes.old notes.new) path.now)
         result.0 (W.contents writer.old) (W.contents writer.new))) }
     ensures tended { result.1 ≡ Ok 0 → TendsFile S.Disk.Disk
-        (ToldFailures N.told_failure S.Disk.Watched.kept_read S.Disk.Watched.last_failure notes.old notes.new path.now)
+        (ReportedFailures N.reported_failure S.Disk.Watched.kept_read S.Disk.Watched.last_failure notes.old notes.new path.now)
         (S.opened source path.now) result.0 (W.contents writer.old) (W.contents writer.new) }
 {
     match source.open(path) {
@@ -182,7 +182,7 @@ where
             (Some(disk), status)
         }
         Err(error) => {
-            notes.tell_error(path, &error);
+            notes.report_error(path, &error);
             (None, refuse(alloc, &Refusal::Device(()), writer))
         }
     }
@@ -205,11 +205,11 @@ pub fn check_file<
     writer: &mut W,
     notes: &mut N,
 ) -> (Option<S::Disk>, io::Result<u8>)
-    ensures told { IfOk result.1 (IsStatus (TellsCheckFile S.Disk.Disk
-        (ToldRefusal N.told_fault N.told_damage N.told_no_store notes.old notes.new path.now)
-        (S.shared source path.now) (NotOpenedTold (S.not_shared source) (N.told_error notes.old notes.new) path.now)
+    ensures printed { IfOk result.1 (IsStatus (PrintsCheckFile S.Disk.Disk
+        (ReportedRefusal N.reported_fault N.reported_damage N.reported_no_store notes.old notes.new path.now)
+        (S.shared source path.now) (NotOpenedReported (S.not_shared source) (N.reported_error notes.old notes.new) path.now)
         result.0 (W.contents writer.old) (W.contents writer.new))) }
-    ensures reported { result.1 ≡ Ok 0 → ChecksFile S.Disk.Disk (N.told_charge notes.old notes.new path.now) (S.shared source path.now) result.0 (W.contents writer.old) (W.contents writer.new) }
+    ensures reported { result.1 ≡ Ok 0 → ChecksFile S.Disk.Disk (N.reported_charge notes.old notes.new path.now) (S.shared source path.now) result.0 (W.contents writer.old) (W.contents writer.new) }
 {
     match source.open_shared(path) {
         Ok(disk) => {
@@ -217,7 +217,7 @@ pub fn check_file<
             (Some(disk), status)
         }
         Err(error) => {
-            notes.tell_error(path, &error);
+            notes.report_error(path, &error);
             (None, refuse(alloc, &Refusal::Device(()), writer))
         }
     }

@@ -2,7 +2,7 @@
 ghost use Rattle.std.specs.Prelude.{◌≡◌, IsTrue, IfSome, MatchBool, Result as ResultOf};
 ghost use Rattle.silt_event.specs.declared.report.Report.{Report as ReportOf};
 ghost use Rattle.silt_recovery.specs.Opening.{IsReported};
-ghost use Rattle.silt_jobs.specs.Notes.{ToldRefusal};
+ghost use Rattle.silt_jobs.specs.Notes.{ReportedRefusal};
 ghost use Rattle.silt_jobs.specs.HeldData.{IsFoundStore, Looks, MayOverwrite, MustStay, has_magic};
 ghost use Rattle.silt_jobs.specs.declared.held_data.Holding.{Holding as HoldingOf};
 
@@ -59,22 +59,22 @@ pub fn may_overwrite<D: Disk, N: Notes + FaultNotes<D::Fault>>(
     notes: &mut N,
 ) -> bool
     ensures { (look : ResultOf HoldingOf D.Fault) × Looks D.Disk disk.now look
-        × MatchBool result (MayOverwrite N.Notes (ToldRefusal N.told_fault N.told_damage N.told_no_store) file.now force look notes.old notes.new)
-        (MustStay N.Notes (ToldRefusal N.told_fault N.told_damage N.told_no_store) file.now force look notes.old notes.new) }
+        × MatchBool result (MayOverwrite N.Notes (ReportedRefusal N.reported_fault N.reported_damage N.reported_no_store) file.now force look notes.old notes.new)
+        (MustStay N.Notes (ReportedRefusal N.reported_fault N.reported_damage N.reported_no_store) file.now force look notes.old notes.new) }
 {
     match look(alloc, disk) {
         Ok(Holding::Nothing) => true,
         Ok(Holding::Store(store)) => {
-            notes.tell_store(file, &store);
+            notes.report_store(file, &store);
             true
         }
         Ok(Holding::Other) | Err(_) if force => true,
         Ok(Holding::Other) => {
-            notes.tell_other(file);
+            notes.report_other(file);
             false
         }
         Err(fault) => {
-            notes.tell_fault(file, &fault);
+            notes.report_fault(file, &fault);
             false
         }
     }

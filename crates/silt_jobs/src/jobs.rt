@@ -6,14 +6,14 @@ ghost use Rattle.silt_wire.specs.Statuses.{IsStatus};
 ghost use Rattle.silt_wire.specs.declared.sessions.SessionEnd.{SessionEnd as SessionEndOf};
 ghost use Rattle.silt_wire.specs.declared.sessions.SessionEnd.TheVariants.{End};
 ghost use Rattle.silt_jobs.specs.Damage.{HasShape, LacksShape};
-ghost use Rattle.silt_jobs.specs.Jobs.{AnswersLines, AnswersReader, EndsCheck, EndsFormat, EndsRun, EndsTend, EndsTending, Tells};
-ghost use Rattle.silt_jobs.specs.Jobs.{TellsCheck, TellsFormat, TellsRun, TellsTend, formatted_line, status_of, tended_line};
-ghost use Rattle.silt_jobs.specs.Notes.{ToldFailures, ToldLines, ToldRefusal, ToldSession};
+ghost use Rattle.silt_jobs.specs.Jobs.{AnswersLines, AnswersReader, EndsCheck, EndsFormat, EndsRun, EndsTend, EndsTending, Prints};
+ghost use Rattle.silt_jobs.specs.Jobs.{PrintsCheck, PrintsFormat, PrintsRun, PrintsTend, formatted_line, status_of, tended_line};
+ghost use Rattle.silt_jobs.specs.Notes.{ReportedFailures, ReportedLines, ReportedRefusal, ReportedSession};
 
 use crate::background_work::{Steps, Tending, tend_all};
 use crate::damage::{damage_at, geometry_on};
 use crate::failure::Watched;
-use crate::notes::{FaultNotes, Notes, tell_end, tell_failures, tell_refusal};
+use crate::notes::{FaultNotes, Notes, report_end, report_failures, report_refusal};
 use crate::output::write_out;
 use crate::refusal::refuse;
 use crate::streams::{KeepsError, KeepsLines, KeepsTally};
@@ -47,13 +47,13 @@ pub fn run_on<
     writer: &mut W,
     notes: &mut N,
 ) -> (D, io::Result<u8>)
-    ensures told { IfOk result.1 (IsStatus (TellsRun D.Disk tend
-        (ToldRefusal N.told_fault N.told_damage N.told_no_store notes.old notes.new file.now)
-        (ToldSession N.told_failure D.kept_read D.last_failure N.told_end N.told_tally notes.old notes.new
+    ensures printed { IfOk result.1 (IsStatus (PrintsRun D.Disk tend
+        (ReportedRefusal N.reported_fault N.reported_damage N.reported_no_store notes.old notes.new file.now)
+        (ReportedSession N.reported_failure D.kept_read D.last_failure N.reported_end N.reported_tally notes.old notes.new
         (R.kept_error reader.new) (W.kept_error writer.new) (R.kept_lines reader.new) (W.kept_tally writer.new) file.now)
         disk result.0 (R.remaining reader.old) (R.remaining reader.new) (W.contents writer.old) (W.contents writer.new))) }
     ensures answered { result.1 ≡ Ok 0 → EndsRun D.Disk tend
-        (ToldSession N.told_failure D.kept_read D.last_failure N.told_end N.told_tally notes.old notes.new
+        (ReportedSession N.reported_failure D.kept_read D.last_failure N.reported_end N.reported_tally notes.old notes.new
         (R.kept_error reader.new) (W.kept_error writer.new) (R.kept_lines reader.new) (W.kept_tally writer.new) file.now)
         End disk result.0 (R.remaining reader.old) (R.remaining reader.new) (W.contents writer.old) (W.contents writer.new) }
 {
@@ -61,7 +61,7 @@ pub fn run_on<
         Ok(core) => {
             let (core, status) = answer_reader(alloc, core, tend, reader, writer, notes);
             let disk = core.close();
-            tell_failures(file, &disk, notes);
+            report_failures(file, &disk, notes);
             (disk, status)
         }
         Err(fault) => refuse_opening(alloc, fault, file, writer, notes),
@@ -81,11 +81,11 @@ pub fn refuse_opening<D: Disk, W: Write, N: FaultNotes<D::Fault>>(
     notes: &mut N,
 ) -> (D, io::Result<u8>)
     ensures disk { result.0 ≡ fault.disk }
-    ensures told { IfOk result.1 (λ status. (status ≡ 1) × (Tells fault.refusal (W.contents writer.old) (W.contents writer.new)
-        × ToldRefusal N.told_fault N.told_damage N.told_no_store notes.old notes.new file.now fault.refusal)) }
+    ensures printed { IfOk result.1 (λ status. (status ≡ 1) × (Prints fault.refusal (W.contents writer.old) (W.contents writer.new)
+        × ReportedRefusal N.reported_fault N.reported_damage N.reported_no_store notes.old notes.new file.now fault.refusal)) }
 {
     let at = damage_at(&fault.disk, &fault.refusal);
-    tell_refusal(file, &fault.refusal, at, notes);
+    report_refusal(file, &fault.refusal, at, notes);
     let status = refuse(alloc, &fault.refusal, writer);
     (fault.disk, status)
 }
@@ -108,13 +108,13 @@ fn answer_reader<
     ensures { IfOk result.1 (λ status. (end : SessionEndOf) × (status ≡ status_of end)
         × AnswersReader D.Disk tend end core result.0
         (R.remaining reader.old) (R.remaining reader.new) (W.contents writer.old) (W.contents writer.new)
-        × ToldLines N.told_end N.told_tally (R.kept_error reader.new) (W.kept_error writer.new) (R.kept_lines reader.new) (W.kept_tally writer.new) end notes.old notes.new) }
+        × ReportedLines N.reported_end N.reported_tally (R.kept_error reader.new) (W.kept_error writer.new) (R.kept_lines reader.new) (W.kept_tally writer.new) end notes.old notes.new) }
 {
     match write_out(b"opened\n", writer) {
         Ok(()) => {
             let (core, end) = answer_lines(alloc, core, tend, reader, writer);
-            tell_end(end, reader, writer, notes);
-            notes.tell_tally(reader.lines(), writer.tally());
+            report_end(end, reader, writer, notes);
+            notes.report_tally(reader.lines(), writer.tally());
             (core, Ok(status_of(end)))
         }
         Err(error) => (core, Err(error)),
@@ -165,31 +165,31 @@ pub fn check_on<D: Disk, W: Write, N: Notes + FaultNotes<D::Fault>>(
     writer: &mut W,
     notes: &mut N,
 ) -> io::Result<u8>
-    ensures told { IfOk result (IsStatus (TellsCheck D.Disk
-        (ToldRefusal N.told_fault N.told_damage N.told_no_store notes.old notes.new file.now) disk.now (W.contents writer.old) (W.contents writer.new))) }
-    ensures reported { result ≡ Ok 0 → EndsCheck D.Disk (N.told_charge notes.old notes.new file.now) disk.now (W.contents writer.old) (W.contents writer.new) }
+    ensures printed { IfOk result (IsStatus (PrintsCheck D.Disk
+        (ReportedRefusal N.reported_fault N.reported_damage N.reported_no_store notes.old notes.new file.now) disk.now (W.contents writer.old) (W.contents writer.new))) }
+    ensures reported { result ≡ Ok 0 → EndsCheck D.Disk (N.reported_charge notes.old notes.new file.now) disk.now (W.contents writer.old) (W.contents writer.new) }
 {
     match check(alloc, disk) {
         Ok(report) => {
             write_report(alloc, &report, writer)?;
             writer.flush()?;
-            tell_charge(file, disk, report.charge, notes);
+            report_charge(file, disk, report.charge, notes);
             Ok(0)
         }
         Err(error) => {
             let refusal = Refusal::from(error);
-            tell_refusal(file, &refusal, damage_at(disk, &refusal), notes);
+            report_refusal(file, &refusal, damage_at(disk, &refusal), notes);
             refuse(alloc, &refusal, writer)
         }
     }
 }
 
 // Reports to people the six numbers of the store on the disk of a file, if they can be read again, and its charge.
-fn tell_charge<D: Disk, N: Notes>(file: &str, disk: &D, charge: u32, notes: &mut N)
-    ensures { ((shape : Shape) × HasShape (D.content disk.now) shape × N.told_charge notes.old notes.new file.now shape charge) ⊎ LacksShape D.Disk disk.now }
+fn report_charge<D: Disk, N: Notes>(file: &str, disk: &D, charge: u32, notes: &mut N)
+    ensures { ((shape : Shape) × HasShape (D.content disk.now) shape × N.reported_charge notes.old notes.new file.now shape charge) ⊎ LacksShape D.Disk disk.now }
 {
     if let Some(geometry) = geometry_on(disk) {
-        notes.tell_charge(file, &geometry, charge);
+        notes.report_charge(file, &geometry, charge);
     }
 }
 
@@ -206,19 +206,19 @@ pub fn tend_on<D: Watched, W: Write, N: Notes + FaultNotes<D::Fault>>(
     writer: &mut W,
     notes: &mut N,
 ) -> (D, io::Result<u8>)
-    ensures told { IfOk result.1 (IsStatus (TellsTend D.Disk
-        (ToldRefusal N.told_fault N.told_damage N.told_no_store notes.old notes.new file.now)
-        (ToldFailures N.told_failure D.kept_read D.last_failure notes.old notes.new file.now)
+    ensures printed { IfOk result.1 (IsStatus (PrintsTend D.Disk
+        (ReportedRefusal N.reported_fault N.reported_damage N.reported_no_store notes.old notes.new file.now)
+        (ReportedFailures N.reported_failure D.kept_read D.last_failure notes.old notes.new file.now)
         disk result.0 (W.contents writer.old) (W.contents writer.new))) }
     ensures tended { result.1 ≡ Ok 0 → EndsTend D.Disk
-        (ToldFailures N.told_failure D.kept_read D.last_failure notes.old notes.new file.now)
+        (ReportedFailures N.reported_failure D.kept_read D.last_failure notes.old notes.new file.now)
         disk result.0 (W.contents writer.old) (W.contents writer.new) }
 {
     match Core::open(alloc, disk) {
         Ok(mut core) => {
             let status = tend_core(alloc, &mut core, writer);
             let disk = core.close();
-            tell_failures(file, &disk, notes);
+            report_failures(file, &disk, notes);
             (disk, status)
         }
         Err(fault) => refuse_opening(alloc, fault, file, writer, notes),
@@ -262,8 +262,8 @@ pub fn format_on<D: Disk, W: Write, N: FaultNotes<D::Fault>>(
     writer: &mut W,
     notes: &mut N,
 ) -> (D, io::Result<u8>)
-    ensures told { IfOk result.1 (IsStatus (TellsFormat D.Disk
-        (ToldRefusal N.told_fault N.told_damage N.told_no_store notes.old notes.new file.now) geometry disk result.0 (W.contents writer.old) (W.contents writer.new))) }
+    ensures printed { IfOk result.1 (IsStatus (PrintsFormat D.Disk
+        (ReportedRefusal N.reported_fault N.reported_damage N.reported_no_store notes.old notes.new file.now) geometry disk result.0 (W.contents writer.old) (W.contents writer.new))) }
     ensures formatted { result.1 ≡ Ok 0 → EndsFormat D.Disk geometry result.0 (W.contents writer.old) (W.contents writer.new) }
     ensures quiet { result.1 ≡ Ok 0 → notes.new ≡ notes.old }
 {
@@ -271,7 +271,7 @@ pub fn format_on<D: Disk, W: Write, N: FaultNotes<D::Fault>>(
         Ok(disk) => (disk, write_formatted(alloc, geometry.size(), writer)),
         Err(fault) => {
             let refusal = Refusal::from(fault.error);
-            tell_refusal(file, &refusal, None, notes);
+            report_refusal(file, &refusal, None, notes);
             let status = refuse(alloc, &refusal, writer);
             (fault.disk, status)
         }

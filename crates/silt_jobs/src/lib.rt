@@ -39,7 +39,7 @@ pub use held_data::HeldStore;
 pub use input_lines::InputLines;
 pub use jobs::refuse_opening;
 pub use note_lines::NoteLines;
-pub use notes::{FaultNotes, Notes, SourceNotes, tell_error_of, tell_failures};
+pub use notes::{FaultNotes, Notes, SourceNotes, report_error_of, report_failures};
 pub use plan::write_plan;
 pub use progress::{AfterProgress, Progress};
 pub use refusal::refuse;

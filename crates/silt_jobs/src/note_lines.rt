@@ -33,59 +33,59 @@ impl<W> NoteLines<W> {
 }
 
 impl<W: Write> Notes for NoteLines<W> {
-    ghost told_port = { λ _ _ _. ⊤ };
+    ghost reported_port = { λ _ _ _. ⊤ };
 
-    ghost told_store = { λ _ _ _ _. ⊤ };
+    ghost reported_store = { λ _ _ _ _. ⊤ };
 
-    ghost told_other = { λ _ _ _. ⊤ };
+    ghost reported_other = { λ _ _ _. ⊤ };
 
-    ghost told_numbers = { λ _ _ _. ⊤ };
+    ghost reported_numbers = { λ _ _ _. ⊤ };
 
-    ghost told_no_plan = { λ _ _ _. ⊤ };
+    ghost reported_no_plan = { λ _ _ _. ⊤ };
 
-    ghost told_charge = { λ _ _ _ _ _. ⊤ };
+    ghost reported_charge = { λ _ _ _ _ _. ⊤ };
 
-    ghost told_tally = { λ _ _ _ _. ⊤ };
+    ghost reported_tally = { λ _ _ _ _. ⊤ };
 
-    ghost told_failure = { λ _ _ _ _. ⊤ };
+    ghost reported_failure = { λ _ _ _ _. ⊤ };
 
-    ghost told_failed_store = { λ _ _ _. ⊤ };
+    ghost reported_failed_store = { λ _ _ _. ⊤ };
 
-    ghost told_end = { λ _ _ _ _. ⊤ };
+    ghost reported_end = { λ _ _ _ _. ⊤ };
 
-    ghost told_broken = { λ _ _. ⊤ };
+    ghost reported_broken = { λ _ _. ⊤ };
 
-    ghost told_words = { λ _ _ _. ⊤ };
+    ghost reported_words = { λ _ _ _. ⊤ };
 
-    fn tell_port(&mut self, port: u16, error: &io::Error) {
+    fn report_port(&mut self, port: u16, error: &io::Error) {
         let _ = writeln!(self.writer, "silt: 127.0.0.1:{port}: {error}");
     }
 
-    fn tell_store(&mut self, file: &str, store: &HeldStore) {
+    fn report_store(&mut self, file: &str, store: &HeldStore) {
         let _ = writeln!(
             self.writer,
             "silt: {file} holds a store{store}; it is overwritten"
         );
     }
 
-    fn tell_other(&mut self, file: &str) {
+    fn report_other(&mut self, file: &str) {
         let _ = writeln!(
             self.writer,
             "silt: {file}: it holds other data; --force overwrites it"
         );
     }
 
-    fn tell_numbers(&mut self, numbers: &Numbers) {
+    fn report_numbers(&mut self, numbers: &Numbers) {
         if let Some(number) = out_of_limits(numbers) {
             let _ = writeln!(self.writer, "silt: {number}");
         }
     }
 
-    fn tell_no_plan(&mut self, request: &PlanRequest) {
+    fn report_no_plan(&mut self, request: &PlanRequest) {
         let _ = writeln!(self.writer, "silt: {}", obstacle_of(request));
     }
 
-    fn tell_charge(&mut self, file: &str, geometry: &Geometry, charge: u32) {
+    fn report_charge(&mut self, file: &str, geometry: &Geometry, charge: u32) {
         let most = geometry.sorted_capacity();
         let numbers = NumbersText::of(geometry);
         let _ = writeln!(
@@ -94,7 +94,7 @@ impl<W: Write> Notes for NoteLines<W> {
         );
     }
 
-    fn tell_tally(&mut self, lines: &InputLines, tally: &Tally) {
+    fn report_tally(&mut self, lines: &InputLines, tally: &Tally) {
         for kind in 1..KINDS {
             let refusals = tally.refusals(kind);
             if refusals.count > 0 {
@@ -109,20 +109,20 @@ impl<W: Write> Notes for NoteLines<W> {
         }
     }
 
-    fn tell_failure(&mut self, file: &str, failure: &Failure) {
+    fn report_failure(&mut self, file: &str, failure: &Failure) {
         let _ = writeln!(self.writer, "silt: {file}: {failure}");
     }
 
-    fn tell_failed_store(&mut self, failure: &Failure) {
+    fn report_failed_store(&mut self, failure: &Failure) {
         let _ = writeln!(
             self.writer,
             "silt: {failure}; the store takes nothing more until it is opened again"
         );
     }
 
-    fn tell_end(&mut self, end: SessionEnd, error: Option<StreamError>) {
+    fn report_end(&mut self, end: SessionEnd, error: Option<StreamError>) {
         match error {
-            Some(StreamError { error }) => self.tell_broken(&error),
+            Some(StreamError { error }) => self.report_broken(&error),
             None => {
                 let _ = writeln!(self.writer, "silt: {end}");
             }
@@ -130,13 +130,13 @@ impl<W: Write> Notes for NoteLines<W> {
     }
 
     // If the reader of the replies closed the pipe, there is no note.
-    fn tell_broken(&mut self, error: &io::Error) {
+    fn report_broken(&mut self, error: &io::Error) {
         if error.kind() != ErrorKind::BrokenPipe {
             let _ = writeln!(self.writer, "silt: {error}");
         }
     }
 
-    fn tell_words(&mut self, words: &[String]) {
+    fn report_words(&mut self, words: &[String]) {
         if asks_version(words) {
             let _ = writeln!(self.writer, "silt {VERSION}");
             return;
@@ -149,32 +149,32 @@ impl<W: Write> Notes for NoteLines<W> {
 }
 
 impl<W: Write, E: Display> SourceNotes<E> for NoteLines<W> {
-    ghost told_error = { λ _ _ _ _. ⊤ };
+    ghost reported_error = { λ _ _ _ _. ⊤ };
 
-    fn tell_error(&mut self, file: &str, error: &E) {
+    fn report_error(&mut self, file: &str, error: &E) {
         let _ = writeln!(self.writer, "silt: {file}: {error}");
     }
 }
 
 impl<W: Write, F: Display> FaultNotes<F> for NoteLines<W> {
-    ghost told_fault = { λ _ _ _ _. ⊤ };
+    ghost reported_fault = { λ _ _ _ _. ⊤ };
 
-    ghost told_damage = { λ _ _ _ _ _. ⊤ };
+    ghost reported_damage = { λ _ _ _ _ _. ⊤ };
 
-    ghost told_no_store = { λ _ _ _. ⊤ };
+    ghost reported_no_store = { λ _ _ _. ⊤ };
 
-    fn tell_fault(&mut self, file: &str, fault: &F) {
+    fn report_fault(&mut self, file: &str, fault: &F) {
         let _ = writeln!(self.writer, "silt: {file}: {fault}");
     }
 
-    fn tell_damage(&mut self, file: &str, place: Place, at: Option<u64>) {
+    fn report_damage(&mut self, file: &str, place: Place, at: Option<u64>) {
         let _ = match at {
             Some(at) => writeln!(self.writer, "silt: {file}: {place}, at byte {at}"),
             None => writeln!(self.writer, "silt: {file}: {place}"),
         };
     }
 
-    fn tell_no_store(&mut self, file: &str) {
+    fn report_no_store(&mut self, file: &str) {
         let _ = writeln!(
             self.writer,
             "silt: {file}: it is not a silt store; make one with silt format"

@@ -2,7 +2,7 @@
 ghost use Rattle.std.specs.Prelude.{◌≡◌, ℕ, IsErr, IsOk, List, Option, map, string_bytes};
 ghost use Rattle.silt_event.specs.declared.place.Place.{Place as PlaceOf};
 ghost use Rattle.silt_wire.specs.declared.sessions.SessionEnd.{SessionEnd as SessionEndOf};
-ghost use Rattle.silt_jobs.specs.Notes.{ToldCall, ToldEnd, ToldFailures, ToldRefusal};
+ghost use Rattle.silt_jobs.specs.Notes.{ReportedCall, ReportedEnd, ReportedFailures, ReportedRefusal};
 ghost use Rattle.silt_disk.specs.Layout.{Shape};
 ghost use Rattle.silt_words.specs.declared.job.Numbers.{Numbers as NumbersOf};
 ghost use Rattle.silt_words.specs.declared.job.PlanRequest.{PlanRequest as PlanRequestOf};
@@ -26,176 +26,176 @@ use std::io;
 /// Takes the notes that are not about one disk or its source. No output for programs depends on a note.
 pub trait Notes {
     /// A note says why the server cannot listen on this port of this machine.
-    ghost told_port: { Self → Self → ℕ → Type 0 };
+    ghost reported_port: { Self → Self → ℕ → Type 0 };
 
     /// A note says that the file of this name has this store, which will be overwritten.
-    ghost told_store: { Self → Self → List ℕ → HeldStoreOf → Type 0 };
+    ghost reported_store: { Self → Self → List ℕ → HeldStoreOf → Type 0 };
 
     /// A note says that the file of this name has other data, which stays.
-    ghost told_other: { Self → Self → List ℕ → Type 0 };
+    ghost reported_other: { Self → Self → List ℕ → Type 0 };
 
     /// A note says which of these numbers is out of its limits.
-    ghost told_numbers: { Self → Self → NumbersOf → Type 0 };
+    ghost reported_numbers: { Self → Self → NumbersOf → Type 0 };
 
     /// A note says why there is no store for what is planned.
-    ghost told_no_plan: { Self → Self → PlanRequestOf → Type 0 };
+    ghost reported_no_plan: { Self → Self → PlanRequestOf → Type 0 };
 
     /// A note has the six numbers of the store in the file of this name, and its charge: the number of live rows.
-    ghost told_charge: { Self → Self → List ℕ → Shape → ℕ → Type 0 };
+    ghost reported_charge: { Self → Self → List ℕ → Shape → ℕ → Type 0 };
 
     /// A note says which lines of this input were refused, by these replies.
-    ghost told_tally: { Self → Self → InputLinesOf → TallyOf → Type 0 };
+    ghost reported_tally: { Self → Self → InputLinesOf → TallyOf → Type 0 };
 
     /// A note says that this call failed on the disk of the file of this name.
-    ghost told_failure: { Self → Self → List ℕ → FailureOf → Type 0 };
+    ghost reported_failure: { Self → Self → List ℕ → FailureOf → Type 0 };
 
     /// A note says that this call failed, and with it the store.
-    ghost told_failed_store: { Self → Self → FailureOf → Type 0 };
+    ghost reported_failed_store: { Self → Self → FailureOf → Type 0 };
 
     /// A note says why a session broke off, with the error of its reader or its writer, if that is why.
-    ghost told_end: { Self → Self → SessionEndOf → Option StreamErrorOf → Type 0 };
+    ghost reported_end: { Self → Self → SessionEndOf → Option StreamErrorOf → Type 0 };
 
     /// A note says why the reader or the writer failed.
-    ghost told_broken: { Self → Self → Type 0 };
+    ghost reported_broken: { Self → Self → Type 0 };
 
     /// A note says why these words name no job.
-    ghost told_words: { Self → Self → List (List ℕ) → Type 0 };
+    ghost reported_words: { Self → Self → List (List ℕ) → Type 0 };
 
     /// Reports why the server cannot listen on this port.
-    fn tell_port(&mut self, port: u16, error: &io::Error)
-        ensures { told_port self.old self.new port };
+    fn report_port(&mut self, port: u16, error: &io::Error)
+        ensures { reported_port self.old self.new port };
     /// Reports that the file of this name has this store, which will be overwritten.
-    fn tell_store(&mut self, file: &str, store: &HeldStore)
-        ensures { told_store self.old self.new file.now store.now };
+    fn report_store(&mut self, file: &str, store: &HeldStore)
+        ensures { reported_store self.old self.new file.now store.now };
     /// Reports that the file of this name has other data, which stays.
-    fn tell_other(&mut self, file: &str)
-        ensures { told_other self.old self.new file.now };
+    fn report_other(&mut self, file: &str)
+        ensures { reported_other self.old self.new file.now };
 
     /// Reports which of these numbers is out of its limits.
-    fn tell_numbers(&mut self, numbers: &Numbers)
-        ensures { told_numbers self.old self.new numbers.now };
+    fn report_numbers(&mut self, numbers: &Numbers)
+        ensures { reported_numbers self.old self.new numbers.now };
     /// Reports why there is no store for what is planned.
-    fn tell_no_plan(&mut self, request: &PlanRequest)
-        ensures { told_no_plan self.old self.new request.now };
+    fn report_no_plan(&mut self, request: &PlanRequest)
+        ensures { reported_no_plan self.old self.new request.now };
     /// Reports which six numbers the store in the file of this name has, and its charge.
-    fn tell_charge(&mut self, file: &str, geometry: &Geometry, charge: u32)
-        ensures { told_charge self.old self.new file.now geometry.now charge };
+    fn report_charge(&mut self, file: &str, geometry: &Geometry, charge: u32)
+        ensures { reported_charge self.old self.new file.now geometry.now charge };
     /// Reports which lines of this input were refused, by these replies. The first reply belongs to no line.
-    fn tell_tally(&mut self, lines: &InputLines, tally: &Tally)
-        ensures { told_tally self.old self.new lines.now tally.now };
+    fn report_tally(&mut self, lines: &InputLines, tally: &Tally)
+        ensures { reported_tally self.old self.new lines.now tally.now };
 
     /// Reports that this call failed on the disk of the file of this name.
-    fn tell_failure(&mut self, file: &str, failure: &Failure)
-        ensures { told_failure self.old self.new file.now failure.now };
+    fn report_failure(&mut self, file: &str, failure: &Failure)
+        ensures { reported_failure self.old self.new file.now failure.now };
     /// Reports that this call failed, and with it the store.
-    fn tell_failed_store(&mut self, failure: &Failure)
-        ensures { told_failed_store self.old self.new failure.now };
+    fn report_failed_store(&mut self, failure: &Failure)
+        ensures { reported_failed_store self.old self.new failure.now };
 
     /// Reports why a session broke off, with the error of its reader or its writer, if that is why.
-    fn tell_end(&mut self, end: SessionEnd, error: Option<StreamError>)
-        ensures { told_end self.old self.new end error };
+    fn report_end(&mut self, end: SessionEnd, error: Option<StreamError>)
+        ensures { reported_end self.old self.new end error };
     /// Reports why the reader or the writer failed.
-    fn tell_broken(&mut self, error: &io::Error)
-        ensures { told_broken self.old self.new };
+    fn report_broken(&mut self, error: &io::Error)
+        ensures { reported_broken self.old self.new };
     /// Reports which words would name a job, and what is wrong with these words.
-    fn tell_words(&mut self, words: &[String])
-        ensures { told_words self.old self.new (map string_bytes words.now) };
+    fn report_words(&mut self, words: &[String])
+        ensures { reported_words self.old self.new (map string_bytes words.now) };
 }
 
 /// Reports which read of a disk failed first, and which write or sync failed last, if any did.
-pub fn tell_failures<D: Watched, N: Notes>(file: &str, disk: &D, notes: &mut N)
-    ensures { ToldFailures N.told_failure D.kept_read D.last_failure notes.old notes.new file.now disk.now }
+pub fn report_failures<D: Watched, N: Notes>(file: &str, disk: &D, notes: &mut N)
+    ensures { ReportedFailures N.reported_failure D.kept_read D.last_failure notes.old notes.new file.now disk.now }
 {
-    tell_call(file, disk.failed_read(), notes);
-    tell_call(file, disk.last_failure(), notes);
+    report_call(file, disk.failed_read(), notes);
+    report_call(file, disk.last_failure(), notes);
 }
 
 // Reports that a call of a disk failed, if one did.
-fn tell_call<N: Notes>(file: &str, failure: Option<Failure>, notes: &mut N)
-    ensures { ToldCall (λ from to. N.told_failure from to file.now) failure notes.old notes.new }
+fn report_call<N: Notes>(file: &str, failure: Option<Failure>, notes: &mut N)
+    ensures { ReportedCall (λ from to. N.reported_failure from to file.now) failure notes.old notes.new }
 {
     match failure {
         None => {}
-        Some(failure) => notes.tell_failure(file, &failure),
+        Some(failure) => notes.report_failure(file, &failure),
     }
 }
 
 /// Reports why a session with this reader and this writer broke off, if it did not reach the end of its lines.
-pub fn tell_end<R: KeepsError, W: KeepsError, N: Notes>(
+pub fn report_end<R: KeepsError, W: KeepsError, N: Notes>(
     end: SessionEnd,
     reader: &R,
     writer: &W,
     notes: &mut N,
 )
-    ensures { ToldEnd N.told_end (R.kept_error reader.now) (W.kept_error writer.now) end notes.old notes.new }
+    ensures { ReportedEnd N.reported_end (R.kept_error reader.now) (W.kept_error writer.now) end notes.old notes.new }
 {
     match end {
         SessionEnd::End => {}
-        SessionEnd::ReadFault => notes.tell_end(end, reader.kept_error()),
-        SessionEnd::WriteFault => notes.tell_end(end, writer.kept_error()),
-        SessionEnd::NoMemory => notes.tell_end(end, None),
+        SessionEnd::ReadFault => notes.report_end(end, reader.kept_error()),
+        SessionEnd::WriteFault => notes.report_end(end, writer.kept_error()),
+        SessionEnd::NoMemory => notes.report_end(end, None),
     }
 }
 
 /// Reports why a job ended with an error of its reader or its writer, if it did.
-pub fn tell_error_of<N: Notes>(ended: &io::Result<u8>, notes: &mut N)
-    ensures told { IsErr ended.now → N.told_broken notes.old notes.new }
+pub fn report_error_of<N: Notes>(ended: &io::Result<u8>, notes: &mut N)
+    ensures printed { IsErr ended.now → N.reported_broken notes.old notes.new }
     ensures quiet { IsOk ended.now → notes.new ≡ notes.old }
 {
     if let Err(error) = ended {
-        notes.tell_broken(error);
+        notes.report_broken(error);
     }
 }
 
 /// Takes the notes about a missing disk. `E` is the error of the disks' source.
 pub trait SourceNotes<E> {
     /// A note says that the disk of the file of this name could not be opened, with this error.
-    ghost told_error: { Self → Self → List ℕ → E → Type 0 };
+    ghost reported_error: { Self → Self → List ℕ → E → Type 0 };
 
     /// Reports why there is no disk of the file of this name.
-    fn tell_error(&mut self, file: &str, error: &E)
-        ensures { told_error self.old self.new file.now error.now };
+    fn report_error(&mut self, file: &str, error: &E)
+        ensures { reported_error self.old self.new file.now error.now };
 }
 
 /// Takes the notes about failed calls and damaged parts of a disk. `F` is the disk's fault.
 pub trait FaultNotes<F> {
     /// A note reports this fault of the disk of the file of this name.
-    ghost told_fault: { Self → Self → List ℕ → F → Type 0 };
+    ghost reported_fault: { Self → Self → List ℕ → F → Type 0 };
 
     /// A note says that this part of the disk of the file of this name is damaged, and where it begins, if that is
     /// known.
-    ghost told_damage: { Self → Self → List ℕ → PlaceOf → Option ℕ → Type 0 };
+    ghost reported_damage: { Self → Self → List ℕ → PlaceOf → Option ℕ → Type 0 };
 
     /// A note says that the disk of the file of this name has no store.
-    ghost told_no_store: { Self → Self → List ℕ → Type 0 };
+    ghost reported_no_store: { Self → Self → List ℕ → Type 0 };
 
     /// Reports why a call of the disk of the file of this name failed.
-    fn tell_fault(&mut self, file: &str, fault: &F)
-        ensures { told_fault self.old self.new file.now fault.now };
+    fn report_fault(&mut self, file: &str, fault: &F)
+        ensures { reported_fault self.old self.new file.now fault.now };
 
     /// Reports which part of the disk of the file of this name is damaged, and where it begins, if that is known.
-    fn tell_damage(&mut self, file: &str, place: Place, at: Option<u64>)
-        ensures { told_damage self.old self.new file.now place at };
+    fn report_damage(&mut self, file: &str, place: Place, at: Option<u64>)
+        ensures { reported_damage self.old self.new file.now place at };
 
     /// Reports that the disk of the file of this name has no store.
-    fn tell_no_store(&mut self, file: &str)
-        ensures { told_no_store self.old self.new file.now };
+    fn report_no_store(&mut self, file: &str)
+        ensures { reported_no_store self.old self.new file.now };
 }
 
 /// Reports the fault of a disk, the damage that begins at this offset, or that there is no store, if the refusal is one
 /// of these.
-pub fn tell_refusal<F, N: FaultNotes<F>>(
+pub fn report_refusal<F, N: FaultNotes<F>>(
     file: &str,
     refusal: &Refusal<F>,
     at: Option<u64>,
     notes: &mut N,
 )
-    ensures { ToldRefusal N.told_fault N.told_damage N.told_no_store notes.old notes.new file.now refusal.now }
+    ensures { ReportedRefusal N.reported_fault N.reported_damage N.reported_no_store notes.old notes.new file.now refusal.now }
 {
     match refusal {
-        Refusal::Device(fault) => notes.tell_fault(file, fault),
-        Refusal::Damaged(place) => notes.tell_damage(file, *place, at),
-        Refusal::NotFormatted => notes.tell_no_store(file),
+        Refusal::Device(fault) => notes.report_fault(file, fault),
+        Refusal::Damaged(place) => notes.report_damage(file, *place, at),
+        Refusal::NotFormatted => notes.report_no_store(file),
         _ => {}
     }
 }

@@ -1,7 +1,7 @@
 // The six numbers of a planned store for a number of keys.
 ghost use Rattle.std.specs.Prelude.{◌≡◌, ◌≤◌, ◌+◌, ◌*◌, if◌then◌else◌, Ok, Some, None, IfOk, string_bytes};
 ghost use Rattle.std.specs.Option.{option_map};
-ghost use Rattle.silt_jobs.specs.Plans.{TellsPlan, bucket_counts, first_planned, fits_memory, is_needed, is_possible, number_after, plan_text, shape_planned};
+ghost use Rattle.silt_jobs.specs.Plans.{PrintsPlan, bucket_counts, first_planned, fits_memory, is_needed, is_possible, number_after, plan_text, shape_planned};
 
 use crate::notes::Notes;
 use crate::output::write_out;
@@ -32,8 +32,8 @@ pub fn write_plan<W: Write, N: Notes>(
     writer: &mut W,
     notes: &mut N,
 ) -> io::Result<u8>
-    ensures plan { IfOk result (λ status. TellsPlan request.now (first_planned request.now bucket_counts) status (W.contents writer.old) (W.contents writer.new)) }
-    ensures told { result ≡ Ok 1 → N.told_no_plan notes.old notes.new request.now }
+    ensures plan { IfOk result (λ status. PrintsPlan request.now (first_planned request.now bucket_counts) status (W.contents writer.old) (W.contents writer.new)) }
+    ensures printed { result ≡ Ok 1 → N.reported_no_plan notes.old notes.new request.now }
 {
     match plan(request) {
         Some(geometry) => {
@@ -44,7 +44,7 @@ pub fn write_plan<W: Write, N: Notes>(
         }
         None => {
             write_out(b"no plan\n", writer)?;
-            notes.tell_no_plan(request);
+            notes.report_no_plan(request);
             Ok(1)
         }
     }

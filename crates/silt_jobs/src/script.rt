@@ -10,7 +10,7 @@ ghost use Rattle.silt_event.specs.Events.{HasValueOf};
 ghost use Rattle.silt_wire.specs.Statuses.{IsStatus};
 ghost use Rattle.silt_jobs.specs.NewStores.{NewStoreCause};
 ghost use Rattle.silt_jobs.specs.Numbers.{shape_asked};
-ghost use Rattle.silt_jobs.specs.Scripts.{EndsScript, RunsLives, TellsRefusal};
+ghost use Rattle.silt_jobs.specs.Scripts.{EndsScript, RunsLives, PrintsRefusal};
 
 use crate::geometry::geometry_of;
 use crate::notes::Notes;
@@ -39,13 +39,13 @@ pub fn run_script<R: Read, W: Write, N: Notes>(
     writer: &mut W,
     notes: &mut N,
 ) -> io::Result<u8>
-    ensures numbers { ¬ InLimits (shape_asked numbers.now) → N.told_numbers notes.old notes.new numbers.now }
+    ensures numbers { ¬ InLimits (shape_asked numbers.now) → N.reported_numbers notes.old notes.new numbers.now }
     ensures refused { ¬ InLimits (shape_asked numbers.now) → IfOk result (λ status. (status ≡ 1) × Appends (W.contents writer.old) (W.contents writer.new) (codes "refused 2 BadGeometry\n")) }
-    ensures told { IfOk result (IsStatus (TellsRefusal (shape_asked numbers.now) (W.contents writer.old) (W.contents writer.new))) }
+    ensures printed { IfOk result (IsStatus (PrintsRefusal (shape_asked numbers.now) (W.contents writer.old) (W.contents writer.new))) }
     ensures answered { result ≡ Ok 0 → EndsScript (shape_asked numbers.now) (R.remaining reader.old) (R.remaining reader.new) (W.contents writer.old) (W.contents writer.new) }
 {
     let Ok(geometry) = geometry_of(numbers) else {
-        notes.tell_numbers(numbers);
+        notes.report_numbers(numbers);
         return refuse(alloc, &Refusal::<MemFault>::BadGeometry, writer);
     };
     let script = match read_script(alloc, geometry.value_len() as usize, reader) {

@@ -7,7 +7,7 @@ ghost use Rattle.silt_wire.specs.LineBuffer.{HoldsBytes};
 ghost use Rattle.silt_wire.specs.Sessions.{lines_after, rest_after};
 ghost use Rattle.silt_jobs.specs.Scripts.{IsUnread, TakesStop, TakesAsked, TakesLine, TakesBytes, EndsReading, Reads, Fits};
 
-use crate::stop::stop_told;
+use crate::stop::stop_reported;
 use silt_device::Stop;
 use silt_store_set::Event;
 use silt_wire::{LineBuffer, LineFault};
@@ -77,7 +77,7 @@ impl Reading {
     // Takes a line with an event, or without a valid request, unless memory ran out for it.
     fn take_asked(&mut self, asked: Result<Event, LineFault>) -> Result<(), AllocError>
         ensures takes { OnOk result (TakesAsked asked self.old self.new) }
-        ensures told { OnOk result (asked ≢ Err LineFault.NoMemory) }
+        ensures printed { OnOk result (asked ≢ Err LineFault.NoMemory) }
     {
         match asked {
             Ok(event) => {
@@ -103,7 +103,7 @@ impl Reading {
         if pending.is_blank() {
             return Ok(());
         }
-        match stop_told(pending) {
+        match stop_reported(pending) {
             Some(stop) => self.take_stop(alloc, stop),
             None => self.take_asked(pending.parse(alloc, value_len)),
         }

@@ -2,7 +2,7 @@
 ghost use Rattle.std.specs.Prelude.{◌≡◌, ℕ, List};
 ghost use Rattle.silt_wire.specs.LineBuffer.{HoldsBytes};
 ghost use Rattle.silt_wire.specs.Lines.{words_of};
-ghost use Rattle.silt_jobs.specs.Stops.{fill_of, told_stop, stop_of_words, stop_of};
+ghost use Rattle.silt_jobs.specs.Stops.{fill_of, reported_stop, stop_of_words, stop_of};
 
 use silt_device::{Fill, Stop};
 use silt_wire::{LONGEST_LINE, LineBuffer, cut_word, number_of, without_carriage_return};
@@ -27,8 +27,8 @@ fn fill_of(word: &[u8]) -> Option<Fill>
 }
 
 // The stop of three words.
-fn told_stop(word: &[u8], k: &[u8], fill: &[u8]) -> Option<Stop>
-    ensures { result ≡ told_stop word.now k.now fill.now }
+fn reported_stop(word: &[u8], k: &[u8], fill: &[u8]) -> Option<Stop>
+    ensures { result ≡ reported_stop word.now k.now fill.now }
 {
     if word != b"stop".as_slice() {
         return None;
@@ -48,7 +48,7 @@ fn stop_of_words(text: &[u8]) -> Option<Stop>
     if cut_word(fill).is_some() {
         return None;
     }
-    told_stop(word, k, fill)
+    reported_stop(word, k, fill)
 }
 
 // The stop in a line, or none if it is no stop line.
@@ -66,7 +66,7 @@ fn stop_of(line: &[u8]) -> Option<Stop>
 }
 
 /// The stop in the line that is kept here, if it is a stop line.
-pub fn stop_told(pending: &LineBuffer) -> Option<Stop>
+pub fn stop_reported(pending: &LineBuffer) -> Option<Stop>
     ensures { (line : List ℕ) → HoldsBytes pending.now line → result ≡ stop_of line }
 {
     if pending.is_long {

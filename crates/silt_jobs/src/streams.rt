@@ -2,7 +2,7 @@
 ghost use Rattle.std.specs.Prelude.{◌≡◌, Option, Some, None, IfErr, IfOk, take};
 ghost use Rattle.std.specs.Io.KnownBytes.{Keeps, ReadConsumes, WriteAppends};
 ghost use Rattle.std.specs.Io.{ReadsAtMost, WritesAtMost};
-ghost use Rattle.silt_jobs.specs.Tally.{tally_of, untold};
+ghost use Rattle.silt_jobs.specs.Tally.{tally_of, unreported};
 ghost use Rattle.silt_jobs.specs.declared.input_lines.InputLines.{InputLines as InputLinesOf};
 ghost use Rattle.silt_jobs.specs.declared.streams.StreamError.{StreamError as StreamErrorOf};
 ghost use Rattle.silt_jobs.specs.declared.tally.Tally.{Tally as TallyOf};
@@ -118,7 +118,7 @@ pub struct WatchedWriter<W> {
 impl<W> WatchedWriter<W> {
     /// A watched writer with no failed write.
     pub fn new(writer: W) -> Self
-        ensures { (result.writer ≡ writer) × (result.error ≡ None) × (result.tally ≡ untold) }
+        ensures { (result.writer ≡ writer) × (result.error ≡ None) × (result.tally ≡ unreported) }
     {
         WatchedWriter {
             writer,

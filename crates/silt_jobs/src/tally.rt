@@ -1,6 +1,6 @@
 // Which lines of an output are refusals, and which is the first of each kind.
 ghost use Rattle.std.specs.Prelude.{◌≡◌, ◌-◌, ◌++◌, ◌∷◌, ◌<◌, ◌≤◌, [], cond, length, get_or, nat_lt};
-ghost use Rattle.silt_jobs.specs.Tally.{counted, line_ended, none_refused, refusal_number, refusal_in, tally_after, tally_of, untold};
+ghost use Rattle.silt_jobs.specs.Tally.{counted, line_ended, none_refused, refusal_number, refusal_in, tally_after, tally_of, unreported};
 
 use std::marker::Model;
 
@@ -72,7 +72,7 @@ pub struct Tally {
 impl Tally {
     /// The tally of an empty output.
     pub fn new() -> Self
-        ensures { result ≡ untold }
+        ensures { result ≡ unreported }
     {
         Tally {
             ended: 0,

@@ -44,75 +44,75 @@ impl Counted {
 impl Notes for Counted {
     ghost use Rattle.std.specs.Prelude.{⊤};
 
-    ghost told_port = { λ _ _ _. ⊤ };
+    ghost reported_port = { λ _ _ _. ⊤ };
 
-    ghost told_store = { λ _ _ _ _. ⊤ };
+    ghost reported_store = { λ _ _ _ _. ⊤ };
 
-    ghost told_other = { λ _ _ _. ⊤ };
+    ghost reported_other = { λ _ _ _. ⊤ };
 
-    ghost told_numbers = { λ _ _ _. ⊤ };
+    ghost reported_numbers = { λ _ _ _. ⊤ };
 
-    ghost told_no_plan = { λ _ _ _. ⊤ };
+    ghost reported_no_plan = { λ _ _ _. ⊤ };
 
-    ghost told_charge = { λ _ _ _ _ _. ⊤ };
+    ghost reported_charge = { λ _ _ _ _ _. ⊤ };
 
-    ghost told_tally = { λ _ _ _ _. ⊤ };
+    ghost reported_tally = { λ _ _ _ _. ⊤ };
 
-    ghost told_failure = { λ _ _ _ _. ⊤ };
+    ghost reported_failure = { λ _ _ _ _. ⊤ };
 
-    ghost told_failed_store = { λ _ _ _. ⊤ };
+    ghost reported_failed_store = { λ _ _ _. ⊤ };
 
-    ghost told_end = { λ _ _ _ _. ⊤ };
+    ghost reported_end = { λ _ _ _ _. ⊤ };
 
-    ghost told_broken = { λ _ _. ⊤ };
+    ghost reported_broken = { λ _ _. ⊤ };
 
-    ghost told_words = { λ _ _ _. ⊤ };
+    ghost reported_words = { λ _ _ _. ⊤ };
 
-    fn tell_port(&mut self, _port: u16, _error: &io::Error) {
+    fn report_port(&mut self, _port: u16, _error: &io::Error) {
         self.others = self.others.wrapping_add(1);
     }
 
-    fn tell_store(&mut self, _file: &str, _store: &HeldStore) {
+    fn report_store(&mut self, _file: &str, _store: &HeldStore) {
         self.others = self.others.wrapping_add(1);
     }
 
-    fn tell_other(&mut self, _file: &str) {
+    fn report_other(&mut self, _file: &str) {
         self.others = self.others.wrapping_add(1);
     }
 
-    fn tell_numbers(&mut self, _numbers: &Numbers) {
+    fn report_numbers(&mut self, _numbers: &Numbers) {
         self.others = self.others.wrapping_add(1);
     }
 
-    fn tell_no_plan(&mut self, _request: &PlanRequest) {
+    fn report_no_plan(&mut self, _request: &PlanRequest) {
         self.others = self.others.wrapping_add(1);
     }
 
-    fn tell_charge(&mut self, _file: &str, _geometry: &Geometry, _charge: u32) {
+    fn report_charge(&mut self, _file: &str, _geometry: &Geometry, _charge: u32) {
         self.others = self.others.wrapping_add(1);
     }
 
-    fn tell_tally(&mut self, _lines: &InputLines, _tally: &Tally) {
+    fn report_tally(&mut self, _lines: &InputLines, _tally: &Tally) {
         self.others = self.others.wrapping_add(1);
     }
 
-    fn tell_failure(&mut self, _file: &str, _failure: &Failure) {
+    fn report_failure(&mut self, _file: &str, _failure: &Failure) {
         self.faults = self.faults.wrapping_add(1);
     }
 
-    fn tell_failed_store(&mut self, _failure: &Failure) {
+    fn report_failed_store(&mut self, _failure: &Failure) {
         self.faults = self.faults.wrapping_add(1);
     }
 
-    fn tell_end(&mut self, _end: SessionEnd, _error: Option<StreamError>) {
+    fn report_end(&mut self, _end: SessionEnd, _error: Option<StreamError>) {
         self.others = self.others.wrapping_add(1);
     }
 
-    fn tell_broken(&mut self, _error: &io::Error) {
+    fn report_broken(&mut self, _error: &io::Error) {
         self.others = self.others.wrapping_add(1);
     }
 
-    fn tell_words(&mut self, _words: &[String]) {
+    fn report_words(&mut self, _words: &[String]) {
         self.others = self.others.wrapping_add(1);
     }
 }
@@ -133,7 +133,7 @@ impl Watched for MemDisk {
         None
     }
 
-    fn tell_at_once(&mut self) {}
+    fn report_at_once(&mut self) {}
 }
 
 impl Watched for FaultDisk {
@@ -151,15 +151,15 @@ impl Watched for FaultDisk {
         None
     }
 
-    fn tell_at_once(&mut self) {}
+    fn report_at_once(&mut self) {}
 }
 
 impl<E> SourceNotes<E> for Counted {
     ghost use Rattle.std.specs.Prelude.{⊤};
 
-    ghost told_error = { λ _ _ _ _. ⊤ };
+    ghost reported_error = { λ _ _ _ _. ⊤ };
 
-    fn tell_error(&mut self, _file: &str, _error: &E) {
+    fn report_error(&mut self, _file: &str, _error: &E) {
         self.errors = self.errors.wrapping_add(1);
     }
 }
@@ -167,21 +167,21 @@ impl<E> SourceNotes<E> for Counted {
 impl<F> FaultNotes<F> for Counted {
     ghost use Rattle.std.specs.Prelude.{⊤};
 
-    ghost told_fault = { λ _ _ _ _. ⊤ };
+    ghost reported_fault = { λ _ _ _ _. ⊤ };
 
-    ghost told_damage = { λ _ _ _ _ _. ⊤ };
+    ghost reported_damage = { λ _ _ _ _ _. ⊤ };
 
-    ghost told_no_store = { λ _ _ _. ⊤ };
+    ghost reported_no_store = { λ _ _ _. ⊤ };
 
-    fn tell_fault(&mut self, _file: &str, _fault: &F) {
+    fn report_fault(&mut self, _file: &str, _fault: &F) {
         self.faults = self.faults.wrapping_add(1);
     }
 
-    fn tell_damage(&mut self, _file: &str, _place: Place, _at: Option<u64>) {
+    fn report_damage(&mut self, _file: &str, _place: Place, _at: Option<u64>) {
         self.others = self.others.wrapping_add(1);
     }
 
-    fn tell_no_store(&mut self, _file: &str) {
+    fn report_no_store(&mut self, _file: &str) {
         self.others = self.others.wrapping_add(1);
     }
 }

@@ -2,7 +2,7 @@
 ghost use Rattle.std.specs.Prelude.{◌≡◌, ◌<◌, ◌+◌, ◌^◌, length, OnOk};
 ghost use Rattle.std.specs.Io.KnownBytes.{Appends};
 ghost use Rattle.std.specs.List.{slice_get};
-ghost use Rattle.silt_jobs.specs.Scripts.{opening_text, event_text, fault_told, mark_text, place_after, script_text, start};
+ghost use Rattle.silt_jobs.specs.Scripts.{opening_text, event_text, fault_reported, mark_text, place_after, script_text, start};
 
 use crate::script_lines::Mark;
 use silt_store_set::LifeReply;
@@ -87,7 +87,7 @@ fn write_fault<F: Drop, W: Write>(
     fault: LineFault,
     writer: &mut W,
 ) -> io::Result<()>
-    ensures { OnOk result (Appends (W.contents writer.old) (W.contents writer.new) (fault_told (slice_get lives.now life) fault)) }
+    ensures { OnOk result (Appends (W.contents writer.old) (W.contents writer.new) (fault_reported (slice_get lives.now life) fault)) }
 {
     match lives.get(life) {
         Some(LifeReply::Opened(_)) => refuse_line(alloc, fault, writer),

@@ -27,7 +27,7 @@ pub struct WatchedFile<'a, N> {
     first_read: OnceLock<Failure>,
     last: Option<Failure>,
     notes: N,
-    tells_at_once: bool,
+    reports_at_once: bool,
     progress: &'a Progress,
 }
 
@@ -112,9 +112,9 @@ impl<N: Notes> WatchedFile<'_, N> {
         ensures last { self.new.last ≡ Some (record { call = record { call = fault.inner.call; at = fault.inner.at }; error = fault.inner.error }) }
     {
         let failure = failure_of(&fault);
-        if self.tells_at_once && self.last.is_none() {
+        if self.reports_at_once && self.last.is_none() {
             self.progress.end();
-            self.notes.tell_failed_store(&failure);
+            self.notes.report_failed_store(&failure);
         }
         self.last = Some(failure);
         fault
@@ -146,8 +146,8 @@ impl<N: Notes + Send + Sync + Drop> Watched for WatchedFile<'_, N> {
         self.first_read.get().copied()
     }
 
-    fn tell_at_once(&mut self) {
-        self.tells_at_once = true;
+    fn report_at_once(&mut self) {
+        self.reports_at_once = true;
     }
 }
 
@@ -189,7 +189,7 @@ fn watched<N>(disk: FileDisk, notes: N, progress: &Progress) -> WatchedFile<'_, 
         first_read: OnceLock::new(),
         last: None,
         notes,
-        tells_at_once: false,
+        reports_at_once: false,
         progress,
     }
 }

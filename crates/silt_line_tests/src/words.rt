@@ -53,7 +53,7 @@ fn reads_the_options_in_any_order(rt: HostRuntime) -> Result<(), Fail> {
 }
 
 #[test]
-fn tells_an_option_that_is_not_given(rt: HostRuntime) -> Result<(), Fail> {
+fn reports_an_option_that_is_not_given(rt: HostRuntime) -> Result<(), Fail> {
     serves(&rt, "silt serve disk 0", 0, None, None)?;
     serves(&rt, "silt serve disk 65535 --audit 0", 65535, Some(0), None)?;
     serves(&rt, "silt serve disk 1 --sessions 1", 1, None, Some(1))?;

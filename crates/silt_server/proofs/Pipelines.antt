@@ -75,9 +75,9 @@ module _ {D F : Type 0} (facts : Ghosts D F) where
   pub settles_last : {X E : Type 0} (result : Result X E) (events done : List Event) (old new : Pipeline) → done ≡ events → AnswersSoFar facts done old
       → OnOk result ((given : List PlainReply) × (new.replies.items ≡ old.replies.items ++ given) × AllZip Allows old.kinds.items given)
       → OnOk result (AllZip (IsAnswer facts) events new.replies.items)
-  settles_last (Ok x) events done old new is some told =
-      subst (λ (l : List Event). AllZip (IsAnswer facts) l new.replies.items) is (settles_all done old new told.0 told.1 told.2 some)
-  settles_last (Err e) events done old new is some told = told
+  settles_last (Ok x) events done old new is some so_far =
+      subst (λ (l : List Event). AllZip (IsAnswer facts) l new.replies.items) is (settles_all done old new so_far.0 so_far.1 so_far.2 some)
+  settles_last (Err e) events done old new is some so_far = so_far
 
   -- an event more has its reply
   pub answers_one : (events : List Event) (event : Event) (old new : Pipeline) (reply : PlainReply) → AllZip (IsAnswer facts) events old.replies.items → IsAnswer facts event reply

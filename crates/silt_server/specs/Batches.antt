@@ -27,14 +27,14 @@ module _ {D F T : Type 0} (facts : Ghosts D F) (trace : TraceOf T) where
   -- the desk does a request with this result
   abbrev pub Performs : DeskState D T → DeskState D T → SeatState → SeatState → Request → Option Answer → Type 0
   Performs old new seat after (Put key value) (Some answer) =
-      (told : Result ℕ (Refusal F)) × (answer ≡ compared (plain_answer told))
-      × Serves facts trace old new seat after (event.Put key value) (change_reply told)
+      (reported : Result ℕ (Refusal F)) × (answer ≡ compared (plain_answer reported))
+      × Serves facts trace old new seat after (event.Put key value) (change_reply reported)
   Performs old new seat after (Delete key) (Some answer) =
-      (told : Result ℕ (Refusal F)) × (answer ≡ compared (plain_answer told))
-      × Serves facts trace old new seat after (event.Delete key) (change_reply told)
+      (reported : Result ℕ (Refusal F)) × (answer ≡ compared (plain_answer reported))
+      × Serves facts trace old new seat after (event.Delete key) (change_reply reported)
   Performs old new seat after (Swap key expected value) (Some answer) =
-      (told : Result (Option ℕ) (Refusal F)) × (answer ≡ plain_answer told)
-      × Serves facts trace old new seat after (event.Swap key expected value) (swap_reply told)
+      (reported : Result (Option ℕ) (Refusal F)) × (answer ≡ plain_answer reported)
+      × Serves facts trace old new seat after (event.Swap key expected value) (swap_reply reported)
   Performs old new seat after (Put key value) None = (length value ≢ old.core.shape.value_len) × (new ≡ old) × (after ≡ seat)
   Performs old new seat after (Swap key expected value) None =
       ((length expected ≢ old.core.shape.value_len) ⊎ (length value ≢ old.core.shape.value_len)) × (new ≡ old) × (after ≡ seat)
@@ -44,8 +44,8 @@ module _ {D F T : Type 0} (facts : Ghosts D F) (trace : TraceOf T) where
   -- the desk does a flush from this seat with this result
   abbrev pub Flushes : DeskState D T → DeskState D T → SeatState → SeatState → Flushed → Type 0
   Flushes old new seat after answer =
-      (told : Result ℕ (Refusal F)) × (answer ≡ plain_answer told)
-      × Serves facts trace old new seat after event.Flush (flush_reply told)
+      (reported : Result ℕ (Refusal F)) × (answer ≡ plain_answer reported)
+      × Serves facts trace old new seat after event.Flush (flush_reply reported)
 
   -- the desk does a task's request, and the task has the result
   abbrev pub PerformsTask : SeatState → Task → Task → SeatState → Type 0

@@ -28,12 +28,12 @@ no_memory_text = refused_text {F = Unit {0}} NoMemory
 -- ---- a server that served to its end
 
 -- the number of calls that the trace counts was written, as it is modulo 2^64
-abbrev pub TellsCalls : {T : Type 0} → (T → ℕ → ℕ → Type 0) → T → Option (List ℕ) → Option (List ℕ) → Type 0
-TellsCalls counts trace before after = (calls : ℕ) × (accepted : ℕ) × counts trace calls accepted × Appends before after (calls_text (calls % 2 ^ 64))
+abbrev pub PrintsCalls : {T : Type 0} → (T → ℕ → ℕ → Type 0) → T → Option (List ℕ) → Option (List ℕ) → Type 0
+PrintsCalls counts trace before after = (calls : ℕ) × (accepted : ℕ) × counts trace calls accepted × Appends before after (calls_text (calls % 2 ^ 64))
 
 -- the head was written with the listener's port, and behind it the number of calls that the trace counts
-abbrev pub TellsServed : {T : Type 0} → (ℕ → Type 0) → (T → ℕ → ℕ → Type 0) → T → Option (List ℕ) → Option (List ℕ) → Type 0
-TellsServed has_port counts trace before after =
+abbrev pub PrintsServed : {T : Type 0} → (ℕ → Type 0) → (T → ℕ → ℕ → Type 0) → T → Option (List ℕ) → Option (List ℕ) → Type 0
+PrintsServed has_port counts trace before after =
     (port : ℕ) × has_port port × (calls : ℕ) × (accepted : ℕ) × counts trace calls accepted × Appends before after (head_text port ++ calls_text (calls % 2 ^ 64))
 
 -- the head with the listener's port and a number of calls are written, and each possible crash image of the disk represents one map after
@@ -54,7 +54,7 @@ counts_kept kept calls accepted = (length kept.calls ≡ calls) × (count_accept
 -- calls were kept that are a history of the store on the disk, and their number was written behind the head
 abbrev pub ServesKept : {D F : Type 0} → Ghosts D F → (ℕ → Type 0) → D → Option (List ℕ) → Option (List ℕ) → Type 0
 ServesKept {D} facts has_port disk before after =
-    (core : CoreState D) × (kept : Keeping) × (core.disk ≡ disk) × IsHistory kept (seen facts core) × TellsServed has_port counts_kept kept before after
+    (core : CoreState D) × (kept : Keeping) × (core.disk ≡ disk) × IsHistory kept (seen facts core) × PrintsServed has_port counts_kept kept before after
 
 -- ---- a server that did not serve to its end
 
@@ -67,9 +67,9 @@ BreaksServing has_port before after =
 
 module _ {D F : Type 0} (facts : Ghosts D F) where
   -- the disk is as this store had it, and it was written that the store's entries could not be kept, for their cause
-  abbrev pub TellsEntries : CoreState D → D → Option (List ℕ) → Option (List ℕ) → Type 0
-  TellsEntries core disk before after = (core.disk ≡ disk) × ((refusal : Refusal F) × EntriesCause facts core refusal × Appends before after (refused_text refusal))
+  abbrev pub PrintsEntries : CoreState D → D → Option (List ℕ) → Option (List ℕ) → Type 0
+  PrintsEntries core disk before after = (core.disk ≡ disk) × ((refusal : Refusal F) × EntriesCause facts core refusal × Appends before after (refused_text refusal))
 
   -- it was written why this store is not served to the end
-  abbrev pub TellsNotServed : (ℕ → Type 0) → CoreState D → D → Option (List ℕ) → Option (List ℕ) → Type 0
-  TellsNotServed has_port core disk before after = TellsEntries core disk before after ⊎ BreaksServing has_port before after
+  abbrev pub PrintsNotServed : (ℕ → Type 0) → CoreState D → D → Option (List ℕ) → Option (List ℕ) → Type 0
+  PrintsNotServed has_port core disk before after = PrintsEntries core disk before after ⊎ BreaksServing has_port before after

@@ -16,7 +16,7 @@ use Rattle.silt_server.specs.declared.unanswered.Unanswered.TheVariants as unans
 module _ {D F : Type 0} (facts : Ghosts D F) where
   -- a look at this store, which changes nothing, gives this reply
   abbrev pub AnswersGet : CoreState D → Key → PlainReply → Type 0
-  AnswersGet core key reply = (told : Reply F) × Does facts core core (Get key) told × (reply ≡ plain told)
+  AnswersGet core key reply = (reported : Reply F) × Does facts core core (Get key) reported × (reply ≡ plain reported)
 
   -- a get has the reply of a look or of out of memory; a step is not served; every other event has a reply that its kind allows
   abbrev pub IsAnswer : Event → PlainReply → Type 0

@@ -6,8 +6,8 @@ ghost use Rattle.silt_store_set.specs.CoreInvariant.{LeavesBegun};
 ghost use Rattle.silt_store_set.specs.CoreState.{CoreState};
 ghost use Rattle.silt_desk.specs.Seeing.{seen};
 ghost use Rattle.silt_wire.specs.Statuses.{IsStatus};
-ghost use Rattle.silt_server.specs.Serving.{BreaksServing, ServesAt, ServesKept, TellsCalls, TellsNotServed};
-ghost use Rattle.silt_server.specs.Serving.{TellsServed, head_text, network_text, no_memory_text};
+ghost use Rattle.silt_server.specs.Serving.{BreaksServing, ServesAt, ServesKept, PrintsCalls, PrintsNotServed};
+ghost use Rattle.silt_server.specs.Serving.{PrintsServed, head_text, network_text, no_memory_text};
 
 use crate::admission::accept_clients;
 use crate::answers::answer_all;
@@ -60,7 +60,7 @@ pub fn serve_on<L: Listens, D: Disk, G: Gate + Sync, R: Threads + Wait + Sync, W
 ) -> (D, io::Result<u8>)
     ensures served { result.1 ≡ Ok 0 → ServesAt (L.has_port listener.now) (D.content result.0) (W.contents out.old) (W.contents out.new) }
     ensures kept { result.1 ≡ Ok 0 → IfSome limits.audit (λ _. ServesKept D.Disk (L.has_port listener.now) result.0 (W.contents out.old) (W.contents out.new)) }
-    ensures told { IfOk result.1 (IsStatus (TellsNotServed D.Disk (L.has_port listener.now) core result.0 (W.contents out.old) (W.contents out.new))) }
+    ensures printed { IfOk result.1 (IsStatus (PrintsNotServed D.Disk (L.has_port listener.now) core result.0 (W.contents out.old) (W.contents out.new))) }
     ensures left { (shape : Shape) × LeavesBegun (D.content result.0) shape }
 {
     match limits.audit {
@@ -75,7 +75,7 @@ pub fn serve_on<L: Listens, D: Disk, G: Gate + Sync, R: Threads + Wait + Sync, W
 ///
 /// The writer's.
 pub fn refuse_network<D: Disk, W: Write>(core: Core<D>, out: &mut W) -> (D, io::Result<u8>)
-    ensures told { IfOk result.1 (λ status. (status ≡ 1) × Appends (W.contents out.old) (W.contents out.new) (codes "opened\n" ++ network_text)) }
+    ensures printed { IfOk result.1 (λ status. (status ≡ 1) × Appends (W.contents out.old) (W.contents out.new) (codes "opened\n" ++ network_text)) }
     ensures left { (shape : Shape) × LeavesBegun (D.content result.0) shape }
 {
     (core.close(), write_no_network(out))
@@ -100,7 +100,7 @@ fn serve_counted<L: Listens, D: Disk, G: Gate + Sync, R: Threads + Wait + Sync, 
     out: &mut W,
 ) -> (D, io::Result<u8>)
     ensures served { result.1 ≡ Ok 0 → ServesAt (L.has_port listener.now) (D.content result.0) (W.contents out.old) (W.contents out.new) }
-    ensures told { IfOk result.1 (IsStatus (BreaksServing (L.has_port listener.now) (W.contents out.old) (W.contents out.new))) }
+    ensures printed { IfOk result.1 (IsStatus (BreaksServing (L.has_port listener.now) (W.contents out.old) (W.contents out.new))) }
     ensures left { (shape : Shape) × LeavesBegun (D.content result.0) shape }
 {
     let trace = Count::new();
@@ -123,7 +123,7 @@ fn serve_kept<L: Listens, D: Disk, G: Gate + Sync, R: Threads + Wait + Sync, W: 
 ) -> (D, io::Result<u8>)
     ensures served { result.1 ≡ Ok 0 → ServesAt (L.has_port listener.now) (D.content result.0) (W.contents out.old) (W.contents out.new) }
     ensures kept { result.1 ≡ Ok 0 → ServesKept D.Disk (L.has_port listener.now) result.0 (W.contents out.old) (W.contents out.new) }
-    ensures told { IfOk result.1 (IsStatus (TellsNotServed D.Disk (L.has_port listener.now) core result.0 (W.contents out.old) (W.contents out.new))) }
+    ensures printed { IfOk result.1 (IsStatus (PrintsNotServed D.Disk (L.has_port listener.now) core result.0 (W.contents out.old) (W.contents out.new))) }
     ensures left { (shape : Shape) × LeavesBegun (D.content result.0) shape }
 {
     match Kept::new(alloc, &core, most) {
@@ -190,8 +190,8 @@ fn serve_traced<
     requires taken { (blanks.taken.name ≡ P.taken_name) × (blanks.taken.parts ≡ 1) }
     requires trace { T.agrees trace (seen D.Disk core) × T.counts trace 0 0 }
     ensures served { result.1 ≡ Ok 0 → (core : CoreState D) × (trace : T) × (core.disk ≡ result.0) × T.agrees trace (seen D.Disk core)
-        × TellsServed (L.has_port listener.now) T.counts trace (W.contents out.old) (W.contents out.new) }
-    ensures told { IfOk result.1 (IsStatus (BreaksServing (L.has_port listener.now) (W.contents out.old) (W.contents out.new))) }
+        × PrintsServed (L.has_port listener.now) T.counts trace (W.contents out.old) (W.contents out.new) }
+    ensures printed { IfOk result.1 (IsStatus (BreaksServing (L.has_port listener.now) (W.contents out.old) (W.contents out.new))) }
     ensures left { (shape : Shape) × LeavesBegun (D.content result.0) shape }
 {
     let Blanks {
@@ -271,8 +271,8 @@ pub fn serve_desk<
     gate: &G,
     out: &mut W,
 ) -> (Desk<D, T, N>, io::Result<u8>)
-    ensures served { result.1 ≡ Ok 0 → TellsServed (L.has_port listener.now) T.counts result.0.trace (W.contents out.old) (W.contents out.new) }
-    ensures told { IfOk result.1 (IsStatus (BreaksServing (L.has_port listener.now) (W.contents out.old) (W.contents out.new))) }
+    ensures served { result.1 ≡ Ok 0 → PrintsServed (L.has_port listener.now) T.counts result.0.trace (W.contents out.old) (W.contents out.new) }
+    ensures printed { IfOk result.1 (IsStatus (BreaksServing (L.has_port listener.now) (W.contents out.old) (W.contents out.new))) }
 {
     let Ok(port) = listener.port() else {
         let status = write_no_network(out);
@@ -312,8 +312,8 @@ fn end<D: Disk, T: Trace, N: DeskId, W: Write>(
     out: &mut W,
 ) -> io::Result<u8>
     ensures same { desk.new ≡ desk.old }
-    ensures calls { result ≡ Ok 0 → TellsCalls T.counts desk.old.trace (W.contents out.old) (W.contents out.new) }
-    ensures told { IfOk result (IsStatus (Appends (W.contents out.old) (W.contents out.new) no_memory_text ⊎ Appends (W.contents out.old) (W.contents out.new) network_text)) }
+    ensures calls { result ≡ Ok 0 → PrintsCalls T.counts desk.old.trace (W.contents out.old) (W.contents out.new) }
+    ensures printed { IfOk result (IsStatus (Appends (W.contents out.old) (W.contents out.new) no_memory_text ⊎ Appends (W.contents out.old) (W.contents out.new) network_text)) }
 {
     let Some(Served { seats, accepted }) = served else {
         return refuse(alloc, &Refusal::<()>::NoMemory, out);
@@ -332,8 +332,8 @@ fn write_settled<D: Disk, T: Trace, N: DeskId, W: Write>(
     out: &mut W,
 ) -> io::Result<u8>
     ensures same { desk.new ≡ desk.old }
-    ensures calls { result ≡ Ok 0 → TellsCalls T.counts desk.old.trace (W.contents out.old) (W.contents out.new) }
-    ensures told { IfOk result (IsStatus (Appends (W.contents out.old) (W.contents out.new) no_memory_text)) }
+    ensures calls { result ≡ Ok 0 → PrintsCalls T.counts desk.old.trace (W.contents out.old) (W.contents out.new) }
+    ensures printed { IfOk result (IsStatus (Appends (W.contents out.old) (W.contents out.new) no_memory_text)) }
 {
     let (first, second, third) = seats;
     let mut all = Vec::new(alloc);

@@ -2,7 +2,7 @@
 // in it.
 
 use crate::lines::CONVERTED;
-use crate::script::{Told, live, repeated};
+use crate::script::{Printed, live, repeated};
 use crate::support::{OF_NO_ENTRIES, stands_at};
 use silt_device::MemDisk;
 use silt_fixtures::{changed, formatted};
@@ -12,19 +12,19 @@ use std::process::Abort;
 use std::test::Fail;
 
 // The replies are those to five puts, a flush and a conversion of nine steps.
-fn is_converted(rt: &impl Abort, told: &[Told]) {
-    assert_eq!(rt; told.len(), 16);
-    for reply in &told[7..15] {
-        assert_eq!(rt; *reply, Told::Progress(Progress::Moved));
+fn is_converted(rt: &impl Abort, printed: &[Printed]) {
+    assert_eq!(rt; printed.len(), 16);
+    for reply in &printed[7..15] {
+        assert_eq!(rt; *reply, Printed::Progress(Progress::Moved));
     }
-    assert_eq!(rt; told[15], Told::Progress(Progress::Finished));
+    assert_eq!(rt; printed[15], Printed::Progress(Progress::Finished));
 }
 
 /// The device after a conversion, with its replies checked.
 pub(crate) fn converted(rt: &impl Abort, alloc: Global) -> Result<MemDisk, Fail> {
     let lines = repeated(alloc, &CONVERTED)?;
-    let (disk, told) = live(alloc, formatted(alloc)?, &lines)?;
-    is_converted(rt, &told);
+    let (disk, printed) = live(alloc, formatted(alloc)?, &lines)?;
+    is_converted(rt, &printed);
     Ok(disk)
 }
 

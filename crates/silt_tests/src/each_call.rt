@@ -7,7 +7,7 @@ use crate::lines::{
     ASKED_BEHIND, CONVERTED, CONVERTED_MEANWHILE, CONVERTED_MEANWHILE_TOLD, CONVERTED_TOLD,
     SWAP_CONVERTED, SWAP_MEANWHILE, of_three_hash_stores,
 };
-use crate::script::{Told, ask, repeated, replies_of};
+use crate::script::{Printed, ask, repeated, replies_of};
 use crate::support::{entries_of, values_of};
 use silt_device::{Call, FaultDisk, Fill, Geometry, MemDisk, Stoppable};
 use silt_fixtures::{FILLS, formatted_with, small, stopping};
@@ -21,7 +21,7 @@ use std::test::Fail;
 struct Life<'a> {
     geometry: Geometry,
     lines: &'a [Line],
-    told: &'a [Told],
+    printed: &'a [Printed],
 }
 
 // Which calls of a life fail, one at a time: each read, or each write and each sync. The numbers
@@ -50,13 +50,13 @@ fn converted_lines(alloc: Global) -> Result<Vec<Line>, AllocError> {
 // The life is a conversion, followed by a get, a step and a swap.
 fn conversion_fails(rt: &impl Abort, alloc: Global, fails: Fails) -> Result<(), Fail> {
     let geometry = small()?;
-    let mut told = repeated(alloc, &CONVERTED_TOLD)?;
-    told.push(Told::Accepted(6))?;
+    let mut printed = repeated(alloc, &CONVERTED_TOLD)?;
+    printed.push(Printed::Accepted(6))?;
     let lines = converted_lines(alloc)?;
     let life = Life {
         geometry,
         lines: &lines,
-        told: &told,
+        printed: &printed,
     };
     each_fails(rt, alloc, &life, fails)
 }
@@ -64,14 +64,14 @@ fn conversion_fails(rt: &impl Abort, alloc: Global, fails: Fails) -> Result<(), 
 // The life is a merge beside two conversions, followed by a swap that freezes a log.
 fn merge_fails(rt: &impl Abort, alloc: Global, fails: Fails) -> Result<(), Fail> {
     let geometry = of_three_hash_stores()?;
-    let mut told = repeated(alloc, &CONVERTED_MEANWHILE_TOLD)?;
-    told.push(Told::Accepted(5))?;
+    let mut printed = repeated(alloc, &CONVERTED_MEANWHILE_TOLD)?;
+    printed.push(Printed::Accepted(5))?;
     let mut lines = repeated(alloc, &CONVERTED_MEANWHILE)?;
     lines.push(SWAP_MEANWHILE)?;
     let life = Life {
         geometry,
         lines: &lines,
-        told: &told,
+        printed: &printed,
     };
     each_fails(rt, alloc, &life, fails)
 }
@@ -99,12 +99,12 @@ fn asked_again(
     alloc: Global,
     core: &mut Core<FaultDisk>,
     line: Line,
-) -> Result<(Told, bool), Fail> {
-    let told = ask(alloc, core, line)?;
-    if told == Told::Refused(5) {
+) -> Result<(Printed, bool), Fail> {
+    let printed = ask(alloc, core, line)?;
+    if printed == Printed::Refused(5) {
         return Ok((ask(alloc, core, line)?, true));
     }
-    Ok((told, false))
+    Ok((printed, false))
 }
 
 // The values of the keys 0 to 7 in the list of the entries. A list that is refused with a fault is
@@ -129,10 +129,10 @@ fn ask_all(
     life: &Life,
 ) -> Result<u32, Fail> {
     let mut faults = 0u32;
-    for (line, expected) in life.lines.iter().zip(life.told.iter()) {
-        let (told, is_told) = asked_again(alloc, core, *line)?;
-        assert_eq!(rt; told, *expected);
-        faults = faults.saturating_add(is_told as u32);
+    for (line, expected) in life.lines.iter().zip(life.printed.iter()) {
+        let (printed, is_printed) = asked_again(alloc, core, *line)?;
+        assert_eq!(rt; printed, *expected);
+        faults = faults.saturating_add(is_printed as u32);
     }
     Ok(faults)
 }
@@ -146,9 +146,9 @@ fn ask_and_list(
     life: &Life,
 ) -> Result<u32, Fail> {
     let faults = ask_all(rt, alloc, core, life)?;
-    let (values, is_told) = listed_again(alloc, core)?;
+    let (values, is_printed) = listed_again(alloc, core)?;
     assert_eq!(rt; values, after(life.lines, u64::MAX));
-    Ok(faults.saturating_add(is_told as u32))
+    Ok(faults.saturating_add(is_printed as u32))
 }
 
 // Fails this read of the life. The call that made it is refused with the fault, and a second try
@@ -206,27 +206,27 @@ struct Failing {
 fn has_failed_with(
     rt: &impl Abort,
     has_failed: bool,
-    told: Told,
-    expected: Told,
+    printed: Printed,
+    expected: Printed,
     number: u64,
 ) -> bool {
     if has_failed {
-        assert_eq!(rt; told, Told::Refused(9), "call {number}");
+        assert_eq!(rt; printed, Printed::Refused(9), "call {number}");
         return true;
     }
-    if told == Told::Refused(5) {
+    if printed == Printed::Refused(5) {
         return true;
     }
-    assert_eq!(rt; told, expected, "call {number}");
+    assert_eq!(rt; printed, expected, "call {number}");
     false
 }
 
 // Compares all replies with those due around one fault. Returns whether there was a fault.
-fn tells_once(rt: &impl Abort, life: &Life, told: &[Told], number: u64) -> bool {
-    assert_eq!(rt; told.len(), life.told.len());
+fn prints_once(rt: &impl Abort, life: &Life, printed: &[Printed], number: u64) -> bool {
+    assert_eq!(rt; printed.len(), life.printed.len());
     let mut has_failed = false;
-    for (told, expected) in told.iter().zip(life.told.iter()) {
-        has_failed = has_failed_with(rt, has_failed, *told, *expected, number);
+    for (printed, expected) in printed.iter().zip(life.printed.iter()) {
+        has_failed = has_failed_with(rt, has_failed, *printed, *expected, number);
     }
     has_failed
 }
@@ -239,7 +239,7 @@ fn lived(
     life: &Life,
     disk: MemDisk,
     failing: Failing,
-) -> Result<(MemDisk, Vec<Told>, bool), Fail> {
+) -> Result<(MemDisk, Vec<Printed>, bool), Fail> {
     let disk = FaultDisk::new(disk, failing.call, failing.number);
     match Core::open(alloc, disk) {
         Ok(core) => answered(rt, alloc, life, core, failing.number),
@@ -262,7 +262,7 @@ fn answered(
     life: &Life,
     mut core: Core<FaultDisk>,
     number: u64,
-) -> Result<(MemDisk, Vec<Told>, bool), Fail> {
+) -> Result<(MemDisk, Vec<Printed>, bool), Fail> {
     let answers = answers(rt, alloc, life, &mut core, number);
     with_disk(core.close().into_disk(), answers)
 }
@@ -270,10 +270,10 @@ fn answered(
 // Joins a disk and the replies of its store.
 fn with_disk(
     disk: MemDisk,
-    answers: Result<(Vec<Told>, bool), AllocError>,
-) -> Result<(MemDisk, Vec<Told>, bool), Fail> {
-    let (told, is_made) = answers?;
-    Ok((disk, told, is_made))
+    answers: Result<(Vec<Printed>, bool), AllocError>,
+) -> Result<(MemDisk, Vec<Printed>, bool), Fail> {
+    let (printed, is_made) = answers?;
+    Ok((disk, printed, is_made))
 }
 
 fn answers(
@@ -282,11 +282,11 @@ fn answers(
     life: &Life,
     core: &mut Core<FaultDisk>,
     number: u64,
-) -> Result<(Vec<Told>, bool), AllocError> {
-    let told = replies_of(alloc, core, life.lines)?;
-    let is_made = tells_once(rt, life, &told, number);
+) -> Result<(Vec<Printed>, bool), AllocError> {
+    let printed = replies_of(alloc, core, life.lines)?;
+    let is_made = prints_once(rt, life, &printed, number);
     has_failed(rt, alloc, core, is_made);
-    Ok((told, is_made))
+    Ok((printed, is_made))
 }
 
 // If the failing call was made, the store is failed.
@@ -304,8 +304,11 @@ fn stopped(disk: MemDisk, stop: Option<Fill>) -> MemDisk {
     }
 }
 
-fn keeps(rt: &impl Abort, life: &Life, told: &[Told], found: [u16; 8], number: u64) {
-    assert!(rt; is_kept(life.lines, told, found), "{found:?} call {number}");
+fn keeps(rt: &impl Abort, life: &Life, printed: &[Printed], found: [u16; 8], number: u64) {
+    assert!(rt;
+        is_kept(life.lines, printed, found),
+        "{found:?} call {number}"
+    );
 }
 
 // Fails this write or sync of the life. From then on every call is refused. The next opening, with
@@ -320,9 +323,9 @@ fn change_fails(
     let fill = failing.stop.unwrap_or(Fill::Old);
     let stops = stopping(alloc, &[(0, fill), (0, fill), (0, fill)])?;
     let disk = formatted_with(alloc, life.geometry)?.arm(stops);
-    let (disk, told, is_made) = lived(rt, alloc, life, disk, failing)?;
+    let (disk, printed, is_made) = lived(rt, alloc, life, disk, failing)?;
     let (disk, found) = entries_of(alloc, stopped(disk, failing.stop))?;
-    keeps(rt, life, &told, found, failing.number);
+    keeps(rt, life, &printed, found, failing.number);
     goes_on(rt, alloc, disk, life.geometry, found)?;
     Ok(is_made)
 }

@@ -2,7 +2,7 @@
 // with no row waiting makes no device call.
 
 use crate::life_lines::Line;
-use crate::script::{Told, replies_of};
+use crate::script::{Printed, replies_of};
 use silt_device::{Call, FaultDisk};
 use silt_fixtures::formatted;
 use silt_store_set::{Core, Progress};
@@ -12,17 +12,21 @@ use std::test::Fail;
 // Joins a disk and the replies of its store.
 fn with_disk(
     disk: FaultDisk,
-    told: Result<Vec<Told>, AllocError>,
-) -> Result<(FaultDisk, Vec<Told>), Fail> {
-    Ok((disk, told?))
+    printed: Result<Vec<Printed>, AllocError>,
+) -> Result<(FaultDisk, Vec<Printed>), Fail> {
+    Ok((disk, printed?))
 }
 
 // Asks these lines of the store on this disk and closes it.
-fn told_on(alloc: Global, disk: FaultDisk, lines: &[Line]) -> Result<(FaultDisk, Vec<Told>), Fail> {
+fn printed_on(
+    alloc: Global,
+    disk: FaultDisk,
+    lines: &[Line],
+) -> Result<(FaultDisk, Vec<Printed>), Fail> {
     match Core::open(alloc, disk) {
         Ok(mut core) => {
-            let told = replies_of(alloc, &mut core, lines);
-            with_disk(core.close(), told)
+            let printed = replies_of(alloc, &mut core, lines);
+            with_disk(core.close(), printed)
         }
         Err(_) => Err("opens".into()),
     }
@@ -30,13 +34,13 @@ fn told_on(alloc: Global, disk: FaultDisk, lines: &[Line]) -> Result<(FaultDisk,
 
 // Asks these lines of an empty store on a disk on which this call fails. The calls are counted from
 // the opening on.
-fn told_where(
+fn printed_where(
     alloc: Global,
     call: Call,
     number: u64,
     lines: &[Line],
-) -> Result<(FaultDisk, Vec<Told>), Fail> {
-    told_on(
+) -> Result<(FaultDisk, Vec<Printed>), Fail> {
+    printed_on(
         alloc,
         FaultDisk::new(formatted(alloc)?, call, number),
         lines,
@@ -45,28 +49,32 @@ fn told_where(
 
 // The replies to a put, a flush and a get if this sync fails, and to a get after the next opening.
 // The opening makes sync 1, and the flush syncs 2 and 3.
-fn flush_fails(alloc: Global, sync: u64) -> Result<(Vec<Told>, Vec<Told>), Fail> {
+fn flush_fails(alloc: Global, sync: u64) -> Result<(Vec<Printed>, Vec<Printed>), Fail> {
     let lines = [Line::Put(1, 0x0102), Line::Flush, Line::Get(1)];
-    let (disk, told) = told_where(alloc, Call::Sync, sync, &lines)?;
-    let (_, found) = told_on(alloc, disk, &[Line::Get(1)])?;
-    Ok((told, found))
+    let (disk, printed) = printed_where(alloc, Call::Sync, sync, &lines)?;
+    let (_, found) = printed_on(alloc, disk, &[Line::Get(1)])?;
+    Ok((printed, found))
 }
 
-const FAILED: [Told; 3] = [Told::Accepted(1), Told::Refused(5), Told::Refused(9)];
+const FAILED: [Printed; 3] = [
+    Printed::Accepted(1),
+    Printed::Refused(5),
+    Printed::Refused(9),
+];
 
 #[test]
 fn the_put_is_lost_where_the_first_sync_of_its_flush_fails(rt: HostRuntime) -> Result<(), Fail> {
-    let (told, found) = flush_fails(rt.alloc(), 2)?;
-    assert_eq!(rt; told.as_slice(), &FAILED[..]);
-    assert_eq!(rt; found.as_slice(), &[Told::Absent][..]);
+    let (printed, found) = flush_fails(rt.alloc(), 2)?;
+    assert_eq!(rt; printed.as_slice(), &FAILED[..]);
+    assert_eq!(rt; found.as_slice(), &[Printed::Absent][..]);
     Ok(())
 }
 
 #[test]
 fn the_put_is_there_where_the_second_sync_of_its_flush_fails(rt: HostRuntime) -> Result<(), Fail> {
-    let (told, found) = flush_fails(rt.alloc(), 3)?;
-    assert_eq!(rt; told.as_slice(), &FAILED[..]);
-    assert_eq!(rt; found.as_slice(), &[Told::Value(1, 2)][..]);
+    let (printed, found) = flush_fails(rt.alloc(), 3)?;
+    assert_eq!(rt; printed.as_slice(), &FAILED[..]);
+    assert_eq!(rt; found.as_slice(), &[Printed::Value(1, 2)][..]);
     Ok(())
 }
 
@@ -81,30 +89,36 @@ const IDLE: [Line; 6] = [
     Line::Flush,
 ];
 
-const IDLE_TOLD: [Told; 4] = [
-    Told::Absent,
-    Told::Acknowledged(0),
-    Told::Progress(Progress::Idle),
-    Told::Progress(Progress::Idle),
+const IDLE_TOLD: [Printed; 4] = [
+    Printed::Absent,
+    Printed::Acknowledged(0),
+    Printed::Progress(Progress::Idle),
+    Printed::Progress(Progress::Idle),
 ];
 
 // Sync 2 is the first one after the opening. It fails in the flush of the put, so no call before
 // that makes a sync.
 #[test]
 fn a_flush_with_nothing_waiting_makes_no_sync(rt: HostRuntime) -> Result<(), Fail> {
-    let (_, told) = told_where(rt.alloc(), Call::Sync, 2, &IDLE)?;
-    assert_eq!(rt; told.len(), 6);
-    assert_eq!(rt; &told[..4], &IDLE_TOLD[..]);
-    assert_eq!(rt; &told[4..], &[Told::Accepted(1), Told::Refused(5)][..]);
+    let (_, printed) = printed_where(rt.alloc(), Call::Sync, 2, &IDLE)?;
+    assert_eq!(rt; printed.len(), 6);
+    assert_eq!(rt; &printed[..4], &IDLE_TOLD[..]);
+    assert_eq!(rt;
+        &printed[4..],
+        &[Printed::Accepted(1), Printed::Refused(5)][..]
+    );
     Ok(())
 }
 
 // Write 1 fails in the put, so no call before it makes a write.
 #[test]
 fn a_flush_with_nothing_waiting_makes_no_write(rt: HostRuntime) -> Result<(), Fail> {
-    let (_, told) = told_where(rt.alloc(), Call::Write, 1, &IDLE)?;
-    assert_eq!(rt; told.len(), 6);
-    assert_eq!(rt; &told[..4], &IDLE_TOLD[..]);
-    assert_eq!(rt; &told[4..], &[Told::Refused(5), Told::Refused(9)][..]);
+    let (_, printed) = printed_where(rt.alloc(), Call::Write, 1, &IDLE)?;
+    assert_eq!(rt; printed.len(), 6);
+    assert_eq!(rt; &printed[..4], &IDLE_TOLD[..]);
+    assert_eq!(rt;
+        &printed[4..],
+        &[Printed::Refused(5), Printed::Refused(9)][..]
+    );
     Ok(())
 }

@@ -56,7 +56,7 @@ fn refused<T: Drop>(answered: Result<T, Refusal<MemFault>>) -> u32 {
 pub(crate) fn is_failed(rt: &impl Abort, alloc: Global, core: &mut Core<FaultDisk>) {
     assert_eq!(rt; core.geometry().value_len(), 2);
     let mut out = [7; 2];
-    let told = [
+    let printed = [
         refused(core.get(&key(1), &mut out)),
         refused(core.put(alloc, &key(1), &[0, 2])),
         refused(core.delete(alloc, &key(1))),
@@ -67,7 +67,7 @@ pub(crate) fn is_failed(rt: &impl Abort, alloc: Global, core: &mut Core<FaultDis
         refused(core.merge(alloc)),
         refused(core.entries(alloc)),
     ];
-    assert_eq!(rt; told, [9; 9]);
+    assert_eq!(rt; printed, [9; 9]);
 }
 
 // Closes the store, and returns the values of the keys 0 to 7 on its disk.
@@ -193,7 +193,7 @@ fn full_logs_take_no_row(rt: HostRuntime) -> Result<(), Fail> {
 // If the store and all its logs are full, a put is refused StoreFull rather than NoRoom. A delete
 // is refused NoRoom.
 #[test]
-fn tells_a_full_store_before_full_logs(rt: HostRuntime) -> Result<(), Fail> {
+fn reports_a_full_store_before_full_logs(rt: HostRuntime) -> Result<(), Fail> {
     let alloc = rt.alloc();
     let mut core = of_capacity(alloc, 8)?;
     takes_eight_puts(&rt, alloc, &mut core, [1; 8]);

@@ -3,7 +3,7 @@
 
 use crate::life_lines::Line;
 use crate::lines::IDLE;
-use crate::script::{Told, told_of_life};
+use crate::script::{Printed, printed_of_life};
 use crate::support::{OF_NO_ENTRIES, stands_at};
 use silt_device::MemDisk;
 use silt_fixtures::{formatted, opened, small};
@@ -64,14 +64,14 @@ fn formats_as_laid_out(rt: HostRuntime) -> Result<(), Fail> {
 #[test]
 fn runs_events(rt: HostRuntime) -> Result<(), Fail> {
     let lines = [Line::Get(1), Line::Flush, Line::Convert, Line::Merge];
-    let told = told_of_life(rt.alloc(), small()?, &lines)?;
+    let printed = printed_of_life(rt.alloc(), small()?, &lines)?;
     let expected = [
-        Told::Opened,
-        Told::Absent,
-        Told::Acknowledged(0),
+        Printed::Opened,
+        Printed::Absent,
+        Printed::Acknowledged(0),
         IDLE,
         IDLE,
     ];
-    assert_eq!(rt; told.as_slice(), expected.as_slice());
+    assert_eq!(rt; printed.as_slice(), expected.as_slice());
     Ok(())
 }

@@ -156,7 +156,7 @@ fn formatted_again(rt: &impl Abort, alloc: Global, disk: MemDisk, fill: Fill) ->
 fn old_disk(alloc: Global) -> Result<MemDisk, Fail> {
     let disk = formatted_with(alloc, of_two_hash_stores()?)?;
     let lines = repeated(alloc, &MERGED_TWICE)?;
-    let (disk, _told) = live(alloc, disk, &lines)?;
+    let (disk, _printed) = live(alloc, disk, &lines)?;
     Ok(disk)
 }
 

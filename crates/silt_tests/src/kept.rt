@@ -2,7 +2,7 @@
 
 use crate::life_lines::Line;
 use crate::lines::IDLE;
-use crate::script::{Told, live, repeated};
+use crate::script::{Printed, live, repeated};
 use crate::support::entries_of;
 use silt_device::{Geometry, MemDisk, Stoppable};
 use silt_recovery::check;
@@ -44,10 +44,10 @@ pub(crate) fn after(lines: &[Line], mut commands: u64) -> [u16; 8] {
 }
 
 // How many commands were accepted.
-fn accepted(told: &[Told]) -> u64 {
+fn accepted(printed: &[Printed]) -> u64 {
     let mut count = 0;
-    for reply in told {
-        if let Told::Accepted(n) = reply {
+    for reply in printed {
+        if let Printed::Accepted(n) = reply {
             count = *n;
         }
     }
@@ -55,10 +55,10 @@ fn accepted(told: &[Told]) -> u64 {
 }
 
 // How many commands were acknowledged.
-fn acknowledged(told: &[Told]) -> u64 {
+fn acknowledged(printed: &[Printed]) -> u64 {
     let mut count = 0;
-    for reply in told {
-        if let Told::Acknowledged(n) = reply {
+    for reply in printed {
+        if let Printed::Acknowledged(n) = reply {
             count = *n;
         }
     }
@@ -67,8 +67,8 @@ fn acknowledged(told: &[Told]) -> u64 {
 
 /// Whether the entries are those after the first commands: all acknowledged ones, and perhaps some
 /// that were only accepted.
-pub(crate) fn is_kept(lines: &[Line], told: &[Told], found: [u16; 8]) -> bool {
-    for commands in acknowledged(told)..accepted(told).saturating_add(1) {
+pub(crate) fn is_kept(lines: &[Line], printed: &[Printed], found: [u16; 8]) -> bool {
+    for commands in acknowledged(printed)..accepted(printed).saturating_add(1) {
         if after(lines, commands) == found {
             return true;
         }
@@ -78,17 +78,17 @@ pub(crate) fn is_kept(lines: &[Line], told: &[Told], found: [u16; 8]) -> bool {
 
 // The reply that is due to a put at the beginning of a life on this disk. It is refused if the
 // store is full, or if neither the active log nor another one has room.
-fn told_of_put(alloc: Global, disk: &MemDisk, geometry: Geometry) -> Result<Told, Fail> {
+fn printed_of_put(alloc: Global, disk: &MemDisk, geometry: Geometry) -> Result<Printed, Fail> {
     let report = check(alloc, disk).ok().ok_or("is whole")?;
     if report.charge >= geometry.sorted_capacity() {
-        return Ok(Told::Refused(7));
+        return Ok(Printed::Refused(7));
     }
     let in_active = report.active_rows < geometry.log_capacity();
     let in_another = report.frozen.saturating_add(1) < geometry.logs();
     if in_active | in_another {
-        return Ok(Told::Accepted(1));
+        return Ok(Printed::Accepted(1));
     }
-    Ok(Told::Refused(8))
+    Ok(Printed::Refused(8))
 }
 
 // A put of key 7 and a flush, and then this many steps of conversion and of merging in turn.
@@ -106,14 +106,14 @@ fn lived_with_put(
     disk: MemDisk,
     value: u16,
     steps: u32,
-) -> Result<(MemDisk, Vec<Told>), AllocError> {
+) -> Result<(MemDisk, Vec<Printed>), AllocError> {
     let lines = put_and_steps(alloc, value, steps)?;
     live(alloc, disk, &lines)
 }
 
 // The values after this reply to a put of key 7, and how many commands the next flush acknowledges.
-fn with_put(reply: Told, value: u16, mut found: [u16; 8]) -> ([u16; 8], u64) {
-    if reply == Told::Accepted(1) {
+fn with_put(reply: Printed, value: u16, mut found: [u16; 8]) -> ([u16; 8], u64) {
+    if reply == Printed::Accepted(1) {
         found[7] = value;
         return (found, 1);
     }
@@ -121,9 +121,12 @@ fn with_put(reply: Told, value: u16, mut found: [u16; 8]) -> ([u16; 8], u64) {
 }
 
 // The life got these replies. Its last step of each kind, if it has steps, found nothing to do.
-fn has_grown(rt: &impl Abort, told: &[Told], expected: &[Told], steps: u32) {
-    assert!(rt; told.starts_with(expected), "{told:?}");
-    assert!(rt; steps == 0 || told.ends_with(&[IDLE, IDLE]), "{told:?}");
+fn has_grown(rt: &impl Abort, printed: &[Printed], expected: &[Printed], steps: u32) {
+    assert!(rt; printed.starts_with(expected), "{printed:?}");
+    assert!(rt;
+        steps == 0 || printed.ends_with(&[IDLE, IDLE]),
+        "{printed:?}"
+    );
 }
 
 // Runs a life of a put of key 7, a flush and this many steps of both kinds. Returns the disk and
@@ -136,13 +139,13 @@ fn grown(
     (value, steps): (u16, u32),
     found: [u16; 8],
 ) -> Result<(MemDisk, [u16; 8]), Fail> {
-    let reply = told_of_put(alloc, &disk, geometry)?;
+    let reply = printed_of_put(alloc, &disk, geometry)?;
     let (stands, kept) = with_put(reply, value, found);
-    let (disk, told) = lived_with_put(alloc, disk, value, steps)?;
+    let (disk, printed) = lived_with_put(alloc, disk, value, steps)?;
     has_grown(
         rt,
-        &told,
-        &[Told::Opened, reply, Told::Acknowledged(kept)],
+        &printed,
+        &[Printed::Opened, reply, Printed::Acknowledged(kept)],
         steps,
     );
     Ok((disk, stands))

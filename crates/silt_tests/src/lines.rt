@@ -2,17 +2,17 @@
 // is asked.
 
 use crate::life_lines::Line;
-use crate::script::Told;
+use crate::script::Printed;
 use silt_device::Geometry;
 use silt_fixtures::of_regions;
 use silt_store_set::Progress;
 use std::test::Fail;
 
-pub(crate) const MOVED: Told = Told::Progress(Progress::Moved);
+pub(crate) const MOVED: Printed = Printed::Progress(Progress::Moved);
 
-pub(crate) const FINISHED: Told = Told::Progress(Progress::Finished);
+pub(crate) const FINISHED: Printed = Printed::Progress(Progress::Finished);
 
-pub(crate) const IDLE: Told = Told::Progress(Progress::Idle);
+pub(crate) const IDLE: Printed = Printed::Progress(Progress::Idle);
 
 /// Three puts and a flush, which make ten calls. The opening's sync is call 1, each put makes two
 /// writes, and call 9 writes the gates.
@@ -39,16 +39,16 @@ pub(crate) const CONVERTED: [(Line, u8); 7] = [
 
 /// The replies to that life, and to a get of key 2 and one more step after it, which makes no
 /// device call.
-pub(crate) const CONVERTED_TOLD: [(Told, u8); 10] = [
-    (Told::Accepted(1), 1),
-    (Told::Accepted(2), 1),
-    (Told::Accepted(3), 1),
-    (Told::Accepted(4), 1),
-    (Told::Accepted(5), 1),
-    (Told::Acknowledged(5), 1),
+pub(crate) const CONVERTED_TOLD: [(Printed, u8); 10] = [
+    (Printed::Accepted(1), 1),
+    (Printed::Accepted(2), 1),
+    (Printed::Accepted(3), 1),
+    (Printed::Accepted(4), 1),
+    (Printed::Accepted(5), 1),
+    (Printed::Acknowledged(5), 1),
     (MOVED, 8),
     (FINISHED, 1),
-    (Told::Value(0, 2), 1),
+    (Printed::Value(0, 2), 1),
     (IDLE, 1),
 ];
 
@@ -74,25 +74,25 @@ pub(crate) const MERGED_TWICE: [(Line, u8); 13] = [
     (Line::Flush, 1),
 ];
 
-pub(crate) const MERGED_TWICE_TOLD: [(Told, u8); 18] = [
-    (Told::Accepted(1), 1),
-    (Told::Accepted(2), 1),
+pub(crate) const MERGED_TWICE_TOLD: [(Printed, u8); 18] = [
+    (Printed::Accepted(1), 1),
+    (Printed::Accepted(2), 1),
     (MOVED, 8),
     (FINISHED, 1),
     (MOVED, 9),
     (FINISHED, 1),
-    (Told::Accepted(3), 1),
+    (Printed::Accepted(3), 1),
     (MOVED, 8),
     (FINISHED, 1),
-    (Told::Accepted(4), 1),
+    (Printed::Accepted(4), 1),
     (MOVED, 8),
     (FINISHED, 1),
     (MOVED, 18),
     (FINISHED, 1),
-    (Told::Absent, 1),
-    (Told::Value(3, 4), 1),
-    (Told::Value(5, 6), 1),
-    (Told::Acknowledged(4), 1),
+    (Printed::Absent, 1),
+    (Printed::Value(3, 4), 1),
+    (Printed::Value(5, 6), 1),
+    (Printed::Acknowledged(4), 1),
 ];
 
 /// Two more hash stores are made while a merge is in progress, which leaves them alone: 95 calls.
@@ -110,22 +110,22 @@ pub(crate) const CONVERTED_MEANWHILE: [(Line, u8); 11] = [
     (Line::Get(2), 1),
 ];
 
-pub(crate) const CONVERTED_MEANWHILE_TOLD: [(Told, u8); 15] = [
-    (Told::Accepted(1), 1),
-    (Told::Accepted(2), 1),
+pub(crate) const CONVERTED_MEANWHILE_TOLD: [(Printed, u8); 15] = [
+    (Printed::Accepted(1), 1),
+    (Printed::Accepted(2), 1),
     (MOVED, 8),
     (FINISHED, 1),
-    (Told::Accepted(3), 1),
+    (Printed::Accepted(3), 1),
     (MOVED, 3),
     (MOVED, 8),
     (FINISHED, 1),
-    (Told::Accepted(4), 1),
+    (Printed::Accepted(4), 1),
     (MOVED, 8),
     (FINISHED, 1),
     (MOVED, 6),
     (FINISHED, 1),
-    (Told::Value(0, 3), 1),
-    (Told::Value(0, 4), 1),
+    (Printed::Value(0, 3), 1),
+    (Printed::Value(0, 4), 1),
 ];
 
 /// A swap after that conversion, of a value in the hash store. The active log takes its row, by two

@@ -9,7 +9,7 @@ use crate::life_lines::Line;
 use crate::lines::{
     CONVERTED_MEANWHILE, CONVERTED_MEANWHILE_TOLD, SWAP_MEANWHILE, of_three_hash_stores,
 };
-use crate::script::{Told, all_events_twice, ask, events_twice, repeated, run, tell_reply};
+use crate::script::{Printed, all_events_twice, ask, events_twice, print_reply, repeated, run};
 use crate::support::values_of;
 use silt_device::{Geometry, MemDisk, MemFault};
 use silt_event::Report;
@@ -106,11 +106,11 @@ fn asked(
     core: &mut Core<MemDisk>,
     line: Line,
     values: [u16; 8],
-) -> Result<Told, Fail> {
+) -> Result<Printed, Fail> {
     let count = core.count();
-    let told = ask(alloc, core, line)?;
-    if told != Told::Refused(6) {
-        return Ok(told);
+    let printed = ask(alloc, core, line)?;
+    if printed != Printed::Refused(6) {
+        return Ok(printed);
     }
     let found = listed(alloc, core)?;
     assert_eq!(rt; (core.count(), found), (count, values));
@@ -139,7 +139,7 @@ fn all_done(rt: &impl Abort, alloc: Global, core: &mut Core<MemDisk>) -> Result<
     let mut lines = repeated_twice(alloc, &CONVERTED_MEANWHILE)?;
     let mut replies = repeated_twice(alloc, &CONVERTED_MEANWHILE_TOLD)?;
     push_twice(&mut lines, SWAP_MEANWHILE)?;
-    push_twice(&mut replies, Told::Accepted(5))?;
+    push_twice(&mut replies, Printed::Accepted(5))?;
     all_asked(rt, alloc, core, &lines, &replies)?;
     let values = after(&lines, u64::MAX);
     has_flushed(rt, alloc, core, values)?;
@@ -175,12 +175,12 @@ fn all_asked(
     alloc: Global,
     core: &mut Core<MemDisk>,
     lines: &[Line],
-    due: &[Told],
+    due: &[Printed],
 ) -> Result<(), Fail> {
     for (index, line) in lines.iter().enumerate() {
         let values = after(&lines[..lines.len().min(index)], u64::MAX);
-        let told = asked(rt, alloc, core, *line, values)?;
-        assert_eq!(rt; Some(&told), due.get(index), "line {index}");
+        let printed = asked(rt, alloc, core, *line, values)?;
+        assert_eq!(rt; Some(&printed), due.get(index), "line {index}");
     }
     Ok(())
 }
@@ -214,13 +214,13 @@ const PLAIN: [(Line, u8); 6] = [
     (Line::Flush, 1),
 ];
 
-const PLAIN_TOLD: [(Told, u8); 6] = [
-    (Told::Accepted(1), 1),
-    (Told::Value(0, 1), 2),
-    (Told::Accepted(2), 1),
-    (Told::Accepted(3), 1),
-    (Told::Value(0, 2), 2),
-    (Told::Acknowledged(3), 1),
+const PLAIN_TOLD: [(Printed, u8); 6] = [
+    (Printed::Accepted(1), 1),
+    (Printed::Value(0, 1), 2),
+    (Printed::Accepted(2), 1),
+    (Printed::Accepted(3), 1),
+    (Printed::Value(0, 2), 2),
+    (Printed::Acknowledged(3), 1),
 ];
 
 // The events of those puts and gets.
@@ -271,42 +271,42 @@ fn run_again(
 }
 
 // 1 if a get is out of memory, else 0 after a comparison of the reply with the one that is due.
-fn lacks(rt: &impl Abort, told: Told, expected: Told) -> u32 {
-    if told != Told::Refused(6) {
-        assert_eq!(rt; told, expected);
+fn lacks(rt: &impl Abort, printed: Printed, expected: Printed) -> u32 {
+    if printed != Printed::Refused(6) {
+        assert_eq!(rt; printed, expected);
         return 0;
     }
-    assert!(rt; matches!(expected, Told::Value(..)));
+    assert!(rt; matches!(expected, Printed::Value(..)));
     1
 }
 
 // How many gets are out of memory. All other replies are those that are due.
-fn gets_lacking(rt: &impl Abort, answers: &[Reply<MemFault>], due: &[Told]) -> u32 {
+fn gets_lacking(rt: &impl Abort, answers: &[Reply<MemFault>], due: &[Printed]) -> u32 {
     let mut lacking = 0u32;
     for (answer, expected) in answers.iter().zip(due.iter()) {
-        lacking = lacking.saturating_add(lacks(rt, tell_reply(answer), *expected));
+        lacking = lacking.saturating_add(lacks(rt, print_reply(answer), *expected));
     }
     lacking
 }
 
 // How the tests write the last reply of a life, or of its opening.
-fn told_last<F: Drop>(life: &LifeReply<F>) -> Told {
+fn printed_last<F: Drop>(life: &LifeReply<F>) -> Printed {
     match life {
-        LifeReply::NotOpened(refusal) => Told::NotOpened(refusal.label().0),
+        LifeReply::NotOpened(refusal) => Printed::NotOpened(refusal.label().0),
         LifeReply::Opened(replies) => match replies.last() {
-            Some(reply) => tell_reply(reply),
-            None => Told::Opened,
+            Some(reply) => print_reply(reply),
+            None => Printed::Opened,
         },
     }
 }
 
 // The last reply to each of these two lives, or none if memory ran out before the first one.
-fn told_of_two(
+fn printed_of_two(
     rt: &impl Abort,
     alloc: Global,
     disk: MemDisk,
     all: &[&[Line]],
-) -> Result<Option<(Told, Told)>, Fail> {
+) -> Result<Option<(Printed, Printed)>, Fail> {
     let all = all_events_twice(alloc, all)?;
     match lives(alloc, disk, 2, &all) {
         Ok(replies) => Ok(Some(last_of_two(rt, &replies))),
@@ -314,20 +314,24 @@ fn told_of_two(
     }
 }
 
-fn last_of_two(rt: &impl Abort, replies: &[LifeReply<MemFault>]) -> (Told, Told) {
+fn last_of_two(rt: &impl Abort, replies: &[LifeReply<MemFault>]) -> (Printed, Printed) {
     assert_eq!(rt; replies.len(), 2);
-    (told_last(&replies[0]), told_last(&replies[1]))
+    (printed_last(&replies[0]), printed_last(&replies[1]))
 }
 
 // One of two lives, or the get of the second, may be out of memory. If it is the first life, the
 // get finds nothing.
-fn one_lacks(rt: &impl Abort, first: Told, second: Told) {
-    if first == Told::NotOpened(6) {
-        assert_eq!(rt; second, Told::Absent);
+fn one_lacks(rt: &impl Abort, first: Printed, second: Printed) {
+    if first == Printed::NotOpened(6) {
+        assert_eq!(rt; second, Printed::Absent);
         return;
     }
-    assert_eq!(rt; first, Told::Acknowledged(1));
-    let expected = [Told::Value(0, 1), Told::Refused(6), Told::NotOpened(6)];
+    assert_eq!(rt; first, Printed::Acknowledged(1));
+    let expected = [
+        Printed::Value(0, 1),
+        Printed::Refused(6),
+        Printed::NotOpened(6),
+    ];
     assert!(rt; expected.contains(&second), "{second:?}");
 }
 
@@ -337,8 +341,8 @@ fn one_lacks(rt: &impl Abort, first: Told, second: Told) {
 fn a_life_lacks_memory(rt: HostRuntime) -> Result<(), Fail> {
     let put = [Line::Put(1, 1), Line::Flush];
     let disk = formatted(&rt, rt.alloc(), small()?)?;
-    let told = told_of_two(&rt, rt.alloc(), disk, &[&put, &[Line::Get(1)]])?;
-    if let Some((first, second)) = told {
+    let printed = printed_of_two(&rt, rt.alloc(), disk, &[&put, &[Line::Get(1)]])?;
+    if let Some((first, second)) = printed {
         one_lacks(&rt, first, second);
     }
     Ok(())

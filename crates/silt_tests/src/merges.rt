@@ -7,7 +7,7 @@ use crate::lines::{
     CONVERTED_MEANWHILE, CONVERTED_MEANWHILE_TOLD, FINISHED, MERGED_TWICE, MERGED_TWICE_TOLD,
     MOVED, of_three_hash_stores, of_two_hash_stores,
 };
-use crate::script::{Told, live, repeated, told_of_life};
+use crate::script::{Printed, live, printed_of_life, repeated};
 use silt_device::Geometry;
 use silt_event::{Layout, Report};
 use silt_fixtures::{formatted_with, of_regions};
@@ -32,12 +32,12 @@ fn of_one_hash_store() -> Result<Geometry, Fail> {
 }
 
 // The reply to a get of a key with this value, 0 for none.
-fn told_of(value: u16) -> Told {
+fn printed_of(value: u16) -> Printed {
     let [first, last] = value.to_be_bytes();
     if value == 0 {
-        return Told::Absent;
+        return Printed::Absent;
     }
-    Told::Value(first, last)
+    Printed::Value(first, last)
 }
 
 // The lines, and after each of them a get of the keys 1 to 3.
@@ -51,25 +51,29 @@ fn with_gets(alloc: Global, lines: &[Line]) -> Result<Vec<Line>, AllocError> {
 
 // The replies to the lines, and after each of them the last values that the lines gave to the keys
 // 1 to 3.
-fn told_with_gets(alloc: Global, lines: &[Line], told: &[Told]) -> Result<Vec<Told>, AllocError> {
+fn printed_with_gets(
+    alloc: Global,
+    lines: &[Line],
+    printed: &[Printed],
+) -> Result<Vec<Printed>, AllocError> {
     let mut all = Vec::new(alloc);
-    all.push(Told::Opened)?;
-    for (index, reply) in told.iter().enumerate() {
+    all.push(Printed::Opened)?;
+    for (index, reply) in printed.iter().enumerate() {
         let values = after(&lines[..lines.len().min(index + 1)], u64::MAX);
         all.extend_from_slice(&[
             *reply,
-            told_of(values[1]),
-            told_of(values[2]),
-            told_of(values[3]),
+            printed_of(values[1]),
+            printed_of(values[2]),
+            printed_of(values[3]),
         ])?;
     }
     Ok(all)
 }
 
 // The replies to the life on a new disk, with a get of each key after each line.
-fn told_asked(alloc: Global, geometry: Geometry, lines: &[Line]) -> Result<Vec<Told>, Fail> {
+fn printed_asked(alloc: Global, geometry: Geometry, lines: &[Line]) -> Result<Vec<Printed>, Fail> {
     let asked = with_gets(alloc, lines)?;
-    told_of_life(alloc, geometry, &asked)
+    printed_of_life(alloc, geometry, &asked)
 }
 
 // The life on a new disk gets these replies if a get of each key follows each line.
@@ -78,11 +82,11 @@ fn answers_asked(
     alloc: Global,
     geometry: Geometry,
     lines: &[Line],
-    replies: &[Told],
+    replies: &[Printed],
 ) -> Result<(), Fail> {
-    let expected = told_with_gets(alloc, lines, replies)?;
-    let told = told_asked(alloc, geometry, lines)?;
-    assert_eq!(rt; told.as_slice(), expected.as_slice());
+    let expected = printed_with_gets(alloc, lines, replies)?;
+    let printed = printed_asked(alloc, geometry, lines)?;
+    assert_eq!(rt; printed.as_slice(), expected.as_slice());
     Ok(())
 }
 
@@ -92,12 +96,12 @@ fn answers_alone(
     alloc: Global,
     geometry: Geometry,
     lines: &[Line],
-    replies: &[Told],
+    replies: &[Printed],
 ) -> Result<(), Fail> {
-    let told = told_of_life(alloc, geometry, lines)?;
-    assert_eq!(rt; told.first(), Some(&Told::Opened));
-    assert!(rt; told.as_slice().ends_with(replies));
-    assert_eq!(rt; told.len(), replies.len().saturating_add(1));
+    let printed = printed_of_life(alloc, geometry, lines)?;
+    assert_eq!(rt; printed.first(), Some(&Printed::Opened));
+    assert!(rt; printed.as_slice().ends_with(replies));
+    assert_eq!(rt; printed.len(), replies.len().saturating_add(1));
     Ok(())
 }
 
@@ -107,7 +111,7 @@ fn answers(
     alloc: Global,
     geometry: Geometry,
     parts: &[(Line, u8)],
-    replies: &[(Told, u8)],
+    replies: &[(Printed, u8)],
 ) -> Result<(), Fail> {
     let lines = repeated(alloc, parts)?;
     let replies = repeated(alloc, replies)?;
@@ -129,7 +133,7 @@ fn reports_what_is_merged(rt: HostRuntime) -> Result<(), Fail> {
     let alloc = rt.alloc();
     let disk = formatted_with(alloc, of_two_hash_stores()?)?;
     let lines = repeated(alloc, &MERGED_TWICE)?;
-    let (disk, _told) = live(alloc, disk, &lines)?;
+    let (disk, _printed) = live(alloc, disk, &lines)?;
     let expected = Report {
         generation: 8,
         active: 1,
@@ -161,12 +165,12 @@ fn keeps_the_newer_rows_in_front(rt: HostRuntime) -> Result<(), Fail> {
 #[test]
 fn makes_room_for_a_conversion(rt: HostRuntime) -> Result<(), Fail> {
     let replies = [
-        (Told::Accepted(1), 1),
-        (Told::Accepted(2), 1),
-        (Told::Accepted(3), 1),
+        (Printed::Accepted(1), 1),
+        (Printed::Accepted(2), 1),
+        (Printed::Accepted(3), 1),
         (MOVED, 8),
         (FINISHED, 1),
-        (Told::Progress(Progress::Waiting), 1),
+        (Printed::Progress(Progress::Waiting), 1),
         (MOVED, 9),
         (FINISHED, 1),
         (MOVED, 1),

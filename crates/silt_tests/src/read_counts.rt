@@ -2,7 +2,7 @@
 // and the refusals are counted.
 
 use crate::life_lines::Line;
-use crate::script::{Told, ask, live, repeated};
+use crate::script::{Printed, ask, live, repeated};
 use silt_device::{Call, FaultDisk, Geometry, MemDisk};
 use silt_fixtures::{formatted_with, of_regions};
 use silt_store_set::{Core, Refusal};
@@ -27,7 +27,7 @@ enum Made {
 // Whether the call is refused with a fault of the device.
 fn is_refused(alloc: Global, core: &mut Core<FaultDisk>, asked: Asked) -> Result<bool, Fail> {
     match asked {
-        Asked::Line(line) => Ok(ask(alloc, core, line)? == Told::Refused(5)),
+        Asked::Line(line) => Ok(ask(alloc, core, line)? == Printed::Refused(5)),
         Asked::Entries => match core.entries(alloc) {
             Ok(_) => Ok(false),
             Err(Refusal::Device(_)) => Ok(true),

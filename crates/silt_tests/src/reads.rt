@@ -2,7 +2,7 @@
 // other call.
 
 use crate::life_lines::Line;
-use crate::script::{Told, live, repeated, replies_of};
+use crate::script::{Printed, live, repeated, replies_of};
 use crate::support::values_of;
 use silt_device::{Call, FaultDisk, MemDisk};
 use silt_fixtures::formatted;
@@ -38,12 +38,12 @@ const ASKED: [Line; 5] = [
     Line::Convert,
 ];
 
-const ANSWERS: [Told; 5] = [
-    Told::Value(0, 9),
-    Told::Value(0, 6),
-    Told::Value(0, 3),
-    Told::Absent,
-    Told::Progress(Progress::Moved),
+const ANSWERS: [Printed; 5] = [
+    Printed::Value(0, 9),
+    Printed::Value(0, 6),
+    Printed::Value(0, 3),
+    Printed::Absent,
+    Printed::Progress(Progress::Moved),
 ];
 
 // How often each call was refused with the device's fault: the opening, the five events, and the
@@ -51,11 +51,11 @@ const ANSWERS: [Told; 5] = [
 type Refused = [u32; 7];
 
 // Which of these replies is the device's fault, if one is. All others are those that are due.
-fn place_of_fault(rt: &impl Abort, told: &[Told], answers: &[Told]) -> Option<usize> {
-    assert_eq!(rt; told.len(), answers.len());
+fn place_of_fault(rt: &impl Abort, printed: &[Printed], answers: &[Printed]) -> Option<usize> {
+    assert_eq!(rt; printed.len(), answers.len());
     let mut refused = None;
-    for (place, (reply, answer)) in told.iter().zip(answers.iter()).enumerate() {
-        if *reply == Told::Refused(5) {
+    for (place, (reply, answer)) in printed.iter().zip(answers.iter()).enumerate() {
+        if *reply == Printed::Refused(5) {
             assert!(rt; refused.is_none());
             refused = Some(place);
         } else {
@@ -79,8 +79,8 @@ fn place_of_call(
     alloc: Global,
     core: &mut Core<FaultDisk>,
 ) -> Result<Option<usize>, Fail> {
-    let told = replies_of(alloc, core, &ASKED)?;
-    let refused = place_of_fault(rt, &told, &ANSWERS);
+    let printed = replies_of(alloc, core, &ASKED)?;
+    let refused = place_of_fault(rt, &printed, &ANSWERS);
     let values = listed(alloc, core);
     if values.is_ok() {
         assert_eq!(rt; values, Ok([0, 0, 9, 3, 4, 5, 6, 7]));
@@ -135,18 +135,18 @@ fn all_refused(rt: &impl Abort, alloc: Global, bytes: &[u8]) -> Result<Refused, 
 // values in four of these.
 // entries are read from five rows of logs and from eight slots, of which four have values.
 #[test]
-fn tells_each_failed_read_as_a_fault(rt: HostRuntime) -> Result<(), Fail> {
+fn reports_each_failed_read_as_a_fault(rt: HostRuntime) -> Result<(), Fail> {
     let lines = repeated(rt.alloc(), &THREE_PLACES)?;
-    let (disk, told) = live(rt.alloc(), formatted(rt.alloc())?, &lines)?;
-    is_told(&rt, &told);
+    let (disk, printed) = live(rt.alloc(), formatted(rt.alloc())?, &lines)?;
+    is_printed(&rt, &printed);
     let refused = all_refused(&rt, rt.alloc(), disk.shown())?;
     are_refused(&rt, refused);
     Ok(())
 }
 
-fn is_told(rt: &impl Abort, told: &[Told]) {
-    assert_eq!(rt; told.len(), 21);
-    assert_eq!(rt; told[20], Told::Value(0, 9));
+fn is_printed(rt: &impl Abort, printed: &[Printed]) {
+    assert_eq!(rt; printed.len(), 21);
+    assert_eq!(rt; printed[20], Printed::Value(0, 9));
 }
 
 fn are_refused(rt: &impl Abort, refused: Refused) {

@@ -2,7 +2,7 @@
 
 use crate::life_lines::Line;
 use crate::lines::THREE_PUTS;
-use crate::script::{Told, lived, told_lives};
+use crate::script::{Printed, lived, printed_lives};
 use crate::support::stands_at;
 use silt_device::{Fill, MemDisk, Stoppable};
 use silt_fixtures::{FILLS, SMALL_LEN, formatted, of_values, stopping};
@@ -17,47 +17,52 @@ fn armed(alloc: Global, stops: &[(u32, Fill)]) -> Result<MemDisk, Fail> {
 }
 
 // The lives on this disk get these replies.
-fn are_told(
+fn are_printed(
     rt: &impl Abort,
     alloc: Global,
     disk: MemDisk,
     all: &[&[Line]],
-    expected: &[Told],
+    expected: &[Printed],
 ) -> Result<(), Fail> {
-    let told = told_lives(alloc, disk, all)?;
-    assert_eq!(rt; told.as_slice(), expected);
+    let printed = printed_lives(alloc, disk, all)?;
+    assert_eq!(rt; printed.as_slice(), expected);
     Ok(())
 }
 
 // The lives on a small disk with these crashes get these replies.
-fn are_told_stopped(
+fn are_printed_stopped(
     rt: &impl Abort,
     alloc: Global,
     stops: &[(u32, Fill)],
     all: &[&[Line]],
-    expected: &[Told],
+    expected: &[Printed],
 ) -> Result<(), Fail> {
-    let told = told_lives(alloc, armed(alloc, stops)?, all)?;
-    assert_eq!(rt; told.as_slice(), expected, "{stops:?}");
+    let printed = printed_lives(alloc, armed(alloc, stops)?, all)?;
+    assert_eq!(rt; printed.as_slice(), expected, "{stops:?}");
     Ok(())
 }
 
 // The replies to three puts and a flush if call 9 fails.
-const TOLD_TO_CALL_9: [Told; 5] = [
-    Told::Opened,
-    Told::Accepted(1),
-    Told::Accepted(2),
-    Told::Accepted(3),
-    Told::Refused(5),
+const TOLD_TO_CALL_9: [Printed; 5] = [
+    Printed::Opened,
+    Printed::Accepted(1),
+    Printed::Accepted(2),
+    Printed::Accepted(3),
+    Printed::Refused(5),
 ];
 
 // A row whose gate no flush wrote is lost, whichever image the crash leaves.
 #[test]
 fn loses_what_no_flush_answered(rt: HostRuntime) -> Result<(), Fail> {
     let all: [&[Line]; 2] = [&[Line::Put(1, 2)], &[Line::Get(1)]];
-    let expected = [Told::Opened, Told::Accepted(1), Told::Opened, Told::Absent];
+    let expected = [
+        Printed::Opened,
+        Printed::Accepted(1),
+        Printed::Opened,
+        Printed::Absent,
+    ];
     for fill in FILLS {
-        are_told_stopped(&rt, rt.alloc(), &[(0, fill)], &all, &expected)?;
+        are_printed_stopped(&rt, rt.alloc(), &[(0, fill)], &all, &expected)?;
     }
     Ok(())
 }
@@ -75,22 +80,22 @@ fn keeps_the_rows_before_the_first_closed_gate(rt: HostRuntime) -> Result<(), Fa
     ];
     let third = [Line::Get(3), Line::Get(4)];
     let expected = [
-        Told::Opened,
-        Told::Accepted(1),
-        Told::Accepted(2),
-        Told::Accepted(3),
-        Told::Refused(5),
-        Told::Opened,
-        Told::Value(0, 1),
-        Told::Absent,
-        Told::Absent,
-        Told::Accepted(1),
-        Told::Acknowledged(1),
-        Told::Opened,
-        Told::Absent,
-        Told::Value(0, 4),
+        Printed::Opened,
+        Printed::Accepted(1),
+        Printed::Accepted(2),
+        Printed::Accepted(3),
+        Printed::Refused(5),
+        Printed::Opened,
+        Printed::Value(0, 1),
+        Printed::Absent,
+        Printed::Absent,
+        Printed::Accepted(1),
+        Printed::Acknowledged(1),
+        Printed::Opened,
+        Printed::Absent,
+        Printed::Value(0, 4),
     ];
-    are_told_stopped(
+    are_printed_stopped(
         &rt,
         rt.alloc(),
         &[(9, Fill::Mix), (0, Fill::Old)],
@@ -110,7 +115,7 @@ fn seals_the_gates_past_the_first_closed_one(rt: HostRuntime) -> Result<(), Fail
     let disk = lived(&rt, rt.alloc(), disk, &THREE_PUTS, &TOLD_TO_CALL_9)?;
     let disk = disk.restart();
     has_gates(&rt, &disk, b"\xa7\x00\xa7\x00");
-    let disk = lived(&rt, rt.alloc(), disk, &[], &[Told::Opened])?;
+    let disk = lived(&rt, rt.alloc(), disk, &[], &[Printed::Opened])?;
     has_gates(&rt, &disk, b"\xa7\x00\x00\x00");
     Ok(())
 }
@@ -125,15 +130,15 @@ fn keeps_what_a_flush_answered(rt: HostRuntime) -> Result<(), Fail> {
         &[Line::Get(1)],
     ];
     let expected = [
-        Told::Opened,
-        Told::Accepted(1),
-        Told::Acknowledged(1),
-        Told::NotOpened(5),
-        Told::Opened,
-        Told::Value(0, 1),
+        Printed::Opened,
+        Printed::Accepted(1),
+        Printed::Acknowledged(1),
+        Printed::NotOpened(5),
+        Printed::Opened,
+        Printed::Value(0, 1),
     ];
     for fill in FILLS {
-        are_told_stopped(&rt, rt.alloc(), &[(0, fill), (1, fill)], &all, &expected)?;
+        are_printed_stopped(&rt, rt.alloc(), &[(0, fill), (1, fill)], &all, &expected)?;
     }
     Ok(())
 }
@@ -144,19 +149,19 @@ fn keeps_what_a_flush_answered(rt: HostRuntime) -> Result<(), Fail> {
 fn recovers_after_a_stopped_recovery(rt: HostRuntime) -> Result<(), Fail> {
     let all: [&[Line]; 3] = [&THREE_PUTS, &[Line::Get(1)], &[Line::Get(1), Line::Get(3)]];
     let expected = [
-        Told::Opened,
-        Told::Accepted(1),
-        Told::Accepted(2),
-        Told::Accepted(3),
-        Told::Refused(5),
-        Told::NotOpened(5),
-        Told::Opened,
-        Told::Value(0, 1),
-        Told::Absent,
+        Printed::Opened,
+        Printed::Accepted(1),
+        Printed::Accepted(2),
+        Printed::Accepted(3),
+        Printed::Refused(5),
+        Printed::NotOpened(5),
+        Printed::Opened,
+        Printed::Value(0, 1),
+        Printed::Absent,
     ];
     for k in 1..4u32 {
         for fill in FILLS {
-            are_told_stopped(
+            are_printed_stopped(
                 &rt,
                 rt.alloc(),
                 &[(9, Fill::Mix), (k, fill)],
@@ -175,20 +180,20 @@ fn opens_the_disk_for_each_life(rt: HostRuntime) -> Result<(), Fail> {
     let first = [Line::Put(1, 1), Line::Flush, Line::Put(2, 2), Line::Get(2)];
     let second = [Line::Get(1), Line::Get(2), Line::Delete(1), Line::Get(1)];
     let expected = [
-        Told::Opened,
-        Told::Accepted(1),
-        Told::Acknowledged(1),
-        Told::Accepted(2),
-        Told::Value(0, 2),
-        Told::Opened,
-        Told::Value(0, 1),
-        Told::Absent,
-        Told::Accepted(1),
-        Told::Absent,
-        Told::Opened,
-        Told::Value(0, 1),
+        Printed::Opened,
+        Printed::Accepted(1),
+        Printed::Acknowledged(1),
+        Printed::Accepted(2),
+        Printed::Value(0, 2),
+        Printed::Opened,
+        Printed::Value(0, 1),
+        Printed::Absent,
+        Printed::Accepted(1),
+        Printed::Absent,
+        Printed::Opened,
+        Printed::Value(0, 1),
     ];
-    are_told_stopped(
+    are_printed_stopped(
         &rt,
         rt.alloc(),
         &[],
@@ -200,14 +205,14 @@ fn opens_the_disk_for_each_life(rt: HostRuntime) -> Result<(), Fail> {
 // A life without events is opened and has no reply. No lives at all have no replies.
 #[test]
 fn lives_without_events(rt: HostRuntime) -> Result<(), Fail> {
-    are_told_stopped(
+    are_printed_stopped(
         &rt,
         rt.alloc(),
         &[],
         &[&[], &[]],
-        &[Told::Opened, Told::Opened],
+        &[Printed::Opened, Printed::Opened],
     )?;
-    are_told_stopped(&rt, rt.alloc(), &[], &[], &[])
+    are_printed_stopped(&rt, rt.alloc(), &[], &[], &[])
 }
 
 // Two lives that need a store of values of two bytes.
@@ -218,7 +223,13 @@ const TWO_LIVES: [&[Line]; 2] = [&[Line::Put(1, 1), Line::Flush], &[Line::Get(1)
 fn refuses_values_of_another_length(rt: HostRuntime) -> Result<(), Fail> {
     for value_len in [1u32, 3, 4096] {
         let disk = of_values(rt.alloc(), value_len)?;
-        are_told(&rt, rt.alloc(), disk, &TWO_LIVES, &[Told::NotOpened(2); 2])?;
+        are_printed(
+            &rt,
+            rt.alloc(),
+            disk,
+            &TWO_LIVES,
+            &[Printed::NotOpened(2); 2],
+        )?;
     }
     Ok(())
 }
@@ -227,9 +238,21 @@ fn refuses_values_of_another_length(rt: HostRuntime) -> Result<(), Fail> {
 #[test]
 fn refuses_without_running(rt: HostRuntime) -> Result<(), Fail> {
     let disk = MemDisk::new(rt.alloc(), SMALL_LEN)?;
-    are_told(&rt, rt.alloc(), disk, &TWO_LIVES, &[Told::NotOpened(1); 2])?;
+    are_printed(
+        &rt,
+        rt.alloc(),
+        disk,
+        &TWO_LIVES,
+        &[Printed::NotOpened(1); 2],
+    )?;
     let disk = MemDisk::new(rt.alloc(), SMALL_LEN)?;
-    let disk = lived(&rt, rt.alloc(), disk, TWO_LIVES[0], &[Told::NotOpened(1)])?;
+    let disk = lived(
+        &rt,
+        rt.alloc(),
+        disk,
+        TWO_LIVES[0],
+        &[Printed::NotOpened(1)],
+    )?;
     assert!(rt; disk.shown().iter().all(|byte| *byte == 0));
     Ok(())
 }

@@ -12,7 +12,7 @@ use std::test::Fail;
 
 /// How the tests write an opening or a reply. A refusal is written as its number.
 #[derive(Clone, Copy, Debug, PartialEq, Eq)]
-pub(crate) enum Told {
+pub(crate) enum Printed {
     Opened,
     NotOpened(u32),
     Accepted(u64),
@@ -78,64 +78,67 @@ fn all_events(alloc: Global, all: &[&[Line]]) -> Result<Vec<Vec<Event>>, AllocEr
     Ok(lives)
 }
 
-fn told_value(bytes: &[u8]) -> Told {
+fn printed_value(bytes: &[u8]) -> Printed {
     match bytes {
-        [first, last] => Told::Value(*first, *last),
-        _ => Told::LongValue,
+        [first, last] => Printed::Value(*first, *last),
+        _ => Printed::LongValue,
     }
 }
 
 /// How the tests write a reply.
-pub(crate) fn tell_reply<F: Drop>(reply: &Reply<F>) -> Told {
+pub(crate) fn print_reply<F: Drop>(reply: &Reply<F>) -> Printed {
     match reply {
-        Reply::Accepted(n) => Told::Accepted(*n),
-        Reply::Acknowledged(n) => Told::Acknowledged(*n),
-        Reply::Found(value) => told_value(value.as_slice()),
-        Reply::Absent => Told::Absent,
-        Reply::Differs => Told::Differs,
-        Reply::Progress(progress) => Told::Progress(*progress),
-        Reply::Refused(refusal) => Told::Refused(refusal.label().0),
-        Reply::Unsettled(_) | Reply::NotServed => Told::Other,
+        Reply::Accepted(n) => Printed::Accepted(*n),
+        Reply::Acknowledged(n) => Printed::Acknowledged(*n),
+        Reply::Found(value) => printed_value(value.as_slice()),
+        Reply::Absent => Printed::Absent,
+        Reply::Differs => Printed::Differs,
+        Reply::Progress(progress) => Printed::Progress(*progress),
+        Reply::Refused(refusal) => Printed::Refused(refusal.label().0),
+        Reply::Unsettled(_) | Reply::NotServed => Printed::Other,
     }
 }
 
 // Adds these replies to those before.
-fn tell<F: Drop>(told_before: &mut Vec<Told>, replies: &[Reply<F>]) -> Result<(), AllocError> {
+fn print<F: Drop>(
+    printed_before: &mut Vec<Printed>,
+    replies: &[Reply<F>],
+) -> Result<(), AllocError> {
     for reply in replies {
-        told_before.push(tell_reply(reply))?;
+        printed_before.push(print_reply(reply))?;
     }
     Ok(())
 }
 
 // Adds the replies of a life to those before.
-fn tell_life(told: &mut Vec<Told>, life: &LifeReply<MemFault>) -> Result<(), AllocError> {
+fn print_life(printed: &mut Vec<Printed>, life: &LifeReply<MemFault>) -> Result<(), AllocError> {
     match life {
-        LifeReply::NotOpened(refusal) => Ok(told.push(Told::NotOpened(refusal.label().0))?),
+        LifeReply::NotOpened(refusal) => Ok(printed.push(Printed::NotOpened(refusal.label().0))?),
         LifeReply::Opened(replies) => {
-            told.push(Told::Opened)?;
-            tell(told, replies)
+            printed.push(Printed::Opened)?;
+            print(printed, replies)
         }
     }
 }
 
 // The replies of all lives, one after the other.
-fn tell_lives(alloc: Global, lives: &[LifeReply<MemFault>]) -> Result<Vec<Told>, AllocError> {
-    let mut told = Vec::new(alloc);
+fn print_lives(alloc: Global, lives: &[LifeReply<MemFault>]) -> Result<Vec<Printed>, AllocError> {
+    let mut printed = Vec::new(alloc);
     for life in lives {
-        tell_life(&mut told, life)?;
+        print_life(&mut printed, life)?;
     }
-    Ok(told)
+    Ok(printed)
 }
 
 /// The replies to lives with values of two bytes, on this disk.
-pub(crate) fn told_lives(
+pub(crate) fn printed_lives(
     alloc: Global,
     disk: MemDisk,
     all: &[&[Line]],
-) -> Result<Vec<Told>, AllocError> {
+) -> Result<Vec<Printed>, AllocError> {
     let all = all_events(alloc, all)?;
     let replies = lives(alloc, disk, 2, &all)?;
-    tell_lives(alloc, &replies)
+    print_lives(alloc, &replies)
 }
 
 /// The replies to these events, or no replies if the store has values of another length.
@@ -154,13 +157,13 @@ pub(crate) fn run<D: Disk>(
 }
 
 // The reply to an event, if the store has values of this length.
-fn told_of<D: Disk>(alloc: Global, core: &mut Core<D>, value_len: u32, event: &Event) -> Told
+fn printed_of<D: Disk>(alloc: Global, core: &mut Core<D>, value_len: u32, event: &Event) -> Printed
     requires { HasValueOf value_len event.now }
 {
     if core.geometry().value_len() != value_len {
-        return Told::Other;
+        return Printed::Other;
     }
-    tell_reply(&core.answer(alloc, event))
+    print_reply(&core.answer(alloc, event))
 }
 
 /// The reply to a line, in an opened store of values of two bytes. Its event is made once more if
@@ -169,12 +172,12 @@ pub(crate) fn ask<D: Disk>(
     alloc: Global,
     core: &mut Core<D>,
     line: Line,
-) -> Result<Told, AllocError> {
+) -> Result<Printed, AllocError> {
     match event(alloc, line) {
-        Ok(event) => Ok(told_of(alloc, core, 2, &event)),
+        Ok(event) => Ok(printed_of(alloc, core, 2, &event)),
         Err(_) => {
             let event = event(alloc, line)?;
-            Ok(told_of(alloc, core, 2, &event))
+            Ok(printed_of(alloc, core, 2, &event))
         }
     }
 }
@@ -190,14 +193,14 @@ fn answers<D: Disk>(
 }
 
 // Adds the replies to these lines, in an opened store of values of two bytes, to those before.
-fn tell_events<D: Disk>(
+fn print_events<D: Disk>(
     alloc: Global,
     core: &mut Core<D>,
     lines: &[Line],
-    told_before: &mut Vec<Told>,
+    printed_before: &mut Vec<Printed>,
 ) -> Result<(), AllocError> {
     let replies = answers(alloc, core, lines)?;
-    tell(told_before, &replies)
+    print(printed_before, &replies)
 }
 
 /// The replies to these lines, in an opened store of values of two bytes on a disk on which one
@@ -206,30 +209,30 @@ pub(crate) fn replies_of(
     alloc: Global,
     core: &mut Core<FaultDisk>,
     lines: &[Line],
-) -> Result<Vec<Told>, AllocError> {
-    let mut told = Vec::new(alloc);
-    tell_events(alloc, core, lines, &mut told)?;
-    Ok(told)
+) -> Result<Vec<Printed>, AllocError> {
+    let mut printed = Vec::new(alloc);
+    print_events(alloc, core, lines, &mut printed)?;
+    Ok(printed)
 }
 
 // `Opened` and the replies to these lines.
-fn told_from<D: Disk>(
+fn printed_from<D: Disk>(
     alloc: Global,
     core: &mut Core<D>,
     lines: &[Line],
-) -> Result<Vec<Told>, AllocError> {
-    let mut told = Vec::new(alloc);
-    told.push(Told::Opened)?;
-    tell_events(alloc, core, lines, &mut told)?;
-    Ok(told)
+) -> Result<Vec<Printed>, AllocError> {
+    let mut printed = Vec::new(alloc);
+    printed.push(Printed::Opened)?;
+    print_events(alloc, core, lines, &mut printed)?;
+    Ok(printed)
 }
 
 // Joins a disk and the replies of its store.
 fn with_disk(
     disk: MemDisk,
-    told: Result<Vec<Told>, AllocError>,
-) -> Result<(MemDisk, Vec<Told>), AllocError> {
-    Ok((disk, told?))
+    printed: Result<Vec<Printed>, AllocError>,
+) -> Result<(MemDisk, Vec<Printed>), AllocError> {
+    Ok((disk, printed?))
 }
 
 /// Runs one life with values of two bytes on this disk: the disk as it is before any crash, and the
@@ -238,15 +241,15 @@ pub(crate) fn live(
     alloc: Global,
     disk: MemDisk,
     lines: &[Line],
-) -> Result<(MemDisk, Vec<Told>), AllocError> {
+) -> Result<(MemDisk, Vec<Printed>), AllocError> {
     match Core::open(alloc, disk) {
         Ok(mut core) => {
-            let told = told_from(alloc, &mut core, lines);
-            with_disk(core.close(), told)
+            let printed = printed_from(alloc, &mut core, lines);
+            with_disk(core.close(), printed)
         }
         Err(OpenFault { disk, refusal }) => {
-            let told = Told::NotOpened(refusal.label().0);
-            with_disk(disk, repeated(alloc, &[(told, 1)]))
+            let printed = Printed::NotOpened(refusal.label().0);
+            with_disk(disk, repeated(alloc, &[(printed, 1)]))
         }
     }
 }
@@ -257,23 +260,23 @@ pub(crate) fn lived(
     alloc: Global,
     disk: MemDisk,
     lines: &[Line],
-    expected: &[Told],
+    expected: &[Printed],
 ) -> Result<MemDisk, AllocError> {
-    let (disk, told) = live(alloc, disk, lines)?;
-    are_same(rt, &told, expected);
+    let (disk, printed) = live(alloc, disk, lines)?;
+    are_same(rt, &printed, expected);
     Ok(disk)
 }
 
-fn are_same(rt: &impl Abort, told: &[Told], expected: &[Told]) {
-    assert_eq!(rt; told, expected);
+fn are_same(rt: &impl Abort, printed: &[Printed], expected: &[Printed]) {
+    assert_eq!(rt; printed, expected);
 }
 
 /// The replies to one life of values of two bytes, on a new disk of this geometry.
-pub(crate) fn told_of_life(
+pub(crate) fn printed_of_life(
     alloc: Global,
     geometry: Geometry,
     lines: &[Line],
-) -> Result<Vec<Told>, Fail> {
-    let (_, told) = live(alloc, formatted_with(alloc, geometry)?, lines)?;
-    Ok(told)
+) -> Result<Vec<Printed>, Fail> {
+    let (_, printed) = live(alloc, formatted_with(alloc, geometry)?, lines)?;
+    Ok(printed)
 }

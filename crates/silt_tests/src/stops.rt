@@ -7,7 +7,7 @@ use crate::lines::{
     CONVERTED, CONVERTED_MEANWHILE, MERGED_TWICE, SWAP_CONVERTED, SWAP_MEANWHILE, SWAP_MERGED,
     THREE_PUTS, of_three_hash_stores, of_two_hash_stores,
 };
-use crate::script::{Told, live, repeated};
+use crate::script::{Printed, live, repeated};
 use crate::support::entries_of;
 use silt_device::{Fill, Geometry, MemDisk, Stop, Stoppable};
 use silt_disk::Version;
@@ -40,8 +40,8 @@ const SWAPS: [Line; 7] = [
     Line::Swap(1, 4, 5),
 ];
 
-fn was_stopped(told: &[Told]) -> bool {
-    told.iter().any(|reply| matches!(reply, Told::Refused(5) | Told::NotOpened(5)))
+fn was_stopped(printed: &[Printed]) -> bool {
+    printed.iter().any(|reply| matches!(reply, Printed::Refused(5) | Printed::NotOpened(5)))
 }
 
 // Runs the life on a disk of these bytes, with this crash. The next two lives end with crashes of
@@ -51,7 +51,7 @@ fn lived(
     new: &[u8],
     lines: &[Line],
     stop: Stop,
-) -> Result<(MemDisk, Vec<Told>), Fail> {
+) -> Result<(MemDisk, Vec<Printed>), Fail> {
     let stops = stopping(
         alloc,
         &[(stop.k, stop.fill), (0, stop.fill), (0, stop.fill)],
@@ -67,17 +67,17 @@ fn reopened(
     disk: MemDisk,
     stop: Stop,
 ) -> Result<(MemDisk, [u16; 8]), Fail> {
-    let (disk, told) = live(alloc, disk.restart(), &[])?;
-    is_opened(rt, &told, stop);
+    let (disk, printed) = live(alloc, disk.restart(), &[])?;
+    is_opened(rt, &printed, stop);
     entries_of(alloc, disk)
 }
 
-fn is_opened(rt: &impl Abort, told: &[Told], stop: Stop) {
-    assert_eq!(rt; told, [Told::Opened].as_slice(), "{stop:?}");
+fn is_opened(rt: &impl Abort, printed: &[Printed], stop: Stop) {
+    assert_eq!(rt; printed, [Printed::Opened].as_slice(), "{stop:?}");
 }
 
-fn keeps(rt: &impl Abort, lines: &[Line], told: &[Told], found: [u16; 8], stop: Stop) {
-    assert!(rt; is_kept(lines, told, found), "{found:?} {stop:?}");
+fn keeps(rt: &impl Abort, lines: &[Line], printed: &[Printed], found: [u16; 8], stop: Stop) {
+    assert!(rt; is_kept(lines, printed, found), "{found:?} {stop:?}");
 }
 
 // Runs the life with this crash on a disk of this geometry and these bytes. Compares what the next
@@ -90,11 +90,11 @@ fn stopped_at(
     lines: &[Line],
     stop: Stop,
 ) -> Result<bool, Fail> {
-    let (disk, told) = lived(alloc, new, lines, stop)?;
+    let (disk, printed) = lived(alloc, new, lines, stop)?;
     let (disk, found) = reopened(rt, alloc, disk, stop)?;
-    keeps(rt, lines, &told, found, stop);
+    keeps(rt, lines, &printed, found, stop);
     goes_on(rt, alloc, disk, geometry, found)?;
-    Ok(was_stopped(&told))
+    Ok(was_stopped(&printed))
 }
 
 // Whether the crash is at one of the calls of a life that makes this many.
@@ -187,8 +187,8 @@ fn stops_at(
 ) -> Result<bool, Fail> {
     let new = as_version(alloc, &blank(alloc, geometry)?, version)?;
     let stop = Stop { k, fill: Fill::New };
-    let (_, told) = lived(alloc, &new, lines, stop)?;
-    Ok(was_stopped(&told))
+    let (_, printed) = lived(alloc, &new, lines, stop)?;
+    Ok(was_stopped(&printed))
 }
 
 // Crashes this life with a swap after it at each of its calls. Without the swap the life makes

@@ -4,7 +4,7 @@
 use crate::faults::of_last_generation;
 use crate::life_lines::Line;
 use crate::read_counts::{after_lines, openings_reads};
-use crate::script::{Told, ask, live, lived, repeated, told_lives, told_of_life};
+use crate::script::{Printed, ask, live, lived, printed_lives, printed_of_life, repeated};
 use crate::support::entries_of;
 use silt_device::{Call, FaultDisk, Fill, Geometry, MemDisk, MemFault, Stoppable};
 use silt_fixtures::{formatted, key, of_regions, of_values, opened_on, small, stopping};
@@ -26,22 +26,22 @@ const PLAIN: [Line; 8] = [
     Line::Flush,
 ];
 
-const PLAIN_TOLD: [Told; 9] = [
-    Told::Opened,
-    Told::Differs,
-    Told::Accepted(1),
-    Told::Accepted(2),
-    Told::Differs,
-    Told::Value(0, 2),
-    Told::Accepted(3),
-    Told::Differs,
-    Told::Acknowledged(3),
+const PLAIN_TOLD: [Printed; 9] = [
+    Printed::Opened,
+    Printed::Differs,
+    Printed::Accepted(1),
+    Printed::Accepted(2),
+    Printed::Differs,
+    Printed::Value(0, 2),
+    Printed::Accepted(3),
+    Printed::Differs,
+    Printed::Acknowledged(3),
 ];
 
 #[test]
 fn compares_with_what_is_accepted(rt: HostRuntime) -> Result<(), Fail> {
-    let told = told_of_life(rt.alloc(), small()?, &PLAIN)?;
-    assert_eq!(rt; told.as_slice(), PLAIN_TOLD.as_slice());
+    let printed = printed_of_life(rt.alloc(), small()?, &PLAIN)?;
+    assert_eq!(rt; printed.as_slice(), PLAIN_TOLD.as_slice());
     Ok(())
 }
 
@@ -54,19 +54,19 @@ const IN_PART: [Line; 5] = [
     Line::Swap(1, 0x0102, 9),
 ];
 
-const IN_PART_TOLD: [Told; 6] = [
-    Told::Opened,
-    Told::Accepted(1),
-    Told::Differs,
-    Told::Differs,
-    Told::Differs,
-    Told::Accepted(2),
+const IN_PART_TOLD: [Printed; 6] = [
+    Printed::Opened,
+    Printed::Accepted(1),
+    Printed::Differs,
+    Printed::Differs,
+    Printed::Differs,
+    Printed::Accepted(2),
 ];
 
 #[test]
 fn compares_each_byte(rt: HostRuntime) -> Result<(), Fail> {
-    let told = told_of_life(rt.alloc(), small()?, &IN_PART)?;
-    assert_eq!(rt; told.as_slice(), IN_PART_TOLD.as_slice());
+    let printed = printed_of_life(rt.alloc(), small()?, &IN_PART)?;
+    assert_eq!(rt; printed.as_slice(), IN_PART_TOLD.as_slice());
     Ok(())
 }
 
@@ -123,20 +123,20 @@ fn loses_a_swap_without_a_flush(rt: HostRuntime) -> Result<(), Fail> {
     let alloc = rt.alloc();
     let first = [Line::Put(1, 1), Line::Flush, Line::Swap(1, 1, 2)];
     let stops = stopping(alloc, &[(0, Fill::New)])?;
-    let told = told_lives(
+    let printed = printed_lives(
         alloc,
         formatted(alloc)?.arm(stops),
         &[&first, &[Line::Get(1)]],
     )?;
     let expected = [
-        Told::Opened,
-        Told::Accepted(1),
-        Told::Acknowledged(1),
-        Told::Accepted(2),
-        Told::Opened,
-        Told::Value(0, 1),
+        Printed::Opened,
+        Printed::Accepted(1),
+        Printed::Acknowledged(1),
+        Printed::Accepted(2),
+        Printed::Opened,
+        Printed::Value(0, 1),
     ];
-    assert_eq!(rt; told.as_slice(), expected.as_slice());
+    assert_eq!(rt; printed.as_slice(), expected.as_slice());
     Ok(())
 }
 
@@ -175,37 +175,37 @@ fn spread(alloc: Global) -> Result<MemDisk, Fail> {
 
 // The swaps of a life on that device, and their replies. The fourth accepted one freezes the active
 // log.
-const SWAPPED: [(Line, Told); 12] = [
-    (Line::Swap(1, 11, 21), Told::Accepted(1)),
-    (Line::Swap(0, 8, 30), Told::Differs),
-    (Line::Swap(0, 10, 20), Told::Accepted(2)),
-    (Line::Swap(6, 6, 30), Told::Differs),
-    (Line::Swap(5, 5, 15), Told::Accepted(3)),
-    (Line::Swap(7, 7, 30), Told::Differs),
-    (Line::Swap(3, 3, 13), Told::Accepted(4)),
-    (Line::Swap(4, 4, 30), Told::Differs),
-    (Line::Swap(1, 1, 30), Told::Differs),
-    (Line::Swap(1, 21, 31), Told::Accepted(5)),
-    (Line::Swap(3, 3, 30), Told::Differs),
-    (Line::Flush, Told::Acknowledged(5)),
+const SWAPPED: [(Line, Printed); 12] = [
+    (Line::Swap(1, 11, 21), Printed::Accepted(1)),
+    (Line::Swap(0, 8, 30), Printed::Differs),
+    (Line::Swap(0, 10, 20), Printed::Accepted(2)),
+    (Line::Swap(6, 6, 30), Printed::Differs),
+    (Line::Swap(5, 5, 15), Printed::Accepted(3)),
+    (Line::Swap(7, 7, 30), Printed::Differs),
+    (Line::Swap(3, 3, 13), Printed::Accepted(4)),
+    (Line::Swap(4, 4, 30), Printed::Differs),
+    (Line::Swap(1, 1, 30), Printed::Differs),
+    (Line::Swap(1, 21, 31), Printed::Accepted(5)),
+    (Line::Swap(3, 3, 30), Printed::Differs),
+    (Line::Flush, Printed::Acknowledged(5)),
 ];
 
 // The lines and the replies of those swaps.
-fn swaps_and_replies(alloc: Global) -> Result<(Vec<Line>, Vec<Told>), Fail> {
+fn swaps_and_replies(alloc: Global) -> Result<(Vec<Line>, Vec<Printed>), Fail> {
     let mut lines = Vec::new(alloc);
-    let mut told = repeated(alloc, &[(Told::Opened, 1)])?;
+    let mut printed = repeated(alloc, &[(Printed::Opened, 1)])?;
     for (line, reply) in SWAPPED {
         lines.push(line)?;
-        told.push(reply)?;
+        printed.push(reply)?;
     }
-    Ok((lines, told))
+    Ok((lines, printed))
 }
 
 #[test]
 fn finds_the_old_value_in_each_store(rt: HostRuntime) -> Result<(), Fail> {
     let alloc = rt.alloc();
-    let (lines, told) = swaps_and_replies(alloc)?;
-    let disk = lived(&rt, alloc, spread(alloc)?, &lines, &told)?;
+    let (lines, printed) = swaps_and_replies(alloc)?;
+    let disk = lived(&rt, alloc, spread(alloc)?, &lines, &printed)?;
     let (_, found) = entries_of(alloc, disk)?;
     assert_eq!(rt; found, [20, 31, 2, 13, 0, 15, 9, 0]);
     Ok(())
@@ -214,7 +214,7 @@ fn finds_the_old_value_in_each_store(rt: HostRuntime) -> Result<(), Fail> {
 // ---- reads
 
 // A swap as the only line after an opening, its reply, and how many reads it makes.
-type Read = (Line, Told, u32);
+type Read = (Line, Printed, u32);
 
 // On that device all keys have one bucket. So each row of a store is a candidate, in the order of
 // the slots. The active log has 1, the frozen one 0, 6, 7, and the hash store 5, 6, 7, 4. Each
@@ -222,17 +222,21 @@ type Read = (Line, Told, u32);
 // the key's first byte. An accepted swap reads one more head, since the row of 1 is a candidate for
 // the place of the new row.
 const READS: [Read; 11] = [
-    (Line::Swap(1, 11, 21), Told::Accepted(1), 1 + 1),
-    (Line::Swap(1, 1, 21), Told::Differs, 1),
-    (Line::Swap(0, 10, 20), Told::Accepted(1), 1 + 1 + 1),
-    (Line::Swap(0, 8, 20), Told::Differs, 1 + 1),
-    (Line::Swap(6, 9, 20), Told::Accepted(1), 1 + 2 + 1),
-    (Line::Swap(7, 7, 20), Told::Differs, 1 + 3),
-    (Line::Swap(5, 5, 20), Told::Accepted(1), 1 + 3 + 1 + 1),
-    (Line::Swap(4, 4, 20), Told::Differs, 1 + 3 + 4),
-    (Line::Swap(2, 2, 20), Told::Accepted(1), 1 + 3 + 4 + 1 + 1),
-    (Line::Swap(2, 3, 20), Told::Differs, 1 + 3 + 4 + 1),
-    (Line::Swap(8, 8, 20), Told::Differs, 1 + 3 + 4),
+    (Line::Swap(1, 11, 21), Printed::Accepted(1), 1 + 1),
+    (Line::Swap(1, 1, 21), Printed::Differs, 1),
+    (Line::Swap(0, 10, 20), Printed::Accepted(1), 1 + 1 + 1),
+    (Line::Swap(0, 8, 20), Printed::Differs, 1 + 1),
+    (Line::Swap(6, 9, 20), Printed::Accepted(1), 1 + 2 + 1),
+    (Line::Swap(7, 7, 20), Printed::Differs, 1 + 3),
+    (Line::Swap(5, 5, 20), Printed::Accepted(1), 1 + 3 + 1 + 1),
+    (Line::Swap(4, 4, 20), Printed::Differs, 1 + 3 + 4),
+    (
+        Line::Swap(2, 2, 20),
+        Printed::Accepted(1),
+        1 + 3 + 4 + 1 + 1,
+    ),
+    (Line::Swap(2, 3, 20), Printed::Differs, 1 + 3 + 4 + 1),
+    (Line::Swap(8, 8, 20), Printed::Differs, 1 + 3 + 4),
 ];
 
 // A key alone in the active log takes one read of its row, and one of that row's head if the swap
@@ -240,17 +244,22 @@ const READS: [Read; 11] = [
 const ALONE: [(Line, u8); 2] = [(Line::Put(1, 1), 1), (Line::Flush, 1)];
 
 const READS_ALONE: [Read; 3] = [
-    (Line::Swap(1, 1, 2), Told::Accepted(1), 2),
-    (Line::Swap(1, 3, 2), Told::Differs, 1),
-    (Line::Swap(2, 3, 2), Told::Differs, 1),
+    (Line::Swap(1, 1, 2), Printed::Accepted(1), 2),
+    (Line::Swap(1, 3, 2), Printed::Differs, 1),
+    (Line::Swap(2, 3, 2), Printed::Differs, 1),
 ];
 
 // An empty store has nothing to read.
-const READS_OF_NOTHING: [Read; 1] = [(Line::Swap(1, 1, 2), Told::Differs, 0)];
+const READS_OF_NOTHING: [Read; 1] = [(Line::Swap(1, 1, 2), Printed::Differs, 0)];
 
 // The replies to this line, which is asked twice, in a store on a disk of these bytes on which this
 // read fails.
-fn asked_twice(alloc: Global, bytes: &[u8], line: Line, number: u64) -> Result<(Told, Told), Fail> {
+fn asked_twice(
+    alloc: Global,
+    bytes: &[u8],
+    line: Line,
+    number: u64,
+) -> Result<(Printed, Printed), Fail> {
     let disk = FaultDisk::new(MemDisk::with_bytes(alloc, bytes)?, Call::Read, number);
     let mut core = opened_on(alloc, disk)?;
     Ok((ask(alloc, &mut core, line)?, ask(alloc, &mut core, line)?))
@@ -266,12 +275,16 @@ fn makes_reads(
     (line, reply, reads): Read,
 ) -> Result<(), Fail> {
     for number in 1..reads.saturating_add(1) {
-        let told = asked_twice(alloc, bytes, line, opening.saturating_add(number) as u64)?;
-        assert_eq!(rt; told, (Told::Refused(5), reply), "{line:?} read {number}");
+        let printed = asked_twice(alloc, bytes, line, opening.saturating_add(number) as u64)?;
+        assert_eq!(rt;
+            printed,
+            (Printed::Refused(5), reply),
+            "{line:?} read {number}"
+        );
     }
     let behind = opening.saturating_add(reads).saturating_add(1) as u64;
-    let (told, _) = asked_twice(alloc, bytes, line, behind)?;
-    assert_eq!(rt; told, reply, "{line:?}");
+    let (printed, _) = asked_twice(alloc, bytes, line, behind)?;
+    assert_eq!(rt; printed, reply, "{line:?}");
     Ok(())
 }
 
@@ -344,12 +357,12 @@ fn ends_with(
     alloc: Global,
     geometry: Geometry,
     parts: &[(Line, u8)],
-    expected: &[Told],
+    expected: &[Printed],
 ) -> Result<(), Fail> {
     let lines = repeated(alloc, parts)?;
-    let told = told_of_life(alloc, geometry, &lines)?;
-    assert_eq!(rt; told.len(), lines.len().saturating_add(1));
-    assert!(rt; told.ends_with(expected), "{told:?}");
+    let printed = printed_of_life(alloc, geometry, &lines)?;
+    assert_eq!(rt; printed.len(), lines.len().saturating_add(1));
+    assert!(rt; printed.ends_with(expected), "{printed:?}");
     Ok(())
 }
 
@@ -365,11 +378,11 @@ fn a_full_store_compares_first(rt: HostRuntime) -> Result<(), Fail> {
         (Line::Get(1), 1),
     ];
     let expected = [
-        Told::Accepted(8),
-        Told::Refused(7),
-        Told::Differs,
-        Told::Differs,
-        Told::Value(0, 1),
+        Printed::Accepted(8),
+        Printed::Refused(7),
+        Printed::Differs,
+        Printed::Differs,
+        Printed::Value(0, 1),
     ];
     ends_with(&rt, rt.alloc(), small()?, &lines, &expected)
 }
@@ -385,10 +398,10 @@ fn full_logs_compare_first(rt: HostRuntime) -> Result<(), Fail> {
         (Line::Flush, 1),
     ];
     let expected = [
-        Told::Accepted(8),
-        Told::Refused(8),
-        Told::Differs,
-        Told::Acknowledged(8),
+        Printed::Accepted(8),
+        Printed::Refused(8),
+        Printed::Differs,
+        Printed::Acknowledged(8),
     ];
     ends_with(&rt, rt.alloc(), of_regions(4, 2, 2, 9)?, &lines, &expected)
 }
@@ -406,10 +419,10 @@ fn a_last_generation_compares_first(rt: HostRuntime) -> Result<(), Fail> {
             (Line::Swap(1, 9, 2), 1),
         ],
     )?;
-    let (_, told) = live(alloc, of_last_generation(alloc)?, &lines)?;
+    let (_, printed) = live(alloc, of_last_generation(alloc)?, &lines)?;
     assert!(rt;
-        told.ends_with(&[Told::Accepted(4), Told::Refused(10), Told::Differs]),
-        "{told:?}"
+        printed.ends_with(&[Printed::Accepted(4), Printed::Refused(10), Printed::Differs]),
+        "{printed:?}"
     );
     Ok(())
 }

@@ -4,7 +4,7 @@
 use crate::conversion::converted;
 use crate::life_lines::Line;
 use crate::lines::{FINISHED, MOVED};
-use crate::script::{Told, live, lived, repeated};
+use crate::script::{Printed, live, lived, repeated};
 use crate::support::stands_at;
 use silt_device::MemDisk;
 use silt_disk::Version;
@@ -56,8 +56,8 @@ fn merges_as(
     let disk = MemDisk::with_bytes(alloc, &converted_as(rt, alloc, version)?)?;
     has_layout(rt, alloc, &disk, layout);
     let lines = repeated(alloc, &[(Line::Merge, 13)])?;
-    let told = repeated(alloc, &[(Told::Opened, 1), (MOVED, 12), (FINISHED, 1)])?;
-    let disk = lived(rt, alloc, disk, &lines, &told)?;
+    let printed = repeated(alloc, &[(Printed::Opened, 1), (MOVED, 12), (FINISHED, 1)])?;
+    let disk = lived(rt, alloc, disk, &lines, &printed)?;
     has_digests(rt, &disk, number);
     assert_eq!(rt; check(alloc, &disk).ok(), Some(MERGED));
     Ok(())
@@ -75,19 +75,23 @@ fn an_old_device_takes_on_digests(rt: HostRuntime) -> Result<(), Fail> {
 }
 
 // The last reply to a get of key 1 if its row has another value.
-fn told_of_another_value(rt: &impl Abort, alloc: Global, version: Version) -> Result<Told, Fail> {
+fn printed_of_another_value(
+    rt: &impl Abort,
+    alloc: Global,
+    version: Version,
+) -> Result<Printed, Fail> {
     let whole = converted_as(rt, alloc, version)?;
     let bytes = changed(alloc, &whole, &[(28_694, 2)])?;
-    let (_, told) = live(alloc, MemDisk::with_bytes(alloc, &bytes)?, &[Line::Get(1)])?;
-    Ok(*told.last().ok_or("a reply")?)
+    let (_, printed) = live(alloc, MemDisk::with_bytes(alloc, &bytes)?, &[Line::Get(1)])?;
+    Ok(*printed.last().ok_or("a reply")?)
 }
 
 // Without digests a get returns the changed value. With them the opening is refused.
 #[test]
-fn digests_tell_another_value(rt: HostRuntime) -> Result<(), Fail> {
-    let old = told_of_another_value(&rt, rt.alloc(), Version::One)?;
-    assert_eq!(rt; old, Told::Value(0, 2));
-    let new = told_of_another_value(&rt, rt.alloc(), Version::Two)?;
-    assert_eq!(rt; new, Told::NotOpened(3));
+fn digests_show_another_value(rt: HostRuntime) -> Result<(), Fail> {
+    let old = printed_of_another_value(&rt, rt.alloc(), Version::One)?;
+    assert_eq!(rt; old, Printed::Value(0, 2));
+    let new = printed_of_another_value(&rt, rt.alloc(), Version::Two)?;
+    assert_eq!(rt; new, Printed::NotOpened(3));
     Ok(())
 }

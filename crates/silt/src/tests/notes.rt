@@ -20,7 +20,7 @@ use std::thread::Threads;
 use std::time::Clock;
 
 // Runs the program, and compares its status and its notes.
-pub(crate) fn tells<
+pub(crate) fn reports<
     S: Files<File = File>
         + AllocGlobal
         + Abort
@@ -30,13 +30,13 @@ pub(crate) fn tells<
         + Wait
         + HasErrors
         + Sync,
->(rt: &S, call: &str, status: u8, told: &str) -> Result<(), Fail> {
+>(rt: &S, call: &str, status: u8, printed: &str) -> Result<(), Fail> {
     let mut notes = Vec::new(rt.alloc());
     let mut reader = Cursor::new(b"".as_slice());
     let mut out = Vec::new(rt.alloc());
     let mut lines = NoteLines::new(&mut notes);
     let code = status_of_call(rt, call, &mut reader, &mut out, &mut lines);
-    compare(rt, call, code.ok(), &notes, status, told.as_bytes());
+    compare(rt, call, code.ok(), &notes, status, printed.as_bytes());
     Ok(())
 }
 
@@ -45,24 +45,24 @@ const NONE: &str = "silt: why/disk: No such file or directory (os error 2)\n";
 
 // If a file cannot be made or opened, the note has the system's words. A job that succeeds has no note.
 const REASONS: [Step; 10] = [
-    Step::Tells("silt run why/disk", 1, NONE),
-    Step::Tells("silt check why/disk", 1, NONE),
-    Step::Tells("silt tend why/disk", 1, NONE),
-    Step::Tells("silt serve why/disk 0", 1, NONE),
-    Step::Tells(
+    Step::Prints("silt run why/disk", 1, NONE),
+    Step::Prints("silt check why/disk", 1, NONE),
+    Step::Prints("silt tend why/disk", 1, NONE),
+    Step::Prints("silt serve why/disk 0", 1, NONE),
+    Step::Prints(
         "silt format why 2 2 4 2 2 8",
         1,
         "silt: why: Is a directory (os error 21)\n",
     ),
-    Step::Tells(
+    Step::Prints(
         "silt format why/disk 2 3 4 2 2 8",
         1,
         "silt: B is 3, and may be 2 to 32768, a power of two\n",
     ),
-    Step::Tells("silt format why/disk 2 2 4 2 2 8", 0, ""),
-    Step::Tells("silt run why/disk", 0, ""),
-    Step::Tells("silt tend why/disk", 0, ""),
-    Step::Tells(
+    Step::Prints("silt format why/disk 2 2 4 2 2 8", 0, ""),
+    Step::Prints("silt run why/disk", 0, ""),
+    Step::Prints("silt tend why/disk", 0, ""),
+    Step::Prints(
         "silt check why/disk",
         0,
         "silt: why/disk: V 2, B 2, CAP 4, NL 2, NH 2, S 8; charge 0 of 8\n",
@@ -70,7 +70,7 @@ const REASONS: [Step; 10] = [
 ];
 
 #[test]
-fn tells_why_a_file_is_refused(rt: HostRuntime) -> Result<(), Fail> {
+fn reports_why_a_file_is_refused(rt: HostRuntime) -> Result<(), Fail> {
     take_in_folder(&rt, "why", &REASONS)
 }
 
@@ -80,27 +80,27 @@ const BUSY: &str = "silt: busy/disk: the file is in use, and is free when the ot
 // Each job on a file that is in use.
 const BUSY_JOBS: [Step; 12] = [
     Step::Answers("silt run busy/disk", "flush\n", 1, "refused 5 Device\n"),
-    Step::Tells("silt run busy/disk", 1, BUSY),
+    Step::Prints("silt run busy/disk", 1, BUSY),
     Step::Answers("silt check busy/disk", "flush\n", 1, "refused 5 Device\n"),
-    Step::Tells("silt check busy/disk", 1, BUSY),
+    Step::Prints("silt check busy/disk", 1, BUSY),
     Step::Answers("silt tend busy/disk", "flush\n", 1, "refused 5 Device\n"),
-    Step::Tells("silt tend busy/disk", 1, BUSY),
+    Step::Prints("silt tend busy/disk", 1, BUSY),
     Step::Answers("silt serve busy/disk 0", "flush\n", 1, "refused 5 Device\n"),
-    Step::Tells("silt serve busy/disk 0", 1, BUSY),
+    Step::Prints("silt serve busy/disk 0", 1, BUSY),
     Step::Answers(
         "silt format busy/disk 2 2 8 2 2 16",
         "flush\n",
         1,
         "refused 5 Device\n",
     ),
-    Step::Tells("silt format busy/disk 2 2 8 2 2 16", 1, BUSY),
+    Step::Prints("silt format busy/disk 2 2 8 2 2 16", 1, BUSY),
     Step::Answers(
         "silt format busy/disk 100 1024 3000 4 4 100000",
         "flush\n",
         1,
         "refused 5 Device\n",
     ),
-    Step::Tells("silt format busy/disk 100 1024 3000 4 4 100000", 1, BUSY),
+    Step::Prints("silt format busy/disk 100 1024 3000 4 4 100000", 1, BUSY),
 ];
 
 // While a file is in use, each job on it is refused before it reads or writes anything.
@@ -147,7 +147,7 @@ fn checks_share_a_file(rt: HostRuntime) -> Result<(), Fail> {
     let shared = take_steps(
         &rt,
         &[
-            Step::Tells("silt check looked/disk", 0, LOOKED),
+            Step::Prints("silt check looked/disk", 0, LOOKED),
             Step::Answers("silt run looked/disk", "", 1, "refused 5 Device\n"),
         ],
     );
@@ -249,7 +249,7 @@ fn fails_to_write<
 
 // A failed write is reported once, after the session. The note is about the last one.
 #[test]
-fn tells_a_failed_write(rt: HostRuntime) -> Result<(), Fail> {
+fn reports_a_failed_write(rt: HostRuntime) -> Result<(), Fail> {
     make_folder(&rt, "failing")?;
     answers(
         &rt,
@@ -275,7 +275,7 @@ fn fails_twice<D: Disk>(disk: &mut D) -> bool {
 // Whether two writes fail on a disk that reports at once, or on one that does not.
 fn fails_suddenly<D: Watched>(mut disk: D, at_once: bool) -> bool {
     if at_once {
-        disk.tell_at_once();
+        disk.report_at_once();
     }
     fails_twice(&mut disk)
 }
@@ -298,15 +298,19 @@ fn fails_on_file<S: Files<File = File> + AllocGlobal>(
 }
 
 // Two writes fail, and this is the note.
-fn tells_suddenly<S: Files<File = File> + AllocGlobal + Abort>(rt: &S, at_once: bool, told: &[u8]) {
+fn reports_suddenly<S: Files<File = File> + AllocGlobal + Abort>(
+    rt: &S,
+    at_once: bool,
+    printed: &[u8],
+) {
     let mut notes = Vec::new(rt.alloc());
     let failed = fails_on_file(rt, &mut notes, at_once);
-    compare(rt, "two writes", failed.map(u8::from), &notes, 1, told);
+    compare(rt, "two writes", failed.map(u8::from), &notes, 1, printed);
 }
 
 // A disk that reports at once reports only its first failed write or sync. Other disks report none.
 #[test]
-fn tells_a_failed_store_at_once(rt: HostRuntime) -> Result<(), Fail> {
+fn reports_a_failed_store_at_once(rt: HostRuntime) -> Result<(), Fail> {
     make_folder(&rt, "sudden")?;
     answers(
         &rt,
@@ -315,10 +319,10 @@ fn tells_a_failed_store_at_once(rt: HostRuntime) -> Result<(), Fail> {
         0,
         "formatted 45056\n",
     )?;
-    let told =
+    let printed =
         b"silt: a write at 16384: Bad file descriptor (os error 9); the store takes nothing more until it is opened again\n";
-    tells_suddenly(&rt, false, b"");
-    tells_suddenly(&rt, true, told);
+    reports_suddenly(&rt, false, b"");
+    reports_suddenly(&rt, true, printed);
     fs::remove_dir_all(&rt, "sudden")?;
     Ok(())
 }
@@ -359,9 +363,9 @@ fn fails_to_read<
     let code = status_of_call(rt, "silt run cut/disk", &mut reader, &mut out, &mut lines);
     let output = b"opened\nrefused 5 Device\nrefused 5 Device\nacknowledged 0\n";
     compare(rt, "run", code.ok(), &out, 0, output);
-    let told =
+    let printed =
         b"silt: 2 lines refused 5 Device, first line 1\nsilt: cut/disk: a read at 16384: failed to fill whole buffer\n";
-    compare(rt, "run", Some(0), &notes, 0, told);
+    compare(rt, "run", Some(0), &notes, 0, printed);
 }
 
 // A store with two rows.
@@ -382,7 +386,7 @@ const TWO_ROWS: [Step; 2] = [
 
 // A failed read is reported once, after the session. The note is about the first one.
 #[test]
-fn tells_a_failed_read(rt: HostRuntime) -> Result<(), Fail> {
+fn reports_a_failed_read(rt: HostRuntime) -> Result<(), Fail> {
     make_folder(&rt, "cut")?;
     take_steps(&rt, &TWO_ROWS)?;
     fails_to_read(&rt, OpenOptions::new().write(true).open(&rt, "cut/disk")?);
@@ -441,7 +445,7 @@ fn breaks_off<
         + Sync,
     R: Read + Drop,
     W: Write + Drop,
->(rt: &S, call: &str, mut reader: R, mut writer: W, told: &str) {
+>(rt: &S, call: &str, mut reader: R, mut writer: W, printed: &str) {
     let mut notes = Vec::new(rt.alloc());
     let code = status_of_call(
         rt,
@@ -450,7 +454,7 @@ fn breaks_off<
         &mut writer,
         &mut NoteLines::new(&mut notes),
     );
-    compare(rt, call, code.ok(), &notes, 1, told.as_bytes());
+    compare(rt, call, code.ok(), &notes, 1, printed.as_bytes());
 }
 
 // The lines of a session that breaks off.
@@ -467,9 +471,15 @@ fn breaks_at_a_write<
         + Wait
         + HasErrors
         + Sync,
->(rt: &S, room: usize, error: i32, told: &str) {
+>(rt: &S, room: usize, error: i32, printed: &str) {
     let writer = FullWriter { room, error };
-    breaks_off(rt, "silt run broken/disk", Cursor::new(LINES), writer, told);
+    breaks_off(
+        rt,
+        "silt run broken/disk",
+        Cursor::new(LINES),
+        writer,
+        printed,
+    );
 }
 
 // A failed reader is reported.
@@ -488,23 +498,23 @@ fn breaks_at_a_read<
         text: LINES,
         error: 5,
     };
-    let told = "silt: Input/output error (os error 5)\n";
+    let printed = "silt: Input/output error (os error 5)\n";
     breaks_off(
         rt,
         "silt run broken/disk",
         reader,
         Vec::new(rt.alloc()),
-        told,
+        printed,
     );
 }
 
 // A session that runs out of memory is reported.
 fn breaks_by_memory<S: AllocGlobal + Abort>(rt: &S) {
     let mut notes = Vec::new(rt.alloc());
-    NoteLines::new(&mut notes).tell_end(SessionEnd::NoMemory, None);
+    NoteLines::new(&mut notes).report_end(SessionEnd::NoMemory, None);
     compare(
         rt,
-        "tell_end",
+        "report_end",
         Some(0),
         &notes,
         0,
@@ -515,7 +525,7 @@ fn breaks_by_memory<S: AllocGlobal + Abort>(rt: &S) {
 // The note of a session that breaks off has the system's words. There is none if the reader of the replies closed the
 // pipe.
 #[test]
-fn tells_why_a_session_broke_off(rt: HostRuntime) -> Result<(), Fail> {
+fn reports_why_a_session_broke_off(rt: HostRuntime) -> Result<(), Fail> {
     make_folder(&rt, "broken")?;
     answers(
         &rt,
@@ -524,13 +534,13 @@ fn tells_why_a_session_broke_off(rt: HostRuntime) -> Result<(), Fail> {
         0,
         "formatted 45056\n",
     )?;
-    for (room, error, told) in [
+    for (room, error, printed) in [
         (7, 28, "silt: No space left on device (os error 28)\n"),
         (0, 28, "silt: No space left on device (os error 28)\n"),
         (7, 32, ""),
         (0, 32, ""),
     ] {
-        breaks_at_a_write(&rt, room, error, told);
+        breaks_at_a_write(&rt, room, error, printed);
     }
     breaks_at_a_read(&rt);
     breaks_by_memory(&rt);
@@ -540,13 +550,13 @@ fn tells_why_a_session_broke_off(rt: HostRuntime) -> Result<(), Fail> {
 
 // Replies that cannot be written are reported.
 #[test]
-fn tells_why_answers_are_not_written(rt: HostRuntime) -> Result<(), Fail> {
-    let told = format!(in rt.alloc();
+fn reports_why_answers_are_not_written(rt: HostRuntime) -> Result<(), Fail> {
+    let printed = format!(in rt.alloc();
         "silt: there is no job 'prune'\n{FORMS}silt: No space left on device (os error 28)\n"
     )?;
     let reader = Cursor::new(b"".as_slice());
     let writer = FullWriter { room: 0, error: 28 };
-    breaks_off(&rt, "silt prune", reader, writer, &told);
+    breaks_off(&rt, "silt prune", reader, writer, &printed);
     Ok(())
 }
 
@@ -564,15 +574,15 @@ fn refuses_port<
 >(rt: &S, port: u16) -> Result<(), Fail> {
     let call = format!(in rt.alloc(); "silt serve port/disk {port}")?;
     answers(rt, &call, "", 1, "opened\nnetwork fault\n")?;
-    let told = format!(in rt.alloc();
+    let printed = format!(in rt.alloc();
         "silt: 127.0.0.1:{port}: Address already in use (os error 98)\n"
     )?;
-    tells(rt, &call, 1, &told)
+    reports(rt, &call, 1, &printed)
 }
 
 // A port that is in use is a fault of the network, reported after `opened`.
 #[test]
-fn tells_a_port_that_is_in_use(rt: HostRuntime) -> Result<(), Fail> {
+fn reports_a_port_that_is_in_use(rt: HostRuntime) -> Result<(), Fail> {
     make_folder(&rt, "port")?;
     answers(
         &rt,
@@ -713,24 +723,24 @@ fn complains<
         return Err(Fail::new("no complaint"));
     };
     assert_eq!(rt; found.as_str(), expected);
-    let told = format!(in rt.alloc(); "silt: {found}\n{FORMS}")?;
-    tells(rt, call, 2, &told)
+    let printed = format!(in rt.alloc(); "silt: {found}\n{FORMS}")?;
+    reports(rt, call, 2, &printed)
 }
 
 // The complaint says what is wrong with words that name no job. A call for help has none.
 #[test]
-fn tells_which_word_is_wrong(rt: HostRuntime) -> Result<(), Fail> {
+fn reports_which_word_is_wrong(rt: HostRuntime) -> Result<(), Fail> {
     for (call, complaint) in COMPLAINTS {
         complains(&rt, call, complaint)?;
         answers(&rt, call, "", 2, "usage\n")?;
     }
-    for (call, told) in [
+    for (call, printed) in [
         ("silt --help", FORMS),
         ("silt run --help", FORMS),
         ("silt --version", "silt 0.1.0\n"),
         ("silt -V", "silt 0.1.0\n"),
     ] {
-        tells(&rt, call, 2, told)?;
+        reports(&rt, call, 2, printed)?;
         answers(&rt, call, "", 2, "usage\n")?;
     }
     Ok(())

@@ -1,6 +1,6 @@
 // Tests on files as tables of steps: calls of the program, changes of its files, and comparisons between the calls.
 
-use crate::tests::notes::tells;
+use crate::tests::notes::reports;
 use crate::tests::{HasErrors, answers};
 use silt_device::{Disk, FileDisk};
 use std::fs::{self, File, OpenOptions};
@@ -19,7 +19,7 @@ pub(crate) enum Step {
     /// A call of the program: its words, the text that it reads, its status, and what it writes.
     Answers(&'static str, &'static str, u8, &'static str),
     /// The notes of a call that reads no line: its words, its status, and the notes.
-    Tells(&'static str, u8, &'static str),
+    Prints(&'static str, u8, &'static str),
     /// Makes a file with these bytes.
     Fill(&'static str, &'static [u8]),
     /// Makes a file a disk of this many bytes.
@@ -103,7 +103,7 @@ fn take_step<
 >(rt: &S, step: &Step) -> Result<(), Fail> {
     match *step {
         Step::Answers(call, text, status, output) => answers(rt, call, text, status, output),
-        Step::Tells(call, status, told) => tells(rt, call, status, told),
+        Step::Prints(call, status, printed) => reports(rt, call, status, printed),
         Step::Fill(file, bytes) => Ok(fs::write(rt, file, bytes)?),
         Step::Create(file, len) => create(rt, file, len),
         Step::Resize(file, len) => resize(rt, file, len),

@@ -58,8 +58,8 @@ fn opened(rt: &impl Abort, alloc: Global, disk: MemDisk, bytes: &[u8]) -> Result
 // after it.
 fn looked_at(rt: &impl Abort, alloc: Global, bytes: &[u8]) -> Result<Found, Fail> {
     let disk = MemDisk::with_bytes(alloc, bytes)?;
-    let told = checked(alloc, &disk)?;
-    is_opened_so(rt, alloc, disk, bytes, told)
+    let printed = checked(alloc, &disk)?;
+    is_opened_so(rt, alloc, disk, bytes, printed)
 }
 
 fn is_opened_so(
@@ -67,11 +67,11 @@ fn is_opened_so(
     alloc: Global,
     disk: MemDisk,
     bytes: &[u8],
-    told: Found,
+    printed: Found,
 ) -> Result<Found, Fail> {
     let found = opened(rt, alloc, disk, bytes)?;
-    assert_eq!(rt; found, told);
-    Ok(told)
+    assert_eq!(rt; found, printed);
+    Ok(printed)
 }
 
 // What is found on a device of these bytes after these changes.

@@ -12,7 +12,7 @@ fn small() -> Result<Geometry, BadGeometry> {
 }
 
 #[test]
-fn tells_where_parts_begin(rt: HostRuntime) -> Result<(), Fail> {
+fn reports_where_parts_begin(rt: HostRuntime) -> Result<(), Fail> {
     let Ok(geometry) = small() else {
         return Err(Fail::new("a bad geometry"));
     };

@@ -41,7 +41,7 @@ fn formats<S: AllocGlobal + Abort>(
     ending: &Ending,
 ) -> Result<Option<MemDisk>, Fail> {
     let source = NamedDisk::new(String::from_str(rt.alloc(), "disk")?, disk);
-    let (mut out, mut told) = (Vec::new(rt.alloc()), Vec::new(rt.alloc()));
+    let (mut out, mut printed) = (Vec::new(rt.alloc()), Vec::new(rt.alloc()));
     let (disk, code) = format_file(
         rt.alloc(),
         source,
@@ -49,10 +49,10 @@ fn formats<S: AllocGlobal + Abort>(
         &SMALL,
         force,
         &mut out,
-        &mut NoteLines::new(&mut told),
+        &mut NoteLines::new(&mut printed),
     );
     compare(rt, "format", code.ok(), &out, ending.status, ending.output);
-    assert_eq!(rt; told.as_slice(), ending.notes);
+    assert_eq!(rt; printed.as_slice(), ending.notes);
     Ok(disk)
 }
 

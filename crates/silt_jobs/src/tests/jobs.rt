@@ -134,7 +134,7 @@ fn runs_after_a_fault<S: AllocGlobal + Abort>(rt: &S, disk: FaultDisk) {
 }
 
 #[test]
-fn tells_device_faults(rt: HostRuntime) -> Result<(), Fail> {
+fn reports_device_faults(rt: HostRuntime) -> Result<(), Fail> {
     let disk = formatted(&rt, Geometry::new(2, 2, 4, 2, 2, 8)?)?;
     runs_after_a_fault(&rt, FaultDisk::new(disk, Call::Sync, 1));
     Ok(())

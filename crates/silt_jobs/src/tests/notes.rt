@@ -10,20 +10,20 @@ use std::process::Abort;
 use std::test::Fail;
 
 // The notes about an input and the replies to it.
-fn told<S: AllocGlobal>(rt: &S, input: &[u8], output: &[u8]) -> Vec<u8> {
+fn printed<S: AllocGlobal>(rt: &S, input: &[u8], output: &[u8]) -> Vec<u8> {
     let mut lines = InputLines::new(rt.alloc());
     lines.take(input);
     let mut tally = Tally::new();
     tally.take(output);
     let mut text = Vec::new(rt.alloc());
-    NoteLines::new(&mut text).tell_tally(&lines, &tally);
+    NoteLines::new(&mut text).report_tally(&lines, &tally);
     text
 }
 
 // Refusals are counted by their numbers, in the order of the numbers. Lines are those of the input, blank ones
 // included. A value that looks like a refusal is none.
 #[test]
-fn tells_refused_lines(rt: HostRuntime) -> Result<(), Fail> {
+fn reports_refused_lines(rt: HostRuntime) -> Result<(), Fail> {
     let input = b"get =a\n\nput =b 01\n\r\n\r\nput =c 01\nput =d 01\nnone\n";
     let output =
         b"opened\nabsent\nrefused 8 NoRoom\nrefused 22 BadValue\nrefused 8 NoRoom\nrefused 20 BadLine\n";
@@ -32,28 +32,31 @@ fn tells_refused_lines(rt: HostRuntime) -> Result<(), Fail> {
 silt: 1 line refused 20 BadLine, first line 8
 silt: 1 line refused 22 BadValue, first line 6
 ";
-    assert_eq!(rt; told(&rt, input, output).as_slice(), text.as_slice());
+    assert_eq!(rt; printed(&rt, input, output).as_slice(), text.as_slice());
     Ok(())
 }
 
 #[test]
-fn tells_of_a_full_store_and_of_a_rest(rt: HostRuntime) -> Result<(), Fail> {
+fn reports_a_full_store_and_a_rest(rt: HostRuntime) -> Result<(), Fail> {
     let text =
         b"silt: 1 line refused 7 StoreFull, first line 1; merging drops what was overwritten or deleted (run with --tend, or silt tend), and more keys need a larger S
 silt: the last line has no line feed, and is not answered
 ";
     let output = b"opened\nrefused 7 StoreFull\n";
     assert_eq!(rt;
-        told(&rt, b"put =a 01\nput", output).as_slice(),
+        printed(&rt, b"put =a 01\nput", output).as_slice(),
         text.as_slice()
     );
-    assert_eq!(rt; told(&rt, b"put =a 01\n", b"opened\naccepted 1\n").len(), 0);
+    assert_eq!(rt;
+        printed(&rt, b"put =a 01\n", b"opened\naccepted 1\n").len(),
+        0
+    );
     Ok(())
 }
 
 // What no store has room for: the value first, then the keys, and then the memory.
 #[test]
-fn tells_why_there_is_no_plan(rt: HostRuntime) -> Result<(), Fail> {
+fn reports_why_there_is_no_plan(rt: HostRuntime) -> Result<(), Fail> {
     for (keys, value_len, due) in [
         (1, 0, b"silt: V is 0, and may be 1 to 4096\n".as_slice()),
         (u32::MAX, 4097, b"silt: V is 4097, and may be 1 to 4096\n"),
@@ -69,7 +72,7 @@ fn tells_why_there_is_no_plan(rt: HostRuntime) -> Result<(), Fail> {
         ),
     ] {
         let mut text = Vec::new(rt.alloc());
-        NoteLines::new(&mut text).tell_no_plan(&PlanRequest {
+        NoteLines::new(&mut text).report_no_plan(&PlanRequest {
             keys,
             value_len,
             memory: Some(2_102_085),
@@ -121,42 +124,42 @@ fn numbers(of: [u32; 6]) -> Numbers {
 // The notes about these numbers.
 fn complaint<S: AllocGlobal>(rt: &S, numbers: &Numbers) -> Vec<u8> {
     let mut text = Vec::new(rt.alloc());
-    NoteLines::new(&mut text).tell_numbers(numbers);
+    NoteLines::new(&mut text).report_numbers(numbers);
     text
 }
 
-fn is_told<S: AllocGlobal + Abort>(rt: &S, numbers: &Numbers, text: &[u8]) {
+fn is_reported<S: AllocGlobal + Abort>(rt: &S, numbers: &Numbers, text: &[u8]) {
     assert_eq!(rt; complaint(rt, numbers).as_slice(), text);
 }
 
 #[test]
 fn names_a_number_out_of_limits(rt: HostRuntime) -> Result<(), Fail> {
-    is_told(
+    is_reported(
         &rt,
         &numbers([4097, 2, 4, 2, 2, 8]),
         b"silt: V is 4097, and may be 1 to 4096\n",
     );
-    is_told(
+    is_reported(
         &rt,
         &numbers([2, 12, 4, 2, 2, 8]),
         b"silt: B is 12, and may be 2 to 32768, a power of two\n",
     );
-    is_told(
+    is_reported(
         &rt,
         &numbers([2, 2, 9, 2, 2, 8]),
         b"silt: CAP is 9, and may be 1 to 8, four times B at most\n",
     );
-    is_told(
+    is_reported(
         &rt,
         &numbers([2, 2, 4, 1, 2, 8]),
         b"silt: NL is 1, and may be 2 to 8\n",
     );
-    is_told(
+    is_reported(
         &rt,
         &numbers([2, 2, 4, 2, 0, 8]),
         b"silt: NH is 0, and may be 1 to 16\n",
     );
-    is_told(
+    is_reported(
         &rt,
         &numbers([2, 2, 4, 2, 2, 0]),
         b"silt: S is 0, and may be 1 to 16777216\n",

@@ -155,7 +155,7 @@ fn answered_within(count: usize) -> usize {
 
 // The lines before a failed read get their replies, and the line that it cuts gets none, wherever the cut is.
 #[test]
-fn tells_a_failed_read(rt: HostRuntime) -> Result<(), Fail> {
+fn reports_a_failed_read(rt: HostRuntime) -> Result<(), Fail> {
     for count in 0..61usize {
         let text = &LINES[..LINES.len().min(count)];
         let (end, taken) = serve(rt.alloc(), text, 5, true, 3, 1000);
@@ -168,7 +168,7 @@ fn tells_a_failed_read(rt: HostRuntime) -> Result<(), Fail> {
 
 // What was written is a prefix as long as the writer has room. It may be cut within a reply.
 #[test]
-fn tells_a_failed_write(rt: HostRuntime) -> Result<(), Fail> {
+fn reports_a_failed_write(rt: HostRuntime) -> Result<(), Fail> {
     for room in 0..ANSWERS.len() {
         let (end, taken) = serve(rt.alloc(), LINES, 100, false, 3, room);
         assert_eq!(rt; end, SessionEnd::WriteFault);

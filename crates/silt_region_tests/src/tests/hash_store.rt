@@ -260,7 +260,7 @@ fn rebuild_with_fault(alloc: Global, number: u64) -> Result<(Outcome, bool), Fai
 // A rebuild makes two reads: of all eight slots, and of the head of the first of two rows that
 // share their buckets. A look-up of the second row makes two.
 #[test]
-fn a_failed_read_is_told(rt: HostRuntime) -> Result<(), Fail> {
+fn a_failed_read_is_reported(rt: HostRuntime) -> Result<(), Fail> {
     let failed = Outcome::Failed;
     let rebuilt = Outcome::Rebuilt(2, 2);
     for (number, first, second) in [

@@ -42,7 +42,7 @@ fn an_old_header_is_read(rt: HostRuntime) {
 }
 
 #[test]
-fn the_first_finding_is_told(rt: HostRuntime) {
+fn the_first_finding_is_reported(rt: HostRuntime) {
     assert!(rt; finding(36, &HEADER) == Some(Finding::NotFormatted));
     assert!(rt; finding(45_055, &HEADER) == Some(Finding::Damaged(Place::Length)));
     let mut header = HEADER;

@@ -213,7 +213,7 @@ fn found_with_fault(alloc: Global, number: u64) -> Result<bool, Fail> {
 // A rebuild of two rows makes three reads. A look-up makes one for each candidate, up to the one
 // that has the key.
 #[test]
-fn a_failed_read_is_told(rt: HostRuntime) -> Result<(), Fail> {
+fn a_failed_read_is_reported(rt: HostRuntime) -> Result<(), Fail> {
     for (number, want) in [(1, false), (3, false), (4, false), (5, false), (6, true)] {
         assert_eq!(rt;
             found_with_fault(rt.alloc(), number)?,
@@ -232,7 +232,7 @@ fn rebuild_with_fault(alloc: Global, number: u64) -> Result<Outcome, Fail> {
 
 // A rebuild of two rows makes three reads, and returns the fault of each.
 #[test]
-fn a_failed_read_of_a_rebuild_is_told(rt: HostRuntime) -> Result<(), Fail> {
+fn a_failed_read_of_a_rebuild_is_reported(rt: HostRuntime) -> Result<(), Fail> {
     let rebuilt = Outcome::Rebuilt(2, 2);
     let failed = Outcome::Failed;
     for (number, want) in [(1, failed), (2, failed), (3, failed), (4, rebuilt)] {
@@ -321,10 +321,10 @@ fn find_first<D: Disk>(store: &LogStore, disk: &D) -> Option<(u32, [u8; 2])>
 
 // What a store reports after three rows: its number of puts before and after, its number of rows,
 // whether one waits, and what is found of the first key.
-type Told = (u32, u32, u32, bool, Option<(u32, [u8; 2])>);
+type Seen = (u32, u32, u32, bool, Option<(u32, [u8; 2])>);
 
 // Prepares log 0 and puts three rows. None if memory runs out.
-fn put_on<D: Disk>(alloc: Global, disk: &mut D) -> Result<Option<Told>, D::Fault>
+fn put_on<D: Disk>(alloc: Global, disk: &mut D) -> Result<Option<Seen>, D::Fault>
     requires { 45056 ≤ size (D.content disk.old) }
     ensures { size (D.content disk.new) ≡ size (D.content disk.old) }
 {
@@ -350,11 +350,11 @@ fn put_on<D: Disk>(alloc: Global, disk: &mut D) -> Result<Option<Told>, D::Fault
 fn finds_the_last_row_of_a_key(rt: HostRuntime) -> Result<(), Fail> {
     let alloc = rt.alloc();
     let mut disk = blank(alloc, LEN)?;
-    let told = put_on(alloc, &mut disk)?;
+    let printed = put_on(alloc, &mut disk)?;
     let second = find(alloc, &disk, &paired(2));
     let outcome = rebuild(alloc, &disk);
     drop(disk);
-    assert_eq!(rt; told, Some((0, 2, 3, false, Some((2, [0, 3])))));
+    assert_eq!(rt; printed, Some((0, 2, 3, false, Some((2, [0, 3])))));
     assert_eq!(rt; second, found(Kind::Delete, 1));
     assert_eq!(rt; outcome, Outcome::Rebuilt(3, 2));
     Ok(())

@@ -4,7 +4,7 @@ use Rattle.silt.proofs.Endings.{job_ended, unread}
 use Rattle.silt.proofs.program.answer.Goals as goal
 
 pub returns-in-Ok : goal.returns-in-Ok
-returns-in-Ok g c = job_ended c.do_job.result (λ status ended. inl (c.in-Ok.job, c.in-Ok.ensures, ended)) c.do_job.ensures.told c.do_job.ensures.done
+returns-in-Ok g c = job_ended c.do_job.result (λ status ended. inl (c.in-Ok.job, c.in-Ok.ensures, ended)) c.do_job.ensures.printed c.do_job.ensures.done
 
 pub returns-in-Err : goal.returns-in-Err
-returns-in-Err g c = IfOk-weaker c.refuse_words.result _ _ (λ status told. inr (c.in-Err.error, unread (g.N.Notes.told_words c.args.notes.now c.tell_unread.new.notes) (map string_bytes c.args.words.now) c.in-Err.error c.in-Err.ensures c.tell_unread.ensures, told)) c.refuse_words.ensures
+returns-in-Err g c = IfOk-weaker c.refuse_words.result _ _ (λ status reported. inr (c.in-Err.error, unread (g.N.Notes.reported_words c.args.notes.now c.report_unread.new.notes) (map string_bytes c.args.words.now) c.in-Err.error c.in-Err.ensures c.report_unread.ensures, reported)) c.refuse_words.ensures

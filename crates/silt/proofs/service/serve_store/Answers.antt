@@ -3,13 +3,13 @@ use Rattle.silt_wire.proofs.Statuses.{never_done, status_told}
 use Rattle.silt.proofs.service.serve_store.Goals as goal
 
 pub returns-in_default-clause-served : goal.returns-in_default-clause-served
-returns-in_default-clause-served g c = never_done _ c.refuse_network.result.1 c.refuse_network.ensures.told
+returns-in_default-clause-served g c = never_done _ c.refuse_network.result.1 c.refuse_network.ensures.printed
 
 pub returns-in_default-clause-bound : goal.returns-in_default-clause-bound
-returns-in_default-clause-bound g c = never_done _ c.refuse_network.result.1 c.refuse_network.ensures.told
+returns-in_default-clause-bound g c = never_done _ c.refuse_network.result.1 c.refuse_network.ensures.printed
 
-pub returns-in_default-clause-told : goal.returns-in_default-clause-told
-returns-in_default-clause-told g c = status_told c.refuse_network.result.1 (λ broken. inr (inr (inl broken))) c.refuse_network.ensures.told
+pub returns-in_default-clause-printed : goal.returns-in_default-clause-printed
+returns-in_default-clause-printed g c = status_told c.refuse_network.result.1 (λ broken. inr (inr (inl broken))) c.refuse_network.ensures.printed
 
 pub returns-clause-served : goal.returns-clause-served
 returns-clause-served g c = λ is. (c.serve_on-disk.ensures.served is, rw (c.limits_of-limits.ensures.audit) at (c.serve_on-disk.ensures.kept is))

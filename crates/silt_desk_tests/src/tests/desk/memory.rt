@@ -32,7 +32,7 @@ enum Call {
 
 /// The reply to a call.
 #[derive(Clone, Copy, PartialEq)]
-enum Told {
+enum Printed {
     Count(u64),
     Found([u8; 2]),
     Differs,
@@ -42,34 +42,34 @@ enum Told {
 }
 
 // The reply to a refused call.
-fn refused<F: Drop>(refusal: Refusal<F>) -> Told {
+fn refused<F: Drop>(refusal: Refusal<F>) -> Printed {
     match refusal {
-        Refusal::NoMemory => Told::NoMemory,
-        _ => Told::Other,
+        Refusal::NoMemory => Printed::NoMemory,
+        _ => Printed::Other,
     }
 }
 
 // The reply to a put or a flush.
-fn counted<F: Drop>(answer: Result<u64, Refusal<F>>) -> Told {
+fn counted<F: Drop>(answer: Result<u64, Refusal<F>>) -> Printed {
     match answer {
-        Ok(count) => Told::Count(count),
+        Ok(count) => Printed::Count(count),
         Err(refusal) => refused(refusal),
     }
 }
 
 // The reply to a step of the background work.
-fn stepped<F: Drop>(answer: Result<Progress, Refusal<F>>) -> Told {
+fn stepped<F: Drop>(answer: Result<Progress, Refusal<F>>) -> Printed {
     match answer {
-        Ok(progress) => Told::Step(progress),
+        Ok(progress) => Printed::Step(progress),
         Err(refusal) => refused(refusal),
     }
 }
 
 // The reply to a get that left these bytes.
-fn found<F: Drop>(answer: Result<bool, Refusal<F>>, out: [u8; 2]) -> Told {
+fn found<F: Drop>(answer: Result<bool, Refusal<F>>, out: [u8; 2]) -> Printed {
     match answer {
-        Ok(true) => Told::Found(out),
-        Ok(false) => Told::Other,
+        Ok(true) => Printed::Found(out),
+        Ok(false) => Printed::Other,
         Err(refusal) => refused(refusal),
     }
 }
@@ -79,18 +79,18 @@ fn ask_put<D: Disk, N: DeskId>(
     alloc: Global,
     seat: &mut Seat<N>,
     number: u8,
-) -> Told {
+) -> Printed {
     match put(desk, alloc, seat, &key(number), &[0, number]) {
         Some(answer) => counted(answer),
-        None => Told::Other,
+        None => Printed::Other,
     }
 }
 
 // The reply to a swap.
-fn swapped<F: Drop>(answer: Result<Option<u64>, Refusal<F>>) -> Told {
+fn swapped<F: Drop>(answer: Result<Option<u64>, Refusal<F>>) -> Printed {
     match answer {
-        Ok(Some(count)) => Told::Count(count),
-        Ok(None) => Told::Differs,
+        Ok(Some(count)) => Printed::Count(count),
+        Ok(None) => Printed::Differs,
         Err(refusal) => refused(refusal),
     }
 }
@@ -101,10 +101,10 @@ fn ask_swap<D: Disk, N: DeskId>(
     seat: &mut Seat<N>,
     number: u8,
     second: u8,
-) -> Told {
+) -> Printed {
     match swap(desk, alloc, seat, &key(number), &[0, number], &[1, second]) {
         Some(answer) => swapped(answer),
-        None => Told::Other,
+        None => Printed::Other,
     }
 }
 
@@ -113,11 +113,11 @@ fn ask_get<D: Disk, N: DeskId>(
     alloc: Global,
     seat: &mut Seat<N>,
     number: u8,
-) -> Told {
+) -> Printed {
     let mut out = [7; 2];
     match get(desk, alloc, seat, &key(number), &mut out) {
         Some(answer) => found(answer, out),
-        None => Told::Other,
+        None => Printed::Other,
     }
 }
 
@@ -126,7 +126,7 @@ fn ask<D: Disk, N: DeskId>(
     alloc: Global,
     seat: &mut Seat<N>,
     call: Call,
-) -> Told {
+) -> Printed {
     match call {
         Call::Put(number) => ask_put(desk, alloc, seat, number),
         Call::Swap(number, second) => ask_swap(desk, alloc, seat, number, second),
@@ -140,17 +140,17 @@ fn ask<D: Disk, N: DeskId>(
 // The call of this turn and its reply. Five puts come first, the last of which freezes the full
 // log, and a flush. Then come a conversion of nine steps, a merge of thirteen, and five gets. Two
 // swaps of the fourth key come last, and the second one differs.
-fn call_of(turn: u8) -> (Call, Told) {
+fn call_of(turn: u8) -> (Call, Printed) {
     match turn {
-        1..=5 => (Call::Put(turn), Told::Count(u64::from(turn))),
-        6 => (Call::Flush, Told::Count(5)),
-        7..=14 => (Call::Convert, Told::Step(Progress::Moved)),
-        15 => (Call::Convert, Told::Step(Progress::Finished)),
-        16..=27 => (Call::Merge, Told::Step(Progress::Moved)),
-        28 => (Call::Merge, Told::Step(Progress::Finished)),
-        29..=33 => (Call::Get(turn % 28), Told::Found([0, turn % 28])),
-        34 => (Call::Swap(4, 9), Told::Count(6)),
-        _ => (Call::Swap(4, 8), Told::Differs),
+        1..=5 => (Call::Put(turn), Printed::Count(u64::from(turn))),
+        6 => (Call::Flush, Printed::Count(5)),
+        7..=14 => (Call::Convert, Printed::Step(Progress::Moved)),
+        15 => (Call::Convert, Printed::Step(Progress::Finished)),
+        16..=27 => (Call::Merge, Printed::Step(Progress::Moved)),
+        28 => (Call::Merge, Printed::Step(Progress::Finished)),
+        29..=33 => (Call::Get(turn % 28), Printed::Found([0, turn % 28])),
+        34 => (Call::Swap(4, 9), Printed::Count(6)),
+        _ => (Call::Swap(4, 8), Printed::Differs),
     }
 }
 
@@ -182,12 +182,12 @@ fn ask_again<D: Disk, N: DeskId>(
     seat: &mut Seat<N>,
     turn: u8,
     call: Call,
-) -> Told {
-    let told = ask(desk, alloc, seat, call);
-    if told == Told::NoMemory && did_nothing(desk, turn) {
+) -> Printed {
+    let printed = ask(desk, alloc, seat, call);
+    if printed == Printed::NoMemory && did_nothing(desk, turn) {
         return ask(desk, alloc, seat, call);
     }
-    told
+    printed
 }
 
 // Makes all calls and compares their replies.

@@ -52,9 +52,9 @@ fn work_in_turn<D: Disk, N: DeskId, R: Wait + Abort>(
         (Worker::Merger, true),
         (Worker::Merger, false),
     ] {
-        let (back, told) = works(rt, alloc, shared, seat, worker)?;
+        let (back, printed) = works(rt, alloc, shared, seat, worker)?;
         seat = back;
-        assert_eq!(rt; told, due, "{worker:?}");
+        assert_eq!(rt; printed, due, "{worker:?}");
     }
     Ok(seat)
 }
@@ -73,8 +73,8 @@ fn does_what_is_wanted<D: Disk, N: DeskId, R: Wait + Abort>(
 {
     let (desk, mut mine, seat) = two_seats::<D, N>(alloc, core, 100, calls, accepted)?;
     let shared: Shared<D, Kept, N> = RwLock::new(desk);
-    let (seat, told) = works(rt, alloc, &shared, seat, Worker::Merger)?;
-    assert!(rt; !told);
+    let (seat, printed) = works(rt, alloc, &shared, seat, Worker::Merger)?;
+    assert!(rt; !printed);
     put_five(rt, alloc, &shared, &mut mine);
     let seat = work_in_turn(rt, alloc, &shared, seat)?;
     let settled = settle_two(rt, alloc, &shared, mine, seat)?;

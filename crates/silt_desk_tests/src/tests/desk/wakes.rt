@@ -13,7 +13,7 @@ fn heard<R: Wait>(rt: &R, worker: &Receiver<Wake>) -> (usize, bool) {
 }
 
 #[test]
-fn both_workers_are_told_once(rt: HostRuntime) -> Result<(), Fail> {
+fn both_workers_are_woken_once(rt: HostRuntime) -> Result<(), Fail> {
     let (converter, to_convert) = crossbeam_channel::bounded(rt.alloc(), 2)?;
     let (merger, to_merge) = crossbeam_channel::bounded(rt.alloc(), 2)?;
     let wakes = Wakes { converter, merger };
@@ -23,15 +23,15 @@ fn both_workers_are_told_once(rt: HostRuntime) -> Result<(), Fail> {
     };
     wakes.go(&rt, both);
     wakes.go(&rt, both);
-    let told = [heard(&rt, &to_convert), heard(&rt, &to_merge)];
+    let printed = [heard(&rt, &to_convert), heard(&rt, &to_merge)];
     wakes.stop(&rt);
     let stopped = [heard(&rt, &to_convert), heard(&rt, &to_merge)];
-    assert_eq!(rt; (told, stopped), ([(1, true); 2], [(1, false); 2]));
+    assert_eq!(rt; (printed, stopped), ([(1, true); 2], [(1, false); 2]));
     Ok(())
 }
 
 // How many messages each worker gets if this work is due.
-fn told<R: Wait>(rt: &R, alloc: Global, due: Due) -> Result<[usize; 2], AllocError> {
+fn printed<R: Wait>(rt: &R, alloc: Global, due: Due) -> Result<[usize; 2], AllocError> {
     let (converter, to_convert) = crossbeam_channel::bounded(alloc, 2)?;
     let (merger, to_merge) = crossbeam_channel::bounded(alloc, 2)?;
     let wakes = Wakes { converter, merger };
@@ -43,7 +43,7 @@ fn told<R: Wait>(rt: &R, alloc: Global, due: Due) -> Result<[usize; 2], AllocErr
 fn a_worker_without_work_is_left_asleep(rt: HostRuntime) -> Result<(), Fail> {
     let mut found = Vec::new(rt.alloc());
     for (converts, merges) in [(false, false), (true, false), (false, true)] {
-        found.push(told(&rt, rt.alloc(), Due { converts, merges })?)?;
+        found.push(printed(&rt, rt.alloc(), Due { converts, merges })?)?;
     }
     assert_eq!(rt; found.as_slice(), [[0, 0], [1, 0], [0, 1]].as_slice());
     Ok(())

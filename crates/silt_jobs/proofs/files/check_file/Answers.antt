@@ -1,14 +1,14 @@
 use Rattle.std.proofs.Common.{refl, inl, inr}
 use Rattle.silt_event.specs.declared.refusal.Refusal.TheVariants.{Device}
 use Rattle.silt_wire.proofs.Statuses.{told_weaker}
-use Rattle.silt_jobs.proofs.FileRefusals.{told_refusal}
+use Rattle.silt_jobs.proofs.FileRefusals.{reported_refusal}
 use Rattle.silt_jobs.proofs.files.check_file.Goals as goal
 
-pub returns-in-Ok-clause-told : goal.returns-in-Ok-clause-told
-returns-in-Ok-clause-told g c = told_weaker c.check_on-status.result (λ told. inr (c.in-Ok.disk, c.in-Ok.ensures.shared, refl, told)) c.check_on-status.ensures.told
+pub returns-in-Ok-clause-printed : goal.returns-in-Ok-clause-printed
+returns-in-Ok-clause-printed g c = told_weaker c.check_on-status.result (λ reported. inr (c.in-Ok.disk, c.in-Ok.ensures.shared, refl, reported)) c.check_on-status.ensures.printed
 
 pub returns-in-Ok-clause-reported : goal.returns-in-Ok-clause-reported
 returns-in-Ok-clause-reported g c = λ is. (c.in-Ok.disk, c.in-Ok.ensures.shared, refl, c.check_on-status.ensures.reported is)
 
-pub returns-in-Err-clause-told : goal.returns-in-Err-clause-told
-returns-in-Err-clause-told g c = told_refusal {F = Unit {0}} c.refuse.result (Device tt) _ _ (λ told. inl (c.in-Err.error, (c.in-Err.ensures.not_shared, c.tell_error.ensures), told)) c.refuse.ensures
+pub returns-in-Err-clause-printed : goal.returns-in-Err-clause-printed
+returns-in-Err-clause-printed g c = reported_refusal {F = Unit {0}} c.refuse.result (Device tt) _ _ (λ reported. inl (c.in-Err.error, (c.in-Err.ensures.not_shared, c.report_error.ensures), reported)) c.refuse.ensures

@@ -1,14 +1,14 @@
 use Rattle.std.proofs.Common.{inl, inr}
 use Rattle.silt_event.specs.declared.refusal.Refusal.TheVariants.{Device}
 use Rattle.silt_wire.proofs.Statuses.{told_weaker}
-use Rattle.silt_jobs.proofs.FileRefusals.{told_refusal}
+use Rattle.silt_jobs.proofs.FileRefusals.{reported_refusal}
 use Rattle.silt_jobs.proofs.files.run_file.Goals as goal
 
-pub returns-in-Ok-clause-told : goal.returns-in-Ok-clause-told
-returns-in-Ok-clause-told g c = told_weaker c.run_on-disk.result.1 (λ told. inr (c.in-Ok.disk, c.in-Ok.ensures.opened, told)) c.run_on-disk.ensures.told
+pub returns-in-Ok-clause-printed : goal.returns-in-Ok-clause-printed
+returns-in-Ok-clause-printed g c = told_weaker c.run_on-disk.result.1 (λ reported. inr (c.in-Ok.disk, c.in-Ok.ensures.opened, reported)) c.run_on-disk.ensures.printed
 
 pub returns-in-Ok-clause-answered : goal.returns-in-Ok-clause-answered
 returns-in-Ok-clause-answered g c = λ is. (c.in-Ok.disk, c.in-Ok.ensures.opened, c.run_on-disk.ensures.answered is)
 
-pub returns-in-Err-clause-told : goal.returns-in-Err-clause-told
-returns-in-Err-clause-told g c = told_refusal {F = Unit {0}} c.refuse.result (Device tt) _ _ (λ told. inl (c.in-Err.error, (c.in-Err.ensures.not_opened, c.tell_error.ensures), told)) c.refuse.ensures
+pub returns-in-Err-clause-printed : goal.returns-in-Err-clause-printed
+returns-in-Err-clause-printed g c = reported_refusal {F = Unit {0}} c.refuse.result (Device tt) _ _ (λ reported. inl (c.in-Err.error, (c.in-Err.ensures.not_opened, c.report_error.ensures), reported)) c.refuse.ensures

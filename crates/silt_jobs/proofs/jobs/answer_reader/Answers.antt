@@ -5,5 +5,5 @@ returns-in-Ok g c = (
   c.answer_lines-core.result.1,
   c.status_of.ensures,
   (g.W.Write.contents c.write_out.new.writer, c.in-Ok.ensures, c.answer_lines-core.ensures),
-  (c.tell_end.new.notes, c.tell_end.ensures, rw (c.lines.ensures, c.tally.ensures) at c.tell_tally.ensures),
+  (c.report_end.new.notes, c.report_end.ensures, rw (c.lines.ensures, c.tally.ensures) at c.report_tally.ensures),
 )

@@ -5,8 +5,8 @@ use Rattle.silt_wire.specs.Sessions.{lines_after}
 use Rattle.silt_jobs.specs.Numbers.{shape_asked}
 use Rattle.silt_jobs.specs.Scripts.{Reads, ScriptCause}
 use Rattle.silt_event.specs.declared.refusal.Refusal.TheVariants.{BadGeometry, NoMemory}
-use Rattle.silt_jobs.proofs.Outcomes.{refused_as_new, told_refused}
-use Rattle.silt_jobs.proofs.Refusals.{tells_bad_geometry}
+use Rattle.silt_jobs.proofs.Outcomes.{refused_as_new, reported_refused}
+use Rattle.silt_jobs.proofs.Refusals.{reports_bad_geometry}
 use Rattle.silt_jobs.proofs.script.run_script.Goals as goal
 
 pub returns-in-Ok-run_lives-clause-answered : goal.returns-in-Ok-run_lives-clause-answered
@@ -25,16 +25,16 @@ returns-in-Ok-run_lives-clause-answered g c = λ _.
       rw (c.deref-in-Ok-run_lives.ensures.value, c.deref-in-Ok-run_lives-2.ensures.value) at c.in_ok-write_script-in-Ok-run_lives.ensures,
     )
 
-pub returns-in_default-clause-told : goal.returns-in_default-clause-told
-returns-in_default-clause-told g c = told_refused (shape_asked c.args.numbers.now) c.refuse.result _ _ BadGeometry c.in_default.ensures c.refuse.ensures
+pub returns-in_default-clause-printed : goal.returns-in_default-clause-printed
+returns-in_default-clause-printed g c = reported_refused (shape_asked c.args.numbers.now) c.refuse.result _ _ BadGeometry c.in_default.ensures c.refuse.ensures
 
-pub returns-in-Err-clause-told : goal.returns-in-Err-clause-told
-returns-in-Err-clause-told g c = told_refused (shape_asked c.args.numbers.now) c.refuse-in-Err.result _ _ NoMemory tt c.refuse-in-Err.ensures
+pub returns-in-Err-clause-printed : goal.returns-in-Err-clause-printed
+returns-in-Err-clause-printed g c = reported_refused (shape_asked c.args.numbers.now) c.refuse-in-Err.result _ _ NoMemory tt c.refuse-in-Err.ensures
 
-pub returns-clause-told : goal.returns-clause-told
-returns-clause-told g c =
-    told_refused (shape_asked c.args.numbers.now) c.refuse-in-Err-run_lives.result _ _ c.in-Err-run_lives.refusal
+pub returns-clause-printed : goal.returns-clause-printed
+returns-clause-printed g c =
+    reported_refused (shape_asked c.args.numbers.now) c.refuse-in-Err-run_lives.result _ _ c.in-Err-run_lives.refusal
     (subst (λ (shape : Shape). ScriptCause shape c.in-Err-run_lives.refusal) c.in-Ok.ensures.0 (refused_as_new _ c.in-Err-run_lives.refusal c.in-Err-run_lives.ensures.cause)) c.refuse-in-Err-run_lives.ensures
 
 pub returns-in_default-clause-refused : goal.returns-in_default-clause-refused
-returns-in_default-clause-refused g c = λ _. tells_bad_geometry MemFault c.refuse.result _ _ c.refuse.ensures
+returns-in_default-clause-refused g c = λ _. reports_bad_geometry MemFault c.refuse.result _ _ c.refuse.ensures

@@ -30,7 +30,7 @@ fn rebuilds_with_fault(alloc: Global, count: u32, number: u64) -> Result<Outcome
 // absent key with the first byte of a present one. If no key has its first byte, the look-up makes
 // none.
 #[test]
-fn a_failed_read_of_a_look_up_is_told(rt: HostRuntime) -> Result<(), Fail> {
+fn a_failed_read_of_a_look_up_is_reported(rt: HostRuntime) -> Result<(), Fail> {
     for (number, first, second, want) in [
         (1, 50, 0, None),
         (2, 50, 0, None),
@@ -50,7 +50,7 @@ fn a_failed_read_of_a_look_up_is_told(rt: HostRuntime) -> Result<(), Fail> {
 
 // A rebuild of three short entries makes one read, and one of none makes none.
 #[test]
-fn a_failed_read_of_a_rebuild_is_told(rt: HostRuntime) -> Result<(), Fail> {
+fn a_failed_read_of_a_rebuild_is_reported(rt: HostRuntime) -> Result<(), Fail> {
     for (number, count, want) in [
         (1, 3, Outcome::Failed),
         (2, 3, Outcome::Rebuilt(3)),

@@ -89,8 +89,8 @@ fn encodes_the_index_of_keys(rt: HostRuntime) -> Result<(), Fail> {
     let geometry = four_rows()?;
     let entries = SortedEntries::new(geometry, 1, 1);
     let store = SortedStore::encode(rt.alloc(), entries, &[key(10, 0)], Digest([7; 20]))?;
-    let told = (store.region(), store.len(), store.is_empty());
-    assert_eq!(rt; told, (1, 1, false));
+    let printed = (store.region(), store.len(), store.is_empty());
+    assert_eq!(rt; printed, (1, 1, false));
     assert_eq!(rt; (store.geometry(), store.entries().len()), (geometry, 1));
     assert_eq!(rt; *store.digest(), Digest([7; 20]));
     Ok(())
@@ -149,7 +149,7 @@ fn gets_long(alloc: Global, value_len: u32, number: u64) -> Result<Option<bool>,
 // After the one read of the rebuild a get of an entry of 512 bytes makes one read, and one of 513
 // bytes makes two.
 #[test]
-fn a_failed_read_of_a_get_is_told(rt: HostRuntime) -> Result<(), Fail> {
+fn a_failed_read_of_a_get_is_reported(rt: HostRuntime) -> Result<(), Fail> {
     for (value_len, number, want) in [
         (492, 2, None),
         (492, 3, Some(true)),

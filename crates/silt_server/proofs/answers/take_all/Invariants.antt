@@ -10,5 +10,5 @@ invariant-loop-event g l = record {
   can : (goal.iterator-loop-event g).can_next l.event-iterator;
   finite : (goal.iterator-loop-event g).is_finite l.event-iterator;
   room : HasRoom l.pipeline (length (into_iter_items l.event-iterator));
-  told : (done : List EventOf) × (done ++ into_iter_items l.event-iterator ≡ into_iter_items l.initial.event-iterator) × AnswersSoFar g.D.Disk done l.pipeline;
+  so_far : (done : List EventOf) × (done ++ into_iter_items l.event-iterator ≡ into_iter_items l.initial.event-iterator) × AnswersSoFar g.D.Disk done l.pipeline;
 }

@@ -8,5 +8,5 @@ invariant-loop-reply l = record {
   can : (goal.iterator-loop-reply).can_next l.reply-iterator;
   finite : (goal.iterator-loop-reply).is_finite l.reply-iterator;
   room : vec_len l.replies + length (into_iter_items l.reply-iterator) ≤ vec_capacity l.replies;
-  told : l.replies.items ++ into_iter_items l.reply-iterator ≡ l.initial.replies.items ++ into_iter_items l.initial.reply-iterator;
+  so_far : l.replies.items ++ into_iter_items l.reply-iterator ≡ l.initial.replies.items ++ into_iter_items l.initial.reply-iterator;
 }

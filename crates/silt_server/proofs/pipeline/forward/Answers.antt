@@ -10,7 +10,7 @@ use Rattle.silt_server.proofs.pipeline.forward.Goals as goal
 
 pub loop-kind-init : goal.loop-kind-init
 loop-kind-init c = record {
-  told = ([], [], c.into_iter-tasks.ensures.rest, sym (append-nil _), tt, tt);
+  so_far = ([], [], c.into_iter-tasks.ensures.rest, sym (append-nil _), tt, tt);
   same_length = omega (arith, ap length c.into_iter-tasks.ensures.rest, c.args.tasks.ok.0, c.len.ensures, c.if-len-kinds.false);
   len = search rules;
   room = refl;
@@ -19,12 +19,12 @@ loop-kind-init c = record {
 pub loop-kind-preserved : goal.loop-kind-preserved
 loop-kind-preserved c =
     let before = c.loop-kind.invariant in
-    let (done, given, whole, was, replied, allowed) = before.told in
+    let (done, given, whole, was, replied, allowed) = before.so_far in
     let task = c.in-Some.task in
     let reply = c.in-Some-forwarded.reply in
     let items = c.in-Some.ensures.items in
     record {
-      told = (
+      so_far = (
         done ++ task ∷ [],
         given ++ reply ∷ [],
         append_assoc done (task ∷ []) (into_iter_items c.next.new.self) ∙ ap (λ (l : List Task). done ++ l) (sym items) ∙ whole,

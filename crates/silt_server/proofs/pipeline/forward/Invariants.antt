@@ -9,7 +9,7 @@ use Rattle.silt_server.proofs.pipeline.forward.Given as goal
 -- the tasks so far have given a reply for each kind so far
 abbrev pub invariant-loop-kind : goal.invariant-loop-kind
 invariant-loop-kind l = record {
-  told : (done : List Task) × (given : List PlainReply) × (done ++ into_iter_items l.tasks ≡ l.fn.tasks.items) × (l.replies.items ≡ l.initial.replies.items ++ given)
+  so_far : (done : List Task) × (given : List PlainReply) × (done ++ into_iter_items l.tasks ≡ l.fn.tasks.items) × (l.replies.items ≡ l.initial.replies.items ++ given)
       × AllZip HasReply done given × AllZip Allows (take l.kind-index l.kinds) given;
   same_length : l.kind-index + length (into_iter_items l.tasks) ≡ length l.kinds;
   len : vec_len l.replies ≡ vec_len l.initial.replies + l.kind-index;

@@ -2,5 +2,5 @@ use Rattle.std.proofs.Common.{inr}
 use Rattle.silt_wire.proofs.Statuses.{told_weaker}
 use Rattle.silt_server.proofs.serve.serve_on.Goals as goal
 
-pub returns-in-None-clause-told : goal.returns-in-None-clause-told
-returns-in-None-clause-told g c = told_weaker c.serve_counted.result.1 (λ told. inr told) c.serve_counted.ensures.told
+pub returns-in-None-clause-printed : goal.returns-in-None-clause-printed
+returns-in-None-clause-printed g c = told_weaker c.serve_counted.result.1 (λ so_far. inr so_far) c.serve_counted.ensures.printed

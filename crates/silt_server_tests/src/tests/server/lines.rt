@@ -39,7 +39,7 @@ fn failing(alloc: Global) -> Result<MemDisk, Fail> {
 }
 
 #[test]
-fn tells_what_is_not_settled(rt: HostRuntime) -> Result<(), Fail> {
+fn reports_what_is_not_settled(rt: HostRuntime) -> Result<(), Fail> {
     let alloc = rt.alloc();
     let lines =
         b"put 0100000000000000000000000000000000000000 0102\nflush\nget 0100000000000000000000000000000000000000\n";

@@ -56,7 +56,7 @@ fn serve_deaf<D: Disk, R: Threads + Wait + Sync>(
 }
 
 #[test]
-fn tells_that_its_port_is_not_known(rt: HostRuntime) -> Result<(), Fail> {
+fn reports_that_its_port_is_not_known(rt: HostRuntime) -> Result<(), Fail> {
     let alloc = rt.alloc();
     let (status, written, is_empty) = serve_deaf(&rt, alloc, formatted(alloc)?, None, None)?;
     assert_eq!(rt; (status, is_empty), (1, Some(true)));
@@ -65,7 +65,7 @@ fn tells_that_its_port_is_not_known(rt: HostRuntime) -> Result<(), Fail> {
 }
 
 #[test]
-fn tells_that_nobody_can_connect(rt: HostRuntime) -> Result<(), Fail> {
+fn reports_that_nobody_can_connect(rt: HostRuntime) -> Result<(), Fail> {
     let alloc = rt.alloc();
     let (status, written, is_empty) = serve_deaf(
         &rt,

@@ -17,13 +17,13 @@ loop-event-init g c =
       stays = refl;
       values = subst (λ (l : List EventOf). All (HasValueOf c.args.self.now.value_len) l) (sym given.0) c.requires.values;
       room = search rules;
-      told = ([], [], refl, sym (append-nil _), refl);
+      so_far = ([], [], refl, sym (append-nil _), refl);
     }
 
 pub loop-event-preserved : goal.loop-event-preserved
 loop-event-preserved g c =
     let before = c.loop-event.invariant in
-    let (done, given, all, was, each) = before.told in
+    let (done, given, all, was, each) = before.so_far in
     let items = c.in-Some.ensures.steps.0 in
     record {
       can = tt;
@@ -31,7 +31,7 @@ loop-event-preserved g c =
       stays = c.answer.ensures.stays ∙ before.stays;
       values = All-rest (HasValueOf c.args.self.now.value_len) c.in-Some.event (into_iter_items c.next.new.self) _ items before.values;
       room = search rules;
-      told = (
+      so_far = (
         _,
         _,
         append_assoc done (c.in-Some.event ∷ []) (into_iter_items c.next.new.self) ∙ ap (λ (l : List EventOf). done ++ l) (sym items) ∙ all,

@@ -14,6 +14,6 @@ invariant-loop-event g l =
       stays : l.self.value_len ≡ l.initial.self.value_len;
       values : All (HasValueOf l.initial.self.value_len) (into_iter_items l.event-iterator);
       room : vec_len l.replies + length (into_iter_items l.event-iterator) ≤ vec_capacity l.replies;
-      told : (done : List EventOf) × (given : List PlainReply) × (done ++ into_iter_items l.event-iterator ≡ into_iter_items l.initial.event-iterator)
+      so_far : (done : List EventOf) × (given : List PlainReply) × (done ++ into_iter_items l.event-iterator ≡ into_iter_items l.initial.event-iterator)
           × (l.replies.items ≡ l.initial.replies.items ++ given) × AnswersEach (AnswersClient g.A.Asking.gives) l.initial.self done given l.self;
     }

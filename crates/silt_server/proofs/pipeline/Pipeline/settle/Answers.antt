@@ -14,10 +14,10 @@ returns-clause-replies g c =
     let same = c.put_tasks.ensures.same in
     elim c.match-put_tasks.branch [
       | in-Ok+in_ok-forward_all-in-Ok w ↦
-          let told = w.in_ok-forward_all-in-Ok.ensures.replies in (
-            told.0,
-            ap (λ p. p.replies.items) w.self-is ∙ told.1 ∙ ap (λ v. v.items ++ told.0) same.0,
-            subst (λ (l : List EventKind). AllZip Allows l told.0) (w.as_slice.ensures.value ∙ ap (λ v. v.items) same.1) told.2,
+          let so_far = w.in_ok-forward_all-in-Ok.ensures.replies in (
+            so_far.0,
+            ap (λ p. p.replies.items) w.self-is ∙ so_far.1 ∙ ap (λ v. v.items ++ so_far.0) same.0,
+            subst (λ (l : List EventKind). AllZip Allows l so_far.0) (w.as_slice.ensures.value ∙ ap (λ v. v.items) same.1) so_far.2,
           )
       | in-Err-NoMemory w ↦ (
         replicate w.len.result (reply_without NoMemory),

@@ -90,7 +90,7 @@ fn replayed(alloc: Global, calls: &[RecordedCall]) -> Result<Again, AllocError> 
 
 /// What a record shows.
 #[derive(Clone, Copy, Debug)]
-struct Told {
+struct Printed {
     // How many calls are recorded.
     calls: u64,
     // How many of them had another reply than that of a plain map.
@@ -102,9 +102,9 @@ struct Told {
 }
 
 /// What a record of this many calls shows once they are repeated, and how the store ends.
-fn tell_of<D: Disk>(alloc: Global, core: &Core<D>, again: &Again, calls: u64) -> Option<Told> {
+fn print_of<D: Disk>(alloc: Global, core: &Core<D>, again: &Again, calls: u64) -> Option<Printed> {
     let entries = core.entries(alloc).ok()?;
-    Some(Told {
+    Some(Printed {
         calls,
         wrong: again.wrong,
         accepted: again.accepted,
@@ -113,10 +113,10 @@ fn tell_of<D: Disk>(alloc: Global, core: &Core<D>, again: &Again, calls: u64) ->
 }
 
 /// What the record of a desk shows once its calls are repeated.
-fn tell<D: Disk, N: DeskId>(alloc: Global, desk: Desk<D, Kept, N>) -> Option<Told> {
+fn print<D: Disk, N: DeskId>(alloc: Global, desk: Desk<D, Kept, N>) -> Option<Printed> {
     let calls = desk.trace().calls().len() as u64;
     let again = replayed(alloc, desk.trace().calls()).ok()?;
-    tell_of(alloc, &desk.into_core(), &again, calls)
+    print_of(alloc, &desk.into_core(), &again, calls)
 }
 
 /// Serves a store and records all calls. Returns what the record shows, and the status. The blanks
@@ -138,7 +138,7 @@ fn serve_recorded<
     inbox_blanks: (Blank, Blank),
     sessions: u32,
     out: &mut W,
-) -> Option<(Told, u8)>
+) -> Option<(Printed, u8)>
     requires calls { (desk_blanks.0.name ≡ N.calls_name) × (desk_blanks.0.parts ≡ N.seats) × (N.seats ≡ 3) }
     requires accepted { (desk_blanks.1.name ≡ N.accepted_name) × (desk_blanks.1.parts ≡ N.seats) }
     requires put { (inbox_blanks.0.name ≡ P.put_name) × (inbox_blanks.0.parts ≡ P.feeders) × (P.feeders ≡ 64) }
@@ -151,8 +151,8 @@ fn serve_recorded<
     let state = ServerState::<N, P>::new(alloc, seats, put, taken)?;
     let limits = limits_of(sessions, None);
     let (desk, status) = serve_desk(rt, alloc, listener, desk, state, limits, &Open, out);
-    let told = tell(alloc, desk)?;
-    Some((told, status.ok()?))
+    let printed = print(alloc, desk)?;
+    Some((printed, status.ok()?))
 }
 
 /// Serves and records in the same way, on an empty store.
@@ -162,7 +162,7 @@ fn serve_kept<L: Listens, R: Threads + Wait + Sync>(
     listener: &L,
     disk: MemDisk,
     sessions: u32,
-) -> Option<(Told, u8)> {
+) -> Option<(Printed, u8)> {
     let core = Core::open(alloc, disk).ok()?;
     let Ok(kept) = Kept::new(alloc, &core, 400_000) else {
         return None;
@@ -186,7 +186,7 @@ fn serve_all<R: Net<Listener = TcpListener, Stream = TcpStream> + Clock + Thread
     rt: &R,
     alloc: Global,
     disk: MemDisk,
-) -> Result<(Option<(Told, u8)>, Found), Fail> {
+) -> Result<(Option<(Printed, u8)>, Found), Fail> {
     let listener = TcpListener::bind(rt, ("127.0.0.1", 0u16))?;
     let addr = listener.local_addr()?;
     let listener = Patient { rt, listener };
@@ -205,10 +205,10 @@ fn records_what_a_plain_map_does(rt: HostRuntime) -> Result<(), Fail> {
         .ok()
         .ok_or("in limits")?;
     let (served, found) = serve_all(&rt, alloc, formatted_with(alloc, geometry)?)?;
-    let (told, status) = served.ok_or("served")?;
+    let (printed, status) = served.ok_or("served")?;
     assert_eq!(rt; status, 0);
-    assert_eq!(rt; (found.wrong, told.wrong), (0, 0));
-    assert!(rt; told.ends_alike);
-    assert!(rt; told.accepted > 0 && told.accepted < told.calls);
+    assert_eq!(rt; (found.wrong, printed.wrong), (0, 0));
+    assert!(rt; printed.ends_alike);
+    assert!(rt; printed.accepted > 0 && printed.accepted < printed.calls);
     Ok(())
 }
