@@ -1,5 +1,5 @@
 // Clients of a silt server, for measuring: each keeps one connection, sends lines, waits for their replies, and sends
-// the next.
+// the next. Two threads share them, as those of redis-benchmark do, so that the other processors are left to the server.
 //
 //     cc -O2 -pthread -o clients docs/tools/clients.c
 //     ./clients PORT WRITERS READERS SECONDS V BURST MOST
@@ -15,22 +15,34 @@
 #include <stdio.h>
 #include <stdlib.h>
 #include <string.h>
+#include <sys/epoll.h>
 #include <sys/socket.h>
 #include <time.h>
 #include <unistd.h>
 
-enum { KEYS = 256, MOST_READ = 65536 };
+enum { KEYS = 256, MOST_READ = 65536, MOST_EVENTS = 64, THREADS = 2 };
 
-static int port, value_len, writers;
-static long burst, most;
-static atomic_int done;
-static atomic_long sent, accepted, found, refused;
-static pthread_barrier_t begin;
-
+// A connection, and the lines that it sends next.
 struct client {
     int number, is_writer, at;
-    pthread_t thread;
+    unsigned long turn;
+    char *lines;
+    size_t len;
+    // How many replies are to come, and whether the next byte begins one.
+    long waits;
+    int is_first;
 };
+
+// A thread with its connections.
+struct loop {
+    pthread_t thread;
+    int poll, busy;
+};
+
+static int port, value_len, writers;
+static long burst, most, end;
+static atomic_int done;
+static atomic_long sent, accepted, found, refused;
 
 static void fail(const char *words) {
     fprintf(stderr, "clients: %s\n", words);
@@ -45,33 +57,6 @@ static int connected(void) {
     return at;
 }
 
-// Sends all of a text.
-static void send_all(int at, const char *text, size_t len) {
-    while (len > 0) {
-        ssize_t count = write(at, text, len);
-        if (count <= 0) fail("a connection broke");
-        text += count;
-        len -= count;
-    }
-}
-
-// Receives so many lines, and returns how many of them begin with this byte.
-static long receive(int at, long lines, char first) {
-    char got[MOST_READ];
-    int is_first = 1;
-    long begun = 0;
-    while (lines > 0) {
-        ssize_t count = read(at, got, sizeof got);
-        if (count <= 0) fail("a connection ended before its replies");
-        for (ssize_t i = 0; i < count; i++) {
-            if (is_first) begun += got[i] == first;
-            is_first = got[i] == '\n';
-            lines -= is_first;
-        }
-    }
-    return begun;
-}
-
 // Writes the line of a put, and returns its length.
 static int put_line(char *line, int number, unsigned long turn) {
     static const char digits[] = "0123456789abcdef";
@@ -84,54 +69,81 @@ static int put_line(char *line, int number, unsigned long turn) {
     return len;
 }
 
-// Writes the lines of the next puts, and returns their length.
-static size_t put_lines(char *lines, int number, unsigned long from) {
-    size_t len = 0;
-    for (long i = 0; i < burst; i++) len += put_line(lines + len, number, from + i);
-    return len;
-}
-
-// Puts so many lines at once, again and again. While the server works, the next ones are made.
-static void put_all(struct client *client) {
-    char *lines = malloc(burst * (64 + 2 * value_len));
-    unsigned long turn = 0;
-    size_t len = put_lines(lines, client->number, turn);
-    while (!atomic_load(&done) && atomic_fetch_add(&sent, burst) + burst <= most) {
-        send_all(client->at, lines, len);
-        len = put_lines(lines, client->number, turn += burst);
-        long good = receive(client->at, burst, 'a');
-        atomic_fetch_add(&accepted, good);
-        atomic_fetch_add(&refused, burst - good);
-    }
-    atomic_store(&done, 1);
-    free(lines);
-}
-
-// Gets what the writers put, one key after the other.
-static void get_all(struct client *client) {
-    char line[64];
-    for (unsigned long turn = 0; !atomic_load(&done); turn++) {
-        int len = sprintf(line, "get =%lu.%lu\n", turn % writers, turn * 7 % KEYS);
-        send_all(client->at, line, len);
-        receive(client->at, 1, 'v');
-        atomic_fetch_add(&found, 1);
+// Makes the lines that a client sends next: some puts, or one get of what a writer put.
+static void make_lines(struct client *client) {
+    client->len = 0;
+    if (client->is_writer) {
+        for (long i = 0; i < burst; i++) client->len += put_line(client->lines + client->len, client->number, client->turn++);
+    } else {
+        client->len = sprintf(client->lines, "get =%lu.%lu\n", client->turn % writers, client->turn * 7 % KEYS);
+        client->turn++;
     }
 }
 
-static void *run(void *of) {
-    struct client *client = of;
-    client->at = connected();
-    pthread_barrier_wait(&begin);
-    if (client->is_writer) put_all(client);
-    else get_all(client);
-    close(client->at);
-    return NULL;
+// Sends a client's lines, and makes the next ones while the server works. A burst fits the buffers of the system.
+static void send_lines(struct client *client) {
+    client->waits = client->is_writer ? burst : 1;
+    for (size_t at = 0; at < client->len;) {
+        ssize_t count = write(client->at, client->lines + at, client->len - at);
+        if (count <= 0) fail("a connection broke");
+        at += count;
+    }
+    make_lines(client);
+}
+
+// Receives what came, and counts the replies.
+static void receive(struct client *client) {
+    char got[MOST_READ];
+    ssize_t count = read(client->at, got, sizeof got);
+    if (count <= 0) fail("a connection ended before its replies");
+    for (ssize_t i = 0; i < count; i++) {
+        if (client->is_first) {
+            if (!client->is_writer) found += got[i] == 'v';
+            else if (got[i] == 'a') accepted++;
+            else refused++;
+        }
+        client->is_first = got[i] == '\n';
+        client->waits -= client->is_first;
+    }
 }
 
 static long milliseconds(void) {
     struct timespec now;
     clock_gettime(CLOCK_MONOTONIC, &now);
     return now.tv_sec * 1000 + now.tv_nsec / 1000000;
+}
+
+// Whether a client may send: the time is not over, and its puts are not too many.
+static int may_send(struct client *client) {
+    if (done || milliseconds() >= end) return 0;
+    if (client->is_writer && atomic_fetch_add(&sent, burst) + burst > most) done = 1;
+    return !done;
+}
+
+// Sends and receives until the time is over or enough puts are sent, and then what is still to come.
+static void *run(void *of) {
+    struct loop *loop = of;
+    while (loop->busy > 0) {
+        struct epoll_event events[MOST_EVENTS];
+        int count = epoll_wait(loop->poll, events, MOST_EVENTS, -1);
+        for (int i = 0; i < count; i++) {
+            struct client *client = events[i].data.ptr;
+            receive(client);
+            if (client->waits > 0) continue;
+            if (may_send(client)) send_lines(client);
+            else loop->busy--;
+        }
+    }
+    return NULL;
+}
+
+// Adds a client to a thread, and sends its first lines.
+static void start(struct client *client, struct loop *loop) {
+    struct epoll_event event = {.events = EPOLLIN, .data.ptr = client};
+    epoll_ctl(loop->poll, EPOLL_CTL_ADD, client->at, &event);
+    if (!may_send(client)) return;
+    loop->busy++;
+    send_lines(client);
 }
 
 int main(int count, char **words) {
@@ -146,16 +158,18 @@ int main(int count, char **words) {
     burst = atol(words[6]);
     most = atol(words[7]);
     struct client *all = calloc(clients, sizeof *all);
-    pthread_barrier_init(&begin, NULL, clients + 1);
     for (int i = 0; i < clients; i++) {
-        all[i] = (struct client){.number = i, .is_writer = i < writers};
-        pthread_create(&all[i].thread, NULL, run, &all[i]);
+        all[i] = (struct client){.number = i, .is_writer = i < writers, .at = connected(), .is_first = 1};
+        all[i].lines = malloc(burst * (64 + 2 * value_len));
+        make_lines(&all[i]);
     }
-    pthread_barrier_wait(&begin);
+    struct loop loops[THREADS] = {0};
+    for (int i = 0; i < THREADS; i++) loops[i].poll = epoll_create1(0);
     long from = milliseconds();
-    while (!atomic_load(&done) && milliseconds() - from < seconds * 1000) usleep(2000);
-    atomic_store(&done, 1);
-    for (int i = 0; i < clients; i++) pthread_join(all[i].thread, NULL);
+    end = from + seconds * 1000;
+    for (int i = 0; i < clients; i++) start(&all[i], &loops[i % THREADS]);
+    for (int i = 0; i < THREADS; i++) pthread_create(&loops[i].thread, NULL, run, &loops[i]);
+    for (int i = 0; i < THREADS; i++) pthread_join(loops[i].thread, NULL);
     long took = milliseconds() - from;
     if (took == 0) took = 1;
     printf("puts %ld gets %ld refused %ld milliseconds %ld\n", (long)accepted, (long)found, (long)refused, took);

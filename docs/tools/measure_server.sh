@@ -49,11 +49,11 @@ run() {
     shift 3
     rm -f "$dir/store"
     "$silt" format "$dir/store" $value_len 32768 $rows 2 1 $rows >"$dir/formatted"
-    : >"$dir/told"
-    "$silt" serve "$dir/store" 0 --sessions $((writers + readers)) "$@" >"$dir/told" &
+    : >"$dir/printed"
+    "$silt" serve "$dir/store" 0 --sessions $((writers + readers)) "$@" >"$dir/printed" &
     server=$!
-    wait_until grep '^listening ' "$dir/told"
-    port=$(sed -n 's/^listening //p' "$dir/told")
+    wait_until grep '^listening ' "$dir/printed"
+    port=$(sed -n 's/^listening //p' "$dir/printed")
     "$dir/clients" "$port" "$writers" "$readers" "$seconds" $value_len "$lines" $rows >"$dir/counted"
     wait "$server"
     server=
@@ -62,7 +62,7 @@ run() {
         echo "$refused puts were refused" >&2
         exit 1
     fi
-    calls=$(sed -n 's/^calls //p' "$dir/told")
+    calls=$(sed -n 's/^calls //p' "$dir/printed")
     flushes=$(commas $(((calls - puts) * 1000 / took)))
     puts=$(commas $((puts * 1000 / took)))
     gets=$(commas $((gets * 1000 / took)))
