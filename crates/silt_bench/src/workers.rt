@@ -5,7 +5,9 @@ use crate::error::BenchError;
 use crate::job::Plan;
 use crate::writer::{Filled, Writer, fill_all};
 use crossbeam_channel::{Receiver, Sender};
-use silt_desk::{DeskId, OpenGate, Seat, Shared, Trace, Wake, Wakes, converter, join_over, merger};
+use silt_desk::{
+    DeskId, Seat, Shared, ShiftGate, Trace, Wake, Wakes, converter, join_over, merger,
+};
 use silt_device::Disk;
 use std::alloc::{AllocError, Global};
 use std::sync::Wait;
@@ -110,19 +112,12 @@ fn both_workers<D: Disk, T: Trace + Send + Sync, N: DeskId + Send + Sync, R: Thr
     first: Worker<N>,
     second: Worker<N>,
 ) -> (Seat<N>, Seat<N>) {
+    let gate = &ShiftGate::new(rt);
     join_over(
         rt,
         shared,
         move |desk: &Shared<D, T, N>| {
-            converter(
-                rt,
-                alloc,
-                desk,
-                first.seat,
-                &OpenGate,
-                first.wakes,
-                first.other,
-            )
+            converter(rt, alloc, desk, first.seat, gate, first.wakes, first.other)
         },
         move |desk: &Shared<D, T, N>| {
             merger(
@@ -130,7 +125,7 @@ fn both_workers<D: Disk, T: Trace + Send + Sync, N: DeskId + Send + Sync, R: Thr
                 alloc,
                 desk,
                 second.seat,
-                &OpenGate,
+                gate,
                 second.wakes,
                 second.other,
             )

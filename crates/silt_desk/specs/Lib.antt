@@ -4,6 +4,7 @@ pub mod Notes
 pub mod Preparing
 pub mod Seats
 pub mod Seeing
+pub mod Shifts
 pub mod TraceLaws
 pub mod Traces
 pub mod Turns

@@ -21,6 +21,7 @@ mod kept;
 mod laws;
 mod seat;
 mod shared;
+mod shift_gate;
 mod threads;
 mod trace;
 mod wakes;
@@ -33,6 +34,7 @@ pub use kept::Kept;
 pub use laws::others_stay_law;
 pub use seat::{DeskId, MissingSeats, Seat};
 pub use shared::{Shared, settle};
+pub use shift_gate::ShiftGate;
 pub use silt_inbox::{
     Answered, EventKind, Feeder, Inbox, InboxId, MissingFeeders, NotPushed, NotPut, NotPutReason,
     Queue, Taker, answered_law,

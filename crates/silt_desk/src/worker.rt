@@ -48,6 +48,11 @@ pub enum Spot {
 pub trait Gate {
     /// Returns when the step may be done.
     fn pass(&self, spot: Spot);
+
+    /// The worker has nothing to do, and waits for a message.
+    fn rest(&self, spot: Spot) {
+        let _ = spot;
+    }
 }
 
 /// A gate that is always open: a worker that passes it waits only for the store.
@@ -132,7 +137,14 @@ impl Hears for Receiver<Wake> {
 
 // What a worker does between two steps, with no lock held: it wakes the other one, or waits for a message. It returns
 // false if it is to end.
-fn rest<W: Hears, R: Wait>(rt: &R, turn: Turn, wakes: &W, other: &Sender<Wake>) -> bool
+fn rest<G: Gate, W: Hears, R: Wait>(
+    rt: &R,
+    turn: Turn,
+    spot: Spot,
+    gate: &G,
+    wakes: &W,
+    other: &Sender<Wake>,
+) -> bool
     ensures { result ≡ false → W.has_ended wakes.now }
 {
     match turn {
@@ -141,7 +153,10 @@ fn rest<W: Hears, R: Wait>(rt: &R, turn: Turn, wakes: &W, other: &Sender<Wake>) 
             wake(rt, other);
             true
         }
-        Turn::Wait => wakes.goes_on(rt),
+        Turn::Wait => {
+            gate.rest(spot);
+            wakes.goes_on(rt)
+        }
     }
 }
 
@@ -161,7 +176,7 @@ pub fn converter<D: Disk, T: Trace, N: DeskId, G: Gate, W: Hears, R: Wait>(
     for _ in rt.forever() {
         gate.pass(Spot::Converter);
         let turn = convert_once(&mut *shared.write(rt), alloc, &mut seat);
-        if !rest(rt, turn, &wakes, &other) {
+        if !rest(rt, turn, Spot::Converter, gate, &wakes, &other) {
             return seat;
         }
     }
@@ -184,7 +199,7 @@ pub fn merger<D: Disk, T: Trace, N: DeskId, G: Gate, W: Hears, R: Wait>(
     for _ in rt.forever() {
         gate.pass(Spot::Merger);
         let turn = merge_once(&mut *shared.write(rt), alloc, &mut seat);
-        if !rest(rt, turn, &wakes, &other) {
+        if !rest(rt, turn, Spot::Merger, gate, &wakes, &other) {
             return seat;
         }
     }

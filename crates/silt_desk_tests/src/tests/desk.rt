@@ -9,6 +9,7 @@ mod lacking;
 mod looks;
 mod memory;
 mod sessions;
+mod shifts;
 mod steps;
 mod wakes;
 

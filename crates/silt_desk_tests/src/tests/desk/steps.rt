@@ -2,7 +2,7 @@
 ghost use Rattle.std.specs.Prelude.{◌≡◌};
 
 use crate::tests::desk::{put_five, settle_two, two_seats};
-use silt_desk::{DeskId, Kept, OpenGate, Seat, Shared, Wake, converter, merger};
+use silt_desk::{DeskId, Kept, Seat, Shared, ShiftGate, Wake, converter, merger};
 use silt_device::Disk;
 use silt_fixtures::{formatted, opened_on};
 use silt_store_set::Core;
@@ -20,20 +20,22 @@ enum Worker {
     Merger,
 }
 
-// Runs a worker until there is nothing for it to do. Returns whether it woke the other one.
+// Runs a worker until there is nothing for it to do. Returns whether it woke the other one. A worker
+// that rests has left its shift to the other one.
 fn works<D: Disk, N: DeskId, R: Wait>(
     rt: &R,
     alloc: Global,
     shared: &Shared<D, Kept, N>,
     seat: Seat<N>,
+    gate: &ShiftGate<'_, R>,
     worker: Worker,
 ) -> Result<(Seat<N>, bool), Fail> {
     let (wake, wakes) = crossbeam_channel::unbounded(alloc)?;
     let (other, others) = crossbeam_channel::unbounded(alloc)?;
     let _ = wake.send(rt, Wake::Stop);
     let seat = match worker {
-        Worker::Converter => converter(rt, alloc, shared, seat, &OpenGate, wakes, other),
-        Worker::Merger => merger(rt, alloc, shared, seat, &OpenGate, wakes, other),
+        Worker::Converter => converter(rt, alloc, shared, seat, gate, wakes, other),
+        Worker::Merger => merger(rt, alloc, shared, seat, gate, wakes, other),
     };
     Ok((seat, matches!(others.try_recv(rt), Ok(Wake::Go))))
 }
@@ -45,6 +47,7 @@ fn work_in_turn<D: Disk, N: DeskId, R: Wait + Abort>(
     alloc: Global,
     shared: &Shared<D, Kept, N>,
     mut seat: Seat<N>,
+    gate: &ShiftGate<'_, R>,
 ) -> Result<Seat<N>, Fail> {
     for (worker, due) in [
         (Worker::Converter, true),
@@ -52,7 +55,7 @@ fn work_in_turn<D: Disk, N: DeskId, R: Wait + Abort>(
         (Worker::Merger, true),
         (Worker::Merger, false),
     ] {
-        let (back, printed) = works(rt, alloc, shared, seat, worker)?;
+        let (back, printed) = works(rt, alloc, shared, seat, gate, worker)?;
         seat = back;
         assert_eq!(rt; printed, due, "{worker:?}");
     }
@@ -73,10 +76,11 @@ fn does_what_is_wanted<D: Disk, N: DeskId, R: Wait + Abort>(
 {
     let (desk, mut mine, seat) = two_seats::<D, N>(alloc, core, 100, calls, accepted)?;
     let shared: Shared<D, Kept, N> = RwLock::new(desk);
-    let (seat, printed) = works(rt, alloc, &shared, seat, Worker::Merger)?;
+    let gate = ShiftGate::new(rt);
+    let (seat, printed) = works(rt, alloc, &shared, seat, &gate, Worker::Merger)?;
     assert!(rt; !printed);
     put_five(rt, alloc, &shared, &mut mine);
-    let seat = work_in_turn(rt, alloc, &shared, seat)?;
+    let seat = work_in_turn(rt, alloc, &shared, seat, &gate)?;
     let settled = settle_two(rt, alloc, &shared, mine, seat)?;
     assert_eq!(rt; settled, Some((5 + 9 + 13, 5)));
     Ok(())

@@ -1,0 +1,119 @@
+// Two workers work in shifts: one at a time, each has its shift, and nobody waits without need.
+
+use silt_desk::{Gate, ShiftGate, Spot, join_over};
+use std::process::Abort;
+use std::sync::Wait;
+use std::sync::atomic::{AtomicU64, Ordering};
+use std::test::Fail;
+use std::thread;
+use std::thread::Threads;
+use std::time::{Clock, Duration};
+
+/// How many steps each worker does.
+const STEPS: u32 = 300;
+
+/// How many steps a worker does at most until the other one has its shift.
+const MANY_STEPS: u32 = 1_000_000;
+
+/// A gate, and what its workers note.
+#[derive(Drop)]
+struct Work<'a, R: Wait> {
+    gate: ShiftGate<'a, R>,
+    /// How many workers do a step.
+    working: AtomicU64,
+    /// How often a worker began a step while the other one did one.
+    overlaps: AtomicU64,
+    /// Whether the merger had its shift.
+    merged: AtomicU64,
+}
+
+impl<'a, R: Wait> Work<'a, R> {
+    fn new(rt: &'a R) -> Work<'a, R> {
+        Work {
+            gate: ShiftGate::new(rt),
+            working: AtomicU64::new(0),
+            overlaps: AtomicU64::new(0),
+            merged: AtomicU64::new(0),
+        }
+    }
+}
+
+// Does steps that take some time, and then rests.
+fn do_steps<R: Wait + Clock>(rt: &R, work: &Work<'_, R>, worker: Spot) {
+    for _ in 0..STEPS {
+        work.gate.pass(worker);
+        if work.working.swap(1, Ordering::SeqCst) == 1 {
+            work.overlaps.store(1, Ordering::SeqCst);
+        }
+        thread::sleep(rt, Duration::from_micros(10));
+        work.working.store(0, Ordering::SeqCst);
+    }
+    work.gate.rest(worker);
+}
+
+// Two workers with as much work.
+fn work_beside<R: Threads + Wait + Clock + Abort + Sync>(rt: &R) {
+    let shared = Work::new(rt);
+    join_over(
+        rt,
+        &shared,
+        move |shared: &Work<'_, R>| do_steps(rt, shared, Spot::Converter),
+        move |shared: &Work<'_, R>| do_steps(rt, shared, Spot::Merger),
+    );
+    assert_eq!(rt; shared.overlaps.load(Ordering::SeqCst), 0);
+}
+
+#[test]
+fn one_worker_at_a_time(rt: HostRuntime) {
+    work_beside(&rt);
+}
+
+// Does steps until the merger has had its shift, and returns whether it had.
+fn convert_until<R: Wait + Clock>(rt: &R, work: &Work<'_, R>) -> bool {
+    for _ in 0..MANY_STEPS {
+        work.gate.pass(Spot::Converter);
+        if work.merged.load(Ordering::SeqCst) == 1 {
+            return true;
+        }
+        thread::sleep(rt, Duration::from_micros(10));
+    }
+    false
+}
+
+// Does one step.
+fn merge_one<R: Wait>(work: &Work<'_, R>) {
+    work.gate.pass(Spot::Merger);
+    work.merged.store(1, Ordering::SeqCst);
+    work.gate.rest(Spot::Merger);
+}
+
+// A converter that never rests, and a merger.
+fn merge_beside<R: Threads + Wait + Clock + Abort + Sync>(rt: &R) {
+    let shared = Work::new(rt);
+    let ((), had_its_shift) = join_over(
+        rt,
+        &shared,
+        move |shared: &Work<'_, R>| merge_one(shared),
+        move |shared: &Work<'_, R>| convert_until(rt, shared),
+    );
+    assert!(rt; had_its_shift);
+}
+
+#[test]
+fn a_worker_that_never_rests_leaves_shifts_to_the_other(rt: HostRuntime) {
+    merge_beside(&rt);
+}
+
+#[test]
+fn nobody_waits_without_need(rt: HostRuntime) -> Result<(), Fail> {
+    let gate = ShiftGate::new(&rt);
+    for _ in 0..STEPS {
+        gate.pass(Spot::Converter);
+        gate.pass(Spot::Writer);
+    }
+    gate.rest(Spot::Converter);
+    gate.pass(Spot::Merger);
+    gate.rest(Spot::Converter);
+    gate.pass(Spot::Merger);
+    Ok(())
+}
