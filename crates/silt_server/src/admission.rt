@@ -23,7 +23,7 @@ use std::thread::Threads;
 const READ_LEN: usize = 4_096;
 
 /// How many bytes one read of a session takes that pipelines.
-const PIPELINED_READ_LEN: usize = 65_536;
+const PIPELINED_READ_LEN: usize = 262_144;
 
 // Whether an accept failed only for this connection, so that the next one may succeed.
 fn is_passing(kind: ErrorKind) -> bool {
