@@ -3,8 +3,9 @@
 //! [`serve_on`] serves a store on a listener. Each session is one thread that replies to the lines of its connection in
 //! order. A session does its gets itself, at the same time as other sessions. It puts its changes as a [`Job`] into the
 //! inbox of the one [`writer`]. The writer takes all jobs that wait, does their tasks, flushes once and only then
-//! replies, so one flush settles the commands of many sessions. Beside them the converter and the merger do their steps
-//! while there is work.
+//! replies, so one flush settles the commands of many sessions. Replies to many jobs are sent by a thread of its own,
+//! the *replier*, while the writer does the next batch ([`send_replies`]). Beside them the converter and the merger do
+//! their steps while there is work.
 //!
 //! A job has one [`Task`], or with [`Limits::pipeline`] all changes of one read up to the next get. So a client that
 //! writes many lines before it reads waits for one flush, and its get still sees its changes before it.
@@ -22,6 +23,7 @@ mod job;
 mod limits;
 mod outlet;
 mod pipeline;
+mod replier;
 mod serve;
 mod session_slots;
 mod threads;
@@ -36,6 +38,7 @@ pub use counting_listener::Listens;
 pub use job::{Job, Request, Task};
 pub use limits::Limits;
 pub use outlet::Outlet;
+pub use replier::send_replies;
 pub use serve::{ServerState, refuse_network, serve_desk, serve_on};
 pub use unanswered::Unanswered;
 pub use work::{Jobs, writer};

@@ -346,8 +346,8 @@ fn write_settled<D: Disk, T: Trace, N: DeskId, W: Write>(
     }
 }
 
-// Runs the workers beside the sessions, until these have ended and all their requests are done. None if the writer has
-// no thread.
+// Runs the workers and the replier beside the sessions, until these have ended and all their requests are done. None if
+// the writer has no thread.
 fn run_threads<
     L: Listens,
     D: Disk,
@@ -375,9 +375,11 @@ fn run_threads<
     let Workers {
         writer: seat,
         converter: first,
-        merger: second,
+        merger: last,
         wakes,
         stops,
+        replier,
+        batches,
     } = workers;
     let inbox = &inbox;
     let slots = slots.as_slice();
@@ -396,24 +398,19 @@ fn run_threads<
         shared,
         inbox,
         move |desk: &Shared<D, T, N>| {
-            merger(
-                rt,
-                alloc,
-                desk,
-                second.seat,
-                gate,
-                second.wakes,
-                second.other,
-            )
+            merger(rt, alloc, desk, last.seat, gate, last.wakes, last.other)
         },
         move |desk: &Shared<D, T, N>| {
             converter(rt, alloc, desk, first.seat, gate, first.wakes, first.other)
         },
-        move |desk: &Shared<D, T, N>| writer(rt, alloc, desk, seat, gate, inbox, taker, wakes),
+        move |desk: &Shared<D, T, N>| {
+            writer(rt, alloc, desk, seat, gate, inbox, taker, wakes, replier)
+        },
         move |desk: &Shared<D, T, N>| {
             accept_clients(rt, alloc, listener, desk, slots, reply, value_len, limits)
         },
         stops,
+        batches,
     );
     let ((writer, _taker), accepted) = written?;
     Some(Served {

@@ -2,7 +2,8 @@
 ghost use Rattle.std.specs.Prelude.{◌≡◌};
 
 use crate::job::Job;
-use crossbeam_channel::Sender;
+use crate::replier::send_batches;
+use crossbeam_channel::{Receiver, Sender};
 use silt_desk::{Wake, Wakes, join_over};
 use silt_inbox::{Inbox, InboxId};
 use std::sync::Wait;
@@ -35,8 +36,9 @@ fn beside<
     )
 }
 
-// Runs the writer in a thread of its own beside the sessions, until they have ended. Then the inbox is closed, and the
-// writer ends when it is empty. None if the writer's thread cannot be started; then there are no sessions.
+// Runs the writer and the replier in threads of their own beside the sessions, until these have ended. Then the inbox is
+// closed. The writer ends when it is empty, and then the replier. None if the writer's thread cannot be started; then
+// there are no sessions. If that of the replier cannot be started, the writer finds its channel disconnected.
 fn write_beside<
     S: Sync,
     P: InboxId + Send + Sync,
@@ -45,7 +47,14 @@ fn write_beside<
     A: FnOnce(&S) -> X + Send + Drop,
     B: FnOnce(&S) -> Y,
     R: Threads + Wait + Sync,
->(rt: &R, shared: &S, inbox: &Inbox<Job, P>, writer: A, sessions: B) -> Option<(X, Y)>
+>(
+    rt: &R,
+    shared: &S,
+    inbox: &Inbox<Job, P>,
+    writer: A,
+    sessions: B,
+    batches: Receiver<Vec<Job>>,
+) -> Option<(X, Y)>
     requires writer { A.IsAlwaysCallable writer }
     requires sessions { B.IsAlwaysCallable sessions }
 {
@@ -62,6 +71,7 @@ fn write_beside<
             ) else {
                 return None;
             };
+            let _ = scope.spawn(move || { send_batches(rt, batches) });
             let ended = sessions(shared);
             inbox.close(rt);
             Some((handle.join(rt), ended))
@@ -69,8 +79,8 @@ fn write_beside<
     )
 }
 
-// Runs the converter and the writer beside the sessions, until these have ended and all their requests are done. Then
-// the converter is stopped.
+// Runs the converter, the writer and the replier beside the sessions, until these have ended and all their requests are
+// done. Then the converter is stopped.
 fn convert_beside<
     S: Sync,
     P: InboxId + Send + Sync,
@@ -89,6 +99,7 @@ fn convert_beside<
     writer: C,
     sessions: F,
     stop: Sender<Wake>,
+    batches: Receiver<Vec<Job>>,
 ) -> (X, Option<(V, Y)>)
     requires converter { B.IsAlwaysCallable converter }
     requires writer { C.IsAlwaysCallable writer }
@@ -100,14 +111,14 @@ fn convert_beside<
         converter,
         move |shared: &S| -> Option<(V, Y)>
             requires { C.IsAlwaysCallable writer × F.IsAlwaysCallable sessions }
-        { write_beside(rt, shared, inbox, writer, sessions) },
+        { write_beside(rt, shared, inbox, writer, sessions, batches) },
         stop,
     )
 }
 
-/// Runs the merger, the converter and the writer beside the sessions, until these have ended and all their requests are
-/// done. Then each worker is stopped. Returns what the merger, the converter, and the writer and the sessions gave; the
-/// last two are None if the writer has no thread.
+/// Runs the merger, the converter, the writer and the replier beside the sessions, until these have ended and all their
+/// requests are done. Then each worker is stopped. Returns what the merger, the converter, and the writer and the
+/// sessions gave; the last two are None if the writer has no thread.
 pub fn run_beside<
     S: Sync,
     P: InboxId + Send + Sync,
@@ -128,6 +139,7 @@ pub fn run_beside<
     writer: C,
     sessions: F,
     stops: Wakes,
+    batches: Receiver<Vec<Job>>,
 ) -> (X, X, Option<(V, Y)>)
     requires merger { A.IsAlwaysCallable merger }
     requires converter { B.IsAlwaysCallable converter }
@@ -153,6 +165,7 @@ pub fn run_beside<
                 writer,
                 sessions,
                 stop_converter,
+                batches,
             )
         },
         stop_merger,

@@ -5,6 +5,8 @@ ghost use Rattle.silt_server.specs.declared.job.Job.{Job as JobOf};
 
 use crate::batch::serve_batch;
 use crate::job::Job;
+use crate::replier::send_replies;
+use crossbeam_channel::Sender;
 use silt_desk::{DeskId, Gate, Seat, Shared, Trace, Wakes};
 use silt_disk::Disk;
 use silt_inbox::{Inbox, InboxId, Taker};
@@ -30,8 +32,8 @@ impl<P: InboxId> Jobs<P> for Inbox<Job, P> {
 }
 
 /// Takes all jobs that wait, does their tasks, each under a guard of its own, flushes once and then replies, until there
-/// are no more. After each batch it wakes the converter and the merger if they have work. Gives its seat and its taker
-/// back.
+/// are no more. It hands the replies of many jobs to the replier, so that it can go on with the next batch. After each
+/// batch it wakes the converter and the merger if they have work. Gives its seat and its taker back.
 pub fn writer<D: Disk, T: Trace, N: DeskId, P: InboxId, I: Jobs<P>, G: Gate, R: Wait>(
     rt: &R,
     alloc: Global,
@@ -41,6 +43,7 @@ pub fn writer<D: Disk, T: Trace, N: DeskId, P: InboxId, I: Jobs<P>, G: Gate, R: 
     inbox: &I,
     mut taker: Taker<P>,
     wakes: Wakes,
+    replier: Sender<Vec<Job>>,
 ) -> (Seat<N>, Taker<P>)
     ensures number { result.0.number ≡ seat.number }
     ensures ended { I.has_ended inbox.now }
@@ -51,9 +54,7 @@ pub fn writer<D: Disk, T: Trace, N: DeskId, P: InboxId, I: Jobs<P>, G: Gate, R: 
             return (seat, taker);
         };
         let due = serve_batch(rt, alloc, shared, &mut seat, gate, &mut jobs);
-        for job in jobs {
-            job.send(rt);
-        }
+        send_replies(rt, &replier, jobs);
         wakes.go(rt, due);
     }
     unreachable!()

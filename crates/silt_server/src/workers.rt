@@ -1,7 +1,9 @@
-// What the writer and the two workers need, and the ways to wake them.
+// What the writer, the two workers and the replier need, and the ways to wake them.
 ghost use Rattle.std.specs.Prelude.{◌≡◌, ◌++◌, ◌∷◌, [], List, IfOk, IfSome};
 ghost use Rattle.silt_desk.specs.Seats.{SeatState};
 
+use crate::job::Job;
+use crate::replier::replier_channel;
 use crossbeam_channel::{Receiver, Sender};
 use silt_desk::{DeskId, Seat, Wake, Wakes};
 use std::alloc::{AllocError, Global};
@@ -19,7 +21,8 @@ pub struct Worker<N: DeskId> {
     pub other: Sender<Wake>,
 }
 
-/// What the writer and the workers need, and the ways to stop the converter and the merger.
+/// What the writer and the workers need, the ways to stop the converter and the merger, and the two ends of the channel
+/// from the writer to the replier.
 #[derive(Drop)]
 pub struct Workers<N: DeskId> {
     pub writer: Seat<N>,
@@ -27,6 +30,8 @@ pub struct Workers<N: DeskId> {
     pub merger: Worker<N>,
     pub wakes: Wakes,
     pub stops: Wakes,
+    pub replier: Sender<Vec<Job>>,
+    pub batches: Receiver<Vec<Job>>,
 }
 
 impl<N: DeskId> Workers<N> {
@@ -42,7 +47,7 @@ impl<N: DeskId> Workers<N> {
         Workers::seated(alloc, writer, converter, merger).ok()
     }
 
-    // With a channel to the converter and one to the merger.
+    // With a channel to the converter, one to the merger and one to the replier.
     fn seated(
         alloc: Global,
         writer: Seat<N>,
@@ -52,6 +57,7 @@ impl<N: DeskId> Workers<N> {
         ensures { IfOk result (λ workers. (workers.writer ≡ writer) × (workers.converter.seat ≡ converter) × (workers.merger.seat ≡ merger)) }
     {
         let (first, second) = two_ways(alloc)?;
+        let (replier, batches) = replier_channel(alloc)?;
         Ok(Workers {
             writer,
             converter: Worker {
@@ -72,6 +78,8 @@ impl<N: DeskId> Workers<N> {
                 converter: first.by_stop,
                 merger: second.by_stop,
             },
+            replier,
+            batches,
         })
     }
 }
