@@ -9,11 +9,13 @@ mod lost;
 mod network;
 mod pipelined;
 mod record;
+mod replies;
 mod swaps;
 
 use crate::tests::Open;
 use silt_desk::Gate;
-use silt_device::Disk;
+use silt_device::{Disk, Geometry, MemDisk};
+use silt_fixtures::formatted_with;
 use silt_server::{Limits, Listens, serve_on};
 use silt_store_set::Core;
 use std::alloc::Global;
@@ -68,6 +70,14 @@ fn pipelined_limits_of(sessions: u32, audit: Option<u64>) -> Limits {
         pipeline: true,
         ..limits_of(sessions, audit)
     }
+}
+
+// An empty store whose first log has room for all rows of a test.
+fn roomy(alloc: Global) -> Result<MemDisk, Fail> {
+    let geometry = Geometry::new(2, 8_192, 16_384, 2, 2, 10_000)
+        .ok()
+        .ok_or("in limits")?;
+    formatted_with(alloc, geometry)
 }
 
 /// What a server and its clients return.

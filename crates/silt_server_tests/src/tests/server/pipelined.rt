@@ -1,9 +1,9 @@
 // Sessions that pipeline: all commands of a read up to the next get are flushed together.
 
 use crate::tests::Open;
-use crate::tests::server::{Ended, ask, limits_of, pipelined_limits_of, serve_beside};
-use silt_device::{Disk, Fill, Geometry, MemDisk, Stop};
-use silt_fixtures::{formatted, formatted_with};
+use crate::tests::server::{Ended, ask, limits_of, pipelined_limits_of, roomy, serve_beside};
+use silt_device::{Disk, Fill, MemDisk, Stop};
+use silt_fixtures::formatted;
 use silt_server::Limits;
 use std::alloc::Global;
 use std::io;
@@ -24,14 +24,6 @@ fn asked_at_once<
     serve_beside(rt, alloc, disk, limits, &Open, |addr: SocketAddr| {
         ask(rt, alloc, addr, lines)
     })
-}
-
-// An empty store whose first log has room for all rows of each of these tests.
-fn roomy(alloc: Global) -> Result<MemDisk, Fail> {
-    let geometry = Geometry::new(2, 8_192, 16_384, 2, 2, 10_000)
-        .ok()
-        .ok_or("in limits")?;
-    formatted_with(alloc, geometry)
 }
 
 // Eight commands, two flushes, three gets, and a line that is none of these.
