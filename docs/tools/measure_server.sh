@@ -98,15 +98,22 @@ redis_rate() {
     commas "$rate"
 }
 
+# The threads of redis-benchmark for so many connections: two, as clients.c has, but one for one connection.
+redis_threads() {
+    if [ "$1" -gt 1 ]; then echo "--threads 2"; fi
+}
+
 # Sets the rate of so many commands.
 redis_run() {
-    redis-benchmark -p "$redis_port" --csv -d $value_len -r 256 -t "$1" -c "$2" -P "$3" -n "$4" >"$dir/counted" 2>&1
+    redis-benchmark -p "$redis_port" --csv -d $value_len -r 256 -t "$1" -c "$2" -P "$3" -n "$4" $(redis_threads "$2") \
+        >"$dir/counted" 2>&1
     rate=$(sed -n 's/^"[SG]ET","\([0-9]*\).*/\1/p' "$dir/counted")
 }
 
 # Runs a command of redis with so many connections until the next one is done.
 redis_rate_beside() {
-    redis-benchmark -p "$redis_port" -q -l -d $value_len -r 256 -t "$1" -c "$2" >"$dir/beside" 2>&1 &
+    redis-benchmark -p "$redis_port" -q -l -d $value_len -r 256 -t "$1" -c "$2" $(redis_threads "$2") \
+        >"$dir/beside" 2>&1 &
     beside=$!
     shift 2
     sleep 0.2
