@@ -27,8 +27,8 @@ no_memory_is F = ap (λ (digits : List ℕ). (codes "refused " ++ (digits ++ cod
 
 -- this line reports that memory ran out
 pub reports_no_memory : {F : Type 0} (refusal : Refusal F) (before after : Option (List ℕ)) → refusal ≡ NoMemory → Appends before after (codes "refused 6 NoMemory\n") → Appends before after (refused_text refusal)
-reports_no_memory {F} refusal before after is so_far =
-    subst (λ (r : Refusal F). Appends before after (refused_text r)) (sym is) (subst (λ (text : List ℕ). Appends before after text) (no_memory_is F) so_far)
+reports_no_memory {F} refusal before after is printed =
+    subst (λ (r : Refusal F). Appends before after (refused_text r)) (sym is) (subst (λ (text : List ℕ). Appends before after text) (no_memory_is F) printed)
 
 -- the head is written by two lines
 pub head_written : {X E : Type 0} (result : Result X E) (before mid after : Option (List ℕ)) (port : ℕ) → Appends before mid (codes "opened\n")
@@ -46,14 +46,14 @@ no_network_written (Err e) before mid after first second = second
 -- the head is written, and then the lines of the end
 pub served_written : {T X E : Type 0} (has_port : ℕ → Type 0) (counts : T → ℕ → ℕ → Type 0) (old new : T) (port : ℕ) (before mid after : Option (List ℕ)) (head : Result X E) (x : X) → has_port port → head ≡ Ok x
     → OnOk head (Appends before mid (head_text port)) → new ≡ old → PrintsCalls counts old mid after → PrintsServed has_port counts new before after
-served_written {T} {X} {E} has_port counts old new port before mid after head x has is written same so_far =
+served_written {T} {X} {E} has_port counts old new port before mid after head x has is written same printed =
     let first = subst (λ (r : Result X E). OnOk r (Appends before mid (head_text port))) is written in (
       port,
       has,
-      so_far.0,
-      so_far.1,
-      subst (λ (t : T). counts t so_far.0 so_far.1) (sym same) so_far.2,
-      Appends-append before mid after (head_text port) (calls_text (so_far.0 % 2 ^ 64)) first so_far.3,
+      printed.0,
+      printed.1,
+      subst (λ (t : T). counts t printed.0 printed.1) (sym same) printed.2,
+      Appends-append before mid after (head_text port) (calls_text (printed.0 % 2 ^ 64)) first printed.3,
     )
 
 -- one write took a first part of a text, or nothing
@@ -67,11 +67,11 @@ wrote_some (Err e) text before after kept = ([], (text, refl), Appends-keeps bef
 -- behind the head
 behind_head : {X E : Type 0} (port : ℕ) (before mid after : Option (List ℕ)) (head : Result X E) (x : X) (text : List ℕ) → head ≡ Ok x → OnOk head (Appends before mid (head_text port))
     → Appends mid after text → Appends before after (head_text port ++ text)
-behind_head {X} {E} port before mid after head x text is written so_far =
-    Appends-append before mid after (head_text port) text (subst (λ (r : Result X E). OnOk r (Appends before mid (head_text port))) is written) so_far
+behind_head {X} {E} port before mid after head x text is written printed =
+    Appends-append before mid after (head_text port) text (subst (λ (r : Result X E). OnOk r (Appends before mid (head_text port))) is written) printed
 
 -- the head is written, and behind it why the server ends
 pub breaks_behind : {X E : Type 0} (has_port : ℕ → Type 0) (port : ℕ) (before mid after : Option (List ℕ)) (head : Result X E) (x : X) → has_port port → head ≡ Ok x
     → OnOk head (Appends before mid (head_text port)) → Appends mid after no_memory_text ⊎ Appends mid after network_text → BreaksServing has_port before after
-breaks_behind has_port port before mid after head x has is written (inl so_far) = inr (inr (port, has, inl (behind_head port before mid after head x no_memory_text is written so_far)))
-breaks_behind has_port port before mid after head x has is written (inr so_far) = inr (inr (port, has, inr (behind_head port before mid after head x network_text is written so_far)))
+breaks_behind has_port port before mid after head x has is written (inl printed) = inr (inr (port, has, inl (behind_head port before mid after head x no_memory_text is written printed)))
+breaks_behind has_port port before mid after head x has is written (inr printed) = inr (inr (port, has, inr (behind_head port before mid after head x network_text is written printed)))

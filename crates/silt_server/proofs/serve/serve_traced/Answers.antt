@@ -5,6 +5,6 @@ pub returns-in-Some : goal.returns-in-Some
 returns-in-Some g c =
     record {
       served = λ is. (c.serve_desk-desk.result.0.core, c.serve_desk-desk.result.0.trace, sym c.close-in-Ok.ensures.disk, c.trace.ensures.agrees, c.serve_desk-desk.ensures.served is);
-      so_far = c.serve_desk-desk.ensures.printed;
+      printed = c.serve_desk-desk.ensures.printed;
       left = (_, c.close-in-Ok.ensures.left);
     }
