@@ -234,14 +234,14 @@ class Accepting(ServedCase):
 
 class Threads(ServedCase):
     """A thread that cannot be started. The first is the merger's, then come the converter's, the
-    writer's, and those of the sessions."""
+    writer's, the replier's, and those of the sessions."""
 
     def setUp(self):
         super().setUp()
         self.store(SMALL)
 
     def test_threads_of_sessions(self):
-        first = 4
+        first = 5
         faults = [f"thread:{it}:EAGAIN" for it in range(first, first + MOST_SESSIONS)]
         server = self.serve("--sessions", 2, env=watching(self, fail=faults))
         for _ in range(MOST_SESSIONS):
@@ -259,6 +259,9 @@ class Threads(ServedCase):
         ended = self.begin("store", 0, env=watching(self, fail="thread:3:EAGAIN")).ended()
         self.assertEqual((ended.status, ended.lines[0], ended.lines[2:]), (1, "opened", ["refused 6 NoMemory"]), ended)
         self.check_whole()
+
+    def test_the_thread_of_the_replier(self):
+        self.check_late_work(["thread:4:EAGAIN"])
 
     def check_late_work(self, faults):
         server = self.serve("--sessions", 1, env=watching(self, fail=faults))
