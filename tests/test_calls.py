@@ -2,8 +2,8 @@
 how many reads.
 
 What is due is worked out of the table in docs/layout.md: the device calls of each call of the
-store. A disk in a file buffers adjacent writes, and makes them one write before a write
-elsewhere, before a sync, and when its room is full.
+store. A disk in a file has three buffers of adjacent writes, and makes those of a buffer one write:
+before a sync, when its room is full, and when a fourth place is written.
 
 On a device of version 1 the same calls are due: the classes with `OfVersion1` run all tests there.
 """
@@ -13,35 +13,52 @@ from harness import PROVED, scaled
 from layout import CLOSED, DELETE, OPEN, PUT, SECTOR, Layout, manifest
 from watch import WatchedCase
 
-# How many bytes a disk in a file buffers.
-ROOM = 65536
+# How many buffers a disk in a file has, and how many bytes fit one.
+BUFFERS, ROOM = 3, 65536
 G = "2 2 4 2 2 8"
 # Keys whose two buckets are both bucket 0 of two. The first bucket of LATER is bucket 1.
 A, B, C, D, E = (f"{n:02}".ljust(40, "0") for n in range(1, 6))
 LATER = "0001".ljust(40, "0")
 
 
-class Buffer:
-    """The calls of the system that device calls become."""
+class Buffers:
+    """The calls of the system that device calls become. The buffer that was used last is the first."""
 
     def __init__(self):
-        self.calls, self.at, self.bytes = [], 0, b""
+        self.calls, self.held = [], [(0, b"")] * BUFFERS
 
     def go_out(self):
-        if self.bytes:
-            self.calls.append(("pwrite", self.at, self.bytes))
-        self.bytes = b""
+        """The last buffer is written out, and the first is an empty one."""
+        at, held = self.held.pop()
+        if held:
+            self.calls.append(("pwrite", at, held))
+        self.held.insert(0, (0, b""))
+
+    def continued(self, at, count):
+        """The first buffer that so many bytes from there continue, or an empty one, if they fit it
+        and it overlaps none before it."""
+        for n, (start, held) in enumerate(self.held):
+            begins = at == start + len(held) or not held
+            apart = all(not held or not other or start + len(held) <= first or first + len(other) <= start
+                        for first, other in self.held[:n])
+            if begins and len(held) + count <= ROOM and apart:
+                return n
+        return None
 
     def write(self, at, data):
-        if self.bytes and (at != self.at + len(self.bytes) or len(self.bytes) + len(data) > ROOM):
-            self.go_out()
-        if not self.bytes:
-            self.at = at
-        self.bytes += data
+        n = self.continued(at, len(data))
+        if n is None:
+            for _ in range(1 if len(data) <= ROOM else BUFFERS):
+                self.go_out()
+            if len(data) > ROOM:
+                return self.calls.append(("pwrite", at, data))
+            n = 0
+        start, held = self.held.pop(n)
+        self.held.insert(0, (start if held else at, held + data))
 
     def read(self, at, count):
-        """A read makes no call if all its bytes are buffered."""
-        if not self.at <= at <= at + count <= self.at + len(self.bytes):
+        """A read makes no call if a buffer has all its bytes."""
+        if not any(start <= at <= at + count <= start + len(held) for start, held in self.held):
             self.calls.append(("pread", at, count))
 
     def make(self, device_calls):
@@ -49,7 +66,8 @@ class Buffer:
         self.calls = []
         for call in device_calls:
             if call == SYNC:
-                self.go_out()
+                for _ in range(BUFFERS):
+                    self.go_out()
                 self.calls.append(SYNC)
             elif call[0] == "pread":
                 self.read(*call[1:])
@@ -137,10 +155,10 @@ class CallCase(WatchedCase):
     def judge(self, steps, **plans):
         """Judges the writes and syncs of lines, of which each comes with the device calls that
         are due."""
-        buffer = Buffer()
+        buffers = Buffers()
         got = self.calls_of([line for line, _ in steps], **plans)[1:]
         for (line, device_calls), calls in zip(steps, got, strict=True):
-            self.assertEqual(changes(calls), buffer.make(device_calls), line)
+            self.assertEqual(changes(calls), buffers.make(device_calls), line)
         return got
 
 
@@ -238,14 +256,14 @@ class Writes(CallCase):
         self.judge(self.hash_store() + [("convert", [])])
 
     def test_a_conversion_with_rows_waiting(self):
-        """The bytes of a waiting row go out before the first slot, and its gate stays closed."""
+        """The bytes of a waiting row wait beside the slots, and its gate stays closed."""
         self.store(G)
         steps = self.convert(self.rows(), self.converted(self.rows()), False)
         row = self.put(1, A, "0006", 1)
         self.judge(self.frozen_log() + [row, *steps, ("flush", self.rules.flush(1, 1, 1))])
 
     def test_a_conversion_between_rows(self):
-        """Slots and rows by turns are no adjacent writes."""
+        """Slots and rows by turns are one write each, at the sync."""
         self.store(G)
         steps = self.convert(self.rows(), self.converted(self.rows()), False)
         rows = [self.put(1, A, "0006", 1), self.put(2, B, "0007", 1)]
@@ -281,7 +299,7 @@ class Writes(CallCase):
         self.judge(self.merged() + [("merge", [])])
 
     def test_a_merge_between_rows(self):
-        """Entries and rows by turns are no adjacent writes."""
+        """Entries and rows by turns are one write each, at the sync."""
         self.store(G)
         steps = self.merged()
         row = self.put(1, A, "0006", 1)
@@ -305,8 +323,8 @@ class Writes(CallCase):
                    + self.merge(entries, manifest(6, 0, region=0, entries=self.rules.entries(entries)), region=0))
 
     def test_a_conversion_beside_a_merge(self):
-        """Their steps by turns are no adjacent writes, and the hash store that comes stays in
-        front."""
+        """Their steps by turns are one write each, at the sync, and the hash store that comes stays
+        in front."""
         words = "2 2 1 3 3 8"
         self.rules = Rules(words)
         self.store(words, [f"put {A} 0001", f"put {B} 0002", "flush"] + ["convert"] * 9
@@ -382,7 +400,7 @@ class Jobs(CallCase):
     def test_a_format(self):
         """The folder is synced, what the file holds is looked at, and only then it is given its
         length and synced."""
-        due = Buffer().make(Rules(G).empty_store())
+        due = Buffers().make(Rules(G).empty_store())
         # Of a store it reads the header, what a check reads, and the header again for its numbers.
         check = [(0, 37), (4096, 461), (8192, 461), (12288, 4)]
         for looks in ([], [(0, 37), (0, 37), *check]):
@@ -650,14 +668,14 @@ class Random(CallCase):
     def try_lines(self, geometry, keys, count):
         """Lines on a new store. A look-up of an absent key may read one entry, of which the rules do
         not say which."""
-        layout, buffer = Layout.of(geometry), Buffer()
+        layout, buffers = Layout.of(geometry), Buffers()
         steps = self.answered(Engine(layout), self.keys(keys, layout.buckets), count)
         self.version = self.random.choice((1, 2))
         self.store(geometry)
         replies, calls = self.record_by_lines([line for line, _, _, _ in steps])
         for n, (step, reply, part) in enumerate(zip(steps, replies[1:], by_line(calls)[1:], strict=True)):
             line, due_reply, device_calls, entries = step
-            due, got = buffer.make(device_calls), all_calls(part)
+            due, got = buffers.make(device_calls), all_calls(part)
             self.assertEqual(reply, due_reply, f"line {n}: {line}")
             self.assertIn(got, [due] + [[*due, it] for it in entries], f"line {n}: {line}")
 

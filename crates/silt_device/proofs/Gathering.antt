@@ -1,13 +1,8 @@
 -- How many writes of its inner disk a disk that buffers makes.
-use Rattle.std.proofs.Common.{◌≡◌, ◌==◌, ℕ, ◌+◌, ◌≤◌, false, length, refl, ap, arith}
-use Rattle.std.proofs.lemmas.Bool.{cond-false}
+use Rattle.std.proofs.Common.{◌≡◌, ℕ, ◌+◌, ◌≤◌, refl, arith}
 use Rattle.silt_disk.specs.Disk.{Makes, MakesAtMost}
 use Rattle.silt_disk.proofs.Costs.{made_both, most_made}
-use Rattle.silt_device.specs.Buffered.{BufferedBytes, BufferedState, SavesWrites, emptied, owed}
-
--- waiting bytes take one write
-pub owed_some : (g : BufferedBytes) → (length g.bytes == 0) ≡ false → owed g ≡ 1
-owed_some g some = cond-false _ 0 1 some
+use Rattle.silt_device.specs.Buffered.{BufferedState, SavesWrites, owed_all}
 
 module _ {D : Type 0} {writes_of syncs_of : D → ℕ} where
   -- Calls one after the other. So over any calls the inner disk makes no more writes than this one was asked for, with one more for each
@@ -21,15 +16,9 @@ module _ {D : Type 0} {writes_of syncs_of : D → ℕ} where
   }
 
   -- if no bytes waited at first, the inner disk made no more writes than this one was asked for
-  pub gathers_most : {w s : ℕ} {old new : BufferedState D} → owed old.buffer ≡ 0 → SavesWrites writes_of syncs_of w s old new → MakesAtMost writes_of syncs_of w s old.inner new.inner
+  pub gathers_most : {w s : ℕ} {old new : BufferedState D} → owed_all old.buffers ≡ 0 → SavesWrites writes_of syncs_of w s old new → MakesAtMost writes_of syncs_of w s old.inner new.inner
   gathers_most none gathers = most_made gathers.makes (omega (arith, none, gathers.fewer)) (omega arith)
 
-  -- the same bytes wait as before
-  pub gathers_same : (old new : BufferedState D) (made w s : ℕ) → Makes writes_of syncs_of made s old.inner new.inner → new.buffer ≡ old.buffer → made ≤ w → SavesWrites writes_of syncs_of w s old new
-  gathers_same old new made w s makes same most = record { made = made; fewer = omega (arith, ap owed same, most); makes = makes }
-
-  -- no bytes wait any longer
-  pub gathers_out : (old new : BufferedState D) (made w s : ℕ) → Makes writes_of syncs_of made s old.inner new.inner → new.buffer ≡ emptied old.buffer → made ≤ w + owed old.buffer → SavesWrites writes_of syncs_of w s old new
-  gathers_out old new made w s makes out most =
-      let none : owed new.buffer ≡ 0 = ap owed out in
-      record { made = made; fewer = omega (arith, none, most); makes = makes }
+  -- the inner disk made so many writes, and so many others are still owed
+  pub gathers_so : (old new : BufferedState D) (made w s : ℕ) → Makes writes_of syncs_of made s old.inner new.inner → made + owed_all new.buffers ≤ w + owed_all old.buffers → SavesWrites writes_of syncs_of w s old new
+  gathers_so old new made w s makes fewer = record { made = made; fewer = fewer; makes = makes }

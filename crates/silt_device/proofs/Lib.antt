@@ -1,4 +1,5 @@
 mod Files
+mod Freeing
 mod Gathering
 mod Marked
 mod ToCome

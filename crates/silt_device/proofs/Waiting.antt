@@ -5,7 +5,7 @@ use Rattle.std.proofs.lemmas.List.Edits.{length-between, get_or-between}
 use Rattle.std.proofs.lemmas.Bool.{cases_lt, cases_Bool, cond-true, cond-false}
 use Rattle.std.proofs.lemmas.Bool.Decides.{nat_tests}
 use Rattle.silt_disk.specs.Disk.{Content, Torn, Tears, Writes, Settles, Stays, Restarts, size, splice, within}
-use Rattle.silt_device.specs.Buffered.{BufferedBytes, BufferedState, buffered_content, takes, grown, emptied, waits, image_over, length-image_over, byte_elsewhere, byte_there, content_over, neither, holds, LaidOver}
+use Rattle.silt_device.specs.Buffered.{BufferedBytes, BufferedState, Buffers, buffered_content, content_over_all, takes, grown, emptied, waits, image_over, length-image_over, byte_elsewhere, byte_there, content_over, neither, holds, LaidOver}
 use Rattle.std.specs.Prelude.{Result, Ok, Err, IfOk}
 use Rattle.silt_device.specs.File.{FileState, IsOpened, file_content, random_access_content}
 use Rattle.silt_assumption.specs.Files.{system_content}
@@ -50,7 +50,7 @@ stays_settles a b c stays settles = record {
 -- ---- images with waiting bytes
 
 -- if the buffer is empty, no byte waits at any place
-none_waits : (g : BufferedBytes) (place : ℕ) → length g.bytes ≡ 0 → waits g place ≡ false
+pub none_waits : (g : BufferedBytes) (place : ℕ) → length g.bytes ≡ 0 → waits g place ≡ false
 none_waits g place none = grind (arith, nat_tests)
 
 -- and the image is unchanged
@@ -114,7 +114,7 @@ stays_over g old new stays = record {
 }
 
 -- of three, the last two in turn
-or_swap : (a b c : Bool) → ((a || b) || c) ≡ ((a || c) || b)
+pub or_swap : (a b c : Bool) → ((a || b) || c) ≡ ((a || c) || b)
 or_swap true b c = refl
 or_swap false true true = refl
 or_swap false true false = refl
@@ -377,6 +377,10 @@ module _ (g : BufferedBytes) (at start end : ℕ) (old part : List ℕ) (a : g.a
 pub size_over : (g : BufferedBytes) (inner : Content) → size (content_over g inner) ≡ size inner
 size_over g inner = length-image_over g inner.shown
 
+-- nor do those of all buffers
+pub size_over_all : (b : Buffers) (inner : Content) → size (content_over_all b inner) ≡ size inner
+size_over_all b inner = size_over b.first (content_over b.second (content_over b.third inner)) ∙ size_over b.second (content_over b.third inner) ∙ size_over b.third inner
+
 -- more waiting bytes lie within the disk if the last of them does
 pub grown_places : (g : BufferedBytes) (from : ℕ) (bytes : List ℕ) (size : ℕ) → IsTrue (takes g from (length bytes)) → from + length bytes ≤ size → (grown g from bytes).at + length (grown g from bytes).bytes ≤ size
 grown_places g from bytes size room fits =
@@ -404,7 +408,7 @@ not_out_at g at bytes old new same_at same_bytes tears =
 
 -- a disk that was opened or made, and the disk that buffers for it, have the same length
 opened_size : {F : Type 0} (content : F → Content) (len : ℕ) (disk : BufferedState (FileState F)) → IsOpened content len disk.inner → size (buffered_content (random_access_content content) disk) ≡ len
-opened_size content len disk opened = size_over disk.buffer (random_access_content content disk.inner) ∙ opened.bytes
+opened_size content len disk opened = size_over_all disk.buffers (random_access_content content disk.inner) ∙ opened.bytes
 
 -- if there is one
 pub opened_sizes : {E : Type 0} (len : ℕ) (answer : Result FileDisk E) → IfOk answer (λ disk. IsOpened system_content len disk.inner.inner) → IfOk answer (λ disk. size (buffered_content file_content disk.inner) ≡ len)

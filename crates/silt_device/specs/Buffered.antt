@@ -1,5 +1,5 @@
 -- The content of a disk that buffers adjacent writes.
-use Rattle.std.specs.Prelude.{◌≡◌, ℕ, ◌+◌, ◌-◌, ◌≤◌, ◌<◌, ◌==◌, ◌&&◌, ◌||◌, leb, Bool, true, false, cond, List, [], ◌++◌, length, get_or, map, refl}
+use Rattle.std.specs.Prelude.{◌≡◌, ℕ, ◌+◌, ◌-◌, ◌≤◌, ◌<◌, ◌==◌, ◌&&◌, ◌||◌, leb, Bool, true, false, cond, List, [], ◌++◌, length, suc, zero, get_or, map, refl}
 use Rattle.std.specs.List.{range_with_len}
 use Rattle.std.proofs.Common.{sym, ◌∙◌, inl, inr, arith}
 use Rattle.std.proofs.lemmas.Bool.{cases_lt, cond-true, cond-false}
@@ -16,15 +16,31 @@ pub record BufferedBytes : Type 0 where
   pub bytes : List ℕ
   pub room : ℕ
 
+-- three buffers, the one that was used last in front
+pub record Buffers : Type 0 where
+  pub first : BufferedBytes
+  pub second : BufferedBytes
+  pub third : BufferedBytes
+
+-- three empty buffers of this room
+abbrev pub no_bytes : ℕ → Buffers
+no_bytes room = record { first = record { at = 0; bytes = []; room = room }; second = record { at = 0; bytes = []; room = room }; third = record { at = 0; bytes = []; room = room } }
+
 -- a disk with the waiting bytes, and how many writes and syncs were asked of both together
 pub record BufferedState (D : Type 0) : Type 0 where
   pub inner : D
-  pub buffer : BufferedBytes
+  pub buffers : Buffers
   pub calls : Calls
 
--- the waiting bytes lie within the inner disk
-abbrev pub HasPlaces : {D : Type 0} → (D → Content) → D → BufferedBytes → Type 0
-HasPlaces content inner g = g.at + length g.bytes ≤ size (content inner)
+-- the waiting bytes lie below this place
+abbrev pub EndsBy : ℕ → BufferedBytes → Type 0
+EndsBy end g = g.at + length g.bytes ≤ end
+
+-- all waiting bytes lie within the inner disk
+pub record HasPlaces {D : Type 0} (content : D → Content) (inner : D) (b : Buffers) : Type 0 where
+  pub first : EndsBy (size (content inner)) b.first
+  pub second : EndsBy (size (content inner)) b.second
+  pub third : EndsBy (size (content inner)) b.third
 
 -- whether this many bytes from this place on continue the waiting ones, and there is room
 abbrev pub takes : BufferedBytes → ℕ → ℕ → Bool
@@ -42,15 +58,63 @@ emptied g = record g { bytes = [] }
 abbrev pub owed : BufferedBytes → ℕ
 owed g = cond (length g.bytes == 0) 0 1
 
--- the waiting bytes after a write that returns Ok: with the new ones, if they continue them; else the new ones alone, if there is
--- room; else none
-abbrev pub waiting_after : BufferedBytes → ℕ → List ℕ → BufferedBytes
-waiting_after g at bytes = cond (takes g at (length bytes)) (grown g at bytes) (cond (takes (emptied g) at (length bytes)) (grown (emptied g) at bytes) (emptied g))
+-- whether no place has waiting bytes of both
+abbrev pub lie_apart : BufferedBytes → BufferedBytes → Bool
+lie_apart g h = length g.bytes == 0 || (length h.bytes == 0 || (leb (g.at + length g.bytes) h.at || leb (h.at + length h.bytes) g.at))
 
--- how many writes such a write passes to the inner disk: none, if its bytes continue the waiting ones; else one for those that
--- wait, and one for its own if there is no room for them
-abbrev pub passed : BufferedBytes → ℕ → ℕ → ℕ
-passed g at count = cond (takes g at count) 0 (owed g + cond (takes (emptied g) at count) 0 1)
+-- the buffers with the third one in front
+abbrev pub turned : Buffers → Buffers
+turned b = record { first = b.third; second = b.first; third = b.second }
+
+-- the buffers with the one in front that takes this many bytes from this place on, if there is one that overlaps none before it
+abbrev pub brought : Buffers → ℕ → ℕ → Buffers
+brought b at count =
+    cond (takes b.first at count) b
+    (cond (takes b.second at count && lie_apart b.second b.first) (record { first = b.second; second = b.first; third = b.third })
+    (cond (takes b.third at count && (lie_apart b.third b.first && lie_apart b.third b.second)) (turned b) b))
+
+-- the buffers with these bytes appended to the one in front
+abbrev pub appended : Buffers → ℕ → List ℕ → Buffers
+appended b at bytes = record b { first = grown b.first at bytes }
+
+-- the buffers with the last one in front, without its bytes
+abbrev pub freed : Buffers → Buffers
+freed b = record { first = emptied b.third; second = b.first; third = b.second }
+
+-- the buffers without bytes
+abbrev pub cleared : Buffers → Buffers
+cleared b = record { first = emptied b.first; second = emptied b.second; third = emptied b.third }
+
+-- how many writes all waiting bytes will take: one for each buffer that has some
+abbrev pub owed_all : Buffers → ℕ
+owed_all b = owed b.first + (owed b.second + owed b.third)
+
+-- the buffers once the last one was freed so many times
+unfoldable pub freed_times : ℕ → Buffers → Buffers
+freed_times zero b = b
+freed_times (suc n) b = freed (freed_times n b)
+
+-- how many writes that takes
+unfoldable pub owed_by_last : ℕ → Buffers → ℕ
+owed_by_last zero b = 0
+owed_by_last (suc n) b = owed_by_last n b + owed (freed_times n b).third
+
+-- how many buffers are freed for so many bytes from a place on, if the buffer that takes them is in front: none, if there is one; else
+-- the last one, or all if the bytes fit none
+abbrev pub to_free : Buffers → ℕ → ℕ → ℕ
+to_free b at count = cond (takes b.first at count) 0 (cond (leb count b.third.room) 1 3)
+
+-- the buffers that are ready for them
+abbrev pub readied : Buffers → ℕ → ℕ → Buffers
+readied b at count = freed_times (to_free (brought b at count) at count) (brought b at count)
+
+-- the buffers after a write that returns Ok: with its bytes, if they fit one
+abbrev pub waiting_after : Buffers → ℕ → List ℕ → Buffers
+waiting_after b at bytes = cond (takes (readied b at (length bytes)).first at (length bytes)) (appended (readied b at (length bytes)) at bytes) (readied b at (length bytes))
+
+-- how many writes such a write passes to the inner disk: those of the buffers that are freed, and its own if its bytes fit none
+abbrev pub passed : Buffers → ℕ → ℕ → ℕ
+passed b at count = owed_by_last (to_free (brought b at count) at count) (brought b at count) + cond (takes (readied b at count).first at count) 0 1
 
 -- how many writes the disk was asked for
 abbrev pub buffered_writes : {D : Type 0} → BufferedState D → ℕ
@@ -63,19 +127,19 @@ buffered_syncs disk = disk.calls.syncs
 module _ {D : Type 0} (writes_of syncs_of : D → ℕ) where
   -- a write of these bytes that returns Ok
   pub record PassesOn (at : ℕ) (bytes : List ℕ) (old new : BufferedState D) : Type 0 where
-    pub waiting : new.buffer ≡ waiting_after old.buffer at bytes
-    pub made : Makes writes_of syncs_of (passed old.buffer at (length bytes)) 0 old.inner new.inner
+    pub waiting : new.buffers ≡ waiting_after old.buffers at bytes
+    pub made : Makes writes_of syncs_of (passed old.buffers at (length bytes)) 0 old.inner new.inner
 
   -- a sync that returns Ok: the waiting bytes were written, and then came one sync
   pub record WritesOut (old new : BufferedState D) : Type 0 where
-    pub none : new.buffer ≡ emptied old.buffer
-    pub made : Makes writes_of syncs_of (owed old.buffer) 1 old.inner new.inner
+    pub none : new.buffers ≡ cleared old.buffers
+    pub made : Makes writes_of syncs_of (owed_all old.buffers) 1 old.inner new.inner
 
   -- From the old state to the new one the inner disk made no more than this many writes, if the write that the waiting bytes will
   -- take is added to both sides, and exactly this many syncs.
   pub record SavesWrites (w s : ℕ) (old new : BufferedState D) : Type 0 where
     pub made : ℕ
-    pub fewer : made + owed new.buffer ≤ w + owed old.buffer
+    pub fewer : made + owed_all new.buffers ≤ w + owed_all old.buffers
     pub makes : Makes writes_of syncs_of made s old.inner new.inner
 
 -- whether the byte of a place is waiting
@@ -126,9 +190,13 @@ content_over g inner = record {
       byte_elsewhere g inner.shown place both.1 ∙ inner.agrees place both.0;
 }
 
+-- the same with the bytes of all buffers: those of one in front lie over those behind it
+abbrev pub content_over_all : Buffers → Content → Content
+content_over_all b inner = content_over b.first (content_over b.second (content_over b.third inner))
+
 -- the content of a disk that buffers, from that of its inner disk
 abbrev pub buffered_content : {D : Type 0} → (D → Content) → BufferedState D → Content
-buffered_content content disk = content_over disk.buffer (content disk.inner)
+buffered_content content disk = content_over_all disk.buffers (content disk.inner)
 
 -- the fault has its call, its range, the disk's number of failures at that time, and a fault that the inner disk gave
 abbrev pub buffered_gave : {D F : Type 0} → (D → F → Call → ℕ → ℕ → Type 0) → BufferedState D → BufferFault F → Call → ℕ → ℕ → Type 0
@@ -143,3 +211,15 @@ holds g at count = leb g.at at && leb (at + count) (g.at + length g.bytes)
 pub record LaidOver (g : BufferedBytes) (at : ℕ) (old new : List ℕ) : Type 0 where
   pub size : length new ≡ length old
   pub byte : (place : ℕ) → place < length old → get_or new place 0 ≡ cond (waits g (at + place)) (get_or g.bytes (at + place - g.at) 0) (get_or old place 0)
+
+-- whether one of the buffers has all of them
+abbrev pub has_all : Buffers → ℕ → ℕ → Bool
+has_all b at count = holds b.first at count || (holds b.second at count || holds b.third at count)
+
+-- the same with the bytes of all buffers
+pub record LaidOverAll (b : Buffers) (at : ℕ) (old new : List ℕ) : Type 0 where
+  pub behind : List ℕ
+  pub between : List ℕ
+  pub third : LaidOver b.third at old behind
+  pub second : LaidOver b.second at behind between
+  pub first : LaidOver b.first at between new

@@ -1,17 +1,18 @@
 // A disk that buffers adjacent writes for another disk.
 ghost use Rattle.std.specs.Prelude.{◌≡◌, ◌+◌, ◌≤◌, ◌%◌, ◌^◌, ◌==◌, IfOk, OnOk, IfErr, MatchResult, IsTrue, length, []};
 ghost use Rattle.silt_disk.specs.Disk.{GaveAny, Stays, Tears, Writes, size};
+ghost use Rattle.silt_device.specs.Buffered.{no_bytes};
 ghost use Rattle.silt_device.specs.Calls.{no_calls};
 
 use crate::calls::Calls;
-use crate::write_buffer::WriteBuffer;
+use crate::write_buffers::{BUFFERS, WriteBuffers};
 use silt_disk::{Call, Disk, Stoppable};
 use std::alloc::{AllocError, Global};
 use std::error::Error;
 use std::fmt;
 use std::marker::Model;
 
-// The default size of a disk's buffer, in bytes.
+// The default size of each of a disk's buffers, in bytes.
 const ROOM: usize = 65_536;
 
 /// The fault of a disk that buffers: the call, its range, how many calls had failed then, and the fault of the inner disk. The
@@ -60,22 +61,23 @@ impl<F: Error> Error for BufferFault<F> {}
 
 /// A disk that buffers adjacent writes, and passes them to another disk as one write.
 ///
-/// A write is buffered if it continues the buffered bytes and there is room. Before any other write, and before a sync, the
-/// buffered bytes go to the inner disk. A write that is longer than the buffer goes there by itself. A read lays the buffered bytes
-/// over those of the inner disk. It does not read the inner disk if the buffer has the whole range. If the buffered bytes cannot
-/// be written, they stay buffered, so what is shown stays, and the call returns the fault. The bytes of a write that fails so go
-/// to the inner disk all the same, so that their range is pending there.
+/// It has three buffers, since a store writes at three places in turn: its active log, the region of a conversion, and that of a
+/// merge. A write is buffered if it continues the bytes of a buffer and there is room, or if a buffer is empty. Else the buffer that
+/// was not used for longest goes to the inner disk, and takes the bytes. Before a sync, and before a write that is longer than a
+/// buffer, all buffers go there. A read lays the buffered bytes over those of the inner disk. It does not read the inner disk if a
+/// buffer has the whole range. If buffered bytes cannot be written, they stay buffered, so what is shown stays, and the call returns
+/// the fault. The bytes of a write that fails so go to the inner disk all the same, so that their range is pending there.
 ///
-/// A write that continues the buffered bytes costs no call of the inner disk. Over any calls the inner disk is asked for no more
-/// writes than this one, but for one more for each call that fails. A sync that returns Ok is one sync of the inner disk, behind at
-/// most one write.
+/// A write that a buffer takes costs no call of the inner disk. Over any calls the inner disk is asked for no more writes than this
+/// one, but for one more for each call that fails. A sync that returns Ok is one sync of the inner disk, behind one write for each
+/// buffer that has bytes.
 ///
 /// It is proved that this is a disk as good as the inner one. What is shown, the possible crash images and the counts follow from
 /// the inner disk's contract alone, whether that disk obeys the crash model or not.
 #[derive(Drop)]
 pub struct BufferedDisk<D: Disk> {
     inner: D,
-    buffer: WriteBuffer,
+    buffers: WriteBuffers,
     calls: Calls,
 }
 
@@ -84,34 +86,35 @@ impl<D: Disk> Model for BufferedDisk<D> {
 
     ghost Value = { BufferedState D };
 
-    ghost view = { λ a. record { inner = a.inner; buffer = a.buffer; calls = a.calls } };
+    ghost view = { λ a. record { inner = a.inner; buffers = a.buffers; calls = a.calls } };
 
-    ghost invariant = { λ a. HasPlaces D.content a.inner a.buffer };
+    ghost invariant = { λ a. HasPlaces D.content a.inner a.buffers };
 }
 
 impl<D: Disk> BufferedDisk<D> {
-    /// Buffers writes for this disk, up to 65,536 bytes at a time.
+    /// Buffers writes for this disk, up to 65,536 bytes in each of three buffers.
     ///
     /// # Errors
     ///
-    /// Out of memory: the buffer could not be allocated.
+    /// Out of memory: a buffer could not be allocated.
     pub fn new(alloc: Global, inner: D) -> Result<Self, AllocError>
-        ensures { IfOk result (λ disk. disk ≡ record { inner = inner; buffer = record { at = 0; bytes = []; room = 65536 }; calls = no_calls }) }
+        ensures { IfOk result (λ disk. disk ≡ record { inner = inner; buffers = no_bytes 65536; calls = no_calls }) }
     {
         BufferedDisk::with_room(alloc, inner, ROOM)
     }
 
-    /// Buffers writes for this disk, up to this many bytes at a time. With a room of 0 each write goes to the disk by itself.
+    /// Buffers writes for this disk, up to this many bytes in each of three buffers. With a room of 0 each write goes to the disk by
+    /// itself.
     ///
     /// # Errors
     ///
-    /// Out of memory: the buffer could not be allocated.
+    /// Out of memory: a buffer could not be allocated.
     pub fn with_room(alloc: Global, inner: D, room: usize) -> Result<Self, AllocError>
-        ensures { IfOk result (λ disk. disk ≡ record { inner = inner; buffer = record { at = 0; bytes = []; room = room }; calls = no_calls }) }
+        ensures { IfOk result (λ disk. disk ≡ record { inner = inner; buffers = no_bytes room; calls = no_calls }) }
     {
         Ok(BufferedDisk {
             inner,
-            buffer: WriteBuffer::new(alloc, room)?,
+            buffers: WriteBuffers::new(alloc, room)?,
             calls: Calls::none(),
         })
     }
@@ -142,22 +145,22 @@ impl<D: Disk> Disk for BufferedDisk<D> {
 
     ghost gave = { buffered_gave D.gave };
 
-    #[tactic(auto, using(crate::proofs::Waiting::size_over))]
+    #[tactic(auto, using(crate::proofs::Waiting::size_over_all))]
     fn len(&self) -> u64 {
         self.inner.len()
     }
 
-    #[tactic(auto, using(crate::proofs::Waiting::size_over, crate::proofs::Waiting::laid_shows, crate::proofs::Waiting::laid_whole))]
+    #[tactic(auto, using(crate::proofs::Freeing::all_laid))]
     fn read(&self, at: u64, buf: &mut [u8]) -> Result<(), BufferFault<D::Fault>> {
         let _size = self.inner.len();
-        if self.buffer.holds(at, buf.len()) {
-            self.buffer.lay_over(at, buf);
+        if self.buffers.holds(at, buf.len()) {
+            self.buffers.lay_over(at, buf);
             return Ok(());
         }
         let count = buf.len() as u64;
         match self.inner.read(at, buf) {
             Ok(()) => {
-                self.buffer.lay_over(at, buf);
+                self.buffers.lay_over(at, buf);
                 Ok(())
             }
             Err(inner) => Err(BufferFault {
@@ -170,7 +173,7 @@ impl<D: Disk> Disk for BufferedDisk<D> {
         }
     }
 
-    #[tactic(auto, using(crate::proofs::Waiting::size_over, crate::proofs::Waiting::grown_places))]
+    #[tactic(auto)]
     fn write(&mut self, at: u64, buf: &[u8]) -> Result<(), BufferFault<D::Fault>>
         requires { at + length buf.now ≤ size (buffered_content D.content self.old) }
         ensures size { size (buffered_content D.content self.new) ≡ size (buffered_content D.content self.old) }
@@ -186,24 +189,21 @@ impl<D: Disk> Disk for BufferedDisk<D> {
         let _size = self.inner.len();
         let count = buf.len() as u64;
         self.calls.count_write();
-        if self.buffer.takes(at, buf.len()) {
-            self.buffer.append(at, buf);
-            return Ok(());
+        for _turn in 0..self.buffers.make_way(at, buf.len()) {
+            if !self.buffers.is_last_empty() {
+                if let Err(inner) = self
+                    .inner
+                    .write(self.buffers.last_at(), self.buffers.last_bytes())
+                {
+                    // The bytes go to the inner disk all the same, so that their range is pending there.
+                    let _ = self.inner.write(at, buf);
+                    return Err(count_fault(&mut self.calls, Call::Write, at, count, inner));
+                }
+            }
+            self.buffers.free();
         }
-        if self.buffer.is_empty() {
-            return match self.inner.write(at, buf) {
-                Ok(()) => Ok(()),
-                Err(inner) => Err(count_fault(&mut self.calls, Call::Write, at, count, inner)),
-            };
-        }
-        if let Err(inner) = self.inner.write(self.buffer.at(), self.buffer.bytes()) {
-            // The bytes go to the inner disk all the same, so that their range is pending there.
-            let _ = self.inner.write(at, buf);
-            return Err(count_fault(&mut self.calls, Call::Write, at, count, inner));
-        }
-        self.buffer.empty();
-        if self.buffer.takes(at, buf.len()) {
-            self.buffer.append(at, buf);
+        if self.buffers.takes(at, buf.len()) {
+            self.buffers.append(at, buf);
             return Ok(());
         }
         match self.inner.write(at, buf) {
@@ -212,7 +212,7 @@ impl<D: Disk> Disk for BufferedDisk<D> {
         }
     }
 
-    #[tactic(auto, using(crate::proofs::Waiting::size_over))]
+    #[tactic(auto, using(crate::proofs::Waiting::size_over_all))]
     fn sync(&mut self) -> Result<(), BufferFault<D::Fault>>
         ensures size { size (buffered_content D.content self.new) ≡ size (buffered_content D.content self.old) }
         ensures made { Makes buffered_writes buffered_syncs 0 1 self.old self.new }
@@ -226,15 +226,16 @@ impl<D: Disk> Disk for BufferedDisk<D> {
     {
         let size = self.inner.len();
         self.calls.count_sync();
-        if !self.buffer.is_empty() {
-            if let Err(inner) = self.inner.write(self.buffer.at(), self.buffer.bytes()) {
-                return Err(count_fault(&mut self.calls, Call::Sync, 0, size, inner));
+        for _turn in 0..BUFFERS {
+            if !self.buffers.is_last_empty() {
+                if let Err(inner) = self
+                    .inner
+                    .write(self.buffers.last_at(), self.buffers.last_bytes())
+                {
+                    return Err(count_fault(&mut self.calls, Call::Sync, 0, size, inner));
+                }
             }
-            self.buffer.empty();
-            return match self.inner.sync() {
-                Ok(()) => Ok(()),
-                Err(inner) => Err(count_fault(&mut self.calls, Call::Sync, 0, size, inner)),
-            };
+            self.buffers.free();
         }
         match self.inner.sync() {
             Ok(()) => Ok(()),
@@ -245,21 +246,21 @@ impl<D: Disk> Disk for BufferedDisk<D> {
 
 impl<D: Stoppable> Stoppable for BufferedDisk<D> {
     ghost use Rattle.silt_disk.specs.Disk.{Makes, Restarts};
-    ghost use Rattle.silt_device.specs.Buffered.{buffered_content, buffered_syncs, buffered_writes, emptied, SavesWrites};
+    ghost use Rattle.silt_device.specs.Buffered.{buffered_content, buffered_syncs, buffered_writes, cleared, SavesWrites};
 
-    #[tactic(auto, using(crate::proofs::Waiting::size_over, crate::proofs::Waiting::restarts_over))]
+    #[tactic(auto, using(crate::proofs::Waiting::size_over_all))]
     fn restart(mut self) -> Self
         ensures size { size (buffered_content D.Disk.content result) ≡ size (buffered_content D.Disk.content self) }
         ensures content { Restarts (buffered_content D.Disk.content self) (buffered_content D.Disk.content result) }
         ensures failures { result.calls.failures ≡ self.calls.failures }
         ensures made { Makes buffered_writes buffered_syncs 0 0 self result }
-        ensures none { result.buffer ≡ emptied self.buffer }
+        ensures none { result.buffers ≡ cleared self.buffers }
         ensures gathers { SavesWrites D.Disk.writes D.Disk.syncs 0 0 self result }
     {
-        self.buffer.empty();
+        self.buffers.clear();
         BufferedDisk {
             inner: self.inner.restart(),
-            buffer: self.buffer,
+            buffers: self.buffers,
             calls: self.calls,
         }
     }

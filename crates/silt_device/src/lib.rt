@@ -24,6 +24,7 @@ mod source;
 mod system;
 mod system_disk;
 mod write_buffer;
+mod write_buffers;
 
 pub use buffered_disk::{BufferFault, BufferedDisk};
 pub use fault::FaultDisk;

@@ -1,7 +1,7 @@
 // A buffer of adjacent bytes that wait to be written.
 ghost use Rattle.std.specs.Prelude.{◌≡◌, ◌≤◌, ◌<◌, ◌+◌, ◌^◌, ◌==◌, ℕ, List, [], length, slice_range, IsTrue, IfOk};
 ghost use Rattle.silt_disk.specs.Disk.{splice};
-ghost use Rattle.silt_device.specs.Buffered.{takes, grown, emptied, holds, LaidOver};
+ghost use Rattle.silt_device.specs.Buffered.{takes, grown, emptied, holds, lie_apart, LaidOver};
 
 use std::alloc::{AllocError, Global};
 use std::marker::Model;
@@ -72,6 +72,23 @@ impl WriteBuffer {
     {
         (self.count == 0 || at == self.at + self.count as u64)
             && count <= self.bytes.len() - self.count
+    }
+
+    // Whether no place has waiting bytes of both.
+    pub(crate) fn lies_apart(&self, other: &WriteBuffer) -> bool
+        ensures { result ≡ lie_apart self.now other.now }
+    {
+        self.count == 0
+            || other.count == 0
+            || self.at + self.count as u64 <= other.at
+            || other.at + other.count as u64 <= self.at
+    }
+
+    // The room of the buffer, in bytes.
+    pub(crate) fn room(&self) -> usize
+        ensures { result ≡ self.now.room }
+    {
+        self.bytes.len()
     }
 
     // Appends bytes.

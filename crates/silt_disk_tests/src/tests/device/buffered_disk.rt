@@ -9,7 +9,7 @@ use std::test::Fail;
 const LEN: u64 = 24;
 
 // Writes in turn: two that are buffered, one that fills the room, one that finds no room, one
-// elsewhere, one over buffered bytes, one longer than the room, one right after it, and one of no
+// elsewhere, one over bytes of two buffers, one longer than the room, one elsewhere, and one of no
 // bytes.
 const WRITES: [(u64, &[u8]); 9] = [
     (4, &[0x11, 0x12, 0x13]),
@@ -132,9 +132,11 @@ fn adjacent_bytes_are_one_write(rt: HostRuntime) -> Result<(), Fail> {
     Ok(())
 }
 
-// The first write of the inner disk fails.
-const FIRST_WRITE_FAILS: [Step; 5] = [
+// Three buffers have bytes. The first write of the inner disk fails: that of the first of them.
+const FIRST_WRITE_FAILS: [Step; 7] = [
     Step::Write(4, &[0x11, 0x12, 0x13], true),
+    Step::Write(12, &[0x14], true),
+    Step::Write(16, &[0x15], true),
     Step::Write(20, &[0x21], false),
     Step::Read(4, Some([0x11, 0x12, 0x13, 0])),
     Step::Read(2, Some([0, 0, 0x11, 0x12])),
@@ -149,6 +151,52 @@ fn a_failed_write_keeps_what_is_buffered(rt: HostRuntime) -> Result<(), Fail> {
     do_all(&rt, &mut disk, LEN, &FIRST_WRITE_FAILS);
     let left = four_within(&disk.into_inner().into_disk().restart(), 4);
     assert_eq!(rt; left, Some([0x11, 0x12, 0x13, 0]));
+    Ok(())
+}
+
+// Writes at three places in turn, each behind the last one there, and one over bytes that another
+// place has.
+const THREE_PLACES: [(u64, &[u8]); 7] = [
+    (0, &[0x11, 0x12]),
+    (8, &[0x21]),
+    (16, &[0x31]),
+    (2, &[0x13]),
+    (9, &[0x22, 0x23]),
+    (17, &[0x32]),
+    (3, &[0x14]),
+];
+
+// Which write of the inner disk fails, and whether the sync then succeeds. The seven writes make
+// none, and the sync makes three.
+const SYNCED: [(u64, bool); 4] = [(1, false), (2, false), (3, false), (4, true)];
+
+#[test]
+fn three_places_are_three_writes(rt: HostRuntime) -> Result<(), Fail> {
+    for (number, synced) in SYNCED {
+        let mut disk = buffered(rt.alloc(), Call::Write, number)?;
+        let failed = count_failed(&mut disk, &THREE_PLACES);
+        assert_eq!(rt; (failed, disk.sync().is_ok()), (0, synced), "{number}");
+    }
+    Ok(())
+}
+
+// Bytes in one buffer, then some of their places in a second one, and two writes that continue the
+// first but lie in the second.
+const OVER_ANOTHER: [(u64, &[u8]); 5] = [
+    (0, &[0x11, 0x12, 0x13, 0x14]),
+    (2, &[0x21, 0x22, 0x23, 0x24]),
+    (4, &[0x31, 0x32]),
+    (6, &[0x41]),
+    (4, &[0x51]),
+];
+
+// Of bytes in two buffers the newer ones are shown, and stay.
+#[test]
+fn the_newer_of_two_buffers_is_shown(rt: HostRuntime) -> Result<(), Fail> {
+    let mut plain = MemDisk::new(rt.alloc(), 24)?;
+    let mut disk = buffered(rt.alloc(), Call::Write, 0)?;
+    write_to_both(&rt, &mut disk, &mut plain, &OVER_ANOTHER);
+    show_alike(&rt, disk, &plain);
     Ok(())
 }
 

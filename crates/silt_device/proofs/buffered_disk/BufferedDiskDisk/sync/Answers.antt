@@ -1,27 +1,84 @@
-use Rattle.std.proofs.Common.{rules, arith, refl, inr}
+use Rattle.std.proofs.Common.{◌≡◌, ◌≤◌, false, true, rules, arith, refl, sym, ap, subst, ◌∙◌, inl, inr}
 use Rattle.silt_disk.proofs.Costs.{made_both}
-use Rattle.silt_device.specs.Buffered.{emptied}
-use Rattle.silt_device.proofs.Gathering.{gathers_out, owed_some}
-use Rattle.silt_device.proofs.Waiting.{not_out_at, out_at, settles_over, stays_over, stays_settles, stays_twice}
+use Rattle.silt_device.proofs.Freeing.{empty_thrice, freed_makes, freed_owes, freed_sizes, freed_thrice, frees_empty, frees_none, frees_out, not_freed, owed_thrice, settles_over_all, AreEmpty}
+use Rattle.silt_device.proofs.Gathering.{gathers_so}
+use Rattle.silt_device.proofs.Waiting.{size_over_all, stays_settles}
+use Rattle.silt_device.specs.Buffered.{content_over_all}
+use Rattle.silt_disk.specs.Disk.{size}
 use Rattle.silt_device.proofs.buffered_disk.BufferedDiskDisk.sync.Goals as goal
+use Rattle.silt_device.proofs.buffered_disk.BufferedDiskDisk.sync.Goals.{then-not-is_last_empty+in_default, else-not-is_last_empty}
+
+pub loop-turn-init : goal.loop-turn-init
+loop-turn-init g c = record { frees = frees_none _ _ c.self.invariant; upto = omega arith; calls = refl }
+
+pub loop-turn-preserved : goal.loop-turn-preserved
+loop-turn-preserved g c =
+    let so_far = c.loop-turn.invariant.frees in
+    elim c.if-not-is_last_empty.branch [
+      | then-not-is_last_empty+in_default w ↦ record {
+        frees = rw (c.free.ensures, w.self-inside-is) (frees_out _ _ _ _ _ _ _ _ so_far (search rules) w.last_at.ensures w.last_bytes.ensures w.write.ensures.torn w.in_default.ensures.written w.write.ensures.made w.write.ensures.size);
+        upto = search rules;
+        calls = rw (w.self-inside-is) c.loop-turn.invariant.calls;
+      }
+      | else-not-is_last_empty w ↦ record {
+        frees = rw (c.free.ensures, w.self-inside-is) (frees_empty _ _ _ _ _ so_far (search rules));
+        upto = search rules;
+        calls = rw (w.self-inside-is) c.loop-turn.invariant.calls;
+      }
+    ]
+
+pub returns-in-Err-clause-size : goal.returns-in-Err-clause-size
+returns-in-Err-clause-size g c = rw (← c.self.view_is) (freed_sizes c.loop-turn.invariant.frees _ _ c.write.ensures.size)
 
 pub returns-in-Err-clause-unchanged : goal.returns-in-Err-clause-unchanged
-returns-in-Err-clause-unchanged g c = rw (← c.self.view_is) (not_out_at c.self.inside.buffer _ _ _ _ c.at.ensures c.bytes.ensures c.write.ensures.torn)
+returns-in-Err-clause-unchanged g c = rw (← c.self.view_is) (not_freed c.loop-turn.invariant.frees _ _ _ c.last_at.ensures c.last_bytes.ensures c.write.ensures.torn)
+
+pub returns-in-Err-clause-gathers : goal.returns-in-Err-clause-gathers
+returns-in-Err-clause-gathers g c =
+    let frees = c.loop-turn.invariant.frees in
+    rw (← c.self.view_is) (inl (gathers_so _ _ _ 1 0 (freed_makes frees _ 1 0 c.write.ensures.made) (omega (arith, freed_owes frees))))
+
+pub returns-in-Ok-clause-size : goal.returns-in-Ok-clause-size
+returns-in-Ok-clause-size g c = rw (← c.self.view_is) (freed_sizes c.loop-turn.invariant.frees _ _ c.sync.ensures.size)
+
+pub returns-in-Err-sync-clause-size : goal.returns-in-Err-sync-clause-size
+returns-in-Err-sync-clause-size g c = rw (← c.self.view_is) (freed_sizes c.loop-turn.invariant.frees _ _ c.sync.ensures.size)
 
 pub returns-in-Ok-clause-settled : goal.returns-in-Ok-clause-settled
 returns-in-Ok-clause-settled g c =
-    let waiting = c.self.inside.buffer in
-    rw (← c.self.view_is, c.empty.ensures) (stays_settles _ _ _ (out_at waiting _ _ _ _ c.at.ensures c.bytes.ensures c.self.invariant c.write.ensures.torn c.in_default.ensures.written) (settles_over (emptied waiting) _ _ refl c.in-Ok.ensures.settled))
+    let frees = c.loop-turn.invariant.frees in
+    let all : c.loop-turn._turn ≡ 3 = omega (arith, c.loop-turn-test.false, c.loop-turn.invariant.upto) in
+    let none : AreEmpty c.loop-turn.self-inside.buffers = rw (frees.buffers, all) (empty_thrice _) in
+    rw (← c.self.view_is) (stays_settles _ _ _ frees.stays (settles_over_all _ _ _ none c.in-Ok.ensures.settled))
 
-pub returns-in-Err-sync-clause-unchanged : goal.returns-in-Err-sync-clause-unchanged
-returns-in-Err-sync-clause-unchanged g c =
-    let waiting = c.self.inside.buffer in
-    rw (← c.self.view_is, c.empty.ensures) (stays_twice _ _ _ (out_at waiting _ _ _ _ c.at.ensures c.bytes.ensures c.self.invariant c.write.ensures.torn c.in_default.ensures.written) (stays_over (emptied waiting) _ _ c.in-Err-sync.ensures.unchanged))
-
-pub returns-in-Ok-sync-clause-settled : goal.returns-in-Ok-sync-clause-settled
-returns-in-Ok-sync-clause-settled g c = rw (← c.self.view_is) (settles_over c.self.inside.buffer _ _ (search rules) c.in-Ok-sync.ensures.settled)
+pub returns-in-Ok-clause-gathers : goal.returns-in-Ok-clause-gathers
+returns-in-Ok-clause-gathers g c =
+    let frees = c.loop-turn.invariant.frees in
+    let all : c.loop-turn._turn ≡ 3 = omega (arith, c.loop-turn-test.false, c.loop-turn.invariant.upto) in
+    rw (← c.self.view_is) (record {
+      none = rw (frees.buffers, all) (freed_thrice _);
+      made = made_both _ frees.made c.sync.ensures.made (rw (all) (omega (arith, owed_thrice c.self.inside.buffers))) refl;
+    })
 
 pub returns-in-Err-sync-clause-gathers : goal.returns-in-Err-sync-clause-gathers
 returns-in-Err-sync-clause-gathers g c =
-    let one = owed_some c.self.inside.buffer (search rules) in
-    rw (← c.self.view_is) (inr (gathers_out _ _ 1 0 1 (made_both c.write.new.self c.write.ensures.made c.sync.ensures.made refl refl) c.empty.ensures (omega (arith, one))))
+    let frees = c.loop-turn.invariant.frees in
+    rw (← c.self.view_is) (inr (gathers_so _ _ _ 0 1 (freed_makes frees _ 0 1 c.sync.ensures.made) (omega (arith, freed_owes frees))))
+
+pub returns-in-Err-clause-failures : goal.returns-in-Err-clause-failures
+returns-in-Err-clause-failures g c =
+    let calls = c.loop-turn.invariant.calls in
+    let same : c.loop-turn.self-inside.calls.failures ≡ c.args.self.now.calls.failures = search (rules, calls) in
+    let new = g.D.Disk.content c.write.new.self in
+    let long : c.len-size.result ≡ size (content_over_all c.loop-turn.self-inside.buffers new) =
+    c.len-size.ensures ∙ sym (size_over_all c.loop-turn.self-inside.buffers new ∙ c.write.ensures.size ∙ c.loop-turn.invariant.frees.size) in
+    search (rules, same, long)
+
+pub returns-in-Err-sync-clause-failures : goal.returns-in-Err-sync-clause-failures
+returns-in-Err-sync-clause-failures g c =
+    let calls = c.loop-turn.invariant.calls in
+    let same : c.loop-turn.self-inside.calls.failures ≡ c.args.self.now.calls.failures = search (rules, calls) in
+    let new = g.D.Disk.content c.sync.new.self in
+    let long : c.len-size.result ≡ size (content_over_all c.loop-turn.self-inside.buffers new) =
+    c.len-size.ensures ∙ sym (size_over_all c.loop-turn.self-inside.buffers new ∙ c.sync.ensures.size ∙ c.loop-turn.invariant.frees.size) in
+    search (rules, same, long)

@@ -1,105 +1,160 @@
-use Rattle.std.proofs.Common.{rules, arith, refl, ◌≡◌, ◌+◌, ◌≤◌, IsTrue, length, subst, sym, ◌∙◌}
+use Rattle.std.proofs.Common.{◌≡◌, ◌≤◌, ◌+◌, IsTrue, length, false, true, rules, arith, refl, sym, ap, subst, ◌∙◌, inl, inr}
 use Rattle.silt_disk.specs.Disk.{Stays, size}
 use Rattle.silt_disk.proofs.Costs.{made_both}
-use Rattle.silt_device.proofs.Gathering.{gathers_out, gathers_same, owed_some}
-use Rattle.silt_device.specs.Buffered.{content_over, buffered_content, takes}
-use Rattle.silt_device.proofs.Waiting.{fits_inner, grown_places, grown_tears, grown_writes, not_out_at, out_at, stays_tears, stays_writes, tears_over, writes_over}
+use Rattle.silt_device.specs.Buffered.{Buffers, HasPlaces, buffered_content, content_over_all, readied, takes, to_free}
+use Rattle.silt_device.proofs.Freeing.{appended_owes, appended_places, appended_tears, appended_writes, brought_places, freed_makes, frees_empty, frees_none, frees_out, sizes_over_all, tears_over_all, way_made, way_none, way_owes, way_passed, way_stays, way_unwritten, passes_appended, passes_written, writes_over_all}
+use Rattle.silt_device.proofs.Gathering.{gathers_so}
+use Rattle.silt_device.proofs.Waiting.{size_over_all, stays_tears, stays_twice, stays_writes}
 use Rattle.silt_device.proofs.buffered_disk.BufferedDiskDisk.write.Goals as goal
+use Rattle.silt_device.proofs.buffered_disk.BufferedDiskDisk.write.Goals.{then-not-is_last_empty+in_default, else-not-is_last_empty}
 
-pub invariant_of-self : goal.invariant_of-self
-invariant_of-self g c =
-    let waiting = c.self.inside.buffer in
-    let inner = g.D.Disk.content c.self.inside.inner in
-    let room : IsTrue (takes waiting c.args.at (length c.args.buf.now)) = search rules in
-    let fits = fits_inner waiting inner _ (subst (λ s. c.args.at + length c.args.buf.now ≤ size (buffered_content g.D.Disk.content s)) (sym c.self.view_is) c.requires) in
-    rw (c.append.ensures) (grown_places waiting c.args.at c.args.buf.now _ room fits)
+pub loop-turn-init : goal.loop-turn-init
+loop-turn-init g c = record {
+  frees = frees_none _ _ (rw (c.make_way-turn-end.ensures.order) (brought_places g.D.Disk.content c.self.inside.inner c.self.inside.buffers c.args.at (length c.args.buf.now) c.self.invariant));
+  upto = omega arith;
+  calls = refl;
+}
+
+pub loop-turn-preserved : goal.loop-turn-preserved
+loop-turn-preserved g c =
+    let so_far = c.loop-turn.invariant.frees in
+    elim c.if-not-is_last_empty.branch [
+      | then-not-is_last_empty+in_default w ↦ record {
+        frees = rw (c.free.ensures, w.self-inside-is) (frees_out _ _ _ _ _ _ _ _ so_far (search rules) w.last_at.ensures w.last_bytes.ensures w.write.ensures.torn w.in_default.ensures.written w.write.ensures.made w.write.ensures.size);
+        upto = search rules;
+        calls = rw (w.self-inside-is) c.loop-turn.invariant.calls;
+      }
+      | else-not-is_last_empty w ↦ record {
+        frees = rw (c.free.ensures, w.self-inside-is) (frees_empty _ _ _ _ _ so_far (search rules));
+        upto = search rules;
+        calls = rw (w.self-inside-is) c.loop-turn.invariant.calls;
+      }
+    ]
+
+pub write-requires-in-Err : goal.write-requires-in-Err
+write-requires-in-Err g c =
+    let b = c.self.inside.buffers in
+    let fits : c.args.at + length c.args.buf.now ≤ size (buffered_content g.D.Disk.content c.args.self.now) = c.requires in
+    let now = subst (λ s. c.args.at + length c.args.buf.now ≤ size (buffered_content g.D.Disk.content s)) (sym c.self.view_is) fits in
+    omega (arith, now, size_over_all b (g.D.Disk.content c.self.inside.inner), c.write.ensures.size, c.loop-turn.invariant.frees.size)
+
+pub returns-in-Err-clause-size : goal.returns-in-Err-clause-size
+returns-in-Err-clause-size g c =
+    rw (← c.self.view_is) (sizes_over_all c.self.inside.buffers c.loop-turn.self-inside.buffers (g.D.Disk.content c.self.inside.inner) (g.D.Disk.content c.write-in-Err.new.self) (c.write-in-Err.ensures.size ∙ c.write.ensures.size ∙ c.loop-turn.invariant.frees.size))
+
+pub returns-in-Err-clause-torn : goal.returns-in-Err-clause-torn
+returns-in-Err-clause-torn g c =
+    let stays = way_unwritten c.loop-turn.invariant.frees c.self.inside.buffers c.args.at (length c.args.buf.now) c.make_way-turn-end.ensures.order c.write.new.self _ _ c.last_at.ensures c.last_bytes.ensures c.write.ensures.torn in
+    rw (← c.self.view_is) (stays_tears _ _ _ _ _ stays (tears_over_all c.loop-turn.self-inside.buffers _ _ (g.D.Disk.content c.write.new.self) (g.D.Disk.content c.write-in-Err.new.self) c.write-in-Err.ensures.torn))
+
+pub returns-in-Err-clause-gathers : goal.returns-in-Err-clause-gathers
+returns-in-Err-clause-gathers g c =
+    let frees = c.loop-turn.invariant.frees in
+    let owes = way_owes frees c.self.inside.buffers c.args.at (length c.args.buf.now) c.make_way-turn-end.ensures.order in
+    let made = freed_makes frees c.write-in-Err.new.self 2 0 (made_both c.write.new.self c.write.ensures.made c.write-in-Err.ensures.made refl refl) in
+    rw (← c.self.view_is) (gathers_so _ _ _ 2 0 made (omega (arith, owes)))
+
+pub append-requires-clause-end : goal.append-requires-clause-end
+append-requires-clause-end g c =
+    let fits : c.args.at + length c.args.buf.now ≤ size (buffered_content g.D.Disk.content c.args.self.now) = c.requires in
+    let now = subst (λ s. c.args.at + length c.args.buf.now ≤ size (buffered_content g.D.Disk.content s)) (sym c.self.view_is) fits in
+    let below : c.args.at + length c.args.buf.now ≤ c.len-size.result = omega (arith, now, size_over_all c.self.inside.buffers (g.D.Disk.content c.self.inside.inner), c.len-size.ensures) in
+    search (rules, below)
+
+pub invariant_of-self-then-takes : goal.invariant_of-self-then-takes
+invariant_of-self-then-takes g c =
+    let fits : c.args.at + length c.args.buf.now ≤ size (buffered_content g.D.Disk.content c.args.self.now) = c.requires in
+    let now = subst (λ s. c.args.at + length c.args.buf.now ≤ size (buffered_content g.D.Disk.content s)) (sym c.self.view_is) fits in
+    let room : IsTrue (takes c.loop-turn.self-inside.buffers.first c.args.at (length c.args.buf.now)) = sym c.takes.ensures ∙ c.if-takes.true in
+    let frees = c.loop-turn.invariant.frees in
+    rw (c.append.ensures) (appended_places g.D.Disk.content _ _ c.args.at c.args.buf.now frees.places room
+    (omega (arith, now, size_over_all c.self.inside.buffers (g.D.Disk.content c.self.inside.inner), frees.size)))
+
+pub returns-then-takes-clause-size : goal.returns-then-takes-clause-size
+returns-then-takes-clause-size g c = rw (← c.self.view_is) (sizes_over_all c.self.inside.buffers c.append.new.self (g.D.Disk.content c.self.inside.inner) (g.D.Disk.content c.loop-turn.self-inside.inner) c.loop-turn.invariant.frees.size)
 
 pub returns-then-takes-clause-torn : goal.returns-then-takes-clause-torn
 returns-then-takes-clause-torn g c =
-    let waiting = c.self.inside.buffer in
-    let inner = g.D.Disk.content c.self.inside.inner in
-    let room : IsTrue (takes waiting c.args.at (length c.args.buf.now)) = search rules in
-    let fits = fits_inner waiting inner _ (subst (λ s. c.args.at + length c.args.buf.now ≤ size (buffered_content g.D.Disk.content s)) (sym c.self.view_is) c.requires) in
-    rw (← c.self.view_is, c.append.ensures) (grown_tears waiting c.args.at c.args.buf.now inner room fits)
+    let fits : c.args.at + length c.args.buf.now ≤ size (buffered_content g.D.Disk.content c.args.self.now) = c.requires in
+    let now = subst (λ s. c.args.at + length c.args.buf.now ≤ size (buffered_content g.D.Disk.content s)) (sym c.self.view_is) fits in
+    let room : IsTrue (takes c.loop-turn.self-inside.buffers.first c.args.at (length c.args.buf.now)) = sym c.takes.ensures ∙ c.if-takes.true in
+    let frees = c.loop-turn.invariant.frees in
+    let stays = way_stays frees c.self.inside.buffers c.args.at (length c.args.buf.now) c.make_way-turn-end.ensures.order in
+    rw (← c.self.view_is, c.append.ensures) (stays_tears _ _ _ _ _ stays (appended_tears c.loop-turn.self-inside.buffers c.args.at c.args.buf.now (g.D.Disk.content c.loop-turn.self-inside.inner) room
+    (omega (arith, now, size_over_all c.self.inside.buffers (g.D.Disk.content c.self.inside.inner), frees.size))))
 
 pub returns-then-takes-clause-written : goal.returns-then-takes-clause-written
 returns-then-takes-clause-written g c =
-    let waiting = c.self.inside.buffer in
-    let inner = g.D.Disk.content c.self.inside.inner in
-    let room : IsTrue (takes waiting c.args.at (length c.args.buf.now)) = search rules in
-    let fits = fits_inner waiting inner _ (subst (λ s. c.args.at + length c.args.buf.now ≤ size (buffered_content g.D.Disk.content s)) (sym c.self.view_is) c.requires) in
-    rw (← c.self.view_is, c.append.ensures) (grown_writes waiting c.args.at c.args.buf.now inner room fits)
+    let fits : c.args.at + length c.args.buf.now ≤ size (buffered_content g.D.Disk.content c.args.self.now) = c.requires in
+    let now = subst (λ s. c.args.at + length c.args.buf.now ≤ size (buffered_content g.D.Disk.content s)) (sym c.self.view_is) fits in
+    let room : IsTrue (takes c.loop-turn.self-inside.buffers.first c.args.at (length c.args.buf.now)) = sym c.takes.ensures ∙ c.if-takes.true in
+    let frees = c.loop-turn.invariant.frees in
+    let stays = way_stays frees c.self.inside.buffers c.args.at (length c.args.buf.now) c.make_way-turn-end.ensures.order in
+    rw (← c.self.view_is, c.append.ensures) (stays_writes _ _ _ _ _ stays (appended_writes c.loop-turn.self-inside.buffers c.args.at c.args.buf.now (g.D.Disk.content c.loop-turn.self-inside.inner) room
+    (omega (arith, now, size_over_all c.self.inside.buffers (g.D.Disk.content c.self.inside.inner), frees.size))))
+
+pub returns-then-takes-clause-gathers : goal.returns-then-takes-clause-gathers
+returns-then-takes-clause-gathers g c =
+    let frees = c.loop-turn.invariant.frees in
+    let owes = way_owes frees c.self.inside.buffers c.args.at (length c.args.buf.now) c.make_way-turn-end.ensures.order in
+    rw (← c.self.view_is, c.append.ensures) (gathers_so _ _ _ 1 0 frees.made (omega (arith, owes, appended_owes c.loop-turn.self-inside.buffers c.args.at c.args.buf.now)))
+
+pub write-requires-2 : goal.write-requires-2
+write-requires-2 g c =
+    let fits : c.args.at + length c.args.buf.now ≤ size (buffered_content g.D.Disk.content c.args.self.now) = c.requires in
+    let now = subst (λ s. c.args.at + length c.args.buf.now ≤ size (buffered_content g.D.Disk.content s)) (sym c.self.view_is) fits in
+    omega (arith, now, size_over_all c.self.inside.buffers (g.D.Disk.content c.self.inside.inner), c.loop-turn.invariant.frees.size)
+
+pub returns-in-Ok-clause-size : goal.returns-in-Ok-clause-size
+returns-in-Ok-clause-size g c = rw (← c.self.view_is) (sizes_over_all c.self.inside.buffers c.loop-turn.self-inside.buffers (g.D.Disk.content c.self.inside.inner) (g.D.Disk.content c.write-2.new.self) (c.write-2.ensures.size ∙ c.loop-turn.invariant.frees.size))
+
+pub returns-in-Err-write-clause-size : goal.returns-in-Err-write-clause-size
+returns-in-Err-write-clause-size g c = rw (← c.self.view_is) (sizes_over_all c.self.inside.buffers c.loop-turn.self-inside.buffers (g.D.Disk.content c.self.inside.inner) (g.D.Disk.content c.write-2.new.self) (c.write-2.ensures.size ∙ c.loop-turn.invariant.frees.size))
 
 pub returns-in-Ok-clause-torn : goal.returns-in-Ok-clause-torn
-returns-in-Ok-clause-torn g c = rw (← c.self.view_is) (tears_over c.self.inside.buffer _ _ _ _ c.write.ensures.torn)
-
-pub returns-in-Ok-clause-written : goal.returns-in-Ok-clause-written
-returns-in-Ok-clause-written g c = rw (← c.self.view_is) (writes_over c.self.inside.buffer _ _ _ _ (search rules) c.in-Ok.ensures.written)
-
-pub returns-in-Err-clause-torn : goal.returns-in-Err-clause-torn
-returns-in-Err-clause-torn g c = rw (← c.self.view_is) (tears_over c.self.inside.buffer _ _ _ _ c.write.ensures.torn)
+returns-in-Ok-clause-torn g c =
+    let stays = way_stays c.loop-turn.invariant.frees c.self.inside.buffers c.args.at (length c.args.buf.now) c.make_way-turn-end.ensures.order in
+    rw (← c.self.view_is) (stays_tears _ _ _ _ _ stays (tears_over_all c.loop-turn.self-inside.buffers _ _ (g.D.Disk.content c.loop-turn.self-inside.inner) (g.D.Disk.content c.write-2.new.self) c.write-2.ensures.torn))
 
 pub returns-in-Err-write-clause-torn : goal.returns-in-Err-write-clause-torn
 returns-in-Err-write-clause-torn g c =
-    let waiting = c.self.inside.buffer in
-    rw (← c.self.view_is) (stays_tears _ _ _ _ _ (not_out_at waiting _ _ _ _ c.at.ensures c.bytes.ensures c.write-2.ensures.torn) (tears_over waiting _ _ _ _ c.write-in-Err-write.ensures.torn))
+    let stays = way_stays c.loop-turn.invariant.frees c.self.inside.buffers c.args.at (length c.args.buf.now) c.make_way-turn-end.ensures.order in
+    rw (← c.self.view_is) (stays_tears _ _ _ _ _ stays (tears_over_all c.loop-turn.self-inside.buffers _ _ (g.D.Disk.content c.loop-turn.self-inside.inner) (g.D.Disk.content c.write-2.new.self) c.write-2.ensures.torn))
 
-pub returns-then-takes-2-clause-torn : goal.returns-then-takes-2-clause-torn
-returns-then-takes-2-clause-torn g c =
-    let waiting = c.self.inside.buffer in
-    let before = g.D.Disk.content c.self.inside.inner in
-    let inner = g.D.Disk.content c.write-2.new.self in
-    let stays : Stays (content_over waiting before) (content_over c.empty.new.self inner) = rw (c.empty.ensures) (out_at waiting _ _ _ _ c.at.ensures c.bytes.ensures c.self.invariant c.write-2.ensures.torn c.in_default.ensures.written) in
-    let room : IsTrue (takes c.empty.new.self c.args.at (length c.args.buf.now)) = sym c.takes-2.ensures ∙ c.if-takes-2.true in
-    let fits = fits_inner waiting before _ (subst (λ s. c.args.at + length c.args.buf.now ≤ size (buffered_content g.D.Disk.content s)) (sym c.self.view_is) c.requires) in
-    let fits_now = subst (λ n. c.args.at + length c.args.buf.now ≤ n) (sym c.write-2.ensures.size) fits in
-    rw (← c.self.view_is, c.append-then-takes-2.ensures) (stays_tears _ _ _ _ _ stays (grown_tears c.empty.new.self c.args.at c.args.buf.now inner room fits_now))
+pub returns-in-Ok-clause-written : goal.returns-in-Ok-clause-written
+returns-in-Ok-clause-written g c =
+    let frees = c.loop-turn.invariant.frees in
+    let stays = way_stays frees c.self.inside.buffers c.args.at (length c.args.buf.now) c.make_way-turn-end.ensures.order in
+    let all : c.loop-turn._turn ≡ to_free c.make_way-turn-end.new.self c.args.at (length c.args.buf.now) = omega (arith, c.loop-turn-test.false, c.loop-turn.invariant.upto, c.make_way-turn-end.ensures.frees) in
+    let none = way_none frees c.self.inside.buffers c.args.at (length c.args.buf.now) c.make_way-turn-end.ensures.order all (sym c.takes.ensures ∙ c.if-takes.false) in
+    rw (← c.self.view_is) (stays_writes _ _ _ _ _ stays (writes_over_all c.loop-turn.self-inside.buffers _ _ (g.D.Disk.content c.loop-turn.self-inside.inner) (g.D.Disk.content c.write-2.new.self) none c.in-Ok.ensures.written))
 
-pub returns-then-takes-2-clause-written : goal.returns-then-takes-2-clause-written
-returns-then-takes-2-clause-written g c =
-    let waiting = c.self.inside.buffer in
-    let before = g.D.Disk.content c.self.inside.inner in
-    let inner = g.D.Disk.content c.write-2.new.self in
-    let stays : Stays (content_over waiting before) (content_over c.empty.new.self inner) = rw (c.empty.ensures) (out_at waiting _ _ _ _ c.at.ensures c.bytes.ensures c.self.invariant c.write-2.ensures.torn c.in_default.ensures.written) in
-    let room : IsTrue (takes c.empty.new.self c.args.at (length c.args.buf.now)) = sym c.takes-2.ensures ∙ c.if-takes-2.true in
-    let fits = fits_inner waiting before _ (subst (λ s. c.args.at + length c.args.buf.now ≤ size (buffered_content g.D.Disk.content s)) (sym c.self.view_is) c.requires) in
-    let fits_now = subst (λ n. c.args.at + length c.args.buf.now ≤ n) (sym c.write-2.ensures.size) fits in
-    rw (← c.self.view_is, c.append-then-takes-2.ensures) (stays_writes _ _ _ _ _ stays (grown_writes c.empty.new.self c.args.at c.args.buf.now inner room fits_now))
-
-pub returns-in-Ok-write-clause-torn : goal.returns-in-Ok-write-clause-torn
-returns-in-Ok-write-clause-torn g c =
-    let waiting = c.self.inside.buffer in
-    let before = g.D.Disk.content c.self.inside.inner in
-    let inner = g.D.Disk.content c.write-2.new.self in
-    let stays : Stays (content_over waiting before) (content_over c.empty.new.self inner) = rw (c.empty.ensures) (out_at waiting _ _ _ _ c.at.ensures c.bytes.ensures c.self.invariant c.write-2.ensures.torn c.in_default.ensures.written) in
-    rw (← c.self.view_is) (stays_tears _ _ _ _ _ stays (tears_over c.empty.new.self _ _ _ _ c.write-3.ensures.torn))
-
-pub returns-in-Ok-write-clause-written : goal.returns-in-Ok-write-clause-written
-returns-in-Ok-write-clause-written g c =
-    let waiting = c.self.inside.buffer in
-    let before = g.D.Disk.content c.self.inside.inner in
-    let inner = g.D.Disk.content c.write-2.new.self in
-    let stays : Stays (content_over waiting before) (content_over c.empty.new.self inner) = rw (c.empty.ensures) (out_at waiting _ _ _ _ c.at.ensures c.bytes.ensures c.self.invariant c.write-2.ensures.torn c.in_default.ensures.written) in
-    let none : length c.empty.new.self.bytes ≡ 0 = rw (c.empty.ensures) refl in
-    rw (← c.self.view_is) (stays_writes _ _ _ _ _ stays (writes_over c.empty.new.self _ _ _ _ none c.in-Ok-write.ensures.written))
-
-pub returns-in-Err-write-2-clause-torn : goal.returns-in-Err-write-2-clause-torn
-returns-in-Err-write-2-clause-torn g c =
-    let waiting = c.self.inside.buffer in
-    let before = g.D.Disk.content c.self.inside.inner in
-    let inner = g.D.Disk.content c.write-2.new.self in
-    let stays : Stays (content_over waiting before) (content_over c.empty.new.self inner) = rw (c.empty.ensures) (out_at waiting _ _ _ _ c.at.ensures c.bytes.ensures c.self.invariant c.write-2.ensures.torn c.in_default.ensures.written) in
-    rw (← c.self.view_is) (stays_tears _ _ _ _ _ stays (tears_over c.empty.new.self _ _ _ _ c.write-3.ensures.torn))
+pub returns-in-Ok-clause-gathers : goal.returns-in-Ok-clause-gathers
+returns-in-Ok-clause-gathers g c =
+    let frees = c.loop-turn.invariant.frees in
+    let owes = way_owes frees c.self.inside.buffers c.args.at (length c.args.buf.now) c.make_way-turn-end.ensures.order in
+    rw (← c.self.view_is) (gathers_so _ _ _ 1 0 (freed_makes frees c.write-2.new.self 1 0 c.write-2.ensures.made) (omega (arith, owes)))
 
 pub returns-in-Err-write-clause-gathers : goal.returns-in-Err-write-clause-gathers
 returns-in-Err-write-clause-gathers g c =
-    rw (← c.self.view_is) (gathers_same _ _ 2 2 0 (made_both c.write-2.new.self c.write-2.ensures.made c.write-in-Err-write.ensures.made refl refl) refl (omega arith))
+    let frees = c.loop-turn.invariant.frees in
+    let owes = way_owes frees c.self.inside.buffers c.args.at (length c.args.buf.now) c.make_way-turn-end.ensures.order in
+    rw (← c.self.view_is) (gathers_so _ _ _ 2 0 (freed_makes frees c.write-2.new.self 1 0 c.write-2.ensures.made) (omega (arith, owes)))
 
-pub returns-in-Ok-write-clause-gathers : goal.returns-in-Ok-write-clause-gathers
-returns-in-Ok-write-clause-gathers g c =
-    let one = owed_some c.self.inside.buffer (search rules) in
-    rw (← c.self.view_is) (gathers_out _ _ 2 1 0 (made_both c.write-2.new.self c.write-2.ensures.made c.write-3.ensures.made refl refl) c.empty.ensures (omega (arith, one)))
+pub returns-then-takes-clause-passes : goal.returns-then-takes-clause-passes
+returns-then-takes-clause-passes g c =
+    let frees = c.loop-turn.invariant.frees in
+    let is = c.make_way-turn-end.ensures.order in
+    let all : c.loop-turn._turn ≡ to_free c.make_way-turn-end.new.self c.args.at (length c.args.buf.now) = omega (arith, c.loop-turn-test.false, c.loop-turn.invariant.upto, c.make_way-turn-end.ensures.frees) in
+    let b = c.self.inside.buffers in
+    rw (← c.self.view_is) (passes_appended _ _ c.args.at c.args.buf.now c.loop-turn.self-inside.buffers _ (way_made frees b c.args.at (length c.args.buf.now) is all) (sym c.takes.ensures ∙ c.if-takes.true) c.append.ensures
+    (way_passed frees b c.args.at (length c.args.buf.now) is all) frees.made)
 
-pub returns-in-Err-write-2-clause-gathers : goal.returns-in-Err-write-2-clause-gathers
-returns-in-Err-write-2-clause-gathers g c =
-    rw (← c.self.view_is) (gathers_out _ _ 2 2 0 (made_both c.write-2.new.self c.write-2.ensures.made c.write-3.ensures.made refl refl) c.empty.ensures (omega arith))
+pub returns-in-Ok-clause-passes : goal.returns-in-Ok-clause-passes
+returns-in-Ok-clause-passes g c =
+    let frees = c.loop-turn.invariant.frees in
+    let is = c.make_way-turn-end.ensures.order in
+    let all : c.loop-turn._turn ≡ to_free c.make_way-turn-end.new.self c.args.at (length c.args.buf.now) = omega (arith, c.loop-turn-test.false, c.loop-turn.invariant.upto, c.make_way-turn-end.ensures.frees) in
+    let b = c.self.inside.buffers in
+    rw (← c.self.view_is) (passes_written _ _ c.args.at c.args.buf.now c.loop-turn.self-inside.buffers _ (way_made frees b c.args.at (length c.args.buf.now) is all) (sym c.takes.ensures ∙ c.if-takes.false) refl
+    (ap (λ k. k + 1) (way_passed frees b c.args.at (length c.args.buf.now) is all)) (freed_makes frees c.write-2.new.self 1 0 c.write-2.ensures.made))
