@@ -338,15 +338,16 @@ class Writes(CallCase):
         merges = self.merge(entries, manifest(5, 0, hashes=[new], region=1, entries=self.rules.entries(entries)))
         self.judge([*merges[:8], *converts[:4], merges[8], *converts[4:], merges[9]])
 
-    def test_more_than_the_buffer_takes(self):
-        """Rows of 4,117 bytes: fifteen and the head of another fit the buffer."""
-        words = "4096 8 32 2 2 32"
+    def test_more_than_the_buffers_take(self):
+        """Rows of 4,117 bytes: forty-five and the head of another fit the three buffers. The next
+        bytes write out the buffer that was filled first."""
+        words = "4096 16 64 2 2 64"
         self.rules = Rules(words)
         self.store(words)
-        keys = [f"{n:04x}{n + 1:04x}".ljust(40, "0") for n in range(18)]
+        keys = [f"{n:04x}{n + 1:04x}".ljust(40, "0") for n in range(48)]
         puts = [self.put(n, key, f"{n:02x}" * 4096) for n, key in enumerate(keys)]
-        got = self.judge([*puts, ("flush", self.rules.flush(0, 0, 18))])
-        self.assertEqual([len(changes(it)) for it in got[14:17]], [0, 1, 0])
+        got = self.judge([*puts, ("flush", self.rules.flush(0, 0, 48))])
+        self.assertEqual([len(changes(it)) for it in got[44:47]], [0, 1, 0])
 
     def test_a_missing_sync_is_refused(self):
         """Sync 1 is the opening's, 2 and 3 are a flush's."""
