@@ -1,7 +1,7 @@
 -- The row of a key among the slots of its two buckets.
 use Rattle.std.proofs.Common.{◌≡◌, ℕ, ◌/◌, ◌<◌, eqb, true, false, List, length, get_or, Option, Some, None, Result, Ok, Err, IfOk, inl, inr, sym, subst, ap, ◌∙◌, arith}
 use Rattle.std.specs.Str.{bytes_eq}
-use Rattle.std.proofs.lemmas.Bool.{cases_Bool, cases_lt, and_parts, cond-true, cond-false, eqb-true, or_cases}
+use Rattle.std.proofs.lemmas.Bool.{cases_Bool, cases_lt, and_parts, cond-true, cond-false, eqb-true, or_cases, or_parts}
 use Rattle.std.proofs.lemmas.List.Elements.{All-from_get_or}
 use Rattle.std.proofs.lemmas.List.Folds.{list_any_none}
 use Rattle.std.proofs.lemmas.Slice.Eq.{bytes_eq-Decides}
@@ -9,11 +9,12 @@ use Rattle.silt_cuckoo.specs.Keys.{first_bucket, second_bucket}
 use Rattle.silt_cuckoo.specs.Placing.{other_bucket}
 use Rattle.silt_frame.specs.declared.key.Kind.{Kind}
 use Rattle.silt_hash_store.specs.Findings.{holds_key, is_in_bucket}
-use Rattle.silt_hash_store.specs.Slots.{hash_rows, is_row_of, rows_before, slot_row, slot_tag}
+use Rattle.silt_hash_store.specs.Slots.{has_tag, has_tag_of, hash_rows, is_row_of, rows_before, slot_row, slot_tag}
 use Rattle.silt_frame.specs.Rows.{has_known_kind, StoredRow}
 use Rattle.silt_log.specs.declared.found.Found.{Found}
 use Rattle.silt_hash_store.specs.Lookup.{FindsIn, FindsRow, MatchesKey, MatchesTag}
 use Rattle.silt_hash_store.specs.State.{HashState, IsTagged}
+use Rattle.silt_hash_store.proofs.Marking.{lacks_tag}
 use Rattle.silt_hash_store.proofs.Slotting.{before_at, before_count, before_there, sound_parts, tag_known}
 
 -- a kind that was found, or not, in a slot with the tag
@@ -77,6 +78,14 @@ module _ (store : HashState) (image : List ℕ) (count : ℕ) (is : IsTagged sto
       (λ i below.
       let under : i < count = omega (arith, below, before_count store.shape store.region image count) in
       ap (is_row_of key) (before_at store.shape store.region image count i d under) ∙ slot_lacks i under first_none second_none)
+
+  -- if neither bucket has a tag of the key, no row before has it
+  pub untagged_none : false ≡ has_tag_of store.tags store.shape.buckets key → FindsRow (rows_before store.shape store.region image count) key None
+  untagged_none lacks =
+      let one : ℕ = first_bucket store.shape.buckets key in
+      let two : ℕ = second_bucket store.shape.buckets key in
+      let both = or_parts (has_tag store.tags one two) (has_tag store.tags two one) (sym lacks) in
+      none_found (λ slot low high tagged. absurd (lacks_tag store.tags one two slot both.0 low high tagged)) (λ slot low high tagged. absurd (lacks_tag store.tags two one slot both.1 low high tagged))
 
   -- the result of the second bucket, if the first has no row of the key
   pub second_decides : (found : Option Found) → FindsIn store.shape store.region store.tags image (first_bucket store.shape.buckets key) (second_bucket store.shape.buckets key) key None

@@ -21,7 +21,7 @@ use Rattle.silt_event.specs.Findings.{finding_if}
 use Rattle.silt_hash_store.specs.Findings.{hash_findings, holds_key, is_in_bucket, is_sound_hash_slot, slot_findings}
 use Rattle.silt_frame.specs.Rows.{put_count, has_known_kind, StoredRow, puts_of, rows_bytes}
 use Rattle.silt_log.specs.Parts.{Part}
-use Rattle.silt_hash_store.specs.Slots.{hash_part, hash_rows, is_row_of, is_sound_slot, rows_before, slot_row, slot_tag, tag_of}
+use Rattle.silt_hash_store.specs.Slots.{has_tag_of, hash_part, hash_rows, is_row_of, is_sound_slot, rows_before, slot_row, slot_tag, tag_of}
 use Rattle.silt_event.specs.declared.damage.Finding.{Finding}
 use Rattle.silt_event.specs.declared.damage.Finding.TheVariants as finding
 use Rattle.silt_event.specs.declared.place.Place.TheVariants.{Hash}
@@ -35,6 +35,7 @@ use Rattle.silt_hash_store.specs.State.{HashState, IsHashStore, IsHeldHash, IsTa
 use Rattle.silt_log.specs.declared.scan.ScanError.{ScanError}
 use Rattle.silt_log.specs.declared.scan.ScanError.TheVariants.{Damaged, Device, NoMemory}
 use Rattle.silt_hash_store.specs.declared.rebuild.Rebuilt.{Rebuilt}
+use Rattle.silt_hash_store.proofs.Finding.{untagged_none}
 use Rattle.silt_hash_store.proofs.Slotting.{all_before, before_count, before_more, before_taken, before_there, empty_not_known, sound_empty, sound_known, tag_empty, tag_known, unsound_bucket, unsound_kind, unsound_twice}
 
 -- ---- findings
@@ -156,6 +157,12 @@ tagged_all content store held honest is = record {
 -- so what is found among the rows before the last slot is found among all rows
 pub found_in_all : (s : Shape) (region : ℕ) (image : List ℕ) (key : List ℕ) (found : Option Found) → FindsRow (rows_before s region image (4 * s.buckets)) key found → FindsRow (hash_rows s region image) key found
 found_in_all s region image key found finds = subst (λ (rows : List StoredRow). FindsRow rows key found) (sym (all_before s region image)) finds
+
+-- and if no slot has a tag of a key, no row has the key
+pub untagged_all : (content : Content) (store : HashState) (key : List ℕ) → IsHeldHash store → IsTrue content.honest → IsHashStore content store → false ≡ has_tag_of store.tags store.shape.buckets key
+    → FindsRow (hash_rows store.shape store.region content.shown) key None
+untagged_all content store key held honest is lacks =
+    found_in_all store.shape store.region content.shown key None (untagged_none store content.shown (4 * store.shape.buckets) (tagged_all content store held honest is) key lacks)
 
 -- ---- one slot
 

@@ -1,6 +1,6 @@
 -- The slots of a hash region, and their tags.
-use Rattle.std.specs.Prelude.{◌≡◌, ◌≢◌, ℕ, ◌+◌, ◌*◌, ◌==◌, ◌<◌, Bool, ◌&&◌, if◌then◌else◌, List, get_or, map, slice_range, Option, Some, None}
-use Rattle.std.specs.List.{range_with_len}
+use Rattle.std.specs.Prelude.{◌≡◌, ◌≢◌, ℕ, ◌+◌, ◌*◌, ◌==◌, ◌<◌, Bool, false, ◌&&◌, ◌||◌, if◌then◌else◌, List, get_or, map, slice_range, Option, Some, None}
+use Rattle.std.specs.List.{list_any, range_with_len}
 use Rattle.std.specs.Str.{bytes_eq}
 use Rattle.silt_cuckoo.specs.Keys.{first_bucket, second_bucket}
 use Rattle.silt_cuckoo.specs.Placing.{other_bucket}
@@ -50,6 +50,19 @@ HeadSays byte key (Row kind its_key) = (kind_of byte ≡ Some kind) × (its_key.
 -- the tag of a slot
 abbrev pub slot_tag : List (Option ℕ) → ℕ → Option ℕ
 slot_tag tags slot = get_or tags slot None
+
+-- this is the tag of a slot
+abbrev pub is_tag : ℕ → Option ℕ → Bool
+is_tag tag None = false
+is_tag tag (Some its_tag) = its_tag == tag
+
+-- a slot of a bucket has this tag
+unfoldable pub has_tag : List (Option ℕ) → ℕ → ℕ → Bool
+has_tag tags bucket tag = list_any (λ i. is_tag tag (slot_tag tags (4 * bucket + i))) (range_with_len 0 4)
+
+-- a slot of one of a key's buckets has the number of the other as its tag
+abbrev pub has_tag_of : List (Option ℕ) → ℕ → List ℕ → Bool
+has_tag_of tags buckets key = has_tag tags (first_bucket buckets key) (second_bucket buckets key) || has_tag tags (second_bucket buckets key) (first_bucket buckets key)
 
 -- the tag that a number of 16 bits means: none for the greatest number
 abbrev pub tag_seen : ℕ → Option ℕ

@@ -46,7 +46,7 @@ impl HashStore {
     ghost use Rattle.silt_hash_store.specs.Lookup.{FindsRow, IsRowAt};
     ghost use Rattle.silt_hash_store.specs.Rebuild.{IsFirstUnsound, IsRebuiltHash};
     ghost use Rattle.silt_log.specs.Scans.{IsScanRefused};
-    ghost use Rattle.silt_hash_store.specs.Slots.{rows_before, slot_row};
+    ghost use Rattle.silt_hash_store.specs.Slots.{has_tag_of, rows_before, slot_row};
     ghost use Rattle.silt_frame.specs.Frame.{head_len};
 
     /// The store of a region whose slots have these tags and this digest, and whose rows have this many puts.
@@ -93,6 +93,15 @@ impl HashStore {
         &self.digest
     }
 
+    // Whether a slot of the key's buckets has the tag that the key has there. If none has, no row has the key. It asks both buckets
+    // before the first branch, so that the processor loads the tags of both at the same time.
+    fn has_tag_of(&self, key: &Key) -> bool
+        ensures { result ≡ has_tag_of self.now.tags self.now.shape.buckets key.now.0 }
+    {
+        let (first, second) = key_buckets(&key.0, self.region.geometry.buckets());
+        self.tags.has(first, second) | self.tags.has(second, first)
+    }
+
     // The row of a key among the slots that have tags: first those of its first bucket, then, if it is another, of its second. Of each
     // slot whose tag matches it reads the front, as many bytes as `front` is long. If `front` has room for a whole row, it then holds
     // the value of the row with the key.
@@ -122,6 +131,25 @@ impl HashStore {
         find_in(&self.region, &self.tags, disk, second, first, key, front)
     }
 
+    // Like `look_up` with the head of each slot. If no slot has a tag of the key, it needs no bytes for heads.
+    pub(crate) fn look_up_heads<D: Disk>(
+        &self,
+        disk: &D,
+        key: &Key,
+    ) -> Result<Option<Found>, D::Fault>
+        requires size { device_size self.now.shape ≤ size (D.content disk.now) }
+        ensures finds { IsTrue (D.content disk.now).honest → (count : ℕ) → IsTagged self.now (D.content disk.now).shown count
+            → IfOk result (FindsRow (rows_before self.now.shape self.now.region (D.content disk.now).shown count) key.now.0) }
+        ensures place { IfOk result (λ found. IfSome found (λ row. row.place < 4 * self.now.shape.buckets)) }
+        ensures fault { IfErr result (GaveAny D.gave disk.now) }
+    {
+        if !self.has_tag_of(key) {
+            return Ok(None);
+        }
+        let mut head = [0; HEAD_LEN];
+        self.look_up(disk, key, &mut head)
+    }
+
     /// The row of a key: its kind and its slot. It reads the head of each slot of the key's buckets whose tag matches: at most eight
     /// heads of 21 bytes. It allocates no memory.
     ///
@@ -136,8 +164,7 @@ impl HashStore {
         ensures fault { IfErr result (GaveAny D.gave disk.now) }
     {
         let _region = &self.region; // so each slot has a tag
-        let mut head = [0; HEAD_LEN];
-        self.look_up(disk, key, &mut head)
+        self.look_up_heads(disk, key)
     }
 
     /// The row of a key, as `find` returns it, and its value in `out` if the row is a put. If there is no put, `out` does not change.
@@ -163,6 +190,10 @@ impl HashStore {
         ensures kept { IfOk result (λ found. put_place found ≡ None → out.new ≡ out.old) }
         ensures fault { IfErr result (GaveAny D.gave disk.now) }
     {
+        let _region = &self.region; // so each slot has a tag
+        if !self.has_tag_of(key) {
+            return Ok(None);
+        }
         let len = self.region.geometry.row_len();
         if len <= WHOLE_LEN {
             let mut row = [0; WHOLE_LEN];

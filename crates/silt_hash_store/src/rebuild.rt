@@ -16,7 +16,7 @@ use crate::tags::Tags;
 use sha1::Sha1;
 use silt_cuckoo::key_buckets;
 use silt_disk::Disk;
-use silt_frame::{Digest, HEAD_LEN, Key, Kind};
+use silt_frame::{Digest, Key, Kind};
 use silt_log::ScanError;
 use std::alloc::Global;
 
@@ -70,7 +70,7 @@ impl HashStore {
         let Some(tag) = tag_for(&self.region, slot, key) else {
             return Err(ScanError::Damaged(slot));
         };
-        match self.look_up(disk, key, &mut [0; HEAD_LEN]) {
+        match self.look_up_heads(disk, key) {
             Ok(None) => Ok(Some((kind, tag))),
             Ok(Some(_)) => Err(ScanError::Damaged(slot)),
             Err(fault) => Err(ScanError::Device(fault)),

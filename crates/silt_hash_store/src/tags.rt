@@ -1,6 +1,6 @@
 // The tags of the slots of a hash region, in two bytes a slot.
-ghost use Rattle.std.specs.Prelude.{◌≡◌, ◌<◌, ◌^◌, IfOk, None, Some, length, replicate, slice_set};
-ghost use Rattle.silt_hash_store.specs.Slots.{slot_tag};
+ghost use Rattle.std.specs.Prelude.{◌≡◌, ◌+◌, ◌*◌, ◌<◌, ◌≤◌, ◌^◌, IfOk, None, Some, length, replicate, slice_set};
+ghost use Rattle.silt_hash_store.specs.Slots.{has_tag, slot_tag};
 
 use std::alloc::{AllocError, Global};
 use std::marker::Model;
@@ -44,6 +44,18 @@ impl Tags {
             Some(number) if *number != NO_TAG => Some(u32::from(*number)),
             _ => None,
         }
+    }
+
+    /// Whether a slot of this bucket has this tag. Nearly always none has. So it compares all four, and does not branch on each.
+    pub fn has(&self, bucket: u32, tag: u32) -> bool
+        requires bucket { 4 * bucket + 4 ≤ length self.now }
+        requires tag { tag < 2 ^ 15 }
+        ensures { result ≡ has_tag self.now bucket tag }
+    {
+        let start = 4 * bucket as usize;
+        let number = tag as u16;
+        let slots = &self.numbers[start..start + 4];
+        (slots[0] == number) | (slots[1] == number) | (slots[2] == number) | (slots[3] == number)
     }
 
     /// Gives a slot this tag.

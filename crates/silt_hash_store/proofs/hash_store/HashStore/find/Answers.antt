@@ -9,5 +9,5 @@ returns-clause-finds g c = λ honest is.
     let store : HashState = c.args.self.now in
     let content = g.D.Disk.content c.args.disk.now in
     let held = rw c.self.view_is at c.self.invariant in
-    weaker_ok c.look_up.result _ _ (λ found finds. found_in_all store.shape store.region content.shown c.args.key.now.0 found finds)
-    (c.look_up.ensures.finds honest (4 * store.shape.buckets) (tagged_all content store held honest is))
+    weaker_ok c.look_up_heads.result _ _ (λ found finds. found_in_all store.shape store.region content.shown c.args.key.now.0 found finds)
+    (c.look_up_heads.ensures.finds honest (4 * store.shape.buckets) (tagged_all content store held honest is))
