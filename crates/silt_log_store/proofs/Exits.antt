@@ -1,5 +1,6 @@
 -- The state at the exits of the calls of a log store.
-use Rattle.std.proofs.Common.{◌≡◌, ◌↔◌, ℕ, ◌+◌, ◌-◌, ◌<◌, ◌≤◌, true, false, List, [], ◌∷◌, ◌++◌, Option, Some, None, IsTrue, IsSome, IfSome, inl, inr, option_map, refl, sym, subst, ap, ◌∙◌, arith}
+use Rattle.std.proofs.Common.{◌≡◌, ◌↔◌, ℕ, ◌+◌, ◌-◌, ◌<◌, ◌≤◌, ◌==◌, not, length, true, false, List, [], ◌∷◌, ◌++◌, Option, Some, None, IsTrue, IsSome, IfSome, inl, inr, option_map, refl, sym, subst, ap, ◌∙◌, arith}
+use Rattle.std.proofs.lemmas.Bool.{ne_eqb}
 use Rattle.std.specs.List.{list_all}
 use Rattle.std.specs.Option.{is_some, option_and_then}
 use Rattle.silt_disk.specs.Disk.{Content, ChangesWithin, size}
@@ -10,6 +11,7 @@ use Rattle.silt_cuckoo.specs.Slots.{Entry, Slots, IsBucketCount, IsTable, Places
 use Rattle.silt_cuckoo.specs.Keys.{first_bucket, second_bucket}
 use Rattle.silt_cuckoo.specs.Lookup.{candidates_of}
 use Rattle.silt_cuckoo.specs.Index.{Indexes, index_of_keys, indexed, placed_or_replaced, slot_of_key}
+use Rattle.silt_cuckoo.specs.declared.lookup.Candidate.{Candidate}
 use Rattle.silt_cuckoo.specs.Placing.{placed, put_along}
 use Rattle.silt_cuckoo.proofs.Indexing.{index_law}
 use Rattle.silt_log.specs.Rows.{row_at, rows_from}
@@ -22,7 +24,7 @@ use Rattle.silt_log.proofs.Standing.{gates_torn_rows}
 use Rattle.silt_log_store.specs.State.{LogStoreState, IsHeldStore, IsIndexed, IsLogStore}
 use Rattle.silt_log_store.specs.Calls.{CanTake, EmptiesStore, IsFullFor, IsPlacingFor, OpensSomeOfStore, TakesRow}
 use Rattle.silt_log_store.specs.LastRow.{FindsLast}
-use Rattle.silt_log_store.specs.Lookup.{IsFirstMatch}
+use Rattle.silt_log_store.specs.Lookup.{IsFirstMatch, first_with_key, has_candidate}
 use Rattle.silt_log_store.specs.declared.lookup.Match.{Match}
 use Rattle.silt_log_store.specs.Placement.{HoldsIn, entered, entered_under}
 use Rattle.silt_log_store.specs.declared.placement.Placing.{Placing}
@@ -58,6 +60,19 @@ module _ (content : Content) (store : LogStoreState) (key : List ℕ) (held : Is
   -- no match: no row
   pub find_none : IsMatchIn content store key None → FindsLast (all_rows content store.log) key None
   find_none first = none_is_none (all_rows content store.log) store.table store.log.shape.buckets key store_indexes (match_by_shape None first)
+
+  -- no candidate: no row
+  pub find_no_candidate : false ≡ has_candidate store.table key → FindsLast (all_rows content store.log) key None
+  find_no_candidate lacks =
+      let candidates : List Candidate = candidates_of store.table (first_bucket (bucket_count store.table) key) (second_bucket (bucket_count store.table) key) in
+      find_none (record { first = ap (λ (l : List Candidate). first_with_key (all_rows content store.log) l key) (sym (no_elements candidates lacks)); kind = tt })
+    where
+      no_elements : (l : List Candidate) → false ≡ not (length l == 0) → l ≡ []
+      no_elements [] e = refl
+      no_elements (c ∷ l) e =
+          let some : (length (c ∷ l) == 0) ≡ false = ne_eqb (length (c ∷ l)) 0 (λ none. absurd (omega arith)) in
+          let both : false ≡ true = e ∙ ap not some in
+          absurd (cc)
 
   -- the table with the key is what the placing rule makes of it
   pub table_with_key : (found : Option Match) → IsMatchIn content store key found

@@ -14,7 +14,7 @@ ghost use Rattle.silt_frame.specs.Rows.{has_known_kind, stored_row, row_of, puts
 ghost use Rattle.silt_log.specs.State.{IsScanned, all_rows, settled_rows};
 
 use crate::index::KeyIndex;
-use crate::lookup::{look_up, look_up_under, slot_of};
+use crate::lookup::{has_candidate, look_up, look_up_under, slot_of};
 use crate::placement::{Placing, enter, plan_entry};
 use crate::rebuild::{RebuildError, index_rows};
 use silt_cuckoo::{Table, key_buckets};
@@ -248,6 +248,9 @@ impl LogStore {
         ensures bounds { InBounds self.now.log }
         ensures fault { IfErr result (GaveAny D.gave disk.now) }
     {
+        if !has_candidate(&self.table, key) {
+            return Ok(None); // needs no buffer
+        }
         let len = self.log.geometry().row_len();
         if len <= WHOLE_LEN {
             let mut row = [0; WHOLE_LEN];

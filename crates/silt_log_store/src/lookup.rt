@@ -11,7 +11,7 @@ ghost use Rattle.silt_log.specs.Rows.{row_at};
 ghost use Rattle.silt_frame.specs.Rows.{has_known_kind};
 ghost use Rattle.silt_log.specs.State.{all_rows};
 ghost use Rattle.silt_log_store.specs.declared.lookup.Match.{Match};
-ghost use Rattle.silt_log_store.specs.Lookup.{IsFirstMatch, candidate_of, kind_for, kind_with_key};
+ghost use Rattle.silt_log_store.specs.Lookup.{IsFirstMatch, candidate_of, has_candidate, kind_for, kind_with_key};
 
 use silt_cuckoo::{Candidate, Table, key_buckets};
 use silt_disk::Disk;
@@ -96,6 +96,14 @@ fn first_match<D: Disk>(
         }
     }
     Ok(None)
+}
+
+// Whether a key has a candidate. If it has none, no row has the key.
+pub fn has_candidate(table: &Table, key: &Key) -> bool
+    ensures { result ≡ has_candidate table.now key.now.0 }
+{
+    let (first, second) = key_buckets(&key.0, table.bucket_count());
+    !table.candidates(first, second).as_slice().is_empty()
 }
 
 // The row of a key in a log with this table of its keys. For each candidate of the key's buckets it reads at most the front of the
