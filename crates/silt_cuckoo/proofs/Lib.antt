@@ -7,6 +7,7 @@ pub mod Paths
 pub mod Sources
 pub mod Placed
 pub mod Tables
+pub mod Tagged
 pub mod Matching
 pub mod Replaced
 pub mod Places

@@ -1,5 +1,5 @@
 -- The result of a look-up: the entries of two buckets.
-use Rattle.std.specs.Prelude.{ℕ, ◌*◌, ◌==◌, if◌then◌else◌, List, [], ◌++◌, map, filter_map, Option, Some, None, option_and_then}
+use Rattle.std.specs.Prelude.{ℕ, ◌*◌, ◌==◌, Bool, not, length, if◌then◌else◌, List, [], ◌++◌, map, filter_map, Option, Some, None, option_and_then}
 use Rattle.std.specs.List.{range_with_len}
 use Rattle.silt_cuckoo.specs.declared.lookup.Candidate.{Candidate}
 use Rattle.silt_cuckoo.specs.Slots.{Entry, Slots, entry_at}
@@ -18,6 +18,10 @@ matches_in slots bucket tag = filter_map (match_at slots tag) (range_with_len (4
 unfoldable pub candidates_of : Slots → ℕ → ℕ → List Candidate
 candidates_of slots first second =
     matches_in slots first second ++ (if first == second then [] else matches_in slots second first)
+
+-- these two buckets have a candidate
+abbrev pub has_candidates : Slots → ℕ → ℕ → Bool
+has_candidates slots first second = not (length (candidates_of slots first second) == 0)
 
 -- the places of candidates
 abbrev pub places_of : List Candidate → List ℕ

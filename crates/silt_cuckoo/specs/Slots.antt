@@ -1,5 +1,5 @@
 -- The slots of a table: buckets of four, in which each entry lies in one of its two buckets and names the other.
-use Rattle.std.specs.Prelude.{◌≡◌, ◌<◌, ◌≤◌, ℕ, ◌*◌, ◌/◌, IsTrue, List, length, replicate, get_or, Option, Some, None, unwrap_or, option_map}
+use Rattle.std.specs.Prelude.{◌≡◌, ◌<◌, ◌≤◌, ℕ, ◌*◌, ◌/◌, ◌==◌, Bool, false, IsTrue, List, length, replicate, get_or, Option, Some, None, unwrap_or, option_map}
 use Rattle.std.specs.Int.{is_power_of_two}
 
 -- an entry: its tag, which is the number of its other bucket, and its place
@@ -21,6 +21,11 @@ empty_slots buckets = replicate (4 * buckets) None
 -- the entry in a slot; none if the slot is free or past the last one
 abbrev pub entry_at : Slots → ℕ → Option Entry
 entry_at slots slot = get_or slots slot None
+
+-- this entry is there and has this tag
+abbrev pub has_tag : ℕ → Option Entry → Bool
+has_tag tag None = false
+has_tag tag (Some (its_tag, place)) = its_tag == tag
 
 -- the tag in a slot, or 0 if the slot is free
 abbrev pub tag_at : Slots → ℕ → ℕ

@@ -5,10 +5,10 @@ ghost use Rattle.silt_cuckoo.specs.Packed.{unpacked_all};
 ghost use Rattle.silt_cuckoo.specs.Slots.{Slots, IsBucketCount, IsTable, HoldsPlace, bucket_count, empty_slots, entry_at, place_at, tag_at};
 ghost use Rattle.silt_cuckoo.specs.Placing.{PathPlan, IsPlanFor, plan_for, placed, free_slot, victim, shortest_walk, moved_along, put_along, replaced};
 ghost use Rattle.silt_cuckoo.specs.Pairs.{AddsPair, TakesSlot, pair_of, table_pairs};
-ghost use Rattle.silt_cuckoo.specs.Lookup.{candidates_of, places_of};
+ghost use Rattle.silt_cuckoo.specs.Lookup.{candidates_of, has_candidates, places_of};
 
 use crate::displacement::Path;
-use crate::lookup::Candidates;
+use crate::lookup::{Candidates, has_match};
 use crate::slot::{Slot, entry_at, tag_at};
 use std::alloc::{AllocError, Global};
 use std::marker::Model;
@@ -73,6 +73,16 @@ impl Table {
         ensures each_once { AllPairs (λ p q. p ≢ q) (places_of result) }
     {
         Candidates::of(self.slots.as_slice(), first, second)
+    }
+
+    /// Whether these two buckets have a candidate. It asks both before the first branch.
+    pub fn has_candidates(&self, first: u32, second: u32) -> bool
+        requires first_there { first < bucket_count self.now }
+        requires second_there { second < bucket_count self.now }
+        ensures { result ≡ has_candidates self.now first second }
+    {
+        let slots = self.slots.as_slice();
+        has_match(slots, first, second) | has_match(slots, second, first)
     }
 
     /// Where a new entry of these two buckets goes: to the lowest free slot of the first bucket, else of the second, else into the

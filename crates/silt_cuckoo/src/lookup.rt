@@ -1,6 +1,6 @@
 //! The result of a look-up.
 
-ghost use Rattle.std.specs.Prelude.{◌≡◌, ℕ, ◌+◌, ◌*◌, ◌<◌, ◌≤◌, length, List, take, [], ◌∷◌, ◌++◌};
+ghost use Rattle.std.specs.Prelude.{◌≡◌, ℕ, ◌+◌, ◌*◌, ◌<◌, ◌≤◌, ◌^◌, ◌==◌, not, length, List, take, [], ◌∷◌, ◌++◌};
 ghost use Rattle.silt_cuckoo.specs.Packed.{unpacked_all};
 ghost use Rattle.silt_cuckoo.specs.declared.lookup.Candidate.{Candidate};
 ghost use Rattle.silt_cuckoo.specs.Lookup.{match_at, matches_in, candidates_of};
@@ -85,6 +85,18 @@ impl Candidates {
             }
         }
     }
+}
+
+/// Whether a bucket has an entry with this tag. Nearly always it has none. So this compares all four slots, and does not branch on
+/// each.
+pub fn has_match(slots: &[Slot], bucket: u32, tag: u32) -> bool
+    requires there { 4 * bucket + 4 ≤ length slots.now }
+    requires tag { tag < 2 ^ 15 }
+    ensures { result ≡ not (length (matches_in (unpacked_all slots.now) bucket tag) == 0) }
+{
+    let start = 4 * bucket as usize;
+    let four = &slots[start..start + 4];
+    four[0].has_tag(tag) | four[1].has_tag(tag) | four[2].has_tag(tag) | four[3].has_tag(tag)
 }
 
 /// The entry in a slot, if it has this tag.

@@ -1,7 +1,7 @@
 //! How a slot is stored.
 
 ghost use Rattle.std.specs.Prelude.{◌≡◌, ◌<◌, ◌^◌, length, option_map};
-ghost use Rattle.silt_cuckoo.specs.Slots.{Entry, entry_at, tag_at};
+ghost use Rattle.silt_cuckoo.specs.Slots.{Entry, entry_at, has_tag, tag_at};
 ghost use Rattle.silt_cuckoo.specs.Packed.{unpacked, unpacked_all};
 
 /// A slot in six bytes. The place is split into two halves, since a `u32` would align the slot to eight bytes.
@@ -42,6 +42,14 @@ impl Slot {
         }
         let place = self.high as u32 * 65536 + self.low as u32;
         Some((self.mark as u32 - 1, place))
+    }
+
+    /// Whether the slot has an entry with this tag.
+    pub fn has_tag(self, tag: u32) -> bool
+        requires { tag < 2 ^ 15 }
+        ensures { result ≡ has_tag tag (unpacked self) }
+    {
+        self.mark == tag as u16 + 1
     }
 
     /// The slot with another tag. A free slot stays free.
