@@ -1,6 +1,5 @@
 -- The state at the exits of the calls of a log store.
-use Rattle.std.proofs.Common.{◌≡◌, ◌↔◌, ℕ, ◌+◌, ◌-◌, ◌<◌, ◌≤◌, ◌==◌, not, length, true, false, List, [], ◌∷◌, ◌++◌, Option, Some, None, IsTrue, IsSome, IfSome, inl, inr, option_map, refl, sym, subst, ap, ◌∙◌, arith}
-use Rattle.std.proofs.lemmas.Bool.{ne_eqb}
+use Rattle.std.proofs.Common.{◌≡◌, ◌↔◌, ℕ, ◌+◌, ◌-◌, ◌<◌, ◌≤◌, true, false, List, [], ◌∷◌, ◌++◌, Option, Some, None, IsTrue, IsSome, IfSome, inl, inr, option_map, refl, sym, subst, ap, ◌∙◌, arith}
 use Rattle.std.specs.List.{list_all}
 use Rattle.std.specs.Option.{is_some, option_and_then}
 use Rattle.silt_disk.specs.Disk.{Content, ChangesWithin, size}
@@ -24,13 +23,14 @@ use Rattle.silt_log.proofs.Standing.{gates_torn_rows}
 use Rattle.silt_log_store.specs.State.{LogStoreState, IsHeldStore, IsIndexed, IsLogStore}
 use Rattle.silt_log_store.specs.Calls.{CanTake, EmptiesStore, IsFullFor, IsPlacingFor, OpensSomeOfStore, TakesRow}
 use Rattle.silt_log_store.specs.LastRow.{FindsLast}
-use Rattle.silt_log_store.specs.Lookup.{IsFirstMatch, first_with_key, has_candidate}
+use Rattle.silt_log_store.specs.Lookup.{IsFirstMatch, has_candidate}
 use Rattle.silt_log_store.specs.declared.lookup.Match.{Match}
 use Rattle.silt_log_store.specs.Placement.{HoldsIn, entered, entered_under}
 use Rattle.silt_log_store.specs.declared.placement.Placing.{Placing}
 use Rattle.silt_log_store.specs.declared.placement.Placing.TheVariants.{Standing, New}
 use Rattle.silt_log_store.proofs.Finds.{standing_is, match_is_last, none_is_none, next_table}
 use Rattle.silt_log.proofs.KindBytes.{byte_of_kind}
+use Rattle.silt_log_store.proofs.Matches.{no_match}
 use Rattle.silt_log_store.proofs.Rows.{keys_count, keys_push, known_push, puts_push}
 
 -- the table of no keys
@@ -65,14 +65,7 @@ module _ (content : Content) (store : LogStoreState) (key : List ℕ) (held : Is
   pub find_no_candidate : false ≡ has_candidate store.table key → FindsLast (all_rows content store.log) key None
   find_no_candidate lacks =
       let candidates : List Candidate = candidates_of store.table (first_bucket (bucket_count store.table) key) (second_bucket (bucket_count store.table) key) in
-      find_none (record { first = ap (λ (l : List Candidate). first_with_key (all_rows content store.log) l key) (sym (no_elements candidates lacks)); kind = tt })
-    where
-      no_elements : (l : List Candidate) → false ≡ not (length l == 0) → l ≡ []
-      no_elements [] e = refl
-      no_elements (c ∷ l) e =
-          let some : (length (c ∷ l) == 0) ≡ false = ne_eqb (length (c ∷ l)) 0 (λ none. absurd (omega arith)) in
-          let both : false ≡ true = e ∙ ap not some in
-          absurd (cc)
+      find_none (no_match (all_rows content store.log) candidates key lacks)
 
   -- the table with the key is what the placing rule makes of it
   pub table_with_key : (found : Option Match) → IsMatchIn content store key found

@@ -1,8 +1,9 @@
 -- A row whose head was read, and the key that is looked up.
-use Rattle.std.proofs.Common.{◌≡◌, ℕ, ◌+◌, ◌<◌, cond, Bool, true, false, List, [], get_or, length, Option, Some, None, option_map, refl, sym, ap, ◌∙◌}
+use Rattle.std.proofs.Common.{◌≡◌, ℕ, ◌+◌, ◌<◌, ◌==◌, cond, not, Bool, true, false, List, [], ◌∷◌, get_or, length, Option, Some, None, option_map, refl, sym, ap, ◌∙◌, arith}
 use Rattle.std.specs.List.{list_all, AllWithin}
 use Rattle.std.specs.Option.{is_some, option_and_then}
 use Rattle.std.specs.Str.{bytes_eq}
+use Rattle.std.proofs.lemmas.Bool.{ne_eqb}
 use Rattle.std.proofs.lemmas.List.Elements.{AllWithin-more}
 use Rattle.silt_disk.specs.Disk.{Content}
 use Rattle.silt_frame.specs.Frame.{kind_byte, kind_of}
@@ -53,6 +54,14 @@ kind_not_found row key known e = go (kind_of row.kind) known e
 -- whether the row at a candidate's place has the key
 abbrev pub has_key_at : List StoredRow → List ℕ → Candidate → Bool
 has_key_at rows key c = bytes_eq (get_or (keys_of rows) c.place []) key
+
+-- among no candidates none has the key
+pub no_match : (rows : List StoredRow) (candidates : List Candidate) (key : List ℕ) → false ≡ not (length candidates == 0) → IsFirstMatch rows candidates key None
+no_match rows [] key none = record { first = refl; kind = tt }
+no_match rows (c ∷ candidates) key none =
+    let some : (length (c ∷ candidates) == 0) ≡ false = ne_eqb (length (c ∷ candidates)) 0 (λ empty. absurd (omega arith)) in
+    let both : false ≡ true = none ∙ ap not some in
+    absurd (cc)
 
 module _ (content : Content) (log : LogState) (candidates : List Candidate) (key : List ℕ) where
   -- a candidate that does not have it

@@ -1,11 +1,11 @@
 -- The result of a look-up among candidates.
-use Rattle.std.specs.Prelude.{◌≡◌, ◌==◌, ℕ, Bool, not, List, [], length, if◌then◌else◌, find, get_or, slice_get, Option, Some, None, IfSome, option_map, option_and_then}
+use Rattle.std.specs.Prelude.{◌≡◌, ℕ, Bool, List, [], if◌then◌else◌, find, get_or, slice_get, Option, Some, None, IfSome, option_map, option_and_then}
 use Rattle.std.specs.Str.{bytes_eq}
 use Rattle.silt_frame.specs.Frame.{kind_byte, kind_of}
 use Rattle.silt_frame.specs.declared.key.Key.{Key}
 use Rattle.silt_frame.specs.declared.key.Kind.{Kind}
 use Rattle.silt_cuckoo.specs.Keys.{first_bucket, second_bucket}
-use Rattle.silt_cuckoo.specs.Lookup.{candidates_of}
+use Rattle.silt_cuckoo.specs.Lookup.{has_candidates}
 use Rattle.silt_cuckoo.specs.Slots.{Slots, bucket_count}
 use Rattle.silt_cuckoo.specs.declared.lookup.Candidate.{Candidate}
 use Rattle.silt_frame.specs.Rows.{StoredRow, keys_of}
@@ -21,7 +21,7 @@ kind_for row key = option_and_then (λ (kind : Kind). if bytes_eq row.key key th
 
 -- a key has a candidate in a table
 abbrev pub has_candidate : Slots → List ℕ → Bool
-has_candidate slots key = not (length (candidates_of slots (first_bucket (bucket_count slots) key) (second_bucket (bucket_count slots) key)) == 0)
+has_candidate slots key = has_candidates slots (first_bucket (bucket_count slots) key) (second_bucket (bucket_count slots) key)
 
 -- the first of these candidates whose row has the key
 abbrev pub first_with_key : List StoredRow → List Candidate → List ℕ → Option Candidate

@@ -103,7 +103,7 @@ pub fn has_candidate(table: &Table, key: &Key) -> bool
     ensures { result ≡ has_candidate table.now key.now.0 }
 {
     let (first, second) = key_buckets(&key.0, table.bucket_count());
-    !table.candidates(first, second).as_slice().is_empty()
+    table.has_candidates(first, second)
 }
 
 // The row of a key in a log with this table of its keys. For each candidate of the key's buckets it reads at most the front of the
@@ -159,6 +159,9 @@ pub fn look_up_under<D: Disk>(
     ensures empty { log.now.used ≡ 0 → IsOkAnd result (λ found. found ≡ None) }
     ensures fault { IfErr result (GaveAny D.gave disk.now) }
 {
+    if !table.has_candidates(buckets.0, buckets.1) {
+        return Ok(None);
+    }
     let candidates = table.candidates(buckets.0, buckets.1);
     first_match(log, disk, candidates.as_slice(), key, front)
 }
