@@ -8,6 +8,7 @@ pub mod Sources
 pub mod Placed
 pub mod Tables
 pub mod Tagged
+pub mod Masks
 pub mod Matching
 pub mod Replaced
 pub mod Places

@@ -17,5 +17,10 @@ pub fn key_buckets(key: &[u8], buckets: u32) -> (u32, u32)
 {
     let first = BigEndian::read_u16(&key[0..2]) as u32;
     let second = BigEndian::read_u16(&key[2..4]) as u32;
+    // Each table has a power of two of buckets. A mask is then some ten times as fast as a division.
+    if buckets.is_power_of_two() {
+        let mask = buckets - 1;
+        return (first & mask, second & mask);
+    }
     (first % buckets, second % buckets)
 }
