@@ -2,7 +2,7 @@
 use Rattle.std.proofs.Common.{◌≡◌, ◌⊎◌, ℕ, ◌%◌, ◌^◌, Option, Some, None, List, [], ◌∷◌, ◌++◌, ap, arith, codes, inl, inr, refl, subst, sym, take, drop, take-append-drop}
 use Rattle.std.specs.Prelude.{IfOk, IfSome, OnOk, Result, Ok, Err}
 use Rattle.silt_wire.proofs.Streams.{Appends-append, Appends-keeps, Appends-none}
-use Rattle.silt_server.specs.Serving.{BreaksServing, PrintsCalls, PrintsServed, head_text, network_text, no_memory_text}
+use Rattle.silt_server.specs.Serving.{BreaksServing, PrintsCalls, PrintsServed, WritesHead, head_text, network_text, no_memory_text}
 use Rattle.std.proofs.lemmas.Fmt.{decimal_digit}
 use Rattle.std.specs.Io.KnownBytes.{Appends, WriteAppends}
 use Rattle.silt_disk.specs.declared.disk.Disk.{Ghosts}
@@ -44,17 +44,15 @@ no_network_written (Ok status) before mid after first second = (second.0, Append
 no_network_written (Err e) before mid after first second = second
 
 -- the head is written, and then the lines of the end
-pub served_written : {T X E : Type 0} (has_port : ℕ → Type 0) (counts : T → ℕ → ℕ → Type 0) (old new : T) (port : ℕ) (before mid after : Option (List ℕ)) (head : Result X E) (x : X) → has_port port → head ≡ Ok x
-    → OnOk head (Appends before mid (head_text port)) → new ≡ old → PrintsCalls counts old mid after → PrintsServed has_port counts new before after
-served_written {T} {X} {E} has_port counts old new port before mid after head x has is written same printed =
-    let first = subst (λ (r : Result X E). OnOk r (Appends before mid (head_text port))) is written in (
-      port,
-      has,
-      printed.0,
-      printed.1,
-      subst (λ (t : T). counts t printed.0 printed.1) (sym same) printed.2,
-      Appends-append before mid after (head_text port) (calls_text (printed.0 % 2 ^ 64)) first printed.3,
-    )
+pub served_written : {T : Type 0} (has_port : ℕ → Type 0) (counts : T → ℕ → ℕ → Type 0) (trace : T) (before mid after : Option (List ℕ))
+    → WritesHead has_port before mid → PrintsCalls counts trace mid after → PrintsServed has_port counts trace before after
+served_written has_port counts trace before mid after head printed =
+    (head.0, head.1, printed.0, printed.1, printed.2, Appends-append before mid after (head_text head.0) (calls_text (printed.0 % 2 ^ 64)) head.2 printed.3)
+
+-- the same calls are counted by an equal trace
+pub calls_of_same : {T : Type 0} (counts : T → ℕ → ℕ → Type 0) (old new : T) (before after : Option (List ℕ)) → new ≡ old → PrintsCalls counts old before after
+    → PrintsCalls counts new before after
+calls_of_same {T} counts old new before after same printed = (printed.0, printed.1, subst (λ (t : T). counts t printed.0 printed.1) (sym same) printed.2, printed.3)
 
 -- one write took a first part of a text, or nothing
 pub wrote_some : {E : Type 0} (result : Result ℕ E) (text : List ℕ) (before after : Option (List ℕ)) → WriteAppends before after result text
@@ -64,14 +62,8 @@ wrote_some (Err e) text before after kept = ([], (text, refl), Appends-keeps bef
 
 -- ---- a server that did not serve to its end
 
--- behind the head
-behind_head : {X E : Type 0} (port : ℕ) (before mid after : Option (List ℕ)) (head : Result X E) (x : X) (text : List ℕ) → head ≡ Ok x → OnOk head (Appends before mid (head_text port))
-    → Appends mid after text → Appends before after (head_text port ++ text)
-behind_head {X} {E} port before mid after head x text is written printed =
-    Appends-append before mid after (head_text port) text (subst (λ (r : Result X E). OnOk r (Appends before mid (head_text port))) is written) printed
-
 -- the head is written, and behind it why the server ends
-pub breaks_behind : {X E : Type 0} (has_port : ℕ → Type 0) (port : ℕ) (before mid after : Option (List ℕ)) (head : Result X E) (x : X) → has_port port → head ≡ Ok x
-    → OnOk head (Appends before mid (head_text port)) → Appends mid after no_memory_text ⊎ Appends mid after network_text → BreaksServing has_port before after
-breaks_behind has_port port before mid after head x has is written (inl printed) = inr (inr (port, has, inl (behind_head port before mid after head x no_memory_text is written printed)))
-breaks_behind has_port port before mid after head x has is written (inr printed) = inr (inr (port, has, inr (behind_head port before mid after head x network_text is written printed)))
+pub breaks_behind : (has_port : ℕ → Type 0) (before mid after : Option (List ℕ)) → WritesHead has_port before mid
+    → Appends mid after no_memory_text ⊎ Appends mid after network_text → BreaksServing has_port before after
+breaks_behind has_port before mid after head (inl printed) = inr (inr (head.0, head.1, inl (Appends-append before mid after (head_text head.0) no_memory_text head.2 printed)))
+breaks_behind has_port before mid after head (inr printed) = inr (inr (head.0, head.1, inr (Appends-append before mid after (head_text head.0) network_text head.2 printed)))

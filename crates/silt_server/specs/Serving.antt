@@ -17,6 +17,10 @@ use Rattle.silt_server.specs.Texts.{calls_text, listening_text, refused_text}
 abbrev pub head_text : ℕ → List ℕ
 head_text port = codes "opened\n" ++ listening_text port
 
+-- it was written with the listener's port
+abbrev pub WritesHead : (ℕ → Type 0) → Option (List ℕ) → Option (List ℕ) → Type 0
+WritesHead has_port before after = (port : ℕ) × has_port port × Appends before after (head_text port)
+
 -- that the network failed
 abbrev pub network_text : List ℕ
 network_text = codes "network fault\n"

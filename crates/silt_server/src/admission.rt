@@ -1,15 +1,16 @@
 // Connections, each served in a thread of its own.
-ghost use Rattle.std.specs.Prelude.{◌<◌, ◌≤◌, length, IfOk, IfSome};
+ghost use Rattle.std.specs.Prelude.{◌≡◌, ◌+◌, ◌^◌, ◌<◌, ◌≤◌, length, IfOk, IfSome, IsNone};
 
 use crate::client::{AskBy, Asking, Client};
 use crate::counting_listener::{CountingListener, Listens};
+use crate::job::Job;
 use crate::limits::{Limits, limit_silence};
 use crate::outlet::Outlet;
 use crate::session_slots::{SessionSlot, free_slot};
 use crate::unanswered::Unanswered;
 use crate::written::turn_away;
 use silt_event::{Event, Reply};
-use silt_inbox::InboxId;
+use silt_inbox::{Inbox, InboxId};
 use silt_wire::{SessionEnd, client_session};
 use std::alloc::Global;
 use std::io::{self, ErrorKind};
@@ -63,6 +64,70 @@ fn admit<P: InboxId, R: Wait>(
     }
 }
 
+// Accepts a connection, and gives it to a free slot. None if the accept failed only for this connection, or if there is
+// no slot.
+fn admit_next<L: Listens, P: InboxId, R: Wait>(
+    rt: &R,
+    listener: &mut CountingListener<'_, L>,
+    slots: &[Mutex<SessionSlot<P>>],
+) -> io::Result<Option<usize>>
+    ensures slot { IfOk result (λ admitted. IfSome admitted (λ number. number < length slots.now)) }
+    ensures more { IfOk result (λ admitted. IfSome admitted (λ _. listener.old.accepted < 2 ^ 32 → listener.new.accepted ≡ listener.old.accepted + 1)) }
+    ensures least { listener.old.accepted ≤ listener.new.accepted }
+{
+    match listener.accept() {
+        Ok(stream) => Ok(admit(rt, slots, stream)),
+        Err(error) => pass(error),
+    }
+}
+
+// No connection, or the error of an accept that ends the server.
+fn pass(error: io::Error) -> io::Result<Option<usize>>
+    ensures { IfOk result IsNone }
+{
+    if is_passing(error.kind()) {
+        return Ok(None);
+    }
+    Err(error)
+}
+
+// Gives a slot back.
+fn free<P: InboxId, R: Wait>(rt: &R, slot: &Mutex<SessionSlot<P>>) {
+    slot.lock(rt).leave();
+}
+
+/// Serves the connections of a listener as [`accept_clients`] does, and then closes the inbox.
+///
+/// # Errors
+///
+/// The listener's.
+pub fn serve_sessions<
+    L: Listens,
+    S: Sync,
+    P: InboxId + Send + Sync,
+    C: Fn(&S, usize, Vec<Event>) -> Result<Vec<Reply<()>>, Unanswered> + Sync,
+    R: Threads + Wait + Sync,
+>(
+    rt: &R,
+    alloc: Global,
+    listener: &L,
+    shared: &S,
+    inbox: &Inbox<Job, P>,
+    slots: &[Mutex<SessionSlot<P>>],
+    reply: &C,
+    value_len: usize,
+    limits: Limits,
+) -> io::Result<()>
+    requires { C.IsAlwaysCallable reply.now }
+{
+    let accepted = accept_clients(rt, alloc, listener, shared, slots, reply, value_len, limits);
+    inbox.close(rt);
+    match accepted {
+        Ok(_) => Ok(()),
+        Err(error) => Err(error),
+    }
+}
+
 /// Serves the connections of a listener, as many sessions as the limits say, and returns when all have ended. Each
 /// session has a thread and a slot of its own. A connection without a slot or a thread is closed and not counted.
 /// `reply` gives the replies to events of the session in the slot with a number.
@@ -70,7 +135,7 @@ fn admit<P: InboxId, R: Wait>(
 /// # Errors
 ///
 /// The listener's.
-pub fn accept_clients<
+fn accept_clients<
     'a,
     L: Listens,
     S: Sync,
@@ -101,12 +166,7 @@ pub fn accept_clients<
             let mut counting_listener = CountingListener::new(listener);
             let mut count = 0u32;
             for _ in rt.forever() {
-                let stream = match counting_listener.accept() {
-                    Ok(stream) => stream,
-                    Err(error) if is_passing(error.kind()) => continue,
-                    Err(error) => return Err(error),
-                };
-                let Some(number) = admit(rt, slots, stream) else {
+                let Some(number) = admit_next(rt, &mut counting_listener, slots)? else {
                     continue;
                 };
                 let slot = &slots[number];
@@ -116,7 +176,7 @@ pub fn accept_clients<
                     { serve_session(rt, alloc, shared, slot, number, reply, value_len, limits) },
                 );
                 if started.is_err() {
-                    slot.lock(rt).leave();
+                    free(rt, slot);
                     continue;
                 }
                 count = count.saturating_add(1);

@@ -1,5 +1,5 @@
 // A server on one listener.
-ghost use Rattle.std.specs.Prelude.{◌≡◌, ◌⊎◌, ◌++◌, Ok, IfOk, IfSome, OnOk, codes};
+ghost use Rattle.std.specs.Prelude.{◌≡◌, ◌⊎◌, ◌++◌, Ok, IfErr, IfOk, IfSome, OnOk, codes};
 ghost use Rattle.std.specs.Io.KnownBytes.{Appends};
 ghost use Rattle.silt_disk.specs.Layout.{Shape};
 ghost use Rattle.silt_store_set.specs.CoreInvariant.{LeavesBegun};
@@ -7,9 +7,9 @@ ghost use Rattle.silt_store_set.specs.CoreState.{CoreState};
 ghost use Rattle.silt_desk.specs.Seeing.{seen};
 ghost use Rattle.silt_wire.specs.Statuses.{IsStatus};
 ghost use Rattle.silt_server.specs.Serving.{BreaksServing, ServesAt, ServesKept, PrintsCalls, PrintsNotServed};
-ghost use Rattle.silt_server.specs.Serving.{PrintsServed, head_text, network_text, no_memory_text};
+ghost use Rattle.silt_server.specs.Serving.{PrintsServed, WritesHead, head_text, network_text, no_memory_text};
 
-use crate::admission::accept_clients;
+use crate::admission::serve_sessions;
 use crate::answers::answer_all;
 use crate::counting_listener::Listens;
 use crate::job::Job;
@@ -17,15 +17,14 @@ use crate::limits::Limits;
 use crate::session_slots::{SessionSlot, slots_of};
 use crate::threads::run_beside;
 use crate::unanswered::Unanswered;
-use crate::work::writer;
-use crate::workers::Workers;
+use crate::workers::{Workers, write};
 use crate::written::{refuse, write_calls, write_listening, write_network_fault, write_opened};
-use silt_desk::{Count, Desk, DeskId, Gate, Kept, Seat, Shared, Trace, converter, merger};
+use silt_desk::{Count, Desk, DeskId, Gate, Kept, Seat, Shared, Trace};
 use silt_disk::Disk;
 use silt_event::{Event, Refusal, Reply};
 use silt_inbox::{Inbox, InboxId, Taker};
 use silt_store_set::Core;
-use std::alloc::Global;
+use std::alloc::{AllocError, Global};
 use std::io::{self, Write};
 use std::marker::Brand;
 use std::sync::ledger::Blank;
@@ -217,14 +216,11 @@ fn serve_traced<
     }
 }
 
-/// The state between the connections and the desk: the writer and the workers, the inbox of their jobs, and a slot for
-/// each session.
+/// The state between the connections and the desk: the writer and the workers, and the sessions.
 #[derive(Drop)]
 pub struct ServerState<N: DeskId, P: InboxId> {
     workers: Workers<N>,
-    inbox: Inbox<Job, P>,
-    slots: Vec<Mutex<SessionSlot<P>>>,
-    taker: Taker<P>,
+    sessions: SessionState<P>,
 }
 
 impl<N: DeskId, P: InboxId> ServerState<N, P> {
@@ -239,10 +235,28 @@ impl<N: DeskId, P: InboxId> ServerState<N, P> {
         requires taken { (taken.name ≡ P.taken_name) × (taken.parts ≡ 1) }
     {
         let workers = Workers::new(alloc, seats)?;
+        let sessions = SessionState::new(alloc, put, taken)?;
+        Some(ServerState { workers, sessions })
+    }
+}
+
+// The state of the sessions: the inbox of their jobs, a slot for each, and the writer's end of the inbox.
+#[derive(Drop)]
+struct SessionState<P: InboxId> {
+    inbox: Inbox<Job, P>,
+    slots: Vec<Mutex<SessionSlot<P>>>,
+    taker: Taker<P>,
+}
+
+impl<P: InboxId> SessionState<P> {
+    // The inbox with ledgers of these blanks, and its slots. None if out of memory.
+    fn new(alloc: Global, put: Blank, taken: Blank) -> Option<SessionState<P>>
+        requires put { (put.name ≡ P.put_name) × (put.parts ≡ P.feeders) × (P.feeders ≡ 64) }
+        requires taken { (taken.name ≡ P.taken_name) × (taken.parts ≡ 1) }
+    {
         let (inbox, feeders, taker) = Inbox::new(alloc, MOST_SESSIONS, put, taken).ok()?;
         let slots = slots_of(alloc, feeders).ok()?;
-        Some(ServerState {
-            workers,
+        Some(SessionState {
             inbox,
             slots,
             taker,
@@ -274,13 +288,56 @@ pub fn serve_desk<
     ensures served { result.1 ≡ Ok 0 → PrintsServed (L.has_port listener.now) T.counts result.0.trace (W.contents out.old) (W.contents out.new) }
     ensures printed { IfOk result.1 (IsStatus (BreaksServing (L.has_port listener.now) (W.contents out.old) (W.contents out.new))) }
 {
-    let Ok(port) = listener.port() else {
-        let status = write_no_network(out);
-        return (desk, status);
-    };
-    if let Err(error) = write_head(alloc, port, out) {
-        return (desk, Err(error));
+    match begin(alloc, listener, out) {
+        Ok(()) => serve_begun(rt, alloc, listener, desk, state, limits, gate, out),
+        Err(status) => {
+            drop(state);
+            (desk, status)
+        }
     }
+}
+
+// Writes the head. If the listener has no port, or the writer fails, nothing is served, and this is the status.
+fn begin<L: Listens, W: Write>(
+    alloc: Global,
+    listener: &L,
+    out: &mut W,
+) -> Result<(), io::Result<u8>>
+    ensures head { OnOk result (WritesHead (L.has_port listener.now) (W.contents out.old) (W.contents out.new)) }
+    ensures none { IfErr result (λ status. IfOk status (λ s. (s ≡ 1) × Appends (W.contents out.old) (W.contents out.new) (codes "opened\n" ++ network_text))) }
+{
+    let Ok(port) = listener.port() else {
+        return Err(write_no_network(out));
+    };
+    match write_head(alloc, port, out) {
+        Ok(()) => Ok(()),
+        Err(error) => Err(Err(error)),
+    }
+}
+
+// Serves the store of a desk once the head is written, and writes the last lines.
+fn serve_begun<
+    L: Listens,
+    D: Disk,
+    T: Trace + Send + Sync,
+    N: DeskId + Send + Sync,
+    P: InboxId + Send + Sync,
+    G: Gate + Sync,
+    R: Threads + Wait + Sync,
+    W: Write,
+>(
+    rt: &R,
+    alloc: Global,
+    listener: &L,
+    desk: Desk<D, T, N>,
+    state: ServerState<N, P>,
+    limits: Limits,
+    gate: &G,
+    out: &mut W,
+) -> (Desk<D, T, N>, io::Result<u8>)
+    ensures calls { result.1 ≡ Ok 0 → PrintsCalls T.counts result.0.trace (W.contents out.old) (W.contents out.new) }
+    ensures printed { IfOk result.1 (IsStatus (Appends (W.contents out.old) (W.contents out.new) no_memory_text ⊎ Appends (W.contents out.old) (W.contents out.new) network_text)) }
+{
     let value_len = desk.geometry().value_len() as usize;
     let shared: Shared<D, T, N> = RwLock::new(desk);
     let served = run_threads(rt, alloc, listener, &shared, state, value_len, limits, gate);
@@ -335,15 +392,20 @@ fn write_settled<D: Disk, T: Trace, N: DeskId, W: Write>(
     ensures calls { result ≡ Ok 0 → PrintsCalls T.counts desk.old.trace (W.contents out.old) (W.contents out.new) }
     ensures printed { IfOk result (IsStatus (Appends (W.contents out.old) (W.contents out.new) no_memory_text)) }
 {
-    let (first, second, third) = seats;
-    let mut all = Vec::new(alloc);
-    all.push(first)?;
-    all.push(second)?;
-    all.push(third)?;
+    let all = all_of(alloc, seats)?;
     match desk.settle(all) {
         Ok((calls, _)) => write_calls(alloc, calls, out),
         Err(_) => refuse(alloc, &Refusal::<()>::NoMemory, out),
     }
+}
+
+// A list of three seats.
+fn all_of<N: DeskId>(
+    alloc: Global,
+    seats: (Seat<N>, Seat<N>, Seat<N>),
+) -> Result<Vec<Seat<N>>, AllocError> {
+    let (first, second, third) = seats;
+    Ok(vec![in alloc; first, second, third]?)
 }
 
 // Runs the workers and the replier beside the sessions, until these have ended and all their requests are done. None if
@@ -366,23 +428,47 @@ fn run_threads<
     limits: Limits,
     gate: &G,
 ) -> Option<Served<N>> {
-    let ServerState {
-        workers,
+    let ServerState { workers, sessions } = state;
+    let SessionState {
         inbox,
         slots,
         taker,
-    } = state;
+    } = sessions;
+    let slots = slots.as_slice();
+    run_workers(
+        rt, alloc, listener, shared, workers, &inbox, slots, taker, value_len, limits, gate,
+    )
+}
+
+// The same over an inbox and slots that others own.
+fn run_workers<
+    L: Listens,
+    D: Disk,
+    T: Trace + Send + Sync,
+    N: DeskId + Send + Sync,
+    P: InboxId + Send + Sync,
+    G: Gate + Sync,
+    R: Threads + Wait + Sync,
+>(
+    rt: &R,
+    alloc: Global,
+    listener: &L,
+    shared: &Shared<D, T, N>,
+    workers: Workers<N>,
+    inbox: &Inbox<Job, P>,
+    slots: &[Mutex<SessionSlot<P>>],
+    taker: Taker<P>,
+    value_len: usize,
+    limits: Limits,
+    gate: &G,
+) -> Option<Served<N>> {
     let Workers {
-        writer: seat,
-        converter: first,
-        merger: last,
-        wakes,
+        writer: first,
+        converter: second,
+        merger: third,
         stops,
-        replier,
         batches,
     } = workers;
-    let inbox = &inbox;
-    let slots = slots.as_slice();
     let reply = |desk: &Shared<D, T, N>, number: usize, events: Vec<Event>| -> Result<
         Vec<Reply<()>>,
         Unanswered,
@@ -393,28 +479,32 @@ fn run_threads<
         }
     };
     let reply = &reply;
-    let (merged, converted, written) = run_beside(
+    gather_served(run_beside(
         rt,
         shared,
-        inbox,
+        move |desk: &Shared<D, T, N>| third.merge(rt, alloc, desk, gate),
+        move |desk: &Shared<D, T, N>| second.convert(rt, alloc, desk, gate),
+        move |desk: &Shared<D, T, N>| write(rt, alloc, desk, first, gate, inbox, taker),
         move |desk: &Shared<D, T, N>| {
-            merger(rt, alloc, desk, last.seat, gate, last.wakes, last.other)
-        },
-        move |desk: &Shared<D, T, N>| {
-            converter(rt, alloc, desk, first.seat, gate, first.wakes, first.other)
-        },
-        move |desk: &Shared<D, T, N>| {
-            writer(rt, alloc, desk, seat, gate, inbox, taker, wakes, replier)
-        },
-        move |desk: &Shared<D, T, N>| {
-            accept_clients(rt, alloc, listener, desk, slots, reply, value_len, limits)
+            serve_sessions(
+                rt, alloc, listener, desk, inbox, slots, reply, value_len, limits,
+            )
         },
         stops,
         batches,
-    );
-    let ((writer, _taker), accepted) = written?;
-    Some(Served {
-        seats: (writer, converted, merged),
-        accepted: accepted.map(|_| ()),
-    })
+    ))
+}
+
+// What came back from the merger, the converter, and the writer and the sessions. None if the writer had no thread.
+fn gather_served<N: DeskId>(
+    back: (Seat<N>, Seat<N>, Option<(Seat<N>, io::Result<()>)>),
+) -> Option<Served<N>> {
+    let (merged, converted, written) = back;
+    match written {
+        Some((writer, accepted)) => Some(Served {
+            seats: (writer, converted, merged),
+            accepted,
+        }),
+        None => None,
+    }
 }

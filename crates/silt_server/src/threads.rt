@@ -5,10 +5,9 @@ use crate::job::Job;
 use crate::replier::send_batches;
 use crossbeam_channel::{Receiver, Sender};
 use silt_desk::{Wake, Wakes, join_over};
-use silt_inbox::{Inbox, InboxId};
 use std::sync::Wait;
-use std::thread;
 use std::thread::Threads;
+use std::{io, thread};
 
 // Runs a worker beside other work, until that is done. Then the worker is stopped, and its seat comes back too.
 fn beside<
@@ -36,32 +35,29 @@ fn beside<
     )
 }
 
-// Runs the writer and the replier in threads of their own beside the sessions, until these have ended. Then the inbox is
-// closed. The writer ends when it is empty, and then the replier. None if the writer's thread cannot be started; then
+// Runs the writer and the replier in threads of their own beside the sessions, until these have ended. They close the
+// inbox: the writer ends when it is empty, and then the replier. None if the writer's thread cannot be started; then
 // there are no sessions. If that of the replier cannot be started, the writer finds its channel disconnected.
 fn write_beside<
     S: Sync,
-    P: InboxId + Send + Sync,
     X: Send + Drop,
-    Y,
     A: FnOnce(&S) -> X + Send + Drop,
-    B: FnOnce(&S) -> Y,
+    B: FnOnce(&S) -> io::Result<()>,
     R: Threads + Wait + Sync,
 >(
     rt: &R,
     shared: &S,
-    inbox: &Inbox<Job, P>,
     writer: A,
     sessions: B,
     batches: Receiver<Vec<Job>>,
-) -> Option<(X, Y)>
+) -> Option<(X, io::Result<()>)>
     requires writer { A.IsAlwaysCallable writer }
     requires sessions { B.IsAlwaysCallable sessions }
 {
     thread::scope(
         thread::scope_env(),
         rt,
-        move |scope| -> Option<(X, Y)>
+        move |scope| -> Option<(X, io::Result<()>)>
             requires { A.IsAlwaysCallable writer × B.IsAlwaysCallable sessions }
         {
             let Ok(handle) = scope.spawn(
@@ -73,7 +69,6 @@ fn write_beside<
             };
             let _ = scope.spawn(move || { send_batches(rt, batches) });
             let ended = sessions(shared);
-            inbox.close(rt);
             Some((handle.join(rt), ended))
         },
     )
@@ -83,24 +78,20 @@ fn write_beside<
 // done. Then the converter is stopped.
 fn convert_beside<
     S: Sync,
-    P: InboxId + Send + Sync,
-    X: Send,
-    V: Send + Drop,
-    Y,
+    X: Send + Drop,
     B: FnOnce(&S) -> X + Send,
-    C: FnOnce(&S) -> V + Send + Drop,
-    F: FnOnce(&S) -> Y,
+    C: FnOnce(&S) -> X + Send + Drop,
+    F: FnOnce(&S) -> io::Result<()>,
     R: Threads + Wait + Sync,
 >(
     rt: &R,
     shared: &S,
-    inbox: &Inbox<Job, P>,
     converter: B,
     writer: C,
     sessions: F,
     stop: Sender<Wake>,
     batches: Receiver<Vec<Job>>,
-) -> (X, Option<(V, Y)>)
+) -> (X, Option<(X, io::Result<()>)>)
     requires converter { B.IsAlwaysCallable converter }
     requires writer { C.IsAlwaysCallable writer }
     requires sessions { F.IsAlwaysCallable sessions }
@@ -109,38 +100,34 @@ fn convert_beside<
         rt,
         shared,
         converter,
-        move |shared: &S| -> Option<(V, Y)>
+        move |shared: &S| -> Option<(X, io::Result<()>)>
             requires { C.IsAlwaysCallable writer × F.IsAlwaysCallable sessions }
-        { write_beside(rt, shared, inbox, writer, sessions, batches) },
+        { write_beside(rt, shared, writer, sessions, batches) },
         stop,
     )
 }
 
 /// Runs the merger, the converter, the writer and the replier beside the sessions, until these have ended and all their
-/// requests are done. Then each worker is stopped. Returns what the merger, the converter, and the writer and the
-/// sessions gave; the last two are None if the writer has no thread.
+/// requests are done. Then each worker is stopped. The sessions close the inbox. Returns what the merger, the converter,
+/// and the writer and the sessions gave; the last two are None if the writer has no thread.
 pub fn run_beside<
     S: Sync,
-    P: InboxId + Send + Sync,
-    X: Send,
-    V: Send + Drop,
-    Y,
+    X: Send + Drop,
     A: FnOnce(&S) -> X + Send,
     B: FnOnce(&S) -> X + Send,
-    C: FnOnce(&S) -> V + Send + Drop,
-    F: FnOnce(&S) -> Y,
+    C: FnOnce(&S) -> X + Send + Drop,
+    F: FnOnce(&S) -> io::Result<()>,
     R: Threads + Wait + Sync,
 >(
     rt: &R,
     shared: &S,
-    inbox: &Inbox<Job, P>,
     merger: A,
     converter: B,
     writer: C,
     sessions: F,
     stops: Wakes,
     batches: Receiver<Vec<Job>>,
-) -> (X, X, Option<(V, Y)>)
+) -> (X, X, Option<(X, io::Result<()>)>)
     requires merger { A.IsAlwaysCallable merger }
     requires converter { B.IsAlwaysCallable converter }
     requires writer { C.IsAlwaysCallable writer }
@@ -154,13 +141,12 @@ pub fn run_beside<
         rt,
         shared,
         merger,
-        move |shared: &S| -> (X, Option<(V, Y)>)
+        move |shared: &S| -> (X, Option<(X, io::Result<()>)>)
             requires { B.IsAlwaysCallable converter × C.IsAlwaysCallable writer × F.IsAlwaysCallable sessions }
         {
             convert_beside(
                 rt,
                 shared,
-                inbox,
                 converter,
                 writer,
                 sessions,

@@ -4,9 +4,13 @@ ghost use Rattle.silt_desk.specs.Seats.{SeatState};
 
 use crate::job::Job;
 use crate::replier::replier_channel;
+use crate::work::writer;
 use crossbeam_channel::{Receiver, Sender};
-use silt_desk::{DeskId, Seat, Wake, Wakes};
+use silt_desk::{DeskId, Gate, Seat, Shared, Trace, Wake, Wakes, converter, merger};
+use silt_disk::Disk;
+use silt_inbox::{Inbox, InboxId, Taker};
 use std::alloc::{AllocError, Global};
+use std::sync::Wait;
 
 // How many messages a worker's channel holds. The writer, the other worker and the thread that stops it each send one
 // at a time, so a send never waits for room. The channel allocates its memory when it is made, so a send is never out
@@ -21,16 +25,73 @@ pub struct Worker<N: DeskId> {
     pub other: Sender<Wake>,
 }
 
-/// What the writer and the workers need, the ways to stop the converter and the merger, and the two ends of the channel
-/// from the writer to the replier.
+impl<N: DeskId> Worker<N> {
+    /// Merges until it hears that it is to end. Gives its seat back.
+    pub fn merge<D: Disk, T: Trace, G: Gate, R: Wait>(
+        self,
+        rt: &R,
+        alloc: Global,
+        shared: &Shared<D, T, N>,
+        gate: &G,
+    ) -> Seat<N>
+        ensures { result.number ≡ self.seat.number }
+    {
+        let Worker { seat, wakes, other } = self;
+        merger(rt, alloc, shared, seat, gate, wakes, other)
+    }
+
+    /// Converts until it hears that it is to end. Gives its seat back.
+    pub fn convert<D: Disk, T: Trace, G: Gate, R: Wait>(
+        self,
+        rt: &R,
+        alloc: Global,
+        shared: &Shared<D, T, N>,
+        gate: &G,
+    ) -> Seat<N>
+        ensures { result.number ≡ self.seat.number }
+    {
+        let Worker { seat, wakes, other } = self;
+        converter(rt, alloc, shared, seat, gate, wakes, other)
+    }
+}
+
+/// What the writer needs: its seat, how it wakes the workers, and its end of the channel to the replier.
+#[derive(Drop)]
+pub struct WriterParts<N: DeskId> {
+    pub seat: Seat<N>,
+    pub wakes: Wakes,
+    pub replier: Sender<Vec<Job>>,
+}
+
+/// Runs the writer on an inbox, until it is closed and empty. Gives its seat back.
+pub fn write<D: Disk, T: Trace, N: DeskId, P: InboxId, G: Gate, R: Wait>(
+    rt: &R,
+    alloc: Global,
+    shared: &Shared<D, T, N>,
+    parts: WriterParts<N>,
+    gate: &G,
+    inbox: &Inbox<Job, P>,
+    taker: Taker<P>,
+) -> Seat<N>
+    ensures { result.number ≡ parts.seat.number }
+{
+    let WriterParts {
+        seat,
+        wakes,
+        replier,
+    } = parts;
+    let (seat, _) = writer(rt, alloc, shared, seat, gate, inbox, taker, wakes, replier);
+    seat
+}
+
+/// What the writer and the workers need, the ways to stop the converter and the merger, and the replier's end of its
+/// channel.
 #[derive(Drop)]
 pub struct Workers<N: DeskId> {
-    pub writer: Seat<N>,
+    pub writer: WriterParts<N>,
     pub converter: Worker<N>,
     pub merger: Worker<N>,
-    pub wakes: Wakes,
     pub stops: Wakes,
-    pub replier: Sender<Vec<Job>>,
     pub batches: Receiver<Vec<Job>>,
 }
 
@@ -38,7 +99,7 @@ impl<N: DeskId> Workers<N> {
     /// The writer and the workers, with the last three of these seats. None if there are fewer than three, or if out of
     /// memory for the channels.
     pub fn new(alloc: Global, seats: Vec<Seat<N>>) -> Option<Workers<N>>
-        ensures { IfSome result (λ workers. (others : List SeatState) × (seats.items ≡ others ++ workers.writer ∷ workers.converter.seat ∷ workers.merger.seat ∷ [])) }
+        ensures { IfSome result (λ workers. (others : List SeatState) × (seats.items ≡ others ++ workers.writer.seat ∷ workers.converter.seat ∷ workers.merger.seat ∷ [])) }
     {
         let mut seats = seats;
         let merger = seats.pop()?;
@@ -54,12 +115,19 @@ impl<N: DeskId> Workers<N> {
         converter: Seat<N>,
         merger: Seat<N>,
     ) -> Result<Workers<N>, AllocError>
-        ensures { IfOk result (λ workers. (workers.writer ≡ writer) × (workers.converter.seat ≡ converter) × (workers.merger.seat ≡ merger)) }
+        ensures { IfOk result (λ workers. (workers.writer.seat ≡ writer) × (workers.converter.seat ≡ converter) × (workers.merger.seat ≡ merger)) }
     {
         let (first, second) = two_ways(alloc)?;
         let (replier, batches) = replier_channel(alloc)?;
         Ok(Workers {
-            writer,
+            writer: WriterParts {
+                seat: writer,
+                wakes: Wakes {
+                    converter: first.by_writer,
+                    merger: second.by_writer,
+                },
+                replier,
+            },
             converter: Worker {
                 seat: converter,
                 wakes: first.wakes,
@@ -70,15 +138,10 @@ impl<N: DeskId> Workers<N> {
                 wakes: second.wakes,
                 other: first.by_other,
             },
-            wakes: Wakes {
-                converter: first.by_writer,
-                merger: second.by_writer,
-            },
             stops: Wakes {
                 converter: first.by_stop,
                 merger: second.by_stop,
             },
-            replier,
             batches,
         })
     }
