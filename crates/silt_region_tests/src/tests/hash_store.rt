@@ -136,13 +136,14 @@ fn found(kind: Kind, place: u32) -> Option<Option<Found>> {
     Some(Some(Found { kind, place }))
 }
 
-// Writes rows into three slots.
+// Writes rows into three slots: one in a key's first bucket, the last one of a key's second bucket, and the last one of a bucket
+// that is a key's first and second one.
 fn fill_three<D: Disk>(disk: &mut D) -> Result<(), D::Fault>
     requires { 45056 ≤ size (D.content disk.old) }
     ensures { size (D.content disk.new) ≡ size (D.content disk.old) }
 {
     fill_slot(disk, 2, 1, &paired(1))?;
-    fill_slot(disk, 5, 2, &paired(2))?;
+    fill_slot(disk, 7, 2, &paired(2))?;
     fill_slot(disk, 3, 1, &single(3))?;
     Ok(())
 }
@@ -175,7 +176,7 @@ fn finds_the_rows_of_a_region(rt: HostRuntime) -> Result<(), Fail> {
     );
     let due = [
         found(Kind::Put, 2),
-        found(Kind::Delete, 5),
+        found(Kind::Delete, 7),
         found(Kind::Put, 3),
         Some(None),
         Some(None),
