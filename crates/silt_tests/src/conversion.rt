@@ -2,9 +2,9 @@
 // in it.
 
 use crate::lines::CONVERTED;
-use crate::script::{Printed, live, repeated};
-use crate::support::{OF_NO_ENTRIES, stands_at};
-use silt_device::MemDisk;
+use crate::script::{Printed, live_parts};
+use crate::support::{OF_NO_ENTRIES, has_bytes, same};
+use silt_device::{MemDisk, MemFault};
 use silt_fixtures::{changed, formatted};
 use silt_store_set::{Core, OpenFault, Place, Progress, Refusal};
 use std::alloc::Global;
@@ -13,35 +13,49 @@ use std::test::Fail;
 
 // The replies are those to five puts, a flush and a conversion of nine steps.
 fn is_converted(rt: &impl Abort, printed: &[Printed]) {
-    assert_eq!(rt; printed.len(), 16);
+    assert!(rt; printed.len() == 16);
     for reply in &printed[7..15] {
-        assert_eq!(rt; *reply, Printed::Progress(Progress::Moved));
+        same(rt, reply, &Printed::Progress(Progress::Moved));
     }
-    assert_eq!(rt; printed[15], Printed::Progress(Progress::Finished));
+    same(rt, &printed[15], &Printed::Progress(Progress::Finished));
 }
 
 /// The device after a conversion, with its replies checked.
 pub(crate) fn converted(rt: &impl Abort, alloc: Global) -> Result<MemDisk, Fail> {
-    let lines = repeated(alloc, &CONVERTED)?;
-    let (disk, printed) = live(alloc, formatted(alloc)?, &lines)?;
+    let disk = formatted(alloc)?;
+    let (disk, printed) = live_parts(alloc, disk, &CONVERTED)?;
     is_converted(rt, &printed);
     Ok(disk)
+}
+
+/// A disk of these bytes with some of them changed.
+pub(crate) fn changed_disk(
+    alloc: Global,
+    whole: &[u8],
+    changes: &[(usize, u8)],
+) -> Result<MemDisk, Fail> {
+    let bytes = changed(alloc, whole, changes)?;
+    Ok(MemDisk::with_bytes(alloc, &bytes)?)
 }
 
 // The damage that an opening of these bytes finds after some of them are changed, or none if the
 // store opens.
 fn refusal_of(alloc: Global, whole: &[u8], changes: &[(usize, u8)]) -> Result<Option<Place>, Fail> {
-    let bytes = changed(alloc, whole, changes)?;
-    let disk = MemDisk::with_bytes(alloc, &bytes)?;
-    damage_in(Core::open(alloc, disk))
+    let disk = changed_disk(alloc, whole, changes)?;
+    match Core::open(alloc, disk).err() {
+        Some(fault) => damage_of(fault),
+        None => Ok(None),
+    }
 }
 
-// The damaged place that an opening reports, or none if the store opened.
-fn damage_in(opening: Result<Core<MemDisk>, OpenFault<MemDisk>>) -> Result<Option<Place>, Fail> {
-    let Err(fault) = opening else {
-        return Ok(None);
-    };
-    match &fault.refusal {
+// The damaged place that a refused opening reports.
+fn damage_of(fault: OpenFault<MemDisk>) -> Result<Option<Place>, Fail> {
+    damage_in(&fault.refusal)
+}
+
+// The damaged place that a refusal reports.
+fn damage_in(refusal: &Refusal<MemFault>) -> Result<Option<Place>, Fail> {
+    match refusal {
         Refusal::Damaged(place) => Ok(Some(*place)),
         _ => Err("another refusal".into()),
     }
@@ -62,14 +76,19 @@ fn has_its_slots(rt: &impl Abort, disk: &MemDisk) {
         row[0] = 1;
         row[1] = slot + 1;
         row[22] = slot + 1;
-        assert!(rt; stands_at(disk, at, &row), "slot {slot}");
+        has_bytes(rt, disk, at, &row);
     }
-    assert!(rt; stands_at(disk, 28_764, &[0; 92]));
-    assert!(rt; stands_at(disk, 4096, b"\xa7\x80\0\0\0\0\0\0\x02\0\0\0\x01\0\0\0\0"));
-    assert!(rt; stands_at(disk, 4141, b"\0\0\0\x01\0\0\0\0"));
-    assert!(rt; stands_at(disk, 4217, OF_FOUR_ROWS));
-    assert!(rt; stands_at(disk, 4237, &[0; 300]));
-    assert!(rt; stands_at(disk, 4537, OF_NO_ENTRIES));
+    has_bytes(rt, disk, 28_764, &[0; 92]);
+    has_bytes(
+        rt,
+        disk,
+        4096,
+        b"\xa7\x80\0\0\0\0\0\0\x02\0\0\0\x01\0\0\0\0",
+    );
+    has_bytes(rt, disk, 4141, b"\0\0\0\x01\0\0\0\0");
+    has_bytes(rt, disk, 4217, OF_FOUR_ROWS);
+    has_bytes(rt, disk, 4237, &[0; 300]);
+    has_bytes(rt, disk, 4537, OF_NO_ENTRIES);
 }
 
 #[test]
@@ -95,10 +114,10 @@ const CASES: [Case; 4] = [
 ];
 
 fn find_each(rt: &impl Abort, alloc: Global, whole: &[u8], cases: &[Case]) -> Result<(), Fail> {
-    assert_eq!(rt; whole.len(), 45_056);
+    same(rt, &whole.len(), &45_056);
     for (changes, expected) in cases {
         let found = refusal_of(alloc, whole, changes)?;
-        assert_eq!(rt; found, *expected);
+        same(rt, &found, expected);
     }
     Ok(())
 }

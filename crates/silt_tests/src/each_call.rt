@@ -5,12 +5,12 @@ use crate::kept::{after, goes_on, is_kept};
 use crate::life_lines::Line;
 use crate::lines::{
     ASKED_BEHIND, CONVERTED, CONVERTED_MEANWHILE, CONVERTED_MEANWHILE_TOLD, CONVERTED_TOLD,
-    SWAP_CONVERTED, SWAP_MEANWHILE, of_three_hash_stores,
+    SWAP_MEANWHILE, of_three_hash_stores,
 };
-use crate::script::{Printed, ask, repeated, replies_of};
-use crate::support::{entries_of, values_of};
-use silt_device::{Call, FaultDisk, Fill, Geometry, MemDisk, Stoppable};
-use silt_fixtures::{FILLS, formatted_with, small, stopping};
+use crate::script::{Printed, ask, repeated_with, replies_of};
+use crate::support::{entries_of, listed, same, same_in, values_of};
+use silt_device::{Call, FaultDisk, Fill, Geometry, MemDisk, MemFault, Stoppable};
+use silt_fixtures::{FILLS, formatted_with, opened_on, small, stopping};
 use silt_store_set::{Core, OpenFault, Refusal};
 use std::alloc::{AllocError, Global};
 use std::process::Abort;
@@ -39,20 +39,11 @@ fn each_fails(rt: &impl Abort, alloc: Global, life: &Life, fails: Fails) -> Resu
     }
 }
 
-// The lines of a conversion, followed by a get, a step and a swap.
-fn converted_lines(alloc: Global) -> Result<Vec<Line>, AllocError> {
-    let mut lines = repeated(alloc, &CONVERTED)?;
-    lines.extend_from_slice(&ASKED_BEHIND)?;
-    lines.push(SWAP_CONVERTED)?;
-    Ok(lines)
-}
-
 // The life is a conversion, followed by a get, a step and a swap.
 fn conversion_fails(rt: &impl Abort, alloc: Global, fails: Fails) -> Result<(), Fail> {
     let geometry = small()?;
-    let mut printed = repeated(alloc, &CONVERTED_TOLD)?;
-    printed.push(Printed::Accepted(6))?;
-    let lines = converted_lines(alloc)?;
+    let lines = repeated_with(alloc, &CONVERTED, &ASKED_BEHIND)?;
+    let printed = repeated_with(alloc, &CONVERTED_TOLD, &[Printed::Accepted(6)])?;
     let life = Life {
         geometry,
         lines: &lines,
@@ -64,10 +55,8 @@ fn conversion_fails(rt: &impl Abort, alloc: Global, fails: Fails) -> Result<(), 
 // The life is a merge beside two conversions, followed by a swap that freezes a log.
 fn merge_fails(rt: &impl Abort, alloc: Global, fails: Fails) -> Result<(), Fail> {
     let geometry = of_three_hash_stores()?;
-    let mut printed = repeated(alloc, &CONVERTED_MEANWHILE_TOLD)?;
-    printed.push(Printed::Accepted(5))?;
-    let mut lines = repeated(alloc, &CONVERTED_MEANWHILE)?;
-    lines.push(SWAP_MEANWHILE)?;
+    let lines = repeated_with(alloc, &CONVERTED_MEANWHILE, &[SWAP_MEANWHILE])?;
+    let printed = repeated_with(alloc, &CONVERTED_MEANWHILE_TOLD, &[Printed::Accepted(5)])?;
     let life = Life {
         geometry,
         lines: &lines,
@@ -76,21 +65,35 @@ fn merge_fails(rt: &impl Abort, alloc: Global, fails: Fails) -> Result<(), Fail>
     each_fails(rt, alloc, &life, fails)
 }
 
+// The call was refused with a fault of the device.
+fn is_fault(rt: &impl Abort, refusal: &Refusal<MemFault>) {
+    assert!(rt; matches!(refusal, Refusal::Device(_)));
+}
+
+// Opens the disk of an opening that was refused with a fault.
+fn opened_after(
+    rt: &impl Abort,
+    alloc: Global,
+    fault: OpenFault<FaultDisk>,
+) -> Result<Core<FaultDisk>, Fail> {
+    is_fault(rt, &fault.refusal);
+    opened_on(alloc, fault.disk)
+}
+
 // Opens the store on this disk. If the opening is refused with a fault, counts the fault and opens
 // the disk again.
-fn opened_again(alloc: Global, disk: FaultDisk, faults: &mut u32) -> Result<Core<FaultDisk>, Fail> {
+fn opened_again(
+    rt: &impl Abort,
+    alloc: Global,
+    disk: FaultDisk,
+    faults: &mut u32,
+) -> Result<Core<FaultDisk>, Fail> {
     match Core::open(alloc, disk) {
         Ok(core) => Ok(core),
-        Err(
-            OpenFault::<FaultDisk> {
-                disk,
-                refusal: Refusal::Device(_),
-            },
-        ) => {
+        Err(fault) => {
             *faults = faults.saturating_add(1);
-            Ok(Core::open(alloc, disk).ok().ok_or("opens")?)
+            opened_after(rt, alloc, fault)
         }
-        Err(_) => Err("another refusal".into()),
     }
 }
 
@@ -109,15 +112,32 @@ fn asked_again(
 
 // The values of the keys 0 to 7 in the list of the entries. A list that is refused with a fault is
 // asked for once more. Returns whether that was so.
-fn listed_again(alloc: Global, core: &Core<FaultDisk>) -> Result<([u16; 8], bool), Fail> {
+fn listed_again(
+    rt: &impl Abort,
+    alloc: Global,
+    core: &Core<FaultDisk>,
+) -> Result<([u16; 8], bool), Fail> {
     match core.entries(alloc) {
         Ok(entries) => Ok((values_of(&entries), false)),
-        Err(Refusal::Device(_)) => {
-            let entries = core.entries(alloc).ok().ok_or("has entries")?;
-            Ok((values_of(&entries), true))
+        Err(refusal) => {
+            is_fault(rt, &refusal);
+            Ok((listed(alloc, core)?, true))
         }
-        Err(_) => Err("another refusal".into()),
     }
+}
+
+// Asks a line and compares the reply. Returns 1 if it was refused with a fault and asked again,
+// else 0.
+fn ask_one(
+    rt: &impl Abort,
+    alloc: Global,
+    core: &mut Core<FaultDisk>,
+    line: Line,
+    expected: Printed,
+) -> Result<u32, Fail> {
+    let (printed, is_again) = asked_again(alloc, core, line)?;
+    same(rt, &printed, &expected);
+    Ok(is_again as u32)
 }
 
 // Asks all lines of the life and compares the replies. Returns how many lines were refused with a
@@ -130,9 +150,8 @@ fn ask_all(
 ) -> Result<u32, Fail> {
     let mut faults = 0u32;
     for (line, expected) in life.lines.iter().zip(life.printed.iter()) {
-        let (printed, is_printed) = asked_again(alloc, core, *line)?;
-        assert_eq!(rt; printed, *expected);
-        faults = faults.saturating_add(is_printed as u32);
+        let more = ask_one(rt, alloc, core, *line, *expected)?;
+        faults = faults.saturating_add(more);
     }
     Ok(faults)
 }
@@ -146,19 +165,20 @@ fn ask_and_list(
     life: &Life,
 ) -> Result<u32, Fail> {
     let faults = ask_all(rt, alloc, core, life)?;
-    let (values, is_printed) = listed_again(alloc, core)?;
-    assert_eq!(rt; values, after(life.lines, u64::MAX));
+    let (values, is_printed) = listed_again(rt, alloc, core)?;
+    same(rt, &values, &after(life.lines, u64::MAX));
     Ok(faults.saturating_add(is_printed as u32))
 }
 
 // Fails this read of the life. The call that made it is refused with the fault, and a second try
 // succeeds; all other calls succeed at once. Returns how many faults there were.
 fn faults_of_read(rt: &impl Abort, alloc: Global, life: &Life, number: u64) -> Result<u32, Fail> {
-    let disk = FaultDisk::new(formatted_with(alloc, life.geometry)?, Call::Read, number);
     let mut faults = 0;
-    let mut core = opened_again(alloc, disk, &mut faults)?;
-    let more = ask_and_list(rt, alloc, &mut core, life)?;
-    Ok(more.saturating_add(faults))
+    let disk = FaultDisk::new(formatted_with(alloc, life.geometry)?, Call::Read, number);
+    let mut core = opened_again(rt, alloc, disk, &mut faults)?;
+    let more = ask_and_list(rt, alloc, &mut core, life);
+    drop(core);
+    Ok(more?.saturating_add(faults))
 }
 
 // Fails each read of the life in turn. The life makes exactly this many reads.
@@ -167,7 +187,7 @@ fn each_read_fails(rt: &impl Abort, alloc: Global, life: &Life, reads: u64) -> R
         let faults = faults_of_read(rt, alloc, life, number)?;
         assert!(rt; faults < 2, "read {number}");
         if faults == 0 {
-            assert_eq!(rt; number.saturating_sub(1), reads, "reads");
+            same_in(rt, &number.saturating_sub(1), &reads, &"reads");
             return Ok(());
         }
     }
@@ -211,19 +231,19 @@ fn has_failed_with(
     number: u64,
 ) -> bool {
     if has_failed {
-        assert_eq!(rt; printed, Printed::Refused(9), "call {number}");
+        same_in(rt, &printed, &Printed::Refused(9), &number);
         return true;
     }
     if printed == Printed::Refused(5) {
         return true;
     }
-    assert_eq!(rt; printed, expected, "call {number}");
+    same_in(rt, &printed, &expected, &number);
     false
 }
 
 // Compares all replies with those due around one fault. Returns whether there was a fault.
 fn prints_once(rt: &impl Abort, life: &Life, printed: &[Printed], number: u64) -> bool {
-    assert_eq!(rt; printed.len(), life.printed.len());
+    same(rt, &printed.len(), &life.printed.len());
     let mut has_failed = false;
     for (printed, expected) in printed.iter().zip(life.printed.iter()) {
         has_failed = has_failed_with(rt, has_failed, *printed, *expected, number);
@@ -243,15 +263,11 @@ fn lived(
     let disk = FaultDisk::new(disk, failing.call, failing.number);
     match Core::open(alloc, disk) {
         Ok(core) => answered(rt, alloc, life, core, failing.number),
-        Err(OpenFault::<FaultDisk> { disk, refusal }) => {
-            is_fault(rt, refusal.label().0, failing.number);
-            Ok((disk.into_disk(), Vec::new(alloc), true))
+        Err(fault) => {
+            same_in(rt, &fault.refusal.label().0, &5, &failing.number);
+            Ok((fault.disk.into_disk(), Vec::new(alloc), true))
         }
     }
-}
-
-fn is_fault(rt: &impl Abort, refusal: u32, number: u64) {
-    assert_eq!(rt; refusal, 5, "call {number}");
 }
 
 // Runs the life in an opened store whose write or sync of this number fails: the disk, the replies,
@@ -320,14 +336,31 @@ fn change_fails(
     life: &Life,
     failing: Failing,
 ) -> Result<bool, Fail> {
-    let fill = failing.stop.unwrap_or(Fill::Old);
-    let stops = stopping(alloc, &[(0, fill), (0, fill), (0, fill)])?;
-    let disk = formatted_with(alloc, life.geometry)?.arm(stops);
+    let disk = armed(alloc, life.geometry, failing.stop.unwrap_or(Fill::Old))?;
     let (disk, printed, is_made) = lived(rt, alloc, life, disk, failing)?;
-    let (disk, found) = entries_of(alloc, stopped(disk, failing.stop))?;
-    keeps(rt, life, &printed, found, failing.number);
-    goes_on(rt, alloc, disk, life.geometry, found)?;
+    let disk = stopped(disk, failing.stop);
+    goes_on_after(rt, alloc, life, disk, &printed, failing.number)?;
     Ok(is_made)
+}
+
+// A new disk of this geometry. Its next three lives end with crashes of this fill.
+fn armed(alloc: Global, geometry: Geometry, fill: Fill) -> Result<MemDisk, Fail> {
+    let stops = stopping(alloc, &[(0, fill), (0, fill), (0, fill)])?;
+    Ok(formatted_with(alloc, geometry)?.arm(stops))
+}
+
+// The next opening finds what is kept, and the store goes on from there.
+fn goes_on_after(
+    rt: &impl Abort,
+    alloc: Global,
+    life: &Life,
+    disk: MemDisk,
+    printed: &[Printed],
+    number: u64,
+) -> Result<(), Fail> {
+    let (disk, found) = entries_of(alloc, disk)?;
+    keeps(rt, life, printed, found, number);
+    goes_on(rt, alloc, disk, life.geometry, found)
 }
 
 // Fails each call of a kind in turn. The life makes exactly this many, and ends with this crash.
@@ -341,13 +374,26 @@ fn each_of_a_kind_fails(
     for number in 1..calls.saturating_add(2) {
         let failing = Failing { call, number, stop };
         let is_made = change_fails(rt, alloc, life, failing)?;
-        assert_eq!(rt; is_made, number <= calls, "call {number}");
+        same_in(rt, &is_made, &(number <= calls), &number);
     }
     Ok(())
 }
 
-// Fails each write and each sync in turn, of which there are exactly this many: without a crash
-// after the life, and with each fill.
+// Fails each call of a kind in turn: without a crash after the life, and with each fill.
+fn each_stopped_of_a_kind_fails(
+    rt: &impl Abort,
+    alloc: Global,
+    life: &Life,
+    kind: (Call, u64),
+) -> Result<(), Fail> {
+    each_of_a_kind_fails(rt, alloc, life, kind, None)?;
+    for fill in FILLS {
+        each_of_a_kind_fails(rt, alloc, life, kind, Some(fill))?;
+    }
+    Ok(())
+}
+
+// Fails each write and each sync in turn, of which there are exactly this many.
 fn each_change_fails(
     rt: &impl Abort,
     alloc: Global,
@@ -355,13 +401,8 @@ fn each_change_fails(
     writes: u64,
     syncs: u64,
 ) -> Result<(), Fail> {
-    for kind in [(Call::Write, writes), (Call::Sync, syncs)] {
-        each_of_a_kind_fails(rt, alloc, life, kind, None)?;
-        for fill in FILLS {
-            each_of_a_kind_fails(rt, alloc, life, kind, Some(fill))?;
-        }
-    }
-    Ok(())
+    each_stopped_of_a_kind_fails(rt, alloc, life, (Call::Write, writes))?;
+    each_stopped_of_a_kind_fails(rt, alloc, life, (Call::Sync, syncs))
 }
 
 // The writes and syncs of the conversion, 42 in all. The opening makes a sync. Five puts and the
@@ -379,7 +420,7 @@ const OF_A_MERGE: (u64, u64) = (10 + 4 * 5 + 3 * 11 + 1 + 3, 1 + 4 * 6 + 3 * 4 +
 
 // The writes and syncs to fail, which are this many calls in all.
 fn are_calls(rt: &impl Abort, (writes, syncs): (u64, u64), calls: u64) -> Fails {
-    assert_eq!(rt; writes.saturating_add(syncs), calls);
+    same(rt, &writes.saturating_add(syncs), &calls);
     Fails::Changes(writes, syncs)
 }
 

@@ -3,10 +3,12 @@
 
 use crate::life_lines::Line;
 use crate::script::{Printed, replies_of};
+use crate::support::same_lists;
 use silt_device::{Call, FaultDisk};
 use silt_fixtures::formatted;
 use silt_store_set::{Core, Progress};
 use std::alloc::{AllocError, Global};
+use std::process::Abort;
 use std::test::Fail;
 
 // Joins a disk and the replies of its store.
@@ -40,11 +42,8 @@ fn printed_where(
     number: u64,
     lines: &[Line],
 ) -> Result<(FaultDisk, Vec<Printed>), Fail> {
-    printed_on(
-        alloc,
-        FaultDisk::new(formatted(alloc)?, call, number),
-        lines,
-    )
+    let disk = formatted(alloc)?;
+    printed_on(alloc, FaultDisk::new(disk, call, number), lines)
 }
 
 // The replies to a put, a flush and a get if this sync fails, and to a get after the next opening.
@@ -62,20 +61,27 @@ const FAILED: [Printed; 3] = [
     Printed::Refused(9),
 ];
 
-#[test]
-fn the_put_is_lost_where_the_first_sync_of_its_flush_fails(rt: HostRuntime) -> Result<(), Fail> {
-    let (printed, found) = flush_fails(rt.alloc(), 2)?;
-    assert_eq!(rt; printed.as_slice(), &FAILED[..]);
-    assert_eq!(rt; found.as_slice(), &[Printed::Absent][..]);
+// The flush fails with this sync, and the next opening's get gets this reply.
+fn is_found_after(
+    rt: &impl Abort,
+    alloc: Global,
+    sync: u64,
+    expected: Printed,
+) -> Result<(), Fail> {
+    let (printed, found) = flush_fails(alloc, sync)?;
+    same_lists(rt, &printed, &FAILED);
+    same_lists(rt, &found, &[expected]);
     Ok(())
 }
 
 #[test]
+fn the_put_is_lost_where_the_first_sync_of_its_flush_fails(rt: HostRuntime) -> Result<(), Fail> {
+    is_found_after(&rt, rt.alloc(), 2, Printed::Absent)
+}
+
+#[test]
 fn the_put_is_there_where_the_second_sync_of_its_flush_fails(rt: HostRuntime) -> Result<(), Fail> {
-    let (printed, found) = flush_fails(rt.alloc(), 3)?;
-    assert_eq!(rt; printed.as_slice(), &FAILED[..]);
-    assert_eq!(rt; found.as_slice(), &[Printed::Value(1, 2)][..]);
-    Ok(())
+    is_found_after(&rt, rt.alloc(), 3, Printed::Value(1, 2))
 }
 
 // A get, a flush and steps of an empty store make no sync and no write. The put and its flush after
@@ -89,36 +95,43 @@ const IDLE: [Line; 6] = [
     Line::Flush,
 ];
 
-const IDLE_TOLD: [Printed; 4] = [
+const IDLE_TOLD_TO_SYNC_2: [Printed; 6] = [
     Printed::Absent,
     Printed::Acknowledged(0),
     Printed::Progress(Progress::Idle),
     Printed::Progress(Progress::Idle),
+    Printed::Accepted(1),
+    Printed::Refused(5),
 ];
+
+const IDLE_TOLD_TO_WRITE_1: [Printed; 6] = [
+    Printed::Absent,
+    Printed::Acknowledged(0),
+    Printed::Progress(Progress::Idle),
+    Printed::Progress(Progress::Idle),
+    Printed::Refused(5),
+    Printed::Refused(9),
+];
+
+// The replies to those lines if this call fails.
+fn printed_idle(alloc: Global, call: Call, number: u64) -> Result<Vec<Printed>, Fail> {
+    let (_, printed) = printed_where(alloc, call, number, &IDLE)?;
+    Ok(printed)
+}
 
 // Sync 2 is the first one after the opening. It fails in the flush of the put, so no call before
 // that makes a sync.
 #[test]
 fn a_flush_with_nothing_waiting_makes_no_sync(rt: HostRuntime) -> Result<(), Fail> {
-    let (_, printed) = printed_where(rt.alloc(), Call::Sync, 2, &IDLE)?;
-    assert_eq!(rt; printed.len(), 6);
-    assert_eq!(rt; &printed[..4], &IDLE_TOLD[..]);
-    assert_eq!(rt;
-        &printed[4..],
-        &[Printed::Accepted(1), Printed::Refused(5)][..]
-    );
+    let printed = printed_idle(rt.alloc(), Call::Sync, 2)?;
+    same_lists(&rt, &printed, &IDLE_TOLD_TO_SYNC_2);
     Ok(())
 }
 
 // Write 1 fails in the put, so no call before it makes a write.
 #[test]
 fn a_flush_with_nothing_waiting_makes_no_write(rt: HostRuntime) -> Result<(), Fail> {
-    let (_, printed) = printed_where(rt.alloc(), Call::Write, 1, &IDLE)?;
-    assert_eq!(rt; printed.len(), 6);
-    assert_eq!(rt; &printed[..4], &IDLE_TOLD[..]);
-    assert_eq!(rt;
-        &printed[4..],
-        &[Printed::Refused(5), Printed::Refused(9)][..]
-    );
+    let printed = printed_idle(rt.alloc(), Call::Write, 1)?;
+    same_lists(&rt, &printed, &IDLE_TOLD_TO_WRITE_1);
     Ok(())
 }

@@ -3,10 +3,10 @@
 
 use crate::kept::goes_on;
 use crate::lines::{MERGED_TWICE, of_two_hash_stores};
-use crate::script::{live, repeated};
-use crate::support::{entries_of, listed};
-use silt_device::{Fill, Geometry, MemDisk, Stop, Stoppable};
-use silt_fixtures::{FILLS, SMALL_LEN, as_version_1, formatted_with, small, stopping};
+use crate::read_counts::after_lines;
+use crate::support::{entries_of, listed, same, same_in, stopping_first};
+use silt_device::{Fill, Geometry, MemDisk, MemFault, Stop, Stoppable};
+use silt_fixtures::{FILLS, SMALL_LEN, as_version_1, small};
 use silt_recovery::{FormatError, FormatFault, format};
 use silt_store_set::Core;
 use std::alloc::Global;
@@ -42,19 +42,25 @@ fn left_on_zeros(stop: Stop) -> Result<[u16; 8], u32> {
 // Formats a disk as a small store, with this crash. Returns the disk after the crash, and whether
 // the formatting succeeded. The next two lives end with crashes of the same fill.
 fn formatted_until(alloc: Global, disk: MemDisk, stop: Stop) -> Result<(MemDisk, bool), Fail> {
-    let stops = stopping(
-        alloc,
-        &[(stop.k, stop.fill), (0, stop.fill), (0, stop.fill)],
-    )?;
-    match format(alloc, disk.arm(stops), small()?) {
+    let geometry = small()?;
+    let stops = stopping_first(alloc, stop)?;
+    match format(alloc, disk.arm(stops), geometry) {
         Ok(disk) => Ok((disk.restart(), true)),
-        Err(
-            FormatFault {
-                disk,
-                error: FormatError::Device(_),
-            },
-        ) => Ok((disk.restart(), false)),
-        Err(_) => Err("no device fault".into()),
+        Err(fault) => stopped_by(fault),
+    }
+}
+
+// The disk after the crash that ended a formatting.
+fn stopped_by(fault: FormatFault<MemDisk>) -> Result<(MemDisk, bool), Fail> {
+    is_fault(&fault.error)?;
+    Ok((fault.disk.restart(), false))
+}
+
+// The formatting ended with a fault of the device, else an error.
+fn is_fault(error: &FormatError<MemFault>) -> Result<(), Fail> {
+    match error {
+        FormatError::Device(_) => Ok(()),
+        _ => Err("no device fault".into()),
     }
 }
 
@@ -85,16 +91,22 @@ fn left_of_zeros(alloc: Global, stop: Stop) -> Result<(bool, Found), Fail> {
     Ok((answered, found))
 }
 
+// Tries each fill of a crash at this call in a formatting of zeros.
+fn formatting_stopped_at(rt: &impl Abort, alloc: Global, k: u32) -> Result<(), Fail> {
+    for fill in FILLS {
+        let stop = Stop { k, fill };
+        let left = left_of_zeros(alloc, stop)?;
+        same_in(rt, &left, &(is_answered(stop), left_on_zeros(stop)), &stop);
+    }
+    Ok(())
+}
+
 // A crash before the call that opens the header's gate leaves no store. A later one leaves an empty
 // store, or none.
 #[test]
 fn formatting_stopped_anywhere(rt: HostRuntime) -> Result<(), Fail> {
     for k in 0..FORMAT_CALLS + 2 {
-        for fill in FILLS {
-            let stop = Stop { k, fill };
-            let left = left_of_zeros(rt.alloc(), stop)?;
-            assert_eq!(rt; left, (is_answered(stop), left_on_zeros(stop)), "{stop:?}");
-        }
+        formatting_stopped_at(&rt, rt.alloc(), k)?;
     }
     Ok(())
 }
@@ -124,18 +136,19 @@ fn geometry_after(stop: Stop) -> Result<Geometry, Fail> {
     }
 }
 
-fn is_left(rt: &impl Abort, found: Found, stop: Stop) {
-    assert_eq!(rt; found, left_over(stop), "{stop:?}");
+// Formats an old store with this crash. Returns the disk, and what an opening then finds.
+fn found_over(alloc: Global, old: &[u8], stop: Stop) -> Result<(MemDisk, Found), Fail> {
+    let disk = MemDisk::with_bytes(alloc, old)?;
+    let (disk, _answered) = formatted_until(alloc, disk, stop)?;
+    found_on(alloc, disk)
 }
 
 // Formats an old store of another geometry with this crash. The next lives go on from what is
 // found, without old rows.
 fn formatted_over(rt: &impl Abort, alloc: Global, old: &[u8], stop: Stop) -> Result<(), Fail> {
     let geometry = geometry_after(stop)?;
-    let disk = MemDisk::with_bytes(alloc, old)?;
-    let (disk, _answered) = formatted_until(alloc, disk, stop)?;
-    let (disk, found) = found_on(alloc, disk)?;
-    is_left(rt, found, stop);
+    let (disk, found) = found_over(alloc, old, stop)?;
+    same_in(rt, &found, &left_over(stop), &stop);
     match found {
         Ok(values) => goes_on(rt, alloc, disk, geometry, values),
         Err(_) => formatted_again(rt, alloc, disk, stop.fill),
@@ -146,39 +159,36 @@ fn formatted_over(rt: &impl Abort, alloc: Global, old: &[u8], stop: Stop) -> Res
 fn formatted_again(rt: &impl Abort, alloc: Global, disk: MemDisk, fill: Fill) -> Result<(), Fail> {
     let geometry = small()?;
     let (disk, answered) = formatted_until(alloc, disk, Stop { k: 0, fill })?;
-    if !answered {
-        return Err("formats".into());
-    }
+    same(rt, &answered, &true);
     goes_on(rt, alloc, disk, geometry, [0; 8])
 }
 
 // A disk with the old store.
 fn old_disk(alloc: Global) -> Result<MemDisk, Fail> {
-    let disk = formatted_with(alloc, of_two_hash_stores()?)?;
-    let lines = repeated(alloc, &MERGED_TWICE)?;
-    let (disk, _printed) = live(alloc, disk, &lines)?;
-    Ok(disk)
+    after_lines(alloc, of_two_hash_stores()?, &MERGED_TWICE)
 }
 
-// Tries each crash in a formatting over these bytes.
-fn each_formatted_over(rt: &impl Abort, alloc: Global, old: &[u8]) -> Result<(), Fail> {
-    assert_eq!(rt; old.len(), SMALL_LEN);
-    for k in 0..FORMAT_CALLS + 2 {
-        for fill in FILLS {
-            formatted_over(rt, alloc, old, Stop { k, fill })?;
-        }
+// Tries each fill of a crash at this call in a formatting over these bytes.
+fn each_fill_over(rt: &impl Abort, alloc: Global, old: &[u8], k: u32) -> Result<(), Fail> {
+    for fill in FILLS {
+        formatted_over(rt, alloc, old, Stop { k, fill })?;
     }
     Ok(())
 }
 
-fn has_old_values(rt: &impl Abort, left: [u16; 8]) {
-    assert_eq!(rt; left, OLD_VALUES);
+// Tries each crash in a formatting over these bytes.
+fn each_formatted_over(rt: &impl Abort, alloc: Global, old: &[u8]) -> Result<(), Fail> {
+    same(rt, &old.len(), &SMALL_LEN);
+    for k in 0..FORMAT_CALLS + 2 {
+        each_fill_over(rt, alloc, old, k)?;
+    }
+    Ok(())
 }
 
 #[test]
 fn formatting_over_a_store_stopped_anywhere(rt: HostRuntime) -> Result<(), Fail> {
     let (disk, left) = entries_of(rt.alloc(), old_disk(rt.alloc())?)?;
-    has_old_values(&rt, left);
+    same(&rt, &left, &OLD_VALUES);
     each_formatted_over(&rt, rt.alloc(), disk.shown())
 }
 

@@ -3,7 +3,7 @@
 use crate::life_lines::Line;
 use crate::lines::IDLE;
 use crate::script::{Printed, live, repeated};
-use crate::support::entries_of;
+use crate::support::{entries_of, same};
 use silt_device::{Geometry, MemDisk, Stoppable};
 use silt_recovery::check;
 use std::alloc::{AllocError, Global};
@@ -141,14 +141,22 @@ fn grown(
 ) -> Result<(MemDisk, [u16; 8]), Fail> {
     let reply = printed_of_put(alloc, &disk, geometry)?;
     let (stands, kept) = with_put(reply, value, found);
-    let (disk, printed) = lived_with_put(alloc, disk, value, steps)?;
-    has_grown(
-        rt,
-        &printed,
-        &[Printed::Opened, reply, Printed::Acknowledged(kept)],
-        steps,
-    );
+    let expected = [Printed::Opened, reply, Printed::Acknowledged(kept)];
+    let disk = grown_as(rt, alloc, disk, (value, steps), &expected)?;
     Ok((disk, stands))
+}
+
+// Runs that life, whose first replies are these.
+fn grown_as(
+    rt: &impl Abort,
+    alloc: Global,
+    disk: MemDisk,
+    (value, steps): (u16, u32),
+    expected: &[Printed],
+) -> Result<MemDisk, AllocError> {
+    let (disk, printed) = lived_with_put(alloc, disk, value, steps)?;
+    has_grown(rt, &printed, expected, steps);
+    Ok(disk)
 }
 
 /// Goes on from a store with these entries. One life puts, flushes and crashes. The next one puts,
@@ -164,8 +172,13 @@ pub(crate) fn goes_on(
     let (disk, stands) = grown(rt, alloc, disk, geometry, (9, 0), found)?;
     let disk = has_still(rt, alloc, disk.restart(), stands)?;
     let (disk, stands) = grown(rt, alloc, disk, geometry, (10, 60), stands)?;
+    stays(rt, alloc, disk, stands)
+}
+
+// The store on the disk has these values, and has them after a crash.
+fn stays(rt: &impl Abort, alloc: Global, disk: MemDisk, stands: [u16; 8]) -> Result<(), Fail> {
     let disk = has_still(rt, alloc, disk, stands)?;
-    has_still(rt, alloc, disk.restart(), stands)?;
+    drop(has_still(rt, alloc, disk.restart(), stands)?);
     Ok(())
 }
 
@@ -177,6 +190,6 @@ fn has_still(
     stands: [u16; 8],
 ) -> Result<MemDisk, Fail> {
     let (disk, left) = entries_of(alloc, disk)?;
-    assert_eq!(rt; left, stands);
+    same(rt, &left, &stands);
     Ok(disk)
 }

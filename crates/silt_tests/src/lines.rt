@@ -52,8 +52,8 @@ pub(crate) const CONVERTED_TOLD: [(Printed, u8); 10] = [
     (IDLE, 1),
 ];
 
-/// That get and that step.
-pub(crate) const ASKED_BEHIND: [Line; 2] = [Line::Get(2), Line::Convert];
+/// That get and that step, and the swap below.
+pub(crate) const ASKED_BEHIND: [Line; 3] = [Line::Get(2), Line::Convert, SWAP_CONVERTED];
 
 /// Two merges over logs of one row: 106 calls. The second put freezes the first log, which becomes
 /// the hash store of the first merge. A delete and another put freeze two more logs, and the second

@@ -9,30 +9,29 @@ use crate::life_lines::Line;
 use crate::lines::{
     CONVERTED_MEANWHILE, CONVERTED_MEANWHILE_TOLD, SWAP_MEANWHILE, of_three_hash_stores,
 };
-use crate::script::{Printed, all_events_twice, ask, events_twice, print_reply, repeated, run};
-use crate::support::values_of;
+use crate::script::{
+    Printed, all_events_twice, ask, events_twice, print_reply, repeated_with, run,
+};
+use crate::support::{self, are_zeros, same, same_in, values_of, with_values};
 use silt_device::{Geometry, MemDisk, MemFault};
 use silt_event::Report;
-use silt_fixtures::small;
+use silt_fixtures::{opened_on, small};
 use silt_recovery::{FormatError, FormatFault, OpenError, check, format};
 use silt_store_set::{Core, Event, LifeReply, OpenFault, Refusal, Reply, lives};
-use std::alloc::Global;
+use std::alloc::{AllocError, Global};
 use std::process::Abort;
 use std::test::Fail;
 
-// These lines or replies, each this many times. A refused request is made once more.
-fn repeated_twice<T: Copy>(alloc: Global, parts: &[(T, u8)]) -> Result<Vec<T>, Fail> {
-    match repeated(alloc, parts) {
+// These lines or replies, each this many times, and others after them. A refused request is made
+// once more.
+fn repeated_twice<T: Copy>(
+    alloc: Global,
+    parts: &[(T, u8)],
+    others: &[T],
+) -> Result<Vec<T>, AllocError> {
+    match repeated_with(alloc, parts, others) {
         Ok(lines) => Ok(lines),
-        Err(_) => Ok(repeated(alloc, parts)?),
-    }
-}
-
-// Adds a line or a reply. A refused request is made once more.
-fn push_twice<T: Copy>(lines: &mut Vec<T>, line: T) -> Result<(), Fail> {
-    match lines.push(line) {
-        Ok(()) => Ok(()),
-        Err(_) => Ok(lines.push(line)?),
+        Err(_) => repeated_with(alloc, parts, others),
     }
 }
 
@@ -49,52 +48,87 @@ fn zeros(alloc: Global, geometry: Geometry) -> Result<MemDisk, Fail> {
 fn formatted(rt: &impl Abort, alloc: Global, geometry: Geometry) -> Result<MemDisk, Fail> {
     match format(alloc, zeros(alloc, geometry)?, geometry) {
         Ok(disk) => Ok(disk),
-        Err(
-            FormatFault::<MemDisk> {
-                disk,
-                error: FormatError::NoMemory,
-            },
-        ) => {
-            assert!(rt; disk.shown().iter().all(|byte| *byte == 0));
-            Ok(format(alloc, disk, geometry).ok().ok_or("formats")?)
-        }
-        Err(_) => Err("another fault".into()),
+        Err(fault) => formatted_after(rt, alloc, fault, geometry),
     }
+}
+
+// Formats the disk of a formatting that was out of memory.
+fn formatted_after(
+    rt: &impl Abort,
+    alloc: Global,
+    fault: FormatFault<MemDisk>,
+    geometry: Geometry,
+) -> Result<MemDisk, Fail> {
+    lacked_to_format(rt, &fault.error);
+    is_blank(rt, &fault.disk);
+    format_once(alloc, fault.disk, geometry)
+}
+
+fn format_once(alloc: Global, disk: MemDisk, geometry: Geometry) -> Result<MemDisk, Fail> {
+    Ok(format(alloc, disk, geometry).ok().ok_or("formats")?)
+}
+
+fn is_blank(rt: &impl Abort, disk: &MemDisk) {
+    assert!(rt; are_zeros(disk.shown()));
+}
+
+// A formatting was out of memory.
+fn lacked_to_format(rt: &impl Abort, error: &FormatError<MemFault>) {
+    assert!(rt; matches!(error, FormatError::NoMemory));
+}
+
+// A call was out of memory.
+fn lacked(rt: &impl Abort, refusal: &Refusal<MemFault>) {
+    assert!(rt; matches!(refusal, Refusal::NoMemory));
+}
+
+// A check was out of memory.
+fn lacked_to_check(rt: &impl Abort, error: &OpenError<MemFault>) {
+    assert!(rt; matches!(error, OpenError::NoMemory));
 }
 
 // The store on this disk, which is opened once more if the opening is out of memory.
-fn opened(alloc: Global, disk: MemDisk) -> Result<Core<MemDisk>, Fail> {
+fn opened(rt: &impl Abort, alloc: Global, disk: MemDisk) -> Result<Core<MemDisk>, Fail> {
     match Core::open(alloc, disk) {
         Ok(core) => Ok(core),
-        Err(
-            OpenFault::<MemDisk> {
-                disk,
-                refusal: Refusal::NoMemory,
-            },
-        ) => Ok(Core::open(alloc, disk).ok().ok_or("opens")?),
-        Err(_) => Err("another refusal".into()),
+        Err(fault) => opened_after(rt, alloc, fault),
     }
 }
 
+// Opens the disk of an opening that was out of memory.
+fn opened_after(
+    rt: &impl Abort,
+    alloc: Global,
+    fault: OpenFault<MemDisk>,
+) -> Result<Core<MemDisk>, Fail> {
+    lacked(rt, &fault.refusal);
+    opened_on(alloc, fault.disk)
+}
+
 // The report of a check of this disk, which is made once more if it is out of memory.
-fn checked(alloc: Global, disk: &MemDisk) -> Result<Report, Fail> {
+fn checked(rt: &impl Abort, alloc: Global, disk: &MemDisk) -> Result<Report, Fail> {
     match check(alloc, disk) {
         Ok(report) => Ok(report),
-        Err(OpenError::NoMemory) => Ok(check(alloc, disk).ok().ok_or("is whole")?),
-        Err(_) => Err("another refusal".into()),
+        Err(error) => {
+            lacked_to_check(rt, &error);
+            check_once(alloc, disk)
+        }
     }
+}
+
+fn check_once(alloc: Global, disk: &MemDisk) -> Result<Report, Fail> {
+    Ok(check(alloc, disk).ok().ok_or("is whole")?)
 }
 
 // The values of the keys 0 to 7 in the list of the entries. A list that is out of memory is asked
 // for once more.
-fn listed(alloc: Global, core: &Core<MemDisk>) -> Result<[u16; 8], Fail> {
+fn listed(rt: &impl Abort, alloc: Global, core: &Core<MemDisk>) -> Result<[u16; 8], Fail> {
     match core.entries(alloc) {
         Ok(entries) => Ok(values_of(&entries)),
-        Err(Refusal::NoMemory) => {
-            let entries = core.entries(alloc).ok().ok_or("has entries")?;
-            Ok(values_of(&entries))
+        Err(refusal) => {
+            lacked(rt, &refusal);
+            support::listed(alloc, core)
         }
-        Err(_) => Err("another refusal".into()),
     }
 }
 
@@ -112,15 +146,26 @@ fn asked(
     if printed != Printed::Refused(6) {
         return Ok(printed);
     }
-    let found = listed(alloc, core)?;
-    assert_eq!(rt; (core.count(), found), (count, values));
+    counts(rt, alloc, core, (count, values))?;
     Ok(ask(alloc, core, line)?)
+}
+
+// The store counts this many commands and has these values.
+fn counts(
+    rt: &impl Abort,
+    alloc: Global,
+    core: &Core<MemDisk>,
+    expected: (u64, [u16; 8]),
+) -> Result<(), Fail> {
+    let found = listed(rt, alloc, core)?;
+    same(rt, &(core.count(), found), &expected);
+    Ok(())
 }
 
 // A store on a new disk of this geometry.
 fn made(rt: &impl Abort, alloc: Global, geometry: Geometry) -> Result<Core<MemDisk>, Fail> {
     let disk = formatted(rt, alloc, geometry)?;
-    opened(alloc, disk)
+    opened(rt, alloc, disk)
 }
 
 // Each call succeeds at its first or second try: format, opening, check, the list of the entries,
@@ -130,20 +175,27 @@ fn made(rt: &impl Abort, alloc: Global, geometry: Geometry) -> Result<Core<MemDi
 fn each_call_lacks_memory(rt: HostRuntime) -> Result<(), Fail> {
     let alloc = rt.alloc();
     let mut core = made(&rt, alloc, of_three_hash_stores()?)?;
-    let values = all_done(&rt, alloc, &mut core)?;
-    is_found_again(&rt, alloc, core.close(), values)
+    let values = all_done(&rt, alloc, &mut core);
+    let (disk, values) = with_values(core.close(), values)?;
+    is_found_again(&rt, alloc, disk, values)
 }
 
 // Asks all lines of that life, and returns the values that they leave.
 fn all_done(rt: &impl Abort, alloc: Global, core: &mut Core<MemDisk>) -> Result<[u16; 8], Fail> {
-    let mut lines = repeated_twice(alloc, &CONVERTED_MEANWHILE)?;
-    let mut replies = repeated_twice(alloc, &CONVERTED_MEANWHILE_TOLD)?;
-    push_twice(&mut lines, SWAP_MEANWHILE)?;
-    push_twice(&mut replies, Printed::Accepted(5))?;
-    all_asked(rt, alloc, core, &lines, &replies)?;
-    let values = after(&lines, u64::MAX);
+    let values = all_lines_done(rt, alloc, core)?;
     has_flushed(rt, alloc, core, values)?;
     Ok(values)
+}
+
+fn all_lines_done(
+    rt: &impl Abort,
+    alloc: Global,
+    core: &mut Core<MemDisk>,
+) -> Result<[u16; 8], Fail> {
+    let lines = repeated_twice(alloc, &CONVERTED_MEANWHILE, &[SWAP_MEANWHILE])?;
+    let replies = repeated_twice(alloc, &CONVERTED_MEANWHILE_TOLD, &[Printed::Accepted(5)])?;
+    all_asked(rt, alloc, core, &lines, &replies)?;
+    Ok(after(&lines, u64::MAX))
 }
 
 // A flush acknowledges the five commands of that life, and the store has these values.
@@ -153,7 +205,7 @@ fn has_flushed(
     core: &mut Core<MemDisk>,
     values: [u16; 8],
 ) -> Result<(), Fail> {
-    assert_eq!(rt; core.flush().ok(), Some(5));
+    same(rt, &core.flush().ok(), &Some(5));
     lists(rt, alloc, core, values)
 }
 
@@ -164,8 +216,8 @@ fn lists(
     core: &Core<MemDisk>,
     values: [u16; 8],
 ) -> Result<(), Fail> {
-    let found = listed(alloc, core)?;
-    assert_eq!(rt; found, values);
+    let found = listed(rt, alloc, core)?;
+    same(rt, &found, &values);
     Ok(())
 }
 
@@ -180,15 +232,15 @@ fn all_asked(
     for (index, line) in lines.iter().enumerate() {
         let values = after(&lines[..lines.len().min(index)], u64::MAX);
         let printed = asked(rt, alloc, core, *line, values)?;
-        assert_eq!(rt; Some(&printed), due.get(index), "line {index}");
+        same_in(rt, &Some(&printed), &due.get(index), &index);
     }
     Ok(())
 }
 
 // The disk has two hash stores and a sorted entry.
 fn has_merged(rt: &impl Abort, alloc: Global, disk: &MemDisk) -> Result<(), Fail> {
-    let report = checked(alloc, disk)?;
-    assert_eq!(rt; (report.hashes, report.entries), (2, 1));
+    let report = checked(rt, alloc, disk)?;
+    same(rt, &(report.hashes, report.entries), &(2, 1));
     Ok(())
 }
 
@@ -200,8 +252,10 @@ fn is_found_again(
     values: [u16; 8],
 ) -> Result<(), Fail> {
     has_merged(rt, alloc, &disk)?;
-    let core = opened(alloc, disk)?;
-    lists(rt, alloc, &core, values)
+    let core = opened(rt, alloc, disk)?;
+    let listed = lists(rt, alloc, &core, values);
+    drop(core);
+    listed
 }
 
 // Three commands that freeze no log, and gets. Only a get may be out of memory in its place.
@@ -227,19 +281,35 @@ const PLAIN_TOLD: [(Printed, u8); 6] = [
 fn plain_events(alloc: Global) -> Result<Vec<Event>, Fail>
     ensures { IfOk result (λ events. All (HasValueOf 2) events.items) }
 {
-    let lines = repeated_twice(alloc, &PLAIN)?;
+    let lines = repeated_twice(alloc, &PLAIN, &[])?;
     Ok(events_twice(alloc, &lines)?)
 }
 
 // Runs these events, and compares the replies and the values that they leave.
 fn run_plain(rt: &impl Abort, alloc: Global, core: &mut Core<MemDisk>) -> Result<(), Fail> {
+    answers_plain(rt, alloc, core)?;
+    lists(rt, alloc, core, [0, 0, 2, 0, 0, 0, 0, 0])
+}
+
+fn answers_plain(rt: &impl Abort, alloc: Global, core: &mut Core<MemDisk>) -> Result<(), Fail> {
+    let answers = ran_plain(rt, alloc, core)?;
+    are_plain(rt, alloc, &answers)
+}
+
+fn ran_plain(
+    rt: &impl Abort,
+    alloc: Global,
+    core: &mut Core<MemDisk>,
+) -> Result<Vec<Reply<MemFault>>, Fail> {
     let events = plain_events(alloc)?;
-    let replies = repeated_twice(alloc, &PLAIN_TOLD)?;
-    let answers = run_again(rt, alloc, core, &events)?;
-    assert_eq!(rt; answers.len(), replies.len());
-    assert!(rt; gets_lacking(rt, &answers, &replies) < 2);
-    let found = listed(alloc, core)?;
-    assert_eq!(rt; found, [0, 0, 2, 0, 0, 0, 0, 0]);
+    run_again(rt, alloc, core, &events)
+}
+
+// These are the replies, with at most one get out of memory.
+fn are_plain(rt: &impl Abort, alloc: Global, answers: &[Reply<MemFault>]) -> Result<(), Fail> {
+    let replies = repeated_twice(alloc, &PLAIN_TOLD, &[])?;
+    same(rt, &answers.len(), &replies.len());
+    assert!(rt; gets_lacking(rt, answers, &replies) < 2);
     Ok(())
 }
 
@@ -249,7 +319,9 @@ fn run_plain(rt: &impl Abort, alloc: Global, core: &mut Core<MemDisk>) -> Result
 fn a_run_lacks_memory(rt: HostRuntime) -> Result<(), Fail> {
     let alloc = rt.alloc();
     let mut core = made(&rt, alloc, small()?)?;
-    run_plain(&rt, alloc, &mut core)
+    let ran = run_plain(&rt, alloc, &mut core);
+    drop(core);
+    ran
 }
 
 // The replies to these events. A run that is out of memory has done none of them, and is made once
@@ -262,18 +334,19 @@ fn run_again(
 ) -> Result<Vec<Reply<MemFault>>, Fail>
     requires { All (HasValueOf 2) events.now }
 {
-    if let Ok(answers) = run(alloc, core, 2, events) {
-        return Ok(answers);
+    match run(alloc, core, 2, events) {
+        Ok(answers) => Ok(answers),
+        Err(_) => {
+            counts(rt, alloc, core, (0, [0; 8]))?;
+            Ok(run(alloc, core, 2, events)?)
+        }
     }
-    let found = listed(alloc, core)?;
-    assert_eq!(rt; (core.count(), found), (0, [0; 8]));
-    Ok(run(alloc, core, 2, events)?)
 }
 
 // 1 if a get is out of memory, else 0 after a comparison of the reply with the one that is due.
 fn lacks(rt: &impl Abort, printed: Printed, expected: Printed) -> u32 {
     if printed != Printed::Refused(6) {
-        assert_eq!(rt; printed, expected);
+        same(rt, &printed, &expected);
         return 0;
     }
     assert!(rt; matches!(expected, Printed::Value(..)));
@@ -315,7 +388,7 @@ fn printed_of_two(
 }
 
 fn last_of_two(rt: &impl Abort, replies: &[LifeReply<MemFault>]) -> (Printed, Printed) {
-    assert_eq!(rt; replies.len(), 2);
+    assert!(rt; replies.len() == 2);
     (printed_last(&replies[0]), printed_last(&replies[1]))
 }
 
@@ -323,10 +396,10 @@ fn last_of_two(rt: &impl Abort, replies: &[LifeReply<MemFault>]) -> (Printed, Pr
 // get finds nothing.
 fn one_lacks(rt: &impl Abort, first: Printed, second: Printed) {
     if first == Printed::NotOpened(6) {
-        assert_eq!(rt; second, Printed::Absent);
+        same(rt, &second, &Printed::Absent);
         return;
     }
-    assert_eq!(rt; first, Printed::Acknowledged(1));
+    same(rt, &first, &Printed::Acknowledged(1));
     let expected = [
         Printed::Value(0, 1),
         Printed::Refused(6),
@@ -335,13 +408,21 @@ fn one_lacks(rt: &impl Abort, first: Printed, second: Printed) {
     assert!(rt; expected.contains(&second), "{second:?}");
 }
 
+const PUT_AND_GET: [&[Line]; 2] = [&[Line::Put(1, 1), Line::Flush], &[Line::Get(1)]];
+
+fn printed_of_put_and_get(
+    rt: &impl Abort,
+    alloc: Global,
+) -> Result<Option<(Printed, Printed)>, Fail> {
+    let disk = formatted(rt, alloc, small()?)?;
+    printed_of_two(rt, alloc, disk, &PUT_AND_GET)
+}
+
 // The first of two lives puts and flushes, the second gets. If memory is refused, no life begins,
 // or one of them is not opened, or the get is refused.
 #[test]
 fn a_life_lacks_memory(rt: HostRuntime) -> Result<(), Fail> {
-    let put = [Line::Put(1, 1), Line::Flush];
-    let disk = formatted(&rt, rt.alloc(), small()?)?;
-    let printed = printed_of_two(&rt, rt.alloc(), disk, &[&put, &[Line::Get(1)]])?;
+    let printed = printed_of_put_and_get(&rt, rt.alloc())?;
     if let Some((first, second)) = printed {
         one_lacks(&rt, first, second);
     }

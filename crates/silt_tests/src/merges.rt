@@ -7,11 +7,12 @@ use crate::lines::{
     CONVERTED_MEANWHILE, CONVERTED_MEANWHILE_TOLD, FINISHED, MERGED_TWICE, MERGED_TWICE_TOLD,
     MOVED, of_three_hash_stores, of_two_hash_stores,
 };
-use crate::script::{Printed, live, printed_of_life, repeated};
-use silt_device::Geometry;
+use crate::read_counts::after_lines;
+use crate::script::{Printed, printed_of_life, repeated};
+use crate::support::{is_reported, same, same_lists};
+use silt_device::{Geometry, MemDisk};
 use silt_event::{Layout, Report};
-use silt_fixtures::{formatted_with, of_regions};
-use silt_recovery::check;
+use silt_fixtures::of_regions;
 use silt_store_set::Progress;
 use std::alloc::{AllocError, Global};
 use std::process::Abort;
@@ -25,6 +26,18 @@ const MERGED_FOR_ROOM: [(Line, u8); 6] = [
     (Line::Convert, 10),
     (Line::Merge, 10),
     (Line::Convert, 1),
+];
+
+const MERGED_FOR_ROOM_TOLD: [(Printed, u8); 9] = [
+    (Printed::Accepted(1), 1),
+    (Printed::Accepted(2), 1),
+    (Printed::Accepted(3), 1),
+    (MOVED, 8),
+    (FINISHED, 1),
+    (Printed::Progress(Progress::Waiting), 1),
+    (MOVED, 9),
+    (FINISHED, 1),
+    (MOVED, 1),
 ];
 
 fn of_one_hash_store() -> Result<Geometry, Fail> {
@@ -86,7 +99,7 @@ fn answers_asked(
 ) -> Result<(), Fail> {
     let expected = printed_with_gets(alloc, lines, replies)?;
     let printed = printed_asked(alloc, geometry, lines)?;
-    assert_eq!(rt; printed.as_slice(), expected.as_slice());
+    same_lists(rt, &printed, &expected);
     Ok(())
 }
 
@@ -99,10 +112,15 @@ fn answers_alone(
     replies: &[Printed],
 ) -> Result<(), Fail> {
     let printed = printed_of_life(alloc, geometry, lines)?;
-    assert_eq!(rt; printed.first(), Some(&Printed::Opened));
-    assert!(rt; printed.as_slice().ends_with(replies));
-    assert_eq!(rt; printed.len(), replies.len().saturating_add(1));
+    are_alone(rt, &printed, replies);
     Ok(())
+}
+
+// The store was opened, and then these replies came.
+fn are_alone(rt: &impl Abort, printed: &[Printed], replies: &[Printed]) {
+    same(rt, &printed.first(), &Some(&Printed::Opened));
+    assert!(rt; printed.ends_with(replies));
+    same(rt, &printed.len(), &replies.len().saturating_add(1));
 }
 
 // The life on a new disk gets these replies, with and without a get of each key after each line.
@@ -115,8 +133,18 @@ fn answers(
 ) -> Result<(), Fail> {
     let lines = repeated(alloc, parts)?;
     let replies = repeated(alloc, replies)?;
-    answers_asked(rt, alloc, geometry, &lines, &replies)?;
-    answers_alone(rt, alloc, geometry, &lines, &replies)
+    answers_both(rt, alloc, geometry, &lines, &replies)
+}
+
+fn answers_both(
+    rt: &impl Abort,
+    alloc: Global,
+    geometry: Geometry,
+    lines: &[Line],
+    replies: &[Printed],
+) -> Result<(), Fail> {
+    answers_asked(rt, alloc, geometry, lines, replies)?;
+    answers_alone(rt, alloc, geometry, lines, replies)
 }
 
 #[test]
@@ -125,28 +153,30 @@ fn drops_what_is_deleted(rt: HostRuntime) -> Result<(), Fail> {
     answers(&rt, rt.alloc(), geometry, &MERGED_TWICE, &MERGED_TWICE_TOLD)
 }
 
+const MERGED: Report = Report {
+    generation: 8,
+    active: 1,
+    active_rows: 1,
+    frozen: 0,
+    frozen_rows: 0,
+    hashes: 0,
+    hash_rows: 0,
+    entries: 1,
+    charge: 2,
+    layout: Layout::Two,
+};
+
+fn has_merged(rt: &impl Abort, alloc: Global, disk: &MemDisk) {
+    is_reported(rt, alloc, disk, MERGED);
+}
+
 // Of three keys one is deleted, one is merged, and one is still in the active log. Each put and
 // delete but the first froze a log. Each freeze, conversion and merge made a generation of the
 // manifest.
 #[test]
 fn reports_what_is_merged(rt: HostRuntime) -> Result<(), Fail> {
-    let alloc = rt.alloc();
-    let disk = formatted_with(alloc, of_two_hash_stores()?)?;
-    let lines = repeated(alloc, &MERGED_TWICE)?;
-    let (disk, _printed) = live(alloc, disk, &lines)?;
-    let expected = Report {
-        generation: 8,
-        active: 1,
-        active_rows: 1,
-        frozen: 0,
-        frozen_rows: 0,
-        hashes: 0,
-        hash_rows: 0,
-        entries: 1,
-        charge: 2,
-        layout: Layout::Two,
-    };
-    assert_eq!(rt; check(alloc, &disk).ok(), Some(expected));
+    let disk = after_lines(rt.alloc(), of_two_hash_stores()?, &MERGED_TWICE)?;
+    has_merged(&rt, rt.alloc(), &disk);
     Ok(())
 }
 
@@ -164,17 +194,12 @@ fn keeps_the_newer_rows_in_front(rt: HostRuntime) -> Result<(), Fail> {
 
 #[test]
 fn makes_room_for_a_conversion(rt: HostRuntime) -> Result<(), Fail> {
-    let replies = [
-        (Printed::Accepted(1), 1),
-        (Printed::Accepted(2), 1),
-        (Printed::Accepted(3), 1),
-        (MOVED, 8),
-        (FINISHED, 1),
-        (Printed::Progress(Progress::Waiting), 1),
-        (MOVED, 9),
-        (FINISHED, 1),
-        (MOVED, 1),
-    ];
     let geometry = of_one_hash_store()?;
-    answers(&rt, rt.alloc(), geometry, &MERGED_FOR_ROOM, &replies)
+    answers(
+        &rt,
+        rt.alloc(),
+        geometry,
+        &MERGED_FOR_ROOM,
+        &MERGED_FOR_ROOM_TOLD,
+    )
 }

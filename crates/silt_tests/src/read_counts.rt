@@ -2,11 +2,13 @@
 // and the refusals are counted.
 
 use crate::life_lines::Line;
-use crate::script::{Printed, ask, live, repeated};
+use crate::script::{Printed, ask, live_parts};
+use crate::support::same;
 use silt_device::{Call, FaultDisk, Geometry, MemDisk};
 use silt_fixtures::{formatted_with, of_regions};
 use silt_store_set::{Core, Refusal};
 use std::alloc::Global;
+use std::process::Abort;
 use std::test::Fail;
 
 // What is asked of a store: a line, or the list of its entries.
@@ -39,10 +41,20 @@ fn is_refused(alloc: Global, core: &mut Core<FaultDisk>, asked: Asked) -> Result
 // Which call makes the read of this number: an opening of these bytes, this call after it, or none.
 fn place_of_read(alloc: Global, bytes: &[u8], asked: Asked, number: u64) -> Result<Made, Fail> {
     let disk = FaultDisk::new(MemDisk::with_bytes(alloc, bytes)?, Call::Read, number);
-    let Ok(mut core) = Core::open(alloc, disk) else {
-        return Ok(Made::Opening);
-    };
-    match is_refused(alloc, &mut core, asked)? {
+    match Core::open(alloc, disk) {
+        Ok(core) => made_in(alloc, core, asked),
+        Err(fault) => {
+            drop(fault);
+            Ok(Made::Opening)
+        }
+    }
+}
+
+// Whether this call makes the read that fails, in an opened store, or none.
+fn made_in(alloc: Global, mut core: Core<FaultDisk>, asked: Asked) -> Result<Made, Fail> {
+    let refused = is_refused(alloc, &mut core, asked);
+    drop(core);
+    match refused? {
         true => Ok(Made::Call),
         false => Ok(Made::Never),
     }
@@ -72,8 +84,8 @@ pub(crate) fn after_lines(
     geometry: Geometry,
     lines: &[(Line, u8)],
 ) -> Result<MemDisk, Fail> {
-    let lines = repeated(alloc, lines)?;
-    let (disk, _) = live(alloc, formatted_with(alloc, geometry)?, &lines)?;
+    let disk = formatted_with(alloc, geometry)?;
+    let (disk, _) = live_parts(alloc, disk, lines)?;
     Ok(disk)
 }
 
@@ -99,27 +111,46 @@ const ACTIVE: [(Line, u8); 5] = [
     (Line::Flush, 1),
 ];
 
+const PUTS: [Line; 4] = [
+    Line::Put(1, 5),
+    Line::Put(2, 5),
+    Line::Put(3, 5),
+    Line::Put(4, 5),
+];
+
+const DELETES: [Line; 4] = [
+    Line::Delete(1),
+    Line::Delete(2),
+    Line::Delete(3),
+    Line::Delete(4),
+];
+
 // A put or delete reads the heads of the rows whose slots have the key's tag, up to the key's own.
 // It reads none if the key is alone in its buckets. It looks in no other store.
 #[test]
 fn a_put_reads_the_heads_of_its_candidates_once(rt: HostRuntime) -> Result<(), Fail> {
     let disk = after_lines(rt.alloc(), of_regions(8, 2, 2, 16)?, &ACTIVE)?;
-    let puts = [
-        Line::Put(1, 5),
-        Line::Put(2, 5),
-        Line::Put(3, 5),
-        Line::Put(4, 5),
-    ];
-    let counts = reads_of_each(rt.alloc(), disk.shown(), &puts)?;
-    assert_eq!(rt; counts, [1, 2, 3, 3]);
-    let deletes = [
-        Line::Delete(1),
-        Line::Delete(2),
-        Line::Delete(3),
-        Line::Delete(4),
-    ];
-    let counts = reads_of_each(rt.alloc(), disk.shown(), &deletes)?;
-    assert_eq!(rt; counts, [1, 2, 3, 3]);
+    let read = read_heads(&rt, rt.alloc(), disk.shown());
+    drop(disk);
+    read
+}
+
+// Puts and deletes after those lines make these numbers of reads.
+fn read_heads(rt: &impl Abort, alloc: Global, bytes: &[u8]) -> Result<(), Fail> {
+    make_reads(rt, alloc, bytes, &PUTS, [1, 2, 3, 3])?;
+    make_reads(rt, alloc, bytes, &DELETES, [1, 2, 3, 3])
+}
+
+// These lines make these numbers of reads, each as the only one after an opening.
+fn make_reads<const N: usize>(
+    rt: &impl Abort,
+    alloc: Global,
+    bytes: &[u8],
+    asked: &[Line; N],
+    expected: [u32; N],
+) -> Result<(), Fail> {
+    let counts = reads_of_each(alloc, bytes, asked)?;
+    same(rt, &counts, &expected);
     Ok(())
 }
 
@@ -137,10 +168,14 @@ const FROZEN: [(Line, u8); 6] = [
 #[test]
 fn a_put_reads_nothing_of_older_stores(rt: HostRuntime) -> Result<(), Fail> {
     let disk = after_lines(rt.alloc(), of_regions(4, 2, 2, 8)?, &FROZEN)?;
+    let read = read_active_rows(&rt, rt.alloc(), disk.shown());
+    drop(disk);
+    read
+}
+
+fn read_active_rows(rt: &impl Abort, alloc: Global, bytes: &[u8]) -> Result<(), Fail> {
     let asked = [Line::Put(1, 5), Line::Delete(4), Line::Put(5, 6)];
-    let counts = reads_of_each(rt.alloc(), disk.shown(), &asked)?;
-    assert_eq!(rt; counts, [1, 1, 1]);
-    Ok(())
+    make_reads(rt, alloc, bytes, &asked, [1, 1, 1])
 }
 
 // The list reads each row once: four of a frozen log, one of which is a delete, and one of the
@@ -148,7 +183,8 @@ fn a_put_reads_nothing_of_older_stores(rt: HostRuntime) -> Result<(), Fail> {
 #[test]
 fn a_list_of_entries_reads_each_row_once(rt: HostRuntime) -> Result<(), Fail> {
     let disk = after_lines(rt.alloc(), of_regions(4, 2, 2, 8)?, &FROZEN)?;
-    let counts = reads_of(rt.alloc(), disk.shown(), Asked::Entries)?;
-    assert_eq!(rt; counts, (10, 5));
+    let counts = reads_of(rt.alloc(), disk.shown(), Asked::Entries);
+    drop(disk);
+    same(&rt, &counts?, &(10, 5));
     Ok(())
 }

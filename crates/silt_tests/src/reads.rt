@@ -2,11 +2,11 @@
 // other call.
 
 use crate::life_lines::Line;
-use crate::script::{Printed, live, repeated, replies_of};
-use crate::support::values_of;
-use silt_device::{Call, FaultDisk, MemDisk};
+use crate::script::{Printed, live_parts, replies_of};
+use crate::support::{same, same_in, values_of};
+use silt_device::{Call, FaultDisk, MemDisk, MemFault};
 use silt_fixtures::formatted;
-use silt_store_set::{Core, Progress};
+use silt_store_set::{Core, Progress, Refusal};
 use std::alloc::Global;
 use std::process::Abort;
 use std::test::Fail;
@@ -50,18 +50,30 @@ const ANSWERS: [Printed; 5] = [
 // list of the entries.
 type Refused = [u32; 7];
 
-// Which of these replies is the device's fault, if one is. All others are those that are due.
+// Which of these replies, counted from 1, is the device's fault, if one is. All others are those
+// that are due.
 fn place_of_fault(rt: &impl Abort, printed: &[Printed], answers: &[Printed]) -> Option<usize> {
-    assert_eq!(rt; printed.len(), answers.len());
+    same(rt, &printed.len(), &answers.len());
     let mut refused = None;
     for (place, (reply, answer)) in printed.iter().zip(answers.iter()).enumerate() {
-        if *reply == Printed::Refused(5) {
-            assert!(rt; refused.is_none());
-            refused = Some(place);
-        } else {
-            assert_eq!(rt; reply, answer);
-        }
+        refused = place_after(rt, refused, place, *reply, *answer);
     }
+    refused
+}
+
+// The place of the fault after one more reply.
+fn place_after(
+    rt: &impl Abort,
+    refused: Option<usize>,
+    place: usize,
+    reply: Printed,
+    answer: Printed,
+) -> Option<usize> {
+    if reply == Printed::Refused(5) {
+        same(rt, &refused, &None);
+        return Some(place.saturating_add(1));
+    }
+    same(rt, &reply, &answer);
     refused
 }
 
@@ -79,19 +91,24 @@ fn place_of_call(
     alloc: Global,
     core: &mut Core<FaultDisk>,
 ) -> Result<Option<usize>, Fail> {
-    let printed = replies_of(alloc, core, &ASKED)?;
-    let refused = place_of_fault(rt, &printed, &ANSWERS);
+    let refused = place_of_event(rt, alloc, core)?;
     let values = listed(alloc, core);
     if values.is_ok() {
-        assert_eq!(rt; values, Ok([0, 0, 9, 3, 4, 5, 6, 7]));
-        return Ok(refused.map(|place| place.saturating_add(1)));
+        same(rt, &values, &Ok([0, 0, 9, 3, 4, 5, 6, 7]));
+        return Ok(refused);
     }
-    assert_eq!(rt; (values, refused), (Err(5), None));
+    same(rt, &(values, refused), &(Err(5), None));
     Ok(Some(6))
 }
 
-fn is_fault(rt: &impl Abort, refusal: u32, number: u64) {
-    assert_eq!(rt; refusal, 5, "read {number}");
+// Which event is refused with the fault of a read, if one is.
+fn place_of_event(
+    rt: &impl Abort,
+    alloc: Global,
+    core: &mut Core<FaultDisk>,
+) -> Result<Option<usize>, Fail> {
+    let printed = replies_of(alloc, core, &ASKED)?;
+    Ok(place_of_fault(rt, &printed, &ANSWERS))
 }
 
 // Which call is refused with the fault of this read, or none if no call makes it.
@@ -103,12 +120,28 @@ fn place_of_read(
 ) -> Result<Option<usize>, Fail> {
     let disk = FaultDisk::new(MemDisk::with_bytes(alloc, bytes)?, Call::Read, number);
     match Core::open(alloc, disk) {
-        Ok(mut core) => place_of_call(rt, alloc, &mut core),
+        Ok(core) => place_in(rt, alloc, core),
         Err(fault) => {
-            is_fault(rt, fault.refusal.label().0, number);
+            is_fault(rt, &fault.refusal, number);
+            drop(fault);
             Ok(Some(0))
         }
     }
+}
+
+// Which call of this store is refused with the fault of a read, if one is. The store is closed.
+fn place_in(
+    rt: &impl Abort,
+    alloc: Global,
+    mut core: Core<FaultDisk>,
+) -> Result<Option<usize>, Fail> {
+    let place = place_of_call(rt, alloc, &mut core);
+    drop(core);
+    place
+}
+
+fn is_fault(rt: &impl Abort, refusal: &Refusal<MemFault>, number: u64) {
+    same_in(rt, &refusal.label().0, &5, &number);
 }
 
 // How often each call was refused with a fault, over all reads up to the first that no call makes.
@@ -136,22 +169,28 @@ fn all_refused(rt: &impl Abort, alloc: Global, bytes: &[u8]) -> Result<Refused, 
 // entries are read from five rows of logs and from eight slots, of which four have values.
 #[test]
 fn reports_each_failed_read_as_a_fault(rt: HostRuntime) -> Result<(), Fail> {
-    let lines = repeated(rt.alloc(), &THREE_PLACES)?;
-    let (disk, printed) = live(rt.alloc(), formatted(rt.alloc())?, &lines)?;
-    is_printed(&rt, &printed);
+    let disk = with_three_places(&rt, rt.alloc())?;
     let refused = all_refused(&rt, rt.alloc(), disk.shown())?;
     are_refused(&rt, refused);
     Ok(())
 }
 
-fn is_printed(rt: &impl Abort, printed: &[Printed]) {
-    assert_eq!(rt; printed.len(), 21);
-    assert_eq!(rt; printed[20], Printed::Value(0, 9));
+// The device after those lines, with their replies checked.
+fn with_three_places(rt: &impl Abort, alloc: Global) -> Result<MemDisk, Fail> {
+    let disk = formatted(alloc)?;
+    let (disk, printed) = live_parts(alloc, disk, &THREE_PLACES)?;
+    are_three_places(rt, &printed);
+    Ok(disk)
+}
+
+fn are_three_places(rt: &impl Abort, printed: &[Printed]) {
+    same(rt, &printed.len(), &21);
+    same(rt, &printed.last(), &Some(&Printed::Value(0, 9)));
 }
 
 fn are_refused(rt: &impl Abort, refused: Refused) {
     let [opening, newest, frozen, hashed, deleted, converted, entries] = refused;
-    assert_eq!(rt; (opening, entries), (17, 17));
-    assert_eq!(rt; (newest, frozen, hashed, deleted), (1, 3, 8, 5));
-    assert_eq!(rt; converted, 1);
+    same(rt, &(opening, entries), &(17, 17));
+    same(rt, &(newest, frozen, hashed, deleted), &(1, 3, 8, 5));
+    same(rt, &converted, &1);
 }

@@ -3,7 +3,7 @@
 use crate::life_lines::Line;
 use crate::lines::THREE_PUTS;
 use crate::script::{Printed, lived, printed_lives};
-use crate::support::stands_at;
+use crate::support::{are_zeros, has_bytes, same_lists, same_lists_in};
 use silt_device::{Fill, MemDisk, Stoppable};
 use silt_fixtures::{FILLS, SMALL_LEN, formatted, of_values, stopping};
 use std::alloc::Global;
@@ -25,12 +25,12 @@ fn are_printed(
     expected: &[Printed],
 ) -> Result<(), Fail> {
     let printed = printed_lives(alloc, disk, all)?;
-    assert_eq!(rt; printed.as_slice(), expected);
+    same_lists(rt, &printed, expected);
     Ok(())
 }
 
-// The lives on a small disk with these crashes get these replies.
-fn are_printed_stopped(
+/// The lives on a small disk with these crashes get these replies.
+pub(crate) fn are_printed_stopped(
     rt: &impl Abort,
     alloc: Global,
     stops: &[(u32, Fill)],
@@ -38,7 +38,7 @@ fn are_printed_stopped(
     expected: &[Printed],
 ) -> Result<(), Fail> {
     let printed = printed_lives(alloc, armed(alloc, stops)?, all)?;
-    assert_eq!(rt; printed.as_slice(), expected, "{stops:?}");
+    same_lists_in(rt, &printed, expected, &stops);
     Ok(())
 }
 
@@ -51,18 +51,24 @@ const TOLD_TO_CALL_9: [Printed; 5] = [
     Printed::Refused(5),
 ];
 
+const UNFLUSHED: [&[Line]; 2] = [&[Line::Put(1, 2)], &[Line::Get(1)]];
+
+const UNFLUSHED_TOLD: [Printed; 4] = [
+    Printed::Opened,
+    Printed::Accepted(1),
+    Printed::Opened,
+    Printed::Absent,
+];
+
+fn loses_unflushed(rt: &impl Abort, alloc: Global, fill: Fill) -> Result<(), Fail> {
+    are_printed_stopped(rt, alloc, &[(0, fill)], &UNFLUSHED, &UNFLUSHED_TOLD)
+}
+
 // A row whose gate no flush wrote is lost, whichever image the crash leaves.
 #[test]
 fn loses_what_no_flush_answered(rt: HostRuntime) -> Result<(), Fail> {
-    let all: [&[Line]; 2] = [&[Line::Put(1, 2)], &[Line::Get(1)]];
-    let expected = [
-        Printed::Opened,
-        Printed::Accepted(1),
-        Printed::Opened,
-        Printed::Absent,
-    ];
     for fill in FILLS {
-        are_printed_stopped(&rt, rt.alloc(), &[(0, fill)], &all, &expected)?;
+        loses_unflushed(&rt, rt.alloc(), fill)?;
     }
     Ok(())
 }
@@ -105,40 +111,75 @@ fn keeps_the_rows_before_the_first_closed_gate(rt: HostRuntime) -> Result<(), Fa
 }
 
 fn has_gates(rt: &impl Abort, disk: &MemDisk, gates: &[u8; 4]) {
-    assert!(rt; stands_at(disk, 12_288, gates), "{gates:?}");
+    has_bytes(rt, disk, 12_288, gates);
+}
+
+// The disk after that crash.
+fn stopped_at_call_9(rt: &impl Abort, alloc: Global) -> Result<MemDisk, Fail> {
+    let disk = armed(alloc, &[(9, Fill::Mix)])?;
+    let disk = lived(rt, alloc, disk, &THREE_PUTS, &TOLD_TO_CALL_9)?;
+    Ok(disk.restart())
 }
 
 // The gates at 12,288 to 12,291 after that crash, and after the opening that follows it.
 #[test]
 fn seals_the_gates_past_the_first_closed_one(rt: HostRuntime) -> Result<(), Fail> {
-    let disk = armed(rt.alloc(), &[(9, Fill::Mix)])?;
-    let disk = lived(&rt, rt.alloc(), disk, &THREE_PUTS, &TOLD_TO_CALL_9)?;
-    let disk = disk.restart();
+    let disk = stopped_at_call_9(&rt, rt.alloc())?;
     has_gates(&rt, &disk, b"\xa7\x00\xa7\x00");
     let disk = lived(&rt, rt.alloc(), disk, &[], &[Printed::Opened])?;
     has_gates(&rt, &disk, b"\xa7\x00\x00\x00");
+    drop(disk);
     Ok(())
+}
+
+const FLUSHED: [&[Line]; 3] = [
+    &[Line::Put(1, 1), Line::Flush],
+    &[Line::Get(1)],
+    &[Line::Get(1)],
+];
+
+const FLUSHED_TOLD: [Printed; 6] = [
+    Printed::Opened,
+    Printed::Accepted(1),
+    Printed::Acknowledged(1),
+    Printed::NotOpened(5),
+    Printed::Opened,
+    Printed::Value(0, 1),
+];
+
+fn keeps_flushed(rt: &impl Abort, alloc: Global, fill: Fill) -> Result<(), Fail> {
+    are_printed_stopped(rt, alloc, &[(0, fill), (1, fill)], &FLUSHED, &FLUSHED_TOLD)
 }
 
 // An acknowledged put survives every crash, also one in an opening. A life that was not opened is
 // followed by one that is.
 #[test]
 fn keeps_what_a_flush_answered(rt: HostRuntime) -> Result<(), Fail> {
-    let all: [&[Line]; 3] = [
-        &[Line::Put(1, 1), Line::Flush],
-        &[Line::Get(1)],
-        &[Line::Get(1)],
-    ];
-    let expected = [
-        Printed::Opened,
-        Printed::Accepted(1),
-        Printed::Acknowledged(1),
-        Printed::NotOpened(5),
-        Printed::Opened,
-        Printed::Value(0, 1),
-    ];
     for fill in FILLS {
-        are_printed_stopped(&rt, rt.alloc(), &[(0, fill), (1, fill)], &all, &expected)?;
+        keeps_flushed(&rt, rt.alloc(), fill)?;
+    }
+    Ok(())
+}
+
+const RECOVERED: [&[Line]; 3] = [&THREE_PUTS, &[Line::Get(1)], &[Line::Get(1), Line::Get(3)]];
+
+const RECOVERED_TOLD: [Printed; 9] = [
+    Printed::Opened,
+    Printed::Accepted(1),
+    Printed::Accepted(2),
+    Printed::Accepted(3),
+    Printed::Refused(5),
+    Printed::NotOpened(5),
+    Printed::Opened,
+    Printed::Value(0, 1),
+    Printed::Absent,
+];
+
+// A crash with each fill interrupts the opening after the first crash, at this call.
+fn recovers_after(rt: &impl Abort, alloc: Global, k: u32) -> Result<(), Fail> {
+    for fill in FILLS {
+        let stops = [(9, Fill::Mix), (k, fill)];
+        are_printed_stopped(rt, alloc, &stops, &RECOVERED, &RECOVERED_TOLD)?;
     }
     Ok(())
 }
@@ -147,28 +188,8 @@ fn keeps_what_a_flush_answered(rt: HostRuntime) -> Result<(), Fail> {
 // or the sync after it.
 #[test]
 fn recovers_after_a_stopped_recovery(rt: HostRuntime) -> Result<(), Fail> {
-    let all: [&[Line]; 3] = [&THREE_PUTS, &[Line::Get(1)], &[Line::Get(1), Line::Get(3)]];
-    let expected = [
-        Printed::Opened,
-        Printed::Accepted(1),
-        Printed::Accepted(2),
-        Printed::Accepted(3),
-        Printed::Refused(5),
-        Printed::NotOpened(5),
-        Printed::Opened,
-        Printed::Value(0, 1),
-        Printed::Absent,
-    ];
     for k in 1..4u32 {
-        for fill in FILLS {
-            are_printed_stopped(
-                &rt,
-                rt.alloc(),
-                &[(9, Fill::Mix), (k, fill)],
-                &all,
-                &expected,
-            )?;
-        }
+        recovers_after(&rt, rt.alloc(), k)?;
     }
     Ok(())
 }
@@ -234,17 +255,15 @@ fn refuses_values_of_another_length(rt: HostRuntime) -> Result<(), Fail> {
     Ok(())
 }
 
+fn opens_no_life(rt: &impl Abort, alloc: Global) -> Result<(), Fail> {
+    let disk = MemDisk::new(alloc, SMALL_LEN)?;
+    are_printed(rt, alloc, disk, &TWO_LIVES, &[Printed::NotOpened(1); 2])
+}
+
 // A device of zeros holds no store. It is opened in none of the lives, and stays as it is.
 #[test]
 fn refuses_without_running(rt: HostRuntime) -> Result<(), Fail> {
-    let disk = MemDisk::new(rt.alloc(), SMALL_LEN)?;
-    are_printed(
-        &rt,
-        rt.alloc(),
-        disk,
-        &TWO_LIVES,
-        &[Printed::NotOpened(1); 2],
-    )?;
+    opens_no_life(&rt, rt.alloc())?;
     let disk = MemDisk::new(rt.alloc(), SMALL_LEN)?;
     let disk = lived(
         &rt,
@@ -253,6 +272,7 @@ fn refuses_without_running(rt: HostRuntime) -> Result<(), Fail> {
         TWO_LIVES[0],
         &[Printed::NotOpened(1)],
     )?;
-    assert!(rt; disk.shown().iter().all(|byte| *byte == 0));
+    assert!(rt; are_zeros(disk.shown()));
+    drop(disk);
     Ok(())
 }

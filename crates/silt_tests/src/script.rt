@@ -3,9 +3,10 @@ ghost use Rattle.std.specs.Prelude.{All, IfOk};
 ghost use Rattle.silt_event.specs.Events.{HasValueOf};
 
 use crate::life_lines::{Line, event, events};
+use crate::support::same_lists;
 use silt_device::{Disk, FaultDisk, Geometry, MemDisk, MemFault};
 use silt_fixtures::formatted_with;
-use silt_store_set::{Core, Event, LifeReply, OpenFault, Progress, Reply, lives};
+use silt_store_set::{Core, Event, LifeReply, Progress, Reply, lives};
 use std::alloc::{AllocError, Global};
 use std::process::Abort;
 use std::test::Fail;
@@ -40,6 +41,17 @@ pub(crate) fn repeated<T: Copy>(alloc: Global, parts: &[(T, u8)]) -> Result<Vec<
     for (line, count) in parts {
         add(&mut lines, *line, *count)?;
     }
+    Ok(lines)
+}
+
+/// These lines or replies, each this many times, and others after them.
+pub(crate) fn repeated_with<T: Copy>(
+    alloc: Global,
+    parts: &[(T, u8)],
+    others: &[T],
+) -> Result<Vec<T>, AllocError> {
+    let mut lines = repeated(alloc, parts)?;
+    lines.extend_from_slice(others)?;
     Ok(lines)
 }
 
@@ -247,11 +259,21 @@ pub(crate) fn live(
             let printed = printed_from(alloc, &mut core, lines);
             with_disk(core.close(), printed)
         }
-        Err(OpenFault { disk, refusal }) => {
-            let printed = Printed::NotOpened(refusal.label().0);
-            with_disk(disk, repeated(alloc, &[(printed, 1)]))
+        Err(fault) => {
+            let printed = Printed::NotOpened(fault.refusal.label().0);
+            with_disk(fault.disk, repeated(alloc, &[(printed, 1)]))
         }
     }
+}
+
+/// Runs a life of these lines, each this many times.
+pub(crate) fn live_parts(
+    alloc: Global,
+    disk: MemDisk,
+    parts: &[(Line, u8)],
+) -> Result<(MemDisk, Vec<Printed>), AllocError> {
+    let lines = repeated(alloc, parts)?;
+    live(alloc, disk, &lines)
 }
 
 /// Runs that life, which gets these replies.
@@ -268,7 +290,7 @@ pub(crate) fn lived(
 }
 
 fn are_same(rt: &impl Abort, printed: &[Printed], expected: &[Printed]) {
-    assert_eq!(rt; printed, expected);
+    same_lists(rt, printed, expected);
 }
 
 /// The replies to one life of values of two bytes, on a new disk of this geometry.
@@ -279,4 +301,17 @@ pub(crate) fn printed_of_life(
 ) -> Result<Vec<Printed>, Fail> {
     let (_, printed) = live(alloc, formatted_with(alloc, geometry)?, lines)?;
     Ok(printed)
+}
+
+/// One life of values of two bytes, on a new disk of this geometry, gets these replies.
+pub(crate) fn is_answered(
+    rt: &impl Abort,
+    alloc: Global,
+    geometry: Geometry,
+    lines: &[Line],
+    expected: &[Printed],
+) -> Result<(), Fail> {
+    let printed = printed_of_life(alloc, geometry, lines)?;
+    same_lists(rt, &printed, expected);
+    Ok(())
 }

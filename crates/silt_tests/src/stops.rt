@@ -7,11 +7,11 @@ use crate::lines::{
     CONVERTED, CONVERTED_MEANWHILE, MERGED_TWICE, SWAP_CONVERTED, SWAP_MEANWHILE, SWAP_MERGED,
     THREE_PUTS, of_three_hash_stores, of_two_hash_stores,
 };
-use crate::script::{Printed, live, repeated};
-use crate::support::entries_of;
+use crate::script::{Printed, live, repeated, repeated_with};
+use crate::support::{entries_of, same_in, same_lists_in, stopping_first};
 use silt_device::{Fill, Geometry, MemDisk, Stop, Stoppable};
 use silt_disk::Version;
-use silt_fixtures::{FILLS, VERSIONS, as_version, blank, small, stopping};
+use silt_fixtures::{FILLS, VERSIONS, as_version, blank, small};
 use std::alloc::Global;
 use std::process::Abort;
 use std::test::Fail;
@@ -52,10 +52,7 @@ fn lived(
     lines: &[Line],
     stop: Stop,
 ) -> Result<(MemDisk, Vec<Printed>), Fail> {
-    let stops = stopping(
-        alloc,
-        &[(stop.k, stop.fill), (0, stop.fill), (0, stop.fill)],
-    )?;
+    let stops = stopping_first(alloc, stop)?;
     let disk = MemDisk::with_bytes(alloc, new)?.arm(stops);
     Ok(live(alloc, disk, lines)?)
 }
@@ -73,7 +70,7 @@ fn reopened(
 }
 
 fn is_opened(rt: &impl Abort, printed: &[Printed], stop: Stop) {
-    assert_eq!(rt; printed, [Printed::Opened].as_slice(), "{stop:?}");
+    same_lists_in(rt, printed, &[Printed::Opened], &stop);
 }
 
 fn keeps(rt: &impl Abort, lines: &[Line], printed: &[Printed], found: [u16; 8], stop: Stop) {
@@ -91,10 +88,22 @@ fn stopped_at(
     stop: Stop,
 ) -> Result<bool, Fail> {
     let (disk, printed) = lived(alloc, new, lines, stop)?;
-    let (disk, found) = reopened(rt, alloc, disk, stop)?;
-    keeps(rt, lines, &printed, found, stop);
-    goes_on(rt, alloc, disk, geometry, found)?;
+    goes_on_after(rt, alloc, geometry, disk, (lines, &printed), stop)?;
     Ok(was_stopped(&printed))
+}
+
+// Compares what the life after this crash finds, and goes on from there.
+fn goes_on_after(
+    rt: &impl Abort,
+    alloc: Global,
+    geometry: Geometry,
+    disk: MemDisk,
+    (lines, printed): (&[Line], &[Printed]),
+    stop: Stop,
+) -> Result<(), Fail> {
+    let (disk, found) = reopened(rt, alloc, disk, stop)?;
+    keeps(rt, lines, printed, found, stop);
+    goes_on(rt, alloc, disk, geometry, found)
 }
 
 // Whether the crash is at one of the calls of a life that makes this many.
@@ -116,10 +125,16 @@ fn sweep_on(
         for fill in FILLS {
             let stop = Stop { k, fill };
             let stopped = stopped_at(rt, alloc, geometry, new, lines, stop)?;
-            assert_eq!(rt; stopped, is_within(stop, calls), "{stop:?}");
+            same_in(rt, &stopped, &is_within(stop, calls), &stop);
         }
     }
     Ok(())
+}
+
+// The bytes of a new disk of this geometry and version.
+fn new_on(alloc: Global, (geometry, version): (Geometry, Version)) -> Result<Vec<u8>, Fail> {
+    let whole = blank(alloc, geometry)?;
+    as_version(alloc, &whole, version)
 }
 
 // Crashes the life at each call on a new disk of this geometry and version.
@@ -130,7 +145,7 @@ fn sweep_as(
     lines: &[Line],
     calls: u32,
 ) -> Result<(), Fail> {
-    let new = as_version(alloc, &blank(alloc, geometry)?, version)?;
+    let new = new_on(alloc, (geometry, version))?;
     sweep_on(rt, alloc, geometry, &new, lines, calls)
 }
 
@@ -178,17 +193,38 @@ fn swaps_stopped_anywhere(rt: HostRuntime) -> Result<(), Fail> {
 // and how many calls it makes.
 type Swapped<'a> = (Geometry, &'a [(Line, u8)], u32, Line, u32);
 
-// Whether a crash at this call is within the life, on a new disk of this geometry and version.
-fn stops_at(
+// Whether a crash at this call is within the life, on a disk of these bytes.
+fn stops_at(alloc: Global, new: &[u8], lines: &[Line], k: u32) -> Result<bool, Fail> {
+    let stop = Stop { k, fill: Fill::New };
+    let (_, printed) = lived(alloc, new, lines, stop)?;
+    Ok(was_stopped(&printed))
+}
+
+// The life makes exactly this many calls on a new disk of this geometry and version.
+fn makes_calls(
+    rt: &impl Abort,
     alloc: Global,
     (geometry, version): (Geometry, Version),
+    parts: &[(Line, u8)],
+    calls: u32,
+) -> Result<(), Fail> {
+    let lines = repeated(alloc, parts)?;
+    let new = new_on(alloc, (geometry, version))?;
+    is_stopped(rt, alloc, &new, &lines, (calls, true))?;
+    is_stopped(rt, alloc, &new, &lines, (calls.saturating_add(1), false))
+}
+
+// A crash at this call is or is not within the life, on a disk of these bytes.
+fn is_stopped(
+    rt: &impl Abort,
+    alloc: Global,
+    new: &[u8],
     lines: &[Line],
-    k: u32,
-) -> Result<bool, Fail> {
-    let new = as_version(alloc, &blank(alloc, geometry)?, version)?;
-    let stop = Stop { k, fill: Fill::New };
-    let (_, printed) = lived(alloc, &new, lines, stop)?;
-    Ok(was_stopped(&printed))
+    (k, within): (u32, bool),
+) -> Result<(), Fail> {
+    let stopped = stops_at(alloc, new, lines, k)?;
+    same_in(rt, &stopped, &within, &k);
+    Ok(())
 }
 
 // Crashes this life with a swap after it at each of its calls. Without the swap the life makes
@@ -199,13 +235,8 @@ fn sweep_swapped(
     (geometry, parts, calls, swap, more): Swapped,
     version: Version,
 ) -> Result<(), Fail> {
-    let mut lines = repeated(alloc, parts)?;
-    let own = [calls, calls.saturating_add(1)];
-    for k in own {
-        let stopped = stops_at(alloc, (geometry, version), &lines, k)?;
-        assert_eq!(rt; stopped, k == calls, "call {k}");
-    }
-    lines.push(swap)?;
+    makes_calls(rt, alloc, (geometry, version), parts, calls)?;
+    let lines = repeated_with(alloc, parts, &[swap])?;
     sweep_as(
         rt,
         alloc,

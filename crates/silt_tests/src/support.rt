@@ -1,12 +1,48 @@
-// What several tests need: the values of a disk and of a store.
+// What several tests need: comparisons, and the values of a disk and of a store.
+//
+// A comparison is a call. So its proof is made once, not at each place that compares.
 
-use silt_device::{Disk, MemDisk};
-use silt_fixtures::key;
+use silt_device::{Disk, MemDisk, Stop};
+use silt_event::Report;
+use silt_fixtures::{key, opened_on, stopping};
 use silt_frame::{Key, Value};
+use silt_recovery::check;
 use silt_store_set::Core;
-use std::alloc::Global;
+use std::alloc::{AllocError, Global};
 use std::collections::BTreeMap;
+use std::fmt::Debug;
+use std::process::Abort;
 use std::test::Fail;
+
+/// What was found is what is expected.
+pub(crate) fn same<T: PartialEq + Debug>(rt: &impl Abort, found: &T, expected: &T) {
+    assert_eq!(rt; found, expected);
+}
+
+/// What was found in this case is what is expected.
+pub(crate) fn same_in<T: PartialEq + Debug, C: Debug>(
+    rt: &impl Abort,
+    found: &T,
+    expected: &T,
+    case: &C,
+) {
+    assert_eq!(rt; found, expected, "{case:?}");
+}
+
+/// The list that was found is the one that is expected.
+pub(crate) fn same_lists<T: PartialEq + Debug>(rt: &impl Abort, found: &[T], expected: &[T]) {
+    assert_eq!(rt; found, expected);
+}
+
+/// The list that was found in this case is the one that is expected.
+pub(crate) fn same_lists_in<T: PartialEq + Debug, C: Debug>(
+    rt: &impl Abort,
+    found: &[T],
+    expected: &[T],
+    case: &C,
+) {
+    assert_eq!(rt; found, expected, "{case:?}");
+}
 
 /// The values of the keys 0 to 7 in these entries, 0 for none.
 pub(crate) fn values_of(entries: &BTreeMap<Key, Value>) -> [u16; 8] {
@@ -37,25 +73,56 @@ pub(crate) fn listed<D: Disk>(alloc: Global, core: &Core<D>) -> Result<[u16; 8],
     only_values_of(&entries)
 }
 
-// Joins a disk and the values that were found on it.
-fn with_values(disk: MemDisk, values: Result<[u16; 8], Fail>) -> Result<(MemDisk, [u16; 8]), Fail> {
+/// This crash, and a crash of the same fill at the end of each of the next two lives.
+pub(crate) fn stopping_first(alloc: Global, stop: Stop) -> Result<Vec<Stop>, AllocError> {
+    stopping(
+        alloc,
+        &[(stop.k, stop.fill), (0, stop.fill), (0, stop.fill)],
+    )
+}
+
+/// Joins a disk and the values that were found on it.
+pub(crate) fn with_values(
+    disk: MemDisk,
+    values: Result<[u16; 8], Fail>,
+) -> Result<(MemDisk, [u16; 8]), Fail> {
     Ok((disk, values?))
 }
 
 /// The values of the keys 0 to 7 on this disk, 0 for none. Another key is an error. No crash
 /// precedes the opening.
 pub(crate) fn entries_of(alloc: Global, disk: MemDisk) -> Result<(MemDisk, [u16; 8]), Fail> {
-    let core = Core::open(alloc, disk).ok().ok_or("opens")?;
+    let core = opened_on(alloc, disk)?;
     let values = listed(alloc, &core);
     with_values(core.close(), values)
+}
+
+/// The values of the keys 0 to 7 on this disk, as `entries_of` finds them.
+pub(crate) fn values_on(alloc: Global, disk: MemDisk) -> Result<[u16; 8], Fail> {
+    let (_, values) = entries_of(alloc, disk)?;
+    Ok(values)
 }
 
 /// The digest of a sorted store with no entries.
 pub(crate) const OF_NO_ENTRIES: &[u8] =
     b"\xda\x39\xa3\xee\x5e\x6b\x4b\x0d\x32\x55\xbf\xef\x95\x60\x18\x90\xaf\xd8\x07\x09";
 
-/// Whether the device has these bytes at this place.
-pub(crate) fn stands_at(disk: &MemDisk, at: usize, bytes: &[u8]) -> bool {
-    let shown = disk.shown();
+// Whether these bytes are at this place.
+fn are_at(shown: &[u8], at: usize, bytes: &[u8]) -> bool {
     at <= shown.len() && shown[at..].starts_with(bytes)
+}
+
+/// The device has these bytes at this place.
+pub(crate) fn has_bytes(rt: &impl Abort, disk: &MemDisk, at: usize, bytes: &[u8]) {
+    assert!(rt; are_at(disk.shown(), at, bytes), "other bytes at {at}");
+}
+
+/// A check of this disk gives this report.
+pub(crate) fn is_reported(rt: &impl Abort, alloc: Global, disk: &MemDisk, report: Report) {
+    same(rt, &check(alloc, disk).ok(), &Some(report));
+}
+
+/// Whether all these bytes are zeros.
+pub(crate) fn are_zeros(bytes: &[u8]) -> bool {
+    bytes.iter().all(|byte| *byte == 0)
 }

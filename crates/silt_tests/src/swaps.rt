@@ -4,13 +4,14 @@
 use crate::faults::of_last_generation;
 use crate::life_lines::Line;
 use crate::read_counts::{after_lines, openings_reads};
-use crate::script::{Printed, ask, live, lived, printed_lives, printed_of_life, repeated};
-use crate::support::entries_of;
-use silt_device::{Call, FaultDisk, Fill, Geometry, MemDisk, MemFault, Stoppable};
-use silt_fixtures::{formatted, key, of_regions, of_values, opened_on, small, stopping};
+use crate::restarts::are_printed_stopped;
+use crate::script::{Printed, ask, is_answered, live_parts, lived, printed_of_life, repeated};
+use crate::support::{same, same_in, values_on};
+use silt_device::{Call, FaultDisk, Fill, Geometry, MemDisk, MemFault};
+use silt_fixtures::{formatted, key, of_regions, of_values, opened_on, small};
 use silt_frame::Key;
 use silt_store_set::{Core, Refusal};
-use std::alloc::Global;
+use std::alloc::{AllocError, Global};
 use std::process::Abort;
 use std::test::Fail;
 
@@ -40,9 +41,7 @@ const PLAIN_TOLD: [Printed; 9] = [
 
 #[test]
 fn compares_with_what_is_accepted(rt: HostRuntime) -> Result<(), Fail> {
-    let printed = printed_of_life(rt.alloc(), small()?, &PLAIN)?;
-    assert_eq!(rt; printed.as_slice(), PLAIN_TOLD.as_slice());
-    Ok(())
+    is_answered(&rt, rt.alloc(), small()?, &PLAIN, &PLAIN_TOLD)
 }
 
 // Old values that agree with the key's value only in part, and then the right one.
@@ -65,9 +64,7 @@ const IN_PART_TOLD: [Printed; 6] = [
 
 #[test]
 fn compares_each_byte(rt: HostRuntime) -> Result<(), Fail> {
-    let printed = printed_of_life(rt.alloc(), small()?, &IN_PART)?;
-    assert_eq!(rt; printed.as_slice(), IN_PART_TOLD.as_slice());
-    Ok(())
+    is_answered(&rt, rt.alloc(), small()?, &IN_PART, &IN_PART_TOLD)
 }
 
 // The number of the accepted command, none if the value differs, or the number of the refusal.
@@ -87,26 +84,62 @@ fn swaps_the_last_byte(
     last: &[u8],
     sevens: &[u8],
 ) {
-    assert_eq!(rt; core.geometry().value_len() as usize, sevens.len());
-    assert_eq!(rt; last.len(), sevens.len());
-    assert!(rt; core.put(alloc, &key(1), sevens).is_ok());
-    assert_eq!(rt; swapped(core.swap(alloc, &key(1), last, sevens)), Ok(None));
-    assert_eq!(rt;
-        swapped(core.swap(alloc, &key(1), sevens, last)),
-        Ok(Some(2))
-    );
-    assert_eq!(rt; swapped(core.swap(alloc, &key(1), sevens, last)), Ok(None));
+    same(rt, &put_whole(rt, alloc, core, sevens), &Some(1));
+    same(rt, &swap_whole(rt, alloc, core, last, sevens), &Ok(None));
+    same(rt, &swap_whole(rt, alloc, core, sevens, last), &Ok(Some(2)));
+    same(rt, &swap_whole(rt, alloc, core, sevens, last), &Ok(None));
+}
+
+// Puts a value of the store's length.
+fn put_whole(
+    rt: &impl Abort,
+    alloc: Global,
+    core: &mut Core<MemDisk>,
+    value: &[u8],
+) -> Option<u64> {
+    assert!(rt; core.geometry().value_len() as usize == value.len());
+    core.put(alloc, &key(1), value).ok()
+}
+
+// Swaps values of the store's length.
+fn swap_whole(
+    rt: &impl Abort,
+    alloc: Global,
+    core: &mut Core<MemDisk>,
+    old: &[u8],
+    new: &[u8],
+) -> Result<Option<u64>, u32> {
+    assert!(rt; core.geometry().value_len() as usize == old.len());
+    assert!(rt; old.len() == new.len());
+    swapped(core.swap(alloc, &key(1), old, new))
 }
 
 // Swaps values of this length. The lengths tried are one byte, the longest value of one read, the
 // shortest of two, and the longest.
 fn swaps_values_of(rt: &impl Abort, alloc: Global, value_len: u32) -> Result<(), Fail> {
     let sevens = vec![in alloc; 7u8; value_len as usize]?;
+    let last = ending_in_8(alloc, value_len)?;
+    swaps_in_new_store(rt, alloc, value_len, (&last, &sevens))
+}
+
+// Swaps these values in a new store.
+fn swaps_in_new_store(
+    rt: &impl Abort,
+    alloc: Global,
+    value_len: u32,
+    (last, sevens): (&[u8], &[u8]),
+) -> Result<(), Fail> {
+    let mut core = opened_on(alloc, of_values(alloc, value_len)?)?;
+    swaps_the_last_byte(rt, alloc, &mut core, last, sevens);
+    drop(core);
+    Ok(())
+}
+
+// A value of sevens whose last byte is 8.
+fn ending_in_8(alloc: Global, value_len: u32) -> Result<Vec<u8>, AllocError> {
     let mut last = vec![in alloc; 7u8; value_len.saturating_sub(1) as usize]?;
     last.push(8)?;
-    let mut core = opened_on(alloc, of_values(alloc, value_len)?)?;
-    swaps_the_last_byte(rt, alloc, &mut core, last.as_slice(), sevens.as_slice());
-    Ok(())
+    Ok(last)
 }
 
 #[test]
@@ -117,27 +150,30 @@ fn compares_values_of_each_length(rt: HostRuntime) -> Result<(), Fail> {
     Ok(())
 }
 
+const UNFLUSHED: [&[Line]; 2] = [
+    &[Line::Put(1, 1), Line::Flush, Line::Swap(1, 1, 2)],
+    &[Line::Get(1)],
+];
+
+const UNFLUSHED_TOLD: [Printed; 6] = [
+    Printed::Opened,
+    Printed::Accepted(1),
+    Printed::Acknowledged(1),
+    Printed::Accepted(2),
+    Printed::Opened,
+    Printed::Value(0, 1),
+];
+
 // A swap that no flush acknowledged is lost in a crash, and the key has its old value again.
 #[test]
 fn loses_a_swap_without_a_flush(rt: HostRuntime) -> Result<(), Fail> {
-    let alloc = rt.alloc();
-    let first = [Line::Put(1, 1), Line::Flush, Line::Swap(1, 1, 2)];
-    let stops = stopping(alloc, &[(0, Fill::New)])?;
-    let printed = printed_lives(
-        alloc,
-        formatted(alloc)?.arm(stops),
-        &[&first, &[Line::Get(1)]],
-    )?;
-    let expected = [
-        Printed::Opened,
-        Printed::Accepted(1),
-        Printed::Acknowledged(1),
-        Printed::Accepted(2),
-        Printed::Opened,
-        Printed::Value(0, 1),
-    ];
-    assert_eq!(rt; printed.as_slice(), expected.as_slice());
-    Ok(())
+    are_printed_stopped(
+        &rt,
+        rt.alloc(),
+        &[(0, Fill::New)],
+        &UNFLUSHED,
+        &UNFLUSHED_TOLD,
+    )
 }
 
 // ---- the stores
@@ -190,24 +226,42 @@ const SWAPPED: [(Line, Printed); 12] = [
     (Line::Flush, Printed::Acknowledged(5)),
 ];
 
-// The lines and the replies of those swaps.
-fn swaps_and_replies(alloc: Global) -> Result<(Vec<Line>, Vec<Printed>), Fail> {
+// The lines of those swaps.
+fn swaps(alloc: Global) -> Result<Vec<Line>, AllocError> {
     let mut lines = Vec::new(alloc);
-    let mut printed = repeated(alloc, &[(Printed::Opened, 1)])?;
-    for (line, reply) in SWAPPED {
+    for (line, _) in SWAPPED {
         lines.push(line)?;
+    }
+    Ok(lines)
+}
+
+// The replies to the opening and to those swaps.
+fn replies_to_swaps(alloc: Global) -> Result<Vec<Printed>, AllocError> {
+    let mut printed = repeated(alloc, &[(Printed::Opened, 1)])?;
+    for (_, reply) in SWAPPED {
         printed.push(reply)?;
     }
-    Ok((lines, printed))
+    Ok(printed)
+}
+
+// Runs a life of those swaps, and compares their replies.
+fn swapped_all(rt: &impl Abort, alloc: Global, disk: MemDisk) -> Result<MemDisk, Fail> {
+    let lines = swaps(alloc)?;
+    let printed = replies_to_swaps(alloc)?;
+    Ok(lived(rt, alloc, disk, &lines, &printed)?)
+}
+
+// The values on that device after those swaps.
+fn swapped_values(rt: &impl Abort, alloc: Global) -> Result<[u16; 8], Fail> {
+    let disk = spread(alloc)?;
+    values_on(alloc, swapped_all(rt, alloc, disk)?)
 }
 
 #[test]
 fn finds_the_old_value_in_each_store(rt: HostRuntime) -> Result<(), Fail> {
     let alloc = rt.alloc();
-    let (lines, printed) = swaps_and_replies(alloc)?;
-    let disk = lived(&rt, alloc, spread(alloc)?, &lines, &printed)?;
-    let (_, found) = entries_of(alloc, disk)?;
-    assert_eq!(rt; found, [20, 31, 2, 13, 0, 15, 9, 0]);
+    let found = swapped_values(&rt, rt.alloc())?;
+    same(&rt, &found, &[20, 31, 2, 13, 0, 15, 9, 0]);
     Ok(())
 }
 
@@ -262,7 +316,20 @@ fn asked_twice(
 ) -> Result<(Printed, Printed), Fail> {
     let disk = FaultDisk::new(MemDisk::with_bytes(alloc, bytes)?, Call::Read, number);
     let mut core = opened_on(alloc, disk)?;
-    Ok((ask(alloc, &mut core, line)?, ask(alloc, &mut core, line)?))
+    let printed = ask_twice(alloc, &mut core, line);
+    drop(core);
+    printed
+}
+
+// The replies to this line, which is asked twice.
+fn ask_twice(
+    alloc: Global,
+    core: &mut Core<FaultDisk>,
+    line: Line,
+) -> Result<(Printed, Printed), Fail> {
+    let first = ask(alloc, core, line)?;
+    let second = ask(alloc, core, line)?;
+    Ok((first, second))
 }
 
 // Fails each read of the swap in turn. The swap is refused with the fault, and a second try gets
@@ -276,15 +343,11 @@ fn makes_reads(
 ) -> Result<(), Fail> {
     for number in 1..reads.saturating_add(1) {
         let printed = asked_twice(alloc, bytes, line, opening.saturating_add(number) as u64)?;
-        assert_eq!(rt;
-            printed,
-            (Printed::Refused(5), reply),
-            "{line:?} read {number}"
-        );
+        same_in(rt, &printed, &(Printed::Refused(5), reply), &(line, number));
     }
     let behind = opening.saturating_add(reads).saturating_add(1) as u64;
     let (printed, _) = asked_twice(alloc, bytes, line, behind)?;
-    assert_eq!(rt; printed, reply, "{line:?}");
+    same_in(rt, &printed, &reply, &line);
     Ok(())
 }
 
@@ -292,23 +355,40 @@ fn makes_reads(
 fn each_makes_reads(
     rt: &impl Abort,
     alloc: Global,
-    disk: &MemDisk,
+    disk: MemDisk,
     all: &[Read],
 ) -> Result<(), Fail> {
-    let opening = openings_reads(alloc, disk.shown())?;
+    let made = all_make_reads(rt, alloc, disk.shown(), all);
+    drop(disk);
+    made
+}
+
+fn all_make_reads(rt: &impl Abort, alloc: Global, bytes: &[u8], all: &[Read]) -> Result<(), Fail> {
+    let opening = openings_reads(alloc, bytes)?;
     for read in all {
-        makes_reads(rt, alloc, disk.shown(), opening, *read)?;
+        makes_reads(rt, alloc, bytes, opening, *read)?;
     }
     Ok(())
 }
 
 #[test]
 fn each_read_of_a_swap_fails(rt: HostRuntime) -> Result<(), Fail> {
-    let alloc = rt.alloc();
-    each_makes_reads(&rt, alloc, &spread(alloc)?, &READS)?;
-    let alone = after_lines(alloc, small()?, &ALONE)?;
-    each_makes_reads(&rt, alloc, &alone, &READS_ALONE)?;
-    each_makes_reads(&rt, alloc, &formatted(alloc)?, &READS_OF_NOTHING)
+    read_spread(&rt, rt.alloc())?;
+    read_alone(&rt, rt.alloc())?;
+    each_makes_reads(&rt, rt.alloc(), formatted(rt.alloc())?, &READS_OF_NOTHING)
+}
+
+fn read_spread(rt: &impl Abort, alloc: Global) -> Result<(), Fail> {
+    each_makes_reads(rt, alloc, spread(alloc)?, &READS)
+}
+
+fn read_alone(rt: &impl Abort, alloc: Global) -> Result<(), Fail> {
+    each_makes_reads(
+        rt,
+        alloc,
+        after_lines(alloc, small()?, &ALONE)?,
+        &READS_ALONE,
+    )
 }
 
 // An absent key, in another bucket than all keys there. The entry of key 2 begins with the same
@@ -333,20 +413,36 @@ fn swap_absent(
         number as u64,
     );
     let mut core = opened_on(alloc, disk)?;
-    assert_eq!(rt; core.geometry().value_len(), 2);
-    Ok(swapped(core.swap(alloc, &absent_key(), &[0, 2], &[0, 3])))
+    let swapped = swapped_absent(rt, alloc, &mut core);
+    drop(core);
+    Ok(swapped)
+}
+
+fn swapped_absent(
+    rt: &impl Abort,
+    alloc: Global,
+    core: &mut Core<FaultDisk>,
+) -> Result<Option<u64>, u32> {
+    assert!(rt; core.geometry().value_len() == 2);
+    swapped(core.swap(alloc, &absent_key(), &[0, 2], &[0, 3]))
+}
+
+// A swap of the absent key on a disk of these bytes makes one read.
+fn reads_one_entry(rt: &impl Abort, alloc: Global, bytes: &[u8]) -> Result<(), Fail> {
+    let opening = openings_reads(alloc, bytes)?;
+    let first = swap_absent(rt, alloc, bytes, opening.saturating_add(1))?;
+    let second = swap_absent(rt, alloc, bytes, opening.saturating_add(2))?;
+    same(rt, &(first, second), &(Err(5), Ok(None)));
+    Ok(())
 }
 
 // A swap of the absent key reads that one entry: no other store has a candidate.
 #[test]
 fn an_absent_key_reads_one_entry(rt: HostRuntime) -> Result<(), Fail> {
-    let alloc = rt.alloc();
-    let disk = spread(alloc)?;
-    let opening = openings_reads(alloc, disk.shown())?;
-    let first = swap_absent(&rt, alloc, disk.shown(), opening.saturating_add(1))?;
-    let second = swap_absent(&rt, alloc, disk.shown(), opening.saturating_add(2))?;
-    assert_eq!(rt; (first, second), (Err(5), Ok(None)));
-    Ok(())
+    let disk = spread(rt.alloc())?;
+    let read = reads_one_entry(&rt, rt.alloc(), disk.shown());
+    drop(disk);
+    read
 }
 
 // ---- what decides first
@@ -360,10 +456,25 @@ fn ends_with(
     expected: &[Printed],
 ) -> Result<(), Fail> {
     let lines = repeated(alloc, parts)?;
-    let printed = printed_of_life(alloc, geometry, &lines)?;
-    assert_eq!(rt; printed.len(), lines.len().saturating_add(1));
-    assert!(rt; printed.ends_with(expected), "{printed:?}");
+    lines_end_with(rt, alloc, geometry, &lines, expected)
+}
+
+fn lines_end_with(
+    rt: &impl Abort,
+    alloc: Global,
+    geometry: Geometry,
+    lines: &[Line],
+    expected: &[Printed],
+) -> Result<(), Fail> {
+    let printed = printed_of_life(alloc, geometry, lines)?;
+    same(rt, &printed.len(), &lines.len().saturating_add(1));
+    ends(rt, &printed, expected);
     Ok(())
+}
+
+// These are the last replies.
+fn ends(rt: &impl Abort, printed: &[Printed], expected: &[Printed]) {
+    assert!(rt; printed.ends_with(expected), "{printed:?}");
 }
 
 // In a full store the comparison is decided first. A swap with the right old value is refused
@@ -406,23 +517,30 @@ fn full_logs_compare_first(rt: HostRuntime) -> Result<(), Fail> {
     ends_with(&rt, rt.alloc(), of_regions(4, 2, 2, 9)?, &lines, &expected)
 }
 
+const SPENT: [(Line, u8); 3] = [
+    (Line::Put(1, 1), 4),
+    (Line::Swap(1, 1, 2), 1),
+    (Line::Swap(1, 9, 2), 1),
+];
+
+const SPENT_TOLD: [Printed; 3] = [Printed::Accepted(4), Printed::Refused(10), Printed::Differs];
+
+// The replies to those lines, if no generation is left.
+fn printed_spent(alloc: Global) -> Result<Vec<Printed>, Fail> {
+    let disk = of_last_generation(alloc)?;
+    let (_, printed) = live_parts(alloc, disk, &SPENT)?;
+    Ok(printed)
+}
+
+fn has_spent(rt: &impl Abort, printed: &[Printed]) {
+    ends(rt, printed, &SPENT_TOLD);
+}
+
 // If no generation is left to freeze the log, the comparison is decided first too. Else the refusal
 // is Spent.
 #[test]
 fn a_last_generation_compares_first(rt: HostRuntime) -> Result<(), Fail> {
-    let alloc = rt.alloc();
-    let lines = repeated(
-        alloc,
-        &[
-            (Line::Put(1, 1), 4),
-            (Line::Swap(1, 1, 2), 1),
-            (Line::Swap(1, 9, 2), 1),
-        ],
-    )?;
-    let (_, printed) = live(alloc, of_last_generation(alloc)?, &lines)?;
-    assert!(rt;
-        printed.ends_with(&[Printed::Accepted(4), Printed::Refused(10), Printed::Differs]),
-        "{printed:?}"
-    );
+    let printed = printed_spent(rt.alloc())?;
+    has_spent(&rt, &printed);
     Ok(())
 }

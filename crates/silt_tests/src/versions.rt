@@ -1,17 +1,17 @@
 // Devices of version 1, whose manifests had no digests. They open and keep their version, and their
 // next manifest has digests.
 
-use crate::conversion::converted;
+use crate::conversion::{changed_disk, converted};
 use crate::life_lines::Line;
 use crate::lines::{FINISHED, MOVED};
-use crate::script::{Printed, live, lived, repeated};
-use crate::support::stands_at;
+use crate::script::{Printed, live, live_parts};
+use crate::support::{has_bytes, is_reported, same, same_lists};
 use silt_device::MemDisk;
 use silt_disk::Version;
 use silt_event::{Layout, Report};
-use silt_fixtures::{as_version, changed};
+use silt_fixtures::as_version;
 use silt_recovery::check;
-use std::alloc::Global;
+use std::alloc::{AllocError, Global};
 use std::process::Abort;
 use std::test::Fail;
 
@@ -27,11 +27,28 @@ const OF_FOUR_ENTRIES: &[u8] =
 
 // The manifest of generation 3 is current, in slot 1, with digests. The header has this version.
 fn has_digests(rt: &impl Abort, disk: &MemDisk, number: u8) {
-    assert!(rt; stands_at(disk, 8192, b"\xa7\x80\0\0\0\0\0\0\x03"));
-    assert!(rt; stands_at(disk, 8313, &[0; 320]));
-    assert!(rt; stands_at(disk, 8633, OF_FOUR_ENTRIES));
-    assert!(rt; stands_at(disk, 9, &[0, 0, 0, number]));
+    has_bytes(rt, disk, 8192, b"\xa7\x80\0\0\0\0\0\0\x03");
+    has_bytes(rt, disk, 8313, &[0; 320]);
+    has_bytes(rt, disk, 8633, OF_FOUR_ENTRIES);
+    has_bytes(rt, disk, 9, &[0, 0, 0, number]);
 }
+
+const MERGE_TOLD: [Printed; 14] = [
+    Printed::Opened,
+    MOVED,
+    MOVED,
+    MOVED,
+    MOVED,
+    MOVED,
+    MOVED,
+    MOVED,
+    MOVED,
+    MOVED,
+    MOVED,
+    MOVED,
+    MOVED,
+    FINISHED,
+];
 
 const MERGED: Report = Report {
     generation: 3,
@@ -53,19 +70,36 @@ fn merges_as(
     alloc: Global,
     (version, number, layout): (Version, u8, Layout),
 ) -> Result<(), Fail> {
-    let disk = MemDisk::with_bytes(alloc, &converted_as(rt, alloc, version)?)?;
+    let whole = converted_as(rt, alloc, version)?;
+    let disk = MemDisk::with_bytes(alloc, &whole)?;
     has_layout(rt, alloc, &disk, layout);
-    let lines = repeated(alloc, &[(Line::Merge, 13)])?;
-    let printed = repeated(alloc, &[(Printed::Opened, 1), (MOVED, 12), (FINISHED, 1)])?;
-    let disk = lived(rt, alloc, disk, &lines, &printed)?;
+    let disk = merged(rt, alloc, disk)?;
     has_digests(rt, &disk, number);
-    assert_eq!(rt; check(alloc, &disk).ok(), Some(MERGED));
+    has_merged(rt, alloc, &disk);
     Ok(())
 }
 
+fn has_merged(rt: &impl Abort, alloc: Global, disk: &MemDisk) {
+    is_reported(rt, alloc, disk, MERGED);
+}
+
 fn has_layout(rt: &impl Abort, alloc: Global, disk: &MemDisk, layout: Layout) {
-    let report = check(alloc, disk).ok();
-    assert_eq!(rt; report.map(|report| report.layout), Some(layout));
+    let found = match check(alloc, disk) {
+        Ok(report) => Some(report.layout),
+        Err(_) => None,
+    };
+    same(rt, &found, &Some(layout));
+}
+
+// The disk after the merge of its hash store.
+fn merged(rt: &impl Abort, alloc: Global, disk: MemDisk) -> Result<MemDisk, AllocError> {
+    let (disk, printed) = live_parts(alloc, disk, &[(Line::Merge, 13)])?;
+    are_merged(rt, &printed);
+    Ok(disk)
+}
+
+fn are_merged(rt: &impl Abort, printed: &[Printed]) {
+    same_lists(rt, printed, &MERGE_TOLD);
 }
 
 #[test]
@@ -81,8 +115,13 @@ fn printed_of_another_value(
     version: Version,
 ) -> Result<Printed, Fail> {
     let whole = converted_as(rt, alloc, version)?;
-    let bytes = changed(alloc, &whole, &[(28_694, 2)])?;
-    let (_, printed) = live(alloc, MemDisk::with_bytes(alloc, &bytes)?, &[Line::Get(1)])?;
+    let disk = changed_disk(alloc, &whole, &[(28_694, 2)])?;
+    printed_of_get(alloc, disk)
+}
+
+// The last reply to a get of key 1.
+fn printed_of_get(alloc: Global, disk: MemDisk) -> Result<Printed, Fail> {
+    let (_, printed) = live(alloc, disk, &[Line::Get(1)])?;
     Ok(*printed.last().ok_or("a reply")?)
 }
 
@@ -90,8 +129,8 @@ fn printed_of_another_value(
 #[test]
 fn digests_show_another_value(rt: HostRuntime) -> Result<(), Fail> {
     let old = printed_of_another_value(&rt, rt.alloc(), Version::One)?;
-    assert_eq!(rt; old, Printed::Value(0, 2));
+    same(&rt, &old, &Printed::Value(0, 2));
     let new = printed_of_another_value(&rt, rt.alloc(), Version::Two)?;
-    assert_eq!(rt; new, Printed::NotOpened(3));
+    same(&rt, &new, &Printed::NotOpened(3));
     Ok(())
 }
