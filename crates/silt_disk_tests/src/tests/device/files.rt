@@ -66,16 +66,26 @@ fn kept(rt: &HostRuntime) -> io::Result<(u64, Option<[u8; 4]>)> {
     Ok((disk.len(), four_at(&disk, 5)))
 }
 
+// The bytes that these writes leave.
+const WRITTEN: [u8; 9] = [0, 0x11, 0x12, 0x23, 0x24, 0x25, 0, 0, 0x31];
+
+// What both disks have, and whether the file has the bytes that were written.
+type Kept = (Option<[u8; 9]>, (u64, Option<[u8; 4]>), bool);
+
+const ALL_KEPT: Kept = (Some(WRITTEN), (9, Some([0x25, 0, 0, 0x31])), true);
+
+fn written_and_kept(rt: &HostRuntime) -> io::Result<Kept> {
+    make_folder(rt, "kept")?;
+    let found = (written(rt)?, kept(rt)?, holds(rt, "kept/disk", &WRITTEN)?);
+    fs::remove_dir_all(rt, "kept")?;
+    Ok(found)
+}
+
 // A second disk in the same file has the bytes that were written, and zeros where nothing was
 // written.
 #[test]
 fn a_file_keeps_what_was_written(rt: HostRuntime) -> Result<(), Fail> {
-    const WRITTEN: [u8; 9] = [0, 0x11, 0x12, 0x23, 0x24, 0x25, 0, 0, 0x31];
-    make_folder(&rt, "kept")?;
-    assert_eq!(rt; written(&rt)?, Some(WRITTEN));
-    assert_eq!(rt; kept(&rt)?, (9, Some([0x25, 0, 0, 0x31])));
-    assert!(rt; holds(&rt, "kept/disk", &WRITTEN)?);
-    fs::remove_dir_all(&rt, "kept")?;
+    assert!(rt; written_and_kept(&rt)? == ALL_KEPT);
     Ok(())
 }
 
@@ -107,20 +117,26 @@ fn other_length(rt: &HostRuntime, path: &str, lengths: &[(u64, &[u8])]) -> io::R
     Ok(None)
 }
 
+// Tries these lengths on a file with the bytes of FIRST.
+fn other_length_of_first(rt: &HostRuntime) -> io::Result<Option<u64>> {
+    make_folder(rt, "sized")?;
+    fs::write(rt, "sized/disk", FIRST.as_slice())?;
+    let other = other_length(rt, "sized/disk", &LENGTHS)?;
+    fs::remove_dir_all(rt, "sized")?;
+    Ok(other)
+}
+
 // An existing file keeps its bytes up to the new length, and grows by zeros.
 #[test]
 fn create_gives_the_length(rt: HostRuntime) -> Result<(), Fail> {
-    make_folder(&rt, "sized")?;
-    fs::write(&rt, "sized/disk", FIRST.as_slice())?;
-    assert_eq!(rt; other_length(&rt, "sized/disk", &LENGTHS)?, None);
-    fs::remove_dir_all(&rt, "sized")?;
+    assert!(rt; other_length_of_first(&rt)? == None);
     Ok(())
 }
 
 // A bare name is a path in the current folder.
 #[test]
 fn a_bare_name_is_a_path(rt: HostRuntime) -> Result<(), Fail> {
-    assert_eq!(rt; len_of(FileDisk::create(&rt, "bare_name_disk", 1)), Ok(1));
+    assert!(rt; len_of(FileDisk::create(&rt, "bare_name_disk", 1)) == Ok(1));
     fs::remove_file(&rt, "bare_name_disk")?;
     Ok(())
 }
@@ -153,18 +169,30 @@ fn opened_wrong(
     Ok((none, is_there, len_of(FileDisk::open(rt, "wrong"))))
 }
 
+// What these paths return, and the first for which a disk is made or the error is another one.
+type Wrong<'a> = (
+    (Result<u64, ErrorKind>, bool, Result<u64, ErrorKind>),
+    Option<&'a str>,
+);
+
+fn wrong_paths(rt: &HostRuntime) -> io::Result<Wrong<'static>> {
+    make_folder(rt, "wrong")?;
+    let answers = (opened_wrong(rt)?, made_at(rt, &NOT_MADE));
+    fs::remove_dir_all(rt, "wrong")?;
+    Ok(answers)
+}
+
 #[test]
 fn a_path_with_no_file_is_an_error(rt: HostRuntime) -> Result<(), Fail> {
-    make_folder(&rt, "wrong")?;
-    let answers = opened_wrong(&rt)?;
-    let expected = (
-        Err(ErrorKind::NotFound),
-        false,
-        Err(ErrorKind::IsADirectory),
+    const NOT_OPENED: Wrong = (
+        (
+            Err(ErrorKind::NotFound),
+            false,
+            Err(ErrorKind::IsADirectory),
+        ),
+        None,
     );
-    assert_eq!(rt; answers, expected);
-    assert_eq!(rt; made_at(&rt, &NOT_MADE), None);
-    fs::remove_dir_all(&rt, "wrong")?;
+    assert!(rt; wrong_paths(&rt)? == NOT_OPENED);
     Ok(())
 }
 
@@ -210,9 +238,8 @@ fn cut_short(rt: &HostRuntime) -> io::Result<(Option<[u8; 4]>, Option<ErrorKind>
 #[test]
 fn a_read_behind_the_end_fails(rt: HostRuntime) -> Result<(), Fail> {
     make_folder(&rt, "cut")?;
-    let (read, fault) = cut_short(&rt)?;
-    assert_eq!(rt; read, Some(FIRST));
-    assert_eq!(rt; fault, Some(ErrorKind::UnexpectedEof));
+    let answers = cut_short(&rt)?;
+    assert!(rt; answers == (Some(FIRST), Some(ErrorKind::UnexpectedEof)));
     fs::remove_dir_all(&rt, "cut")?;
     Ok(())
 }
@@ -226,24 +253,32 @@ fn read_alone(rt: &HostRuntime, path: &str) -> io::Result<(Option<i32>, bool, Op
     Ok((fault, is_synced, four_at(&disk, 0)))
 }
 
+// That of a file with the bytes of FIRST.
+fn first_alone(rt: &HostRuntime) -> io::Result<(Option<i32>, bool, Option<[u8; 4]>)> {
+    make_folder(rt, "read")?;
+    fs::write(rt, "read/disk", FIRST.as_slice())?;
+    let answers = read_alone(rt, "read/disk")?;
+    fs::remove_dir_all(rt, "read")?;
+    Ok(answers)
+}
+
 // A write fails if the file was opened for reading only. Reads and syncs still succeed.
 #[test]
 fn a_write_to_what_is_read_alone_fails(rt: HostRuntime) -> Result<(), Fail> {
-    make_folder(&rt, "read")?;
-    fs::write(&rt, "read/disk", FIRST.as_slice())?;
-    let answers = read_alone(&rt, "read/disk")?;
-    assert_eq!(rt; answers, (Some(9), true, Some(FIRST)));
-    fs::remove_dir_all(&rt, "read")?;
+    assert!(rt; first_alone(&rt)? == (Some(9), true, Some(FIRST)));
     Ok(())
 }
 
 // A sync fails if the system has nothing to sync: here the file is a null device.
 #[test]
 fn a_sync_of_no_file_fails(rt: HostRuntime) -> Result<(), Fail> {
-    let mut disk = FileDisk::open_shared(&rt, "/dev/null")?;
-    let fault = sync_fault(&mut disk);
-    assert_eq!(rt; fault, Some(ErrorKind::InvalidInput));
+    assert!(rt; null_fault(&rt)? == Some(ErrorKind::InvalidInput));
     Ok(())
+}
+
+fn null_fault(rt: &HostRuntime) -> io::Result<Option<ErrorKind>> {
+    let mut disk = FileDisk::open_shared(rt, "/dev/null")?;
+    Ok(sync_fault(&mut disk))
 }
 
 // What each way of opening returns: as owner, as owner with a length of two bytes, and for reading
@@ -267,41 +302,59 @@ fn beside_owner(rt: &HostRuntime, made: Option<u64>) -> io::Result<[Result<u64, 
     Ok(openings(rt, "owned/disk"))
 }
 
+// What they return beside an owner that made the file with a length of three, the length of the
+// file then, what they return beside an owner that opened it, and the length of the disk at last.
+type Owned = (
+    [Result<u64, ErrorKind>; 3],
+    u64,
+    [Result<u64, ErrorKind>; 3],
+    Result<u64, ErrorKind>,
+);
+
+fn owned(rt: &HostRuntime) -> io::Result<Owned> {
+    let beside_first = beside_owner(rt, Some(3))?;
+    let len = fs::metadata(rt, "owned/disk")?.len();
+    let beside_second = beside_owner(rt, None)?;
+    let last = len_of(FileDisk::open(rt, "owned/disk"));
+    Ok((beside_first, len, beside_second, last))
+}
+
 // While a disk owns the file, nobody else can open the file, and a refused opening changes nothing
 // in it.
 #[test]
 fn a_file_has_one_owner(rt: HostRuntime) -> Result<(), Fail> {
     make_folder(&rt, "owned")?;
-    assert_eq!(rt; beside_owner(&rt, Some(3))?, [BUSY; 3]);
-    assert_eq!(rt; fs::metadata(&rt, "owned/disk")?.len(), 3);
-    assert_eq!(rt; beside_owner(&rt, None)?, [BUSY; 3]);
-    assert_eq!(rt; len_of(FileDisk::open(&rt, "owned/disk")), Ok(3));
+    assert!(rt; owned(&rt)? == ([BUSY; 3], 3, [BUSY; 3], Ok(3)));
     fs::remove_dir_all(&rt, "owned")?;
     Ok(())
 }
 
 // What they return while another disk has the file open for reading only, and what a write and a
 // read of that one then return.
-fn beside_reader(
-    rt: &HostRuntime,
-) -> io::Result<([Result<u64, ErrorKind>; 3], Option<i32>, Option<[u8; 4]>)> {
+type Beside = ([Result<u64, ErrorKind>; 3], Option<i32>, Option<[u8; 4]>);
+
+fn beside_reader(rt: &HostRuntime) -> io::Result<Beside> {
     let mut first = FileDisk::open_shared(rt, "shared/disk")?;
     let answers = openings(rt, "shared/disk");
     let fault = write_fault(&mut first);
     Ok((answers, fault, four_at(&first, 0)))
 }
 
+// What they return in a folder of their own, and what an opening of no file for reading returns.
+fn shared(rt: &HostRuntime) -> io::Result<(Beside, Result<u64, ErrorKind>)> {
+    make_folder(rt, "shared")?;
+    fs::write(rt, "shared/disk", FIRST.as_slice())?;
+    let answers = beside_reader(rt)?;
+    let missing = len_of(FileDisk::open_shared(rt, "shared/none"));
+    fs::remove_dir_all(rt, "shared")?;
+    Ok((answers, missing))
+}
+
 // Disks that only read share a file, and keep an owner out.
 #[test]
 fn readers_share_a_file(rt: HostRuntime) -> Result<(), Fail> {
-    make_folder(&rt, "shared")?;
-    fs::write(&rt, "shared/disk", FIRST.as_slice())?;
-    let (answers, fault, read) = beside_reader(&rt)?;
-    assert_eq!(rt; answers, [BUSY, BUSY, Ok(4)]);
-    assert_eq!(rt; (fault, read), (Some(9), Some(FIRST)));
-    let missing = len_of(FileDisk::open_shared(&rt, "shared/none"));
-    assert_eq!(rt; missing, Err(ErrorKind::NotFound));
-    fs::remove_dir_all(&rt, "shared")?;
+    const SHARED: Beside = ([BUSY, BUSY, Ok(4)], Some(9), Some(FIRST));
+    assert!(rt; shared(&rt)? == (SHARED, Err(ErrorKind::NotFound)));
     Ok(())
 }
 
@@ -359,13 +412,18 @@ fn a_name_differs<'a>(alloc: Global, asked: &[Asked<'a>]) -> Result<Option<&'a s
     Ok(None)
 }
 
+fn files_in_a_folder_differ(rt: &HostRuntime) -> io::Result<Option<&'static str>> {
+    make_folder(rt, "source")?;
+    let path = files_differ(rt, &OF_FILES);
+    fs::remove_dir_all(rt, "source")?;
+    Ok(path)
+}
+
 // A source of files returns the disk of the path. A source of a named disk returns it only under
 // its name and with its length.
 #[test]
 fn a_source_gives_the_disk_of_its_path(rt: HostRuntime) -> Result<(), Fail> {
-    make_folder(&rt, "source")?;
-    assert_eq!(rt; files_differ(&rt, &OF_FILES), None);
-    fs::remove_dir_all(&rt, "source")?;
-    assert_eq!(rt; a_name_differs(rt.alloc(), &OF_A_NAME)?, None);
+    assert!(rt; files_in_a_folder_differ(&rt)? == None);
+    assert!(rt; a_name_differs(rt.alloc(), &OF_A_NAME)? == None);
     Ok(())
 }
