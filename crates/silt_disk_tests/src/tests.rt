@@ -1,5 +1,5 @@
 // Tests of disks, and of stores on them. This module has what several of them need: what a check
-// finds on a disk, and pseudo-random numbers.
+// finds on a disk, puts and gets of two bytes, and pseudo-random numbers.
 
 mod device;
 mod findings;
@@ -9,11 +9,12 @@ mod plain_map;
 mod random_lives;
 mod reports;
 
-use silt_device::MemDisk;
+use silt_device::{Disk, MemDisk};
 use silt_event::{Finding, Layout, Report};
 use silt_fixtures::{SMALL_LEN, blank_of_version_1, small};
 use silt_frame::Key;
 use silt_recovery::{OpenError, check};
+use silt_store_set::Core;
 use std::alloc::Global;
 use std::process::Abort;
 use std::test::Fail;
@@ -22,7 +23,7 @@ use std::test::Fail;
 // Its manifest has no digests, so it can name stores whose bytes are made by hand.
 fn small_blank(rt: &impl Abort, alloc: Global) -> Result<Vec<u8>, Fail> {
     let whole = blank_of_version_1(alloc, small()?)?;
-    assert_eq!(rt; whole.len(), SMALL_LEN);
+    assert!(rt; whole.len() == SMALL_LEN);
     Ok(whole)
 }
 
@@ -71,10 +72,35 @@ fn checked(alloc: Global, disk: &MemDisk) -> Result<Found, Fail> {
     }
 }
 
-// The generation of the manifest of the store on this disk.
-fn generation_of(alloc: Global, disk: &MemDisk) -> Result<u64, Fail> {
-    let report = check(alloc, disk).ok().ok_or("is whole")?;
-    Ok(report.generation)
+// The report of a check of this disk, which finds nothing wrong.
+fn report_of(alloc: Global, disk: &MemDisk) -> Result<Report, Fail> {
+    match check(alloc, disk) {
+        Ok(report) => Ok(report),
+        Err(_) => Err("is whole".into()),
+    }
+}
+
+// The number that a put of a value of two bytes returns. None if it is refused.
+fn put_count<D: Disk>(alloc: Global, core: &mut Core<D>, key: &Key, value: [u8; 2]) -> Option<u64> {
+    if core.geometry().value_len() != 2 {
+        return None;
+    }
+    match core.put(alloc, key, &value) {
+        Ok(count) => Some(count),
+        Err(_) => None,
+    }
+}
+
+// Whether a get finds a value of two bytes, and what is then in a buffer that had these bytes.
+// None if the get is refused.
+fn got<D: Disk>(core: &Core<D>, key: &Key, mut out: [u8; 2]) -> Option<(bool, [u8; 2])> {
+    if core.geometry().value_len() != 2 {
+        return None;
+    }
+    match core.get(key, &mut out) {
+        Ok(found) => Some((found, out)),
+        Err(_) => None,
+    }
 }
 
 // The pseudo-random number after this one.

@@ -33,24 +33,35 @@ const SLOT_1: Finding = Damaged(Place::Slot(1));
 const SORTED_DIGEST: Finding = Damaged(Place::SortedDigest);
 
 // The finding for which an opening was refused.
-fn finding_of(refusal: Refusal<MemFault>) -> Result<Finding, Fail> {
+fn finding_of(refusal: &Refusal<MemFault>) -> Option<Finding> {
     match refusal {
-        Refusal::NotFormatted => Ok(NotFormatted),
-        Refusal::Damaged(place) => Ok(Damaged(place)),
-        Refusal::Crowded => Ok(Crowded),
-        _ => Err("another refusal".into()),
+        Refusal::NotFormatted => Some(NotFormatted),
+        Refusal::Damaged(place) => Some(Damaged(*place)),
+        Refusal::Crowded => Some(Crowded),
+        _ => None,
     }
 }
 
-// Opens a store on a disk of these bytes, and checks the disk once more. A refused opening has
-// written nothing.
+// The finding for which the opening of a disk of these bytes was refused. It has written nothing.
+fn refused(rt: &impl Abort, fault: &OpenFault<MemDisk>, bytes: &[u8]) -> Result<Found, Fail> {
+    assert!(rt; fault.disk.shown() == bytes);
+    match finding_of(&fault.refusal) {
+        Some(finding) => Ok(Err(finding)),
+        None => Err("another refusal".into()),
+    }
+}
+
+// Checks the disk of a store.
+fn closed(alloc: Global, core: Core<MemDisk>) -> Result<Found, Fail> {
+    let disk = core.close();
+    checked(alloc, &disk)
+}
+
+// Opens a store on a disk of these bytes, and checks the disk once more.
 fn opened(rt: &impl Abort, alloc: Global, disk: MemDisk, bytes: &[u8]) -> Result<Found, Fail> {
     match Core::open(alloc, disk) {
-        Ok(core) => checked(alloc, &core.close()),
-        Err(OpenFault::<MemDisk> { disk, refusal }) => {
-            assert_eq!(rt; disk.shown(), bytes);
-            Ok(Err(finding_of(refusal)?))
-        }
+        Ok(core) => closed(alloc, core),
+        Err(fault) => refused(rt, &fault, bytes),
     }
 }
 
@@ -70,8 +81,13 @@ fn is_opened_so(
     printed: Found,
 ) -> Result<Found, Fail> {
     let found = opened(rt, alloc, disk, bytes)?;
-    assert_eq!(rt; found, printed);
+    assert!(rt; found == printed);
     Ok(printed)
+}
+
+// Compares what is found with what is expected, at this place or in the case of this number.
+fn is_found(rt: &impl Abort, found: Found, expected: Found, at: usize) {
+    assert_eq!(rt; found, expected, "at {at}");
 }
 
 // What is found on a device of these bytes after these changes.
@@ -90,9 +106,9 @@ fn looked_behind(
 
 // Tries each of these cases on a device of these bytes.
 fn look_at_each(rt: &impl Abort, alloc: Global, whole: &[u8], cases: &[Case]) -> Result<(), Fail> {
-    for (all, expected) in cases {
+    for (index, (all, expected)) in cases.iter().enumerate() {
         let found = looked_behind(rt, alloc, whole, all)?;
-        assert_eq!(rt; found, *expected, "{all:?}");
+        is_found(rt, found, *expected, index);
     }
     Ok(())
 }
@@ -122,7 +138,7 @@ fn find_each_byte(
 ) -> Result<(), Fail> {
     for (place, byte, expected) in bytes {
         let found = looked_changed(rt, alloc, whole, &[(*place, *byte)])?;
-        assert_eq!(rt; found, *expected, "{byte} at {place}");
+        is_found(rt, found, *expected, *place);
     }
     Ok(())
 }
@@ -138,7 +154,7 @@ fn find_in_turn(
     for (place, byte, finding) in cases {
         change(bytes, &[(*place, *byte)])?;
         let found = looked_at(rt, alloc, bytes)?;
-        assert_eq!(rt; found, Err(*finding), "{byte} at {place}");
+        is_found(rt, found, Err(*finding), *place);
     }
     Ok(())
 }
@@ -151,9 +167,9 @@ fn find_each_cut(
     cuts: &[(usize, Changes, Finding)],
 ) -> Result<(), Fail> {
     for (len, changes, finding) in cuts {
-        assert!(rt; *len <= bytes.len());
-        let found = looked_changed(rt, alloc, &bytes[..*len], changes)?;
-        assert_eq!(rt; found, Err(*finding), "{len}");
+        let cut = bytes.get(..*len).ok_or("a length inside")?;
+        let found = looked_changed(rt, alloc, cut, changes)?;
+        is_found(rt, found, Err(*finding), *len);
     }
     Ok(())
 }

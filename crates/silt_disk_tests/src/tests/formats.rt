@@ -1,11 +1,11 @@
 // The device calls of a formatting and of an opening, with a crash at each, and failed reads.
 
-use super::{Changes, EMPTY, checked, small_blank};
-use silt_device::{Call, FaultDisk, Fill, MemDisk, Stop, Stoppable};
+use super::{Changes, EMPTY, Found, checked, small_blank};
+use silt_device::{Call, Disk, FaultDisk, Fill, Geometry, MemDisk, Stop, Stoppable};
 use silt_event::Finding;
-use silt_fixtures::{FILLS, SMALL_LEN, changed, key, small};
+use silt_fixtures::{FILLS, SMALL_LEN, changed, key, opened_on, small};
 use silt_frame::Key;
-use silt_recovery::{FormatError, FormatFault, OpenError, OpenFault, check, format, open};
+use silt_recovery::{FormatError, OpenError, check, format, open};
 use silt_store_set::Core;
 use std::alloc::Global;
 use std::process::Abort;
@@ -22,7 +22,7 @@ fn stopping(alloc: Global, bytes: &[u8], k: u32, fill: Fill) -> Result<MemDisk, 
 }
 
 // How a formatting ends.
-#[derive(Clone, Copy, Debug, PartialEq, Eq)]
+#[derive(Clone, Copy, PartialEq, Eq)]
 enum End {
     Done,
     BadGeometry,
@@ -46,27 +46,42 @@ fn formatted(
     k: u32,
     fill: Fill,
 ) -> Result<(MemDisk, End), Fail> {
+    let geometry = small()?;
     let bytes = vec![in alloc; byte; len]?;
-    match format(alloc, stopping(alloc, &bytes, k, fill)?, small()?) {
-        Ok(disk) => Ok((disk.restart(), End::Done)),
-        Err(FormatFault::<MemDisk> { disk, error }) => Ok((disk.restart(), end_of(&error))),
+    Ok(formatted_on(alloc, stopping(alloc, &bytes, k, fill)?, geometry))
+}
+
+fn formatted_on(alloc: Global, disk: MemDisk, geometry: Geometry) -> (MemDisk, End) {
+    match format(alloc, disk, geometry) {
+        Ok(disk) => (disk.restart(), End::Done),
+        Err(fault) => {
+            let end = end_of(&fault.error);
+            (fault.disk.restart(), end)
+        }
     }
+}
+
+// How a formatting of zeros ends with a crash at this write or sync, and what a check then finds.
+fn left_by(alloc: Global, k: u32, fill: Fill) -> Result<(End, Found), Fail> {
+    let (disk, end) = formatted(alloc, (SMALL_LEN, 0), k, fill)?;
+    Ok((end, checked(alloc, &disk)?))
 }
 
 // A crash in a formatting of zeros leaves no store or an empty one. Only one at the last two calls
 // may leave a store.
+fn left_at(k: u32, fill: Fill) -> (End, Found) {
+    if k > FORMAT_CALLS {
+        return (End::Done, Ok(EMPTY));
+    }
+    if k >= FORMAT_CALLS - 1 && (fill == Fill::New || fill == Fill::Mix) {
+        return (End::Stopped, Ok(EMPTY));
+    }
+    (End::Stopped, Err(Finding::NotFormatted))
+}
+
 fn leaves_no_other_store(rt: &impl Abort, alloc: Global, k: u32, fill: Fill) -> Result<(), Fail> {
-    let (disk, end) = formatted(alloc, (SMALL_LEN, 0), k, fill)?;
-    let left = checked(alloc, &disk)?;
-    let is_done = k > FORMAT_CALLS;
-    assert_eq!(rt; end, if is_done { End::Done } else { End::Stopped }, "{k}");
-    let is_open = k >= FORMAT_CALLS - 1 && (fill == Fill::New || fill == Fill::Mix);
-    let expected = if is_done || is_open {
-        Ok(EMPTY)
-    } else {
-        Err(Finding::NotFormatted)
-    };
-    assert_eq!(rt; left, expected, "{k} {fill:?}");
+    let left = left_by(alloc, k, fill)?;
+    assert!(rt; left == left_at(k, fill), "{k} {fill:?}");
     Ok(())
 }
 
@@ -84,10 +99,18 @@ fn a_stopped_formatting_leaves_no_other_store(rt: HostRuntime) -> Result<(), Fai
 #[test]
 fn formats_no_other_length(rt: HostRuntime) -> Result<(), Fail> {
     let (disk, end) = formatted(rt.alloc(), (45_055, 0), 1, Fill::Ones)?;
-    assert_eq!(rt; end, End::BadGeometry);
-    assert_eq!(rt; disk.shown().len(), 45_055);
-    assert!(rt; disk.shown().iter().all(|byte| *byte == 0));
+    assert!(rt; end == End::BadGeometry);
+    assert!(rt; disk.shown().len() == 45_055 && are_zeros(disk.shown()));
     Ok(())
+}
+
+fn are_zeros(bytes: &[u8]) -> bool {
+    for byte in bytes {
+        if *byte != 0 {
+            return false;
+        }
+    }
+    true
 }
 
 // The gates of both logs on a device.
@@ -102,13 +125,21 @@ fn gates_of(rt: &impl Abort, shown: &[u8]) -> [u8; 8] {
 // The gates of both logs after an opening of a device of these bytes that crashes at this write or
 // sync. None if the opening fails.
 fn opened(rt: &impl Abort, alloc: Global, bytes: &[u8], k: u32) -> Result<Option<[u8; 8]>, Fail> {
-    match open(alloc, stopping(alloc, bytes, k, Fill::Old)?) {
-        Ok(opened) => Ok(Some(gates_of(rt, opened.disk.shown()))),
-        Err(OpenFault::<MemDisk> { disk: _, error }) => {
-            assert!(rt; matches!(&error, OpenError::Device(_)));
-            Ok(None)
-        }
+    let disk = stopping(alloc, bytes, k, Fill::Old)?;
+    Ok(gates_opened(rt, alloc, disk))
+}
+
+fn gates_opened(rt: &impl Abort, alloc: Global, disk: MemDisk) -> Option<[u8; 8]> {
+    match open(alloc, disk) {
+        Ok(opened) => Some(gates_of(rt, opened.disk.shown())),
+        Err(fault) => is_fault(rt, &fault.error),
     }
+}
+
+// An opening that fails only does so by a call of the disk. Returns no gates.
+fn is_fault<F>(rt: &impl Abort, error: &OpenError<F>) -> Option<[u8; 8]> {
+    assert!(rt; matches!(error, OpenError::Device(_)));
+    None
 }
 
 // Log 1 is frozen, and its second gate is open after a closed one. In the second case the third
@@ -123,7 +154,7 @@ fn opens_in(rt: &impl Abort, alloc: Global, bytes: &[u8], calls: u32) -> Result<
     for k in 1..calls.saturating_add(2) {
         let gates = opened(rt, alloc, bytes, k)?;
         let expected = (k > calls).then_some([0, 0, 0, 0, 0, 0xA7, 0, 0]);
-        assert_eq!(rt; gates, expected, "{k}");
+        assert!(rt; gates == expected, "{k}");
     }
     Ok(())
 }
@@ -132,9 +163,13 @@ fn opens_in(rt: &impl Abort, alloc: Global, bytes: &[u8], calls: u32) -> Result<
 // makes a write and a sync. It never writes to a frozen log.
 #[test]
 fn seals_the_active_log_alone(rt: HostRuntime) -> Result<(), Fail> {
-    for (changes, calls) in OPEN_BEHIND {
-        let bytes = small_changed(&rt, rt.alloc(), changes)?;
-        opens_in(&rt, rt.alloc(), &bytes, calls)?;
+    seals_each(&rt, rt.alloc(), &OPEN_BEHIND)
+}
+
+fn seals_each(rt: &impl Abort, alloc: Global, cases: &[(Changes, u32)]) -> Result<(), Fail> {
+    for (changes, calls) in cases {
+        let bytes = small_changed(rt, alloc, changes)?;
+        opens_in(rt, alloc, &bytes, *calls)?;
     }
     Ok(())
 }
@@ -160,7 +195,7 @@ fn checked_at(alloc: Global, bytes: &[u8], number: u64) -> Result<(bool, bool), 
 fn checks_in(rt: &impl Abort, alloc: Global, bytes: &[u8], reads: u64) -> Result<(), Fail> {
     for number in 1..reads.saturating_add(2) {
         let answer = checked_at(alloc, bytes, number)?;
-        assert_eq!(rt; answer, (number <= reads, number > reads), "{number}");
+        assert!(rt; answer == (number <= reads, number > reads), "{number}");
     }
     Ok(())
 }
@@ -175,9 +210,13 @@ const READS: [(Changes, u64); 3] = [
 
 #[test]
 fn hands_on_each_fault_of_a_read(rt: HostRuntime) -> Result<(), Fail> {
-    for (changes, reads) in READS {
-        let bytes = small_changed(&rt, rt.alloc(), changes)?;
-        checks_in(&rt, rt.alloc(), &bytes, reads)?;
+    checks_each(&rt, rt.alloc(), &READS)
+}
+
+fn checks_each(rt: &impl Abort, alloc: Global, cases: &[(Changes, u64)]) -> Result<(), Fail> {
+    for (changes, reads) in cases {
+        let bytes = small_changed(rt, alloc, changes)?;
+        checks_in(rt, alloc, &bytes, *reads)?;
     }
     Ok(())
 }
@@ -190,14 +229,23 @@ fn got(
     number: u64,
     key: Key,
 ) -> Result<(Option<bool>, [u8; 2]), Fail> {
+    let core = failing(alloc, bytes, number)?;
+    value_in(&core, &key)
+}
+
+// A store on a disk of these bytes, on which the read of this number fails.
+fn failing(alloc: Global, bytes: &[u8], number: u64) -> Result<Core<FaultDisk>, Fail> {
     let disk = FaultDisk::new(MemDisk::with_bytes(alloc, bytes)?, Call::Read, number);
-    let core = Core::open(alloc, disk).ok().ok_or("opens")?;
+    opened_on(alloc, disk)
+}
+
+fn value_in<D: Disk>(core: &Core<D>, key: &Key) -> Result<(Option<bool>, [u8; 2]), Fail> {
     if core.geometry().value_len() != 2 {
         return Err("values of two bytes".into());
     }
     let mut value = [0; 2];
-    let answer = core.get(&key, &mut value);
-    Ok((answer.ok(), value))
+    let answer = core.get(key, &mut value).ok();
+    Ok((answer, value))
 }
 
 // Three sorted entries. The second has a value other than zeros.
@@ -213,14 +261,14 @@ fn gets_an_entry_in_one_read(rt: HostRuntime) -> Result<(), Fail> {
 
 fn reads_once(rt: &impl Abort, alloc: Global, bytes: &[u8]) -> Result<(), Fail> {
     let (failed, _) = got(alloc, bytes, 6, key(1))?;
-    assert_eq!(rt; failed, None);
-    assert_eq!(rt; got(alloc, bytes, 7, key(1))?, (Some(true), [7, 0]));
+    assert!(rt; failed == None);
+    assert!(rt; got(alloc, bytes, 7, key(1))? == (Some(true), [7, 0]));
     Ok(())
 }
 
 // The gates of the header, of the manifest's slots and of the first row of log 0 on a device.
 fn first_gates(rt: &impl Abort, shown: &[u8]) -> [u8; 4] {
-    assert_eq!(rt; shown.len(), SMALL_LEN);
+    assert!(rt; shown.len() == SMALL_LEN);
     [shown[0], shown[4096], shown[8192], shown[12_288]]
 }
 
@@ -229,11 +277,15 @@ fn first_gates(rt: &impl Abort, shown: &[u8]) -> [u8; 4] {
 #[test]
 fn closes_gates_with_zeros(rt: HostRuntime) -> Result<(), Fail> {
     for k in 1..FORMAT_CALLS + 1 {
-        let (disk, end) = formatted(rt.alloc(), (SMALL_LEN, 0xFF), k, Fill::New)?;
-        let gates = first_gates(&rt, disk.shown());
-        assert_eq!(rt; (end, gates), (End::Stopped, gates_at(k)), "{k}");
+        let left = gates_after(&rt, rt.alloc(), k)?;
+        assert!(rt; left == (End::Stopped, gates_at(k)), "{k}");
     }
     Ok(())
+}
+
+fn gates_after(rt: &impl Abort, alloc: Global, k: u32) -> Result<(End, [u8; 4]), Fail> {
+    let (disk, end) = formatted(alloc, (SMALL_LEN, 0xFF), k, Fill::New)?;
+    Ok((end, first_gates(rt, disk.shown())))
 }
 
 fn gates_at(k: u32) -> [u8; 4] {

@@ -1,10 +1,11 @@
 // Stores at the limits of their numbers.
 
-use silt_device::{Disk, Geometry};
-use silt_fixtures::{key, opened_with};
-use silt_frame::Value;
+use silt_device::{Disk, MemDisk};
+use silt_fixtures::{key, of_values, opened_on};
+use silt_frame::{Key, Value};
 use silt_store_set::{Core, Event, Reply};
 use std::alloc::Global;
+use std::collections::BTreeMap;
 use std::process::Abort;
 use std::test::Fail;
 
@@ -13,40 +14,51 @@ fn is_found<F: Drop>(reply: &Reply<F>, value: &[u8]) -> bool {
     matches!(reply, Reply::Found(found) if found.as_slice() == value)
 }
 
-// Puts and flushes this value.
-fn puts<D: Disk>(rt: &impl Abort, alloc: Global, core: &mut Core<D>, value: &[u8]) {
-    assert_eq!(rt; core.geometry().value_len(), 4096);
-    assert_eq!(rt; value.len(), 4096);
-    assert_eq!(rt; core.put(alloc, &key(1), value).ok(), Some(1));
-    assert_eq!(rt; core.flush().ok(), Some(1));
+// The numbers that a put of this value and a flush return.
+fn put<D: Disk>(alloc: Global, core: &mut Core<D>, value: &[u8]) -> Option<(u64, u64)> {
+    if core.geometry().value_len() != 4096 || value.len() != 4096 {
+        return None;
+    }
+    let count = core.put(alloc, &key(1), value).ok()?;
+    Some((count, core.flush().ok()?))
 }
 
-// Gets this value by an event.
-fn gets<D: Disk>(rt: &impl Abort, alloc: Global, core: &mut Core<D>, value: &[u8]) {
-    let is_found = is_found(&core.answer(alloc, &Event::Get(key(1))), value);
-    assert!(rt; is_found);
+// Whether an event gets this value.
+fn is_got<D: Disk>(alloc: Global, core: &mut Core<D>, value: &[u8]) -> bool {
+    is_found(&core.answer(alloc, &Event::Get(key(1))), value)
 }
 
 // Whether the list of all entries has this value.
 fn is_listed<D: Disk>(alloc: Global, core: &Core<D>, value: &[u8]) -> bool {
     match core.entries(alloc) {
-        Ok(entries) => entries.get(&key(1)).map(Value::as_slice) == Some(value),
+        Ok(entries) => has(&entries, value),
         Err(_) => false,
     }
 }
 
+fn has(entries: &BTreeMap<Key, Value>, value: &[u8]) -> bool {
+    match entries.get(&key(1)) {
+        Some(listed) => listed.as_slice() == value,
+        None => false,
+    }
+}
+
 fn finds<D: Disk>(rt: &impl Abort, alloc: Global, core: &mut Core<D>, value: &[u8]) {
-    puts(rt, alloc, core, value);
-    gets(rt, alloc, core, value);
+    assert!(rt; put(alloc, core, value) == Some((1, 1)));
+    assert!(rt; is_got(alloc, core, value));
     assert!(rt; is_listed(alloc, core, value));
+}
+
+// An empty store with the longest values.
+fn of_longest(alloc: Global) -> Result<Core<MemDisk>, Fail> {
+    opened_on(alloc, of_values(alloc, 4096)?)
 }
 
 // A store with the longest values finds one after a put and a flush, by a get and in the list of
 // all entries.
 #[test]
 fn finds_the_longest_values(rt: HostRuntime) -> Result<(), Fail> {
-    let geometry = Geometry::new(4096, 2, 4, 2, 2, 8).ok().ok_or("in limits")?;
-    let mut core = opened_with(rt.alloc(), geometry)?;
+    let mut core = of_longest(rt.alloc())?;
     finds(&rt, rt.alloc(), &mut core, &[7; 4096]);
     Ok(())
 }

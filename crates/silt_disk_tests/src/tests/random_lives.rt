@@ -1,7 +1,7 @@
 // Many lives of pseudo-random events on one disk, of either version. Each crashes at a
 // pseudo-random call with a pseudo-random fill, and is compared with a plain map.
 
-use super::{generation_of, key_of, next};
+use super::{got, key_of, next, report_of};
 use silt_device::{Disk, Fill, Geometry, MemDisk, Stop, Stoppable};
 use silt_disk::Version;
 use silt_fixtures::{as_version, blank, of_regions};
@@ -52,17 +52,33 @@ fn random_stops(alloc: Global, seed: u32) -> Result<Vec<Stop>, AllocError> {
     Ok(stops)
 }
 
+// The value of two bytes as a number, which is not 0. Another length is 0.
+fn number_of(bytes: &[u8]) -> u16 {
+    match bytes {
+        [first, last] => u16::from_be_bytes([*first, *last]),
+        _ => 0,
+    }
+}
+
+// The value of a key in a list of entries, 0 for none.
+fn value_in(entries: &BTreeMap<Key, Value>, place: u8) -> u16 {
+    match entries.get(&key_of(place)) {
+        Some(value) => number_of(value.as_slice()),
+        None => 0,
+    }
+}
+
 // The values in a list of entries, which has no other keys.
 fn values_of(rt: &impl Abort, entries: &BTreeMap<Key, Value>) -> Values {
     let mut values = [0; KEYS];
     let mut known = 0usize;
     for place in 0..KEYS {
-        if let Some([first, last]) = entries.get(&key_of(place as u8)).map(Value::as_slice) {
-            values[place] = u16::from_be_bytes([*first, *last]);
+        values[place] = value_in(entries, place as u8);
+        if values[place] != 0 {
             known = known.saturating_add(1);
         }
     }
-    assert_eq!(rt; entries.len(), known);
+    assert!(rt; entries.len() == known);
     values
 }
 
@@ -70,47 +86,79 @@ fn now(kept: &[Values]) -> Values {
     kept.last().copied().unwrap_or([0; KEYS])
 }
 
-// Records that an accepted command gave a key this value, 0 for none.
-fn accept(kept: &mut Kept, place: u8, value: u16) -> Result<(), AllocError> {
+// The value that a key has now, 0 for none.
+fn value_now(kept: &[Values], place: u8) -> u16 {
+    match now(kept).get(place as usize) {
+        Some(value) => *value,
+        None => 0,
+    }
+}
+
+// Records that an accepted command gave a key this value, 0 for none. Like all calls here it
+// returns whether the life goes on.
+fn accept(kept: &mut Kept, place: u8, value: u16) -> Result<bool, Fail> {
     let mut values = now(kept);
     if let Some(old) = values.get_mut(place as usize) {
         *old = value;
     }
     kept.push(values)?;
-    Ok(())
+    Ok(true)
 }
 
-// Puts a value. Like all calls here it returns whether the life goes on.
+// Why a command was refused.
+#[derive(Clone, Copy, PartialEq, Eq)]
+enum Reason {
+    NoRoom,
+    StoreFull,
+    Fault,
+    Other,
+}
+
+fn reason_of<F>(refusal: &Refusal<F>) -> Reason {
+    match refusal {
+        Refusal::NoRoom => Reason::NoRoom,
+        Refusal::StoreFull => Reason::StoreFull,
+        Refusal::Device(_) => Reason::Fault,
+        _ => Reason::Other,
+    }
+}
+
+// A fault ends the life. After a refusal for one of these reasons it goes on.
+fn goes_on_after(reason: Reason, allowed: &[Reason]) -> Result<bool, Fail> {
+    if reason == Reason::Fault {
+        return Ok(false);
+    }
+    if allowed.contains(&reason) {
+        return Ok(true);
+    }
+    Err("another refusal".into())
+}
+
+// Puts a value.
 fn put<D: Disk>(
-    rt: &impl Abort,
     alloc: Global,
     core: &mut Core<D>,
     kept: &mut Kept,
     (place, value): (u8, u16),
 ) -> Result<bool, Fail> {
-    assert_eq!(rt; core.geometry().value_len(), 2);
+    if core.geometry().value_len() != 2 {
+        return Err("values of two bytes".into());
+    }
     let bytes: [u8; 2] = value.to_be_bytes();
     match core.put(alloc, &key_of(place), &bytes) {
-        Ok(_) => {
-            accept(kept, place, value)?;
-            Ok(true)
-        }
-        Err(Refusal::NoRoom) => Ok(true),
-        Err(Refusal::StoreFull) => Ok(true),
-        Err(Refusal::Device(_)) => Ok(false),
-        Err(_) => Err("a put".into()),
+        Ok(_) => accept(kept, place, value),
+        Err(refusal) => goes_on_after(reason_of(&refusal), &[Reason::NoRoom, Reason::StoreFull]),
     }
 }
 
-// A swap that changes nothing got this reply, which has to be the one that is due. The life goes
-// on.
-fn goes_on(rt: &impl Abort, is_due: bool) -> bool {
-    assert!(rt; is_due);
-    true
+// A swap compares with this value, or else with one that no key has.
+fn compared(there: u16, is_own: bool) -> [u8; 2] {
+    let value: u16 = if is_own { there } else { 2 };
+    value.to_be_bytes()
 }
 
 // Swaps this value for a key's own if `own` is true and the key has one, or else for one that no
-// key has. Returns whether the life goes on.
+// key has.
 fn swap<D: Disk>(
     rt: &impl Abort,
     alloc: Global,
@@ -119,23 +167,37 @@ fn swap<D: Disk>(
     (place, value): (u8, u16),
     own: bool,
 ) -> Result<bool, Fail> {
-    assert_eq!(rt; core.geometry().value_len(), 2);
-    let there = now(kept).get(place as usize).copied().unwrap_or(0);
-    let stands = own & (there != 0);
-    let old: [u8; 2] = if stands { there } else { 2 }.to_be_bytes();
+    if core.geometry().value_len() != 2 {
+        return Err("values of two bytes".into());
+    }
+    let there = value_now(kept, place);
+    let is_own = own & (there != 0);
+    let old = compared(there, is_own);
     let new: [u8; 2] = value.to_be_bytes();
     match core.swap(alloc, &key_of(place), &old, &new) {
-        Ok(Some(_)) => {
-            assert!(rt; stands);
-            accept(kept, place, value)?;
-            Ok(true)
-        }
-        Ok(None) => Ok(goes_on(rt, !stands)),
-        Err(Refusal::NoRoom) => Ok(goes_on(rt, stands)),
-        Err(Refusal::StoreFull) => Ok(goes_on(rt, stands)),
-        Err(Refusal::Device(_)) => Ok(false),
-        Err(_) => Err("a swap".into()),
+        Ok(count) => swapped(rt, kept, (place, value), (count.is_some(), is_own)),
+        Err(refusal) => not_swapped(rt, reason_of(&refusal), is_own),
     }
+}
+
+// A swap changes the value exactly if the key has the one that it compares with.
+fn swapped(
+    rt: &impl Abort,
+    kept: &mut Kept,
+    (place, value): (u8, u16),
+    (is_done, is_own): (bool, bool),
+) -> Result<bool, Fail> {
+    assert!(rt; is_done == is_own);
+    if !is_own {
+        return Ok(true);
+    }
+    accept(kept, place, value)
+}
+
+// A swap is refused for lack of room only if the key has the value that it compares with.
+fn not_swapped(rt: &impl Abort, reason: Reason, is_own: bool) -> Result<bool, Fail> {
+    assert!(rt; is_own || reason == Reason::Fault);
+    goes_on_after(reason, &[Reason::NoRoom, Reason::StoreFull])
 }
 
 fn delete<D: Disk>(
@@ -145,45 +207,45 @@ fn delete<D: Disk>(
     place: u8,
 ) -> Result<bool, Fail> {
     match core.delete(alloc, &key_of(place)) {
-        Ok(_) => {
-            accept(kept, place, 0)?;
-            Ok(true)
-        }
-        Err(Refusal::NoRoom) => Ok(true),
-        Err(Refusal::Device(_)) => Ok(false),
-        Err(_) => Err("a delete".into()),
+        Ok(_) => accept(kept, place, 0),
+        Err(refusal) => goes_on_after(reason_of(&refusal), &[Reason::NoRoom]),
     }
 }
 
-fn get<D: Disk>(rt: &impl Abort, core: &Core<D>, kept: &[Values], place: u8) -> Result<bool, Fail> {
-    assert_eq!(rt; core.geometry().value_len(), 2);
-    let expected = now(kept).get(place as usize).copied().unwrap_or(0);
-    let mut out = [0; 2];
-    let found = core.get(&key_of(place), &mut out).ok().ok_or("a get")?;
-    assert_eq!(rt; (found, u16::from_be_bytes(out)), (expected != 0, expected));
+// The answer of a get is the one that is due. The life goes on.
+fn goes_on_with(rt: &impl Abort, is_due: bool) -> Result<bool, Fail> {
+    assert!(rt; is_due);
     Ok(true)
+}
+
+fn get<D: Disk>(rt: &impl Abort, core: &Core<D>, kept: &[Values], place: u8) -> Result<bool, Fail> {
+    let expected = value_now(kept, place);
+    match got(core, &key_of(place), [0; 2]) {
+        Some(answer) => goes_on_with(rt, answer == (expected != 0, expected.to_be_bytes())),
+        None => Err("a get".into()),
+    }
 }
 
 // Acknowledges all that was accepted.
 fn flush<D: Disk>(core: &mut Core<D>, kept: &mut Kept) -> Result<bool, Fail> {
     match core.flush() {
-        Ok(_) => {
-            let values = now(kept);
-            kept.clear();
-            kept.push(values)?;
-            Ok(true)
-        }
-        Err(Refusal::Device(_)) => Ok(false),
-        Err(_) => Err("a flush".into()),
+        Ok(_) => keep_last(kept, now(kept)),
+        Err(refusal) => goes_on_after(reason_of(&refusal), &[]),
     }
+}
+
+// From now on only these values count.
+fn keep_last(kept: &mut Kept, values: Values) -> Result<bool, Fail> {
+    kept.clear();
+    kept.push(values)?;
+    Ok(true)
 }
 
 // The life goes on after this step of the background work unless the step failed with a fault.
 fn work<T: Drop, F: Drop>(done: Result<T, Refusal<F>>) -> Result<bool, Fail> {
     match done {
         Ok(_) => Ok(true),
-        Err(Refusal::Device(_)) => Ok(false),
-        Err(_) => Err("a step".into()),
+        Err(refusal) => goes_on_after(reason_of(&refusal), &[]),
     }
 }
 
@@ -201,7 +263,7 @@ fn step<D: Disk>(
     let place = (of_key as usize % KEYS) as u8;
     let value = u16::from_be_bytes([first, last]) | 1;
     match kind / 16 {
-        0..=4 => put(rt, alloc, core, kept, (place, value)),
+        0..=4 => put(alloc, core, kept, (place, value)),
         5 => delete(alloc, core, kept, place),
         6 => get(rt, core, kept, place),
         7 => flush(core, kept),
@@ -213,13 +275,18 @@ fn step<D: Disk>(
 
 // The values in the list of the entries of a store.
 fn listed<D: Disk>(rt: &impl Abort, alloc: Global, core: &Core<D>) -> Result<Values, Fail> {
-    let entries = core.entries(alloc).ok().ok_or("has entries")?;
-    Ok(values_of(rt, &entries))
+    match core.entries(alloc) {
+        Ok(entries) => Ok(values_of(rt, &entries)),
+        Err(_) => Err("has entries".into()),
+    }
 }
 
 // Whether the list of the entries is refused, as all calls of a failed store are.
 fn is_failed<D: Disk>(alloc: Global, core: &Core<D>) -> bool {
-    matches!(core.entries(alloc), Err(Refusal::Failed))
+    match core.entries(alloc) {
+        Ok(_) => false,
+        Err(refusal) => matches!(&refusal, Refusal::Failed),
+    }
 }
 
 // The opening found one of the sets of values that a crash may leave. From now on only that one
@@ -229,45 +296,78 @@ fn take_up<D: Disk>(
     alloc: Global,
     core: &Core<D>,
     kept: &mut Kept,
-) -> Result<(), Fail> {
+) -> Result<bool, Fail> {
     let found = listed(rt, alloc, core)?;
     assert!(rt; kept.contains(&found), "{found:?} in {kept:?}");
-    kept.clear();
-    kept.push(found)?;
-    Ok(())
+    keep_last(kept, found)
 }
 
-// Runs events of a life from this number on, until one is refused with a fault. If none is, the
-// store ends with the values of the map.
+// Runs events of a life from this number on, until one is refused with a fault. Returns whether
+// none is.
 fn events<D: Disk>(
     rt: &impl Abort,
     alloc: Global,
     core: &mut Core<D>,
     kept: &mut Kept,
-    mut number: u32,
-) -> Result<u32, Fail> {
+    number: &mut u32,
+) -> Result<bool, Fail> {
     for _ in 0..EVENTS {
-        number = next(number);
-        if !step(rt, alloc, core, kept, number)? {
-            assert!(rt; is_failed(alloc, core));
-            return Ok(number);
+        *number = next(*number);
+        if !step(rt, alloc, core, kept, *number)? {
+            return Ok(false);
         }
     }
-    let found = listed(rt, alloc, core)?;
-    assert_eq!(rt; found, now(kept));
-    Ok(number)
+    Ok(true)
+}
+
+// A store ends with the values of the map, and after a fault it is failed.
+fn ends<D: Disk>(
+    rt: &impl Abort,
+    alloc: Global,
+    core: &Core<D>,
+    kept: &[Values],
+    goes_on: bool,
+) -> Result<(), Fail> {
+    if goes_on {
+        let found = listed(rt, alloc, core)?;
+        assert!(rt; found == now(kept));
+    } else {
+        assert!(rt; is_failed(alloc, core));
+    }
+    Ok(())
 }
 
 // Runs the events of a life whose store is open.
-fn lived<D: Disk>(
+fn run<D: Disk>(
     rt: &impl Abort,
     alloc: Global,
     core: &mut Core<D>,
     kept: &mut Kept,
-    number: u32,
-) -> Result<u32, Fail> {
+    number: &mut u32,
+) -> Result<(), Fail> {
     take_up(rt, alloc, core, kept)?;
-    events(rt, alloc, core, kept, number)
+    let goes_on = events(rt, alloc, core, kept, number)?;
+    ends(rt, alloc, core, kept, goes_on)
+}
+
+// The disk after the crash in which such a life ends.
+fn lived(
+    rt: &impl Abort,
+    alloc: Global,
+    mut core: Core<MemDisk>,
+    kept: &mut Kept,
+    number: &mut u32,
+) -> Result<MemDisk, Fail> {
+    run(rt, alloc, &mut core, kept, number)?;
+    Ok(core.close().restart())
+}
+
+// The disk after the crash in which an opening ends.
+fn not_opened(fault: OpenFault<MemDisk>) -> Result<MemDisk, Fail> {
+    if reason_of(&fault.refusal) != Reason::Fault {
+        return Err("another refusal".into());
+    }
+    Ok(fault.disk.restart())
 }
 
 // Runs a life, and crashes the disk.
@@ -276,45 +376,59 @@ fn life(
     alloc: Global,
     disk: MemDisk,
     kept: &mut Kept,
-    number: u32,
-) -> Result<(MemDisk, u32), Fail> {
+    number: &mut u32,
+) -> Result<MemDisk, Fail> {
     match Core::open(alloc, disk) {
-        Ok(mut core) => {
-            let number = lived(rt, alloc, &mut core, kept, number)?;
-            Ok((core.close().restart(), number))
-        }
-        Err(
-            OpenFault::<MemDisk> {
-                disk,
-                refusal: Refusal::Device(_),
-            },
-        ) => Ok((disk.restart(), number)),
-        Err(_) => Err("another refusal".into()),
+        Ok(core) => lived(rt, alloc, core, kept, number),
+        Err(fault) => not_opened(fault),
     }
 }
 
 // Runs all lives on this disk, whose store has no entries.
-fn lives(rt: &impl Abort, alloc: Global, mut disk: MemDisk, seed: u32) -> Result<MemDisk, Fail> {
-    let mut kept = Vec::new(alloc);
-    kept.push([0; KEYS])?;
-    let mut number = seed;
+fn lives(
+    rt: &impl Abort,
+    alloc: Global,
+    mut disk: MemDisk,
+    kept: &mut Kept,
+    mut number: u32,
+) -> Result<MemDisk, Fail> {
     for _ in 0..LIVES {
-        let (left, last) = life(rt, alloc, disk, &mut kept, number)?;
-        disk = left;
-        number = last;
+        disk = life(rt, alloc, disk, kept, &mut number)?;
     }
     Ok(disk)
 }
 
-// A new disk of this geometry and version with these crashes.
-fn stopping(
+// A new disk of this geometry and version, with an empty store.
+fn empty_of(alloc: Global, geometry: Geometry, version: Version) -> Result<MemDisk, Fail> {
+    let empty = blank(alloc, geometry)?;
+    let bytes = as_version(alloc, &empty, version)?;
+    Ok(MemDisk::with_bytes(alloc, &bytes)?)
+}
+
+// The disk after all lives on a new one of this geometry and version, with these crashes.
+fn left_by(
+    rt: &impl Abort,
     alloc: Global,
     geometry: Geometry,
-    version: Version,
-    stops: Vec<Stop>,
+    (seed, version): (u32, Version),
+    kept: &mut Kept,
 ) -> Result<MemDisk, Fail> {
-    let bytes = as_version(alloc, &blank(alloc, geometry)?, version)?;
-    Ok(MemDisk::with_bytes(alloc, &bytes)?.arm(stops))
+    let stops = random_stops(alloc, seed)?;
+    let disk = empty_of(alloc, geometry, version)?;
+    lives(rt, alloc, disk.arm(stops), kept, seed)
+}
+
+// The generation of the manifest after all lives on such a disk.
+fn last_generation(
+    rt: &impl Abort,
+    alloc: Global,
+    geometry: Geometry,
+    run: (u32, Version),
+) -> Result<u64, Fail> {
+    let mut kept = Vec::new(alloc);
+    kept.push([0; KEYS])?;
+    let disk = left_by(rt, alloc, geometry, run, &mut kept)?;
+    Ok(report_of(alloc, &disk)?.generation)
 }
 
 // Runs all lives on such a disk. The generation of the manifest shows that logs were frozen,
@@ -323,12 +437,9 @@ fn all_lives(
     rt: &impl Abort,
     alloc: Global,
     geometry: Geometry,
-    (seed, version): (u32, Version),
+    run: (u32, Version),
 ) -> Result<(), Fail> {
-    let stops = random_stops(alloc, seed)?;
-    let disk = stopping(alloc, geometry, version, stops)?;
-    let disk = lives(rt, alloc, disk, seed)?;
-    let generation = generation_of(alloc, &disk)?;
+    let generation = last_generation(rt, alloc, geometry, run)?;
     assert!(rt; 50 < generation, "{generation}");
     Ok(())
 }

@@ -1,11 +1,13 @@
 // A store on a disk in a file that behaves keeps what was flushed. Each step is proved for every
 // such file. Here it is run.
+use crate::tests::{got, put_count};
 use crate::{MemFile, MemFolder};
 use silt_device::{Disk, RandomAccessDisk};
-use silt_fixtures::{key, small};
+use silt_fixtures::{key, opened_on, small};
 use silt_recovery::format;
 use silt_store_set::Core;
 use std::alloc::Global;
+use std::process::Abort;
 use std::test::Fail;
 
 // A disk of the small geometry in a file that is made, with an empty store.
@@ -16,59 +18,46 @@ fn formatted(alloc: Global) -> Result<RandomAccessDisk<MemFile>, Fail> {
     Ok(format(alloc, disk, geometry).ok().ok_or("formats")?)
 }
 
-// Puts a value.
-fn put<D: Disk>(alloc: Global, core: &mut Core<D>, first: u8, value: [u8; 2]) -> Result<(), Fail> {
-    if core.geometry().value_len() != 2 {
-        return Err("two bytes".into());
-    }
-    match core.put(alloc, &key(first), &value) {
-        Ok(_) => Ok(()),
-        Err(_) => Err("a put".into()),
-    }
-}
-
-// The value of a key, or none.
-fn value_of<D: Disk>(core: &Core<D>, first: u8) -> Result<Option<[u8; 2]>, Fail> {
-    if core.geometry().value_len() != 2 {
-        return Err("two bytes".into());
-    }
-    let mut out = [0; 2];
-    match core.get(&key(first), &mut out) {
-        Ok(found) => Ok(found.then_some(out)),
-        Err(_) => Err("a get".into()),
-    }
-}
-
 // Puts two values, with a flush between them.
-fn put_two<D: Disk>(alloc: Global, core: &mut Core<D>) -> Result<(), Fail> {
-    put(alloc, core, 1, [5, 6])?;
-    match core.flush() {
-        Ok(_) => put(alloc, core, 2, [7, 8]),
-        Err(_) => Err("a flush".into()),
-    }
+fn put_two<D: Disk>(rt: &impl Abort, alloc: Global, core: &mut Core<D>) {
+    assert!(rt; put_count(alloc, core, &key(1), [5, 6]).is_some());
+    assert!(rt; core.flush().is_ok());
+    assert!(rt; put_count(alloc, core, &key(2), [7, 8]).is_some());
 }
 
 // The file of a store in which one value was flushed, and another one was not.
-fn flushed(alloc: Global) -> Result<MemFile, Fail> {
+fn flushed(rt: &impl Abort, alloc: Global) -> Result<MemFile, Fail> {
     let disk = formatted(alloc)?;
-    let mut core = Core::open(alloc, disk).ok().ok_or("opens")?;
-    put_two(alloc, &mut core)?;
+    let mut core = opened_on(alloc, disk)?;
+    put_two(rt, alloc, &mut core);
     Ok(core.close().into_file())
 }
 
-// Opens the store in a file with these bytes, and returns the values of both keys.
-fn found(alloc: Global, bytes: Vec<u8>) -> Result<[Option<[u8; 2]>; 2], Fail> {
+// Whether each key has a value, and which. None if a get is refused.
+type Both = [Option<(bool, [u8; 2])>; 2];
+
+fn both_of<D: Disk>(core: &Core<D>) -> Both {
+    [got(core, &key(1), [0; 2]), got(core, &key(2), [0; 2])]
+}
+
+// The disk in a file with these bytes.
+fn disk_of(alloc: Global, bytes: Vec<u8>) -> Result<RandomAccessDisk<MemFile>, Fail> {
     let folder = MemFolder::new(alloc, bytes);
-    let disk = RandomAccessDisk::open(&folder, "disk")?;
-    let core = Core::open(alloc, disk).ok().ok_or("opens again")?;
-    Ok([value_of(&core, 1)?, value_of(&core, 2)?])
+    Ok(RandomAccessDisk::open(&folder, "disk")?)
+}
+
+// Opens the store in a file with these bytes, and gets both keys.
+fn found(alloc: Global, bytes: Vec<u8>) -> Result<Both, Fail> {
+    let disk = disk_of(alloc, bytes)?;
+    let core = opened_on(alloc, disk)?;
+    Ok(both_of(&core))
 }
 
 // After a crash that leaves none of the pending bytes, the store has the flushed value and not the
 // other one.
 #[test]
 fn a_file_that_behaves_keeps_what_was_flushed(rt: HostRuntime) -> Result<(), Fail> {
-    let bytes = flushed(rt.alloc())?.after_stop()?;
-    assert_eq!(rt; found(rt.alloc(), bytes)?, [Some([5, 6]), None]);
+    let bytes = flushed(&rt, rt.alloc())?.after_stop()?;
+    assert!(rt; found(rt.alloc(), bytes)? == [Some((true, [5, 6])), Some((false, [0, 0]))]);
     Ok(())
 }

@@ -1,8 +1,8 @@
 // Digests: what is found if a store has another digest than the manifest says, and which slots need
 // digests on which version of a device.
 
-use super::{CHARGE, Case, SLOT_0, SLOT_1, SORTED_DIGEST, look_at_each, looked_changed};
-use crate::tests::{Changes, Found};
+use super::{CHARGE, Case, SLOT_0, SLOT_1, SORTED_DIGEST, is_found, look_at_each, looked_changed};
+use crate::tests::{Changes, Found, put_count};
 use silt_device::{Disk, MemDisk};
 use silt_event::Finding::{self, Damaged};
 use silt_event::Place::{Hash, HashDigest, Sorted};
@@ -19,8 +19,7 @@ const OLDER: Finding = Damaged(HashDigest(0));
 
 // A put of a key with its own number as its value.
 fn put_one<D: Disk>(rt: &impl Abort, alloc: Global, core: &mut Core<D>, first: u8) {
-    assert_eq!(rt; core.geometry().value_len(), 2);
-    assert!(rt; core.put(alloc, &key(first), &[0, first]).is_ok());
+    assert!(rt; put_count(alloc, core, &key(first), [0, first]).is_some());
 }
 
 // The steps that convert the log that a put froze.
@@ -47,13 +46,18 @@ fn put_and_convert<D: Disk>(rt: &impl Abort, alloc: Global, core: &mut Core<D>, 
 // and key 3 in hash store 1, the newest. Key 4 waits in log 1. Slot 1 of the manifest is current,
 // with generation 7. In generation 6 log 0 is frozen in place of hash store 1.
 fn with_three_stores(rt: &impl Abort, alloc: Global) -> Result<MemDisk, Fail> {
-    let mut core = opened_with(alloc, of_regions(1, 2, 2, 4)?)?;
-    put_one(rt, alloc, &mut core, 1);
-    put_and_convert(rt, alloc, &mut core, 2);
-    merge(rt, alloc, &mut core);
-    put_and_convert(rt, alloc, &mut core, 3);
-    put_and_convert(rt, alloc, &mut core, 4);
+    let geometry = of_regions(1, 2, 2, 4)?;
+    let mut core = opened_with(alloc, geometry)?;
+    make_three_stores(rt, alloc, &mut core);
     Ok(core.close())
+}
+
+fn make_three_stores<D: Disk>(rt: &impl Abort, alloc: Global, core: &mut Core<D>) {
+    put_one(rt, alloc, core, 1);
+    put_and_convert(rt, alloc, core, 2);
+    merge(rt, alloc, core);
+    put_and_convert(rt, alloc, core, 3);
+    put_and_convert(rt, alloc, core, 4);
 }
 
 const OF_THREE_STORES: Report = Report {
@@ -155,8 +159,12 @@ const OF_VERSIONS: [Case; 9] = [
 #[test]
 fn compares_digests(rt: HostRuntime) -> Result<(), Fail> {
     let disk = with_three_stores(&rt, rt.alloc())?;
-    look_at_each(&rt, rt.alloc(), disk.shown(), &OF_DIGESTS)?;
-    look_at_each(&rt, rt.alloc(), disk.shown(), &OF_VERSIONS)
+    look_at_both(&rt, rt.alloc(), disk.shown())
+}
+
+fn look_at_both(rt: &impl Abort, alloc: Global, whole: &[u8]) -> Result<(), Fail> {
+    look_at_each(rt, alloc, whole, &OF_DIGESTS)?;
+    look_at_each(rt, alloc, whole, &OF_VERSIONS)
 }
 
 // The same device without digests. If a slot then says that it has digests, they are zeros. They
@@ -169,10 +177,15 @@ const OF_VERSION_1: [Case; 5] = [
     (&[&[(12, 2)]], Err(SLOT_0)),
 ];
 
+// The bytes of that device without digests.
+fn old_with_three_stores(rt: &impl Abort, alloc: Global) -> Result<Vec<u8>, Fail> {
+    let disk = with_three_stores(rt, alloc)?;
+    as_version_1(alloc, disk.shown())
+}
+
 #[test]
 fn compares_no_digests_on_old_devices(rt: HostRuntime) -> Result<(), Fail> {
-    let disk = with_three_stores(&rt, rt.alloc())?;
-    let whole = as_version_1(rt.alloc(), disk.shown())?;
+    let whole = old_with_three_stores(&rt, rt.alloc())?;
     look_at_each(&rt, rt.alloc(), &whole, &OF_VERSION_1)
 }
 
@@ -207,7 +220,7 @@ fn find_each_flipped(
 ) -> Result<(), Fail> {
     for place in at..at.saturating_add(count) {
         let found = looked_flipped(rt, alloc, whole, place)?;
-        assert_eq!(rt; found, expected, "{place}");
+        is_found(rt, found, expected, place);
     }
     Ok(())
 }
@@ -227,16 +240,24 @@ fn compares_each_byte_of_a_digest(rt: HostRuntime) -> Result<(), Fail> {
 
 // Exchanges the digests of the two hash stores. That of the newest one is compared first.
 fn exchange_digests(rt: &impl Abort, whole: &mut [u8]) {
-    assert_eq!(rt; whole.len(), 45_056);
+    assert!(rt; whole.len() == 45_056);
     for place in 8313..8333usize {
         whole.swap(place, place + 20);
     }
 }
 
+// The bytes of that device, with these digests exchanged.
+fn exchanged(rt: &impl Abort, alloc: Global) -> Result<Vec<u8>, Fail> {
+    let disk = with_three_stores(rt, alloc)?;
+    let mut whole = disk.shown().to_vec(alloc)?;
+    exchange_digests(rt, &mut whole);
+    Ok(whole)
+}
+
+const EXCHANGED: [Case; 1] = [(&[], Err(NEWEST))];
+
 #[test]
 fn compares_digests_in_their_order(rt: HostRuntime) -> Result<(), Fail> {
-    let disk = with_three_stores(&rt, rt.alloc())?;
-    let mut whole = disk.shown().to_vec(rt.alloc())?;
-    exchange_digests(&rt, &mut whole);
-    look_at_each(&rt, rt.alloc(), &whole, &[(&[], Err(NEWEST))])
+    let whole = exchanged(&rt, rt.alloc())?;
+    look_at_each(&rt, rt.alloc(), &whole, &EXCHANGED)
 }

@@ -13,15 +13,17 @@ use std::test::Fail;
 #[test]
 fn an_empty_store_is_all_zeros(rt: HostRuntime) -> Result<(), Fail> {
     let whole = blank(rt.alloc(), small()?)?;
-    has_its_header(&rt, &whole);
-    look_at_each(&rt, rt.alloc(), &whole, &[(&[], Ok(EMPTY))])
+    assert!(rt; has_its_header(&whole));
+    look_at_each(&rt, rt.alloc(), &whole, &ZEROS)
 }
 
-fn has_its_header(rt: &impl Abort, whole: &[u8]) {
+// An empty store as it is.
+const ZEROS: [Case; 1] = [(&[], Ok(EMPTY))];
+
+fn has_its_header(whole: &[u8]) -> bool {
     let header =
         b"\xa7SILTFLSH\x00\x00\x00\x02\x00\x00\x00\x02\x00\x00\x00\x02\x00\x00\x00\x04\x00\x00\x00\x02\x00\x00\x00\x02\x00\x00\x00\x08";
-    assert_eq!(rt; whole.len(), SMALL_LEN);
-    assert!(rt; whole.starts_with(header));
+    whole.len() == SMALL_LEN && whole.starts_with(header)
 }
 
 // A store without rows, with one damage at each of three places. Slot 1 is open with generation 0,
@@ -35,16 +37,25 @@ const CRAFTED: [Case; 3] = [
     ),
 ];
 
+// What is found if the last byte is missing.
+const SHORT: [Case; 1] = [(&[], Err(LENGTH))];
+
+// What is found if all bytes are zeros.
+const NOTHING: [Case; 1] = [(&[], Err(NotFormatted))];
+
 // Two more damages: the last byte is missing, and all bytes are zeros.
 #[test]
 fn finds_crafted_damage(rt: HostRuntime) -> Result<(), Fail> {
     let mut whole = small_blank(&rt, rt.alloc())?;
     look_at_each(&rt, rt.alloc(), &whole, &CRAFTED)?;
-    let _last = whole.pop();
-    look_at_each(&rt, rt.alloc(), &whole, &[(&[], Err(LENGTH))])?;
+    look_without_the_last(&rt, rt.alloc(), &whole)?;
     whole.fill(0);
-    whole.push(0)?;
-    look_at_each(&rt, rt.alloc(), &whole, &[(&[], Err(NotFormatted))])
+    look_at_each(&rt, rt.alloc(), &whole, &NOTHING)
+}
+
+fn look_without_the_last(rt: &impl Abort, alloc: Global, whole: &[u8]) -> Result<(), Fail> {
+    let (_last, short) = whole.split_last().ok_or("a byte")?;
+    look_at_each(rt, alloc, short, &SHORT)
 }
 
 // The gates of log 0 are at 12,288 and its bodies at 16,384, 23 bytes each; those of log 1 at 20,480 and 24,576. Log 0 has a put
@@ -278,10 +289,10 @@ const RISING: [Case; 7] = [
 
 #[test]
 fn counts_what_stands(rt: HostRuntime) -> Result<(), Fail> {
-    look_at_small(&rt, rt.alloc(), &ROWS)?;
-    look_at_small(&rt, rt.alloc(), &HASHED)?;
-    look_at_small(&rt, rt.alloc(), &SORTED)?;
-    look_at_small(&rt, rt.alloc(), &RISING)
+    for cases in [ROWS.as_slice(), &HASHED, &SORTED, &RISING] {
+        look_at_small(&rt, rt.alloc(), cases)?;
+    }
+    Ok(())
 }
 
 // The keys 01.. to 05.. fall into one bucket, of four slots.
@@ -378,9 +389,13 @@ fn changed_by(alloc: Global, all: &[Changes]) -> Result<Vec<u8>, Fail> {
 
 #[test]
 fn finds_the_first_damage(rt: HostRuntime) -> Result<(), Fail> {
-    for (all, cases) in TURNS {
-        let mut bytes = changed_by(rt.alloc(), all)?;
-        find_in_turn(&rt, rt.alloc(), &mut bytes, cases)?;
+    find_each_turn(&rt, rt.alloc(), &TURNS)
+}
+
+fn find_each_turn(rt: &impl Abort, alloc: Global, turns: &[Turns]) -> Result<(), Fail> {
+    for (all, cases) in turns {
+        let mut bytes = changed_by(alloc, all)?;
+        find_in_turn(rt, alloc, &mut bytes, cases)?;
     }
     Ok(())
 }
