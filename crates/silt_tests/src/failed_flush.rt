@@ -95,7 +95,7 @@ const IDLE: [Line; 6] = [
     Line::Flush,
 ];
 
-const IDLE_TOLD_TO_SYNC_2: [Printed; 6] = [
+const WITHOUT_A_SYNC: [Printed; 6] = [
     Printed::Absent,
     Printed::Acknowledged(0),
     Printed::Progress(Progress::Idle),
@@ -104,7 +104,7 @@ const IDLE_TOLD_TO_SYNC_2: [Printed; 6] = [
     Printed::Refused(5),
 ];
 
-const IDLE_TOLD_TO_WRITE_1: [Printed; 6] = [
+const WITHOUT_A_WRITE: [Printed; 6] = [
     Printed::Absent,
     Printed::Acknowledged(0),
     Printed::Progress(Progress::Idle),
@@ -124,7 +124,7 @@ fn printed_idle(alloc: Global, call: Call, number: u64) -> Result<Vec<Printed>, 
 #[test]
 fn a_flush_with_nothing_waiting_makes_no_sync(rt: HostRuntime) -> Result<(), Fail> {
     let printed = printed_idle(rt.alloc(), Call::Sync, 2)?;
-    same_lists(&rt, &printed, &IDLE_TOLD_TO_SYNC_2);
+    same_lists(&rt, &printed, &WITHOUT_A_SYNC);
     Ok(())
 }
 
@@ -132,6 +132,6 @@ fn a_flush_with_nothing_waiting_makes_no_sync(rt: HostRuntime) -> Result<(), Fai
 #[test]
 fn a_flush_with_nothing_waiting_makes_no_write(rt: HostRuntime) -> Result<(), Fail> {
     let printed = printed_idle(rt.alloc(), Call::Write, 1)?;
-    same_lists(&rt, &printed, &IDLE_TOLD_TO_WRITE_1);
+    same_lists(&rt, &printed, &WITHOUT_A_WRITE);
     Ok(())
 }
