@@ -1,10 +1,9 @@
 // The device calls of a formatting and of an opening, with a crash at each, and failed reads.
 
-use super::{Changes, EMPTY, Found, checked, small_blank};
-use silt_device::{Call, Disk, FaultDisk, Fill, Geometry, MemDisk, Stop, Stoppable};
+use super::{Changes, EMPTY, Found, checked, got, small_blank};
+use silt_device::{Call, FaultDisk, Fill, Geometry, MemDisk, Stop, Stoppable};
 use silt_event::Finding;
 use silt_fixtures::{FILLS, SMALL_LEN, changed, key, opened_on, small};
-use silt_frame::Key;
 use silt_recovery::{FormatError, OpenError, check, format, open};
 use silt_store_set::Core;
 use std::alloc::Global;
@@ -98,10 +97,15 @@ fn a_stopped_formatting_leaves_no_other_store(rt: HostRuntime) -> Result<(), Fai
 // A device of another length is refused with no call: the first one would fail.
 #[test]
 fn formats_no_other_length(rt: HostRuntime) -> Result<(), Fail> {
-    let (disk, end) = formatted(rt.alloc(), (45_055, 0), 1, Fill::Ones)?;
-    assert!(rt; end == End::BadGeometry);
-    assert!(rt; disk.shown().len() == 45_055 && are_zeros(disk.shown()));
+    assert!(rt; refused(rt.alloc())? == (End::BadGeometry, 45_055, true));
     Ok(())
+}
+
+// How the formatting of zeros of another length ends, and the length of the disk and whether it has
+// zeros then.
+fn refused(alloc: Global) -> Result<(End, usize, bool), Fail> {
+    let (disk, end) = formatted(alloc, (45_055, 0), 1, Fill::Ones)?;
+    Ok((end, disk.shown().len(), are_zeros(disk.shown())))
 }
 
 fn are_zeros(bytes: &[u8]) -> bool {
@@ -186,8 +190,7 @@ fn checked_at(alloc: Global, bytes: &[u8], number: u64) -> Result<(bool, bool), 
     let disk = FaultDisk::new(MemDisk::with_bytes(alloc, bytes)?, Call::Read, number);
     match check(alloc, &disk) {
         Ok(_) => Ok((false, true)),
-        Err(OpenError::Device(_)) => Ok((true, false)),
-        Err(_) => Ok((false, false)),
+        Err(error) => Ok((matches!(&error, OpenError::Device(_)), false)),
     }
 }
 
@@ -222,30 +225,18 @@ fn checks_each(rt: &impl Abort, alloc: Global, cases: &[(Changes, u64)]) -> Resu
 }
 
 // A get on a device of these bytes, on which the read of this number fails. Returns whether there
-// is a value, or none after a fault, and the bytes of the value.
-fn got(
-    alloc: Global,
-    bytes: &[u8],
-    number: u64,
-    key: Key,
-) -> Result<(Option<bool>, [u8; 2]), Fail> {
+// is a value, and its bytes, or none after a fault.
+fn got_from(alloc: Global, bytes: &[u8], number: u64) -> Result<Option<(bool, [u8; 2])>, Fail> {
     let core = failing(alloc, bytes, number)?;
-    value_in(&core, &key)
+    let answer = got(&core, &key(1), [0; 2]);
+    let _disk = core.close();
+    Ok(answer)
 }
 
 // A store on a disk of these bytes, on which the read of this number fails.
 fn failing(alloc: Global, bytes: &[u8], number: u64) -> Result<Core<FaultDisk>, Fail> {
     let disk = FaultDisk::new(MemDisk::with_bytes(alloc, bytes)?, Call::Read, number);
     opened_on(alloc, disk)
-}
-
-fn value_in<D: Disk>(core: &Core<D>, key: &Key) -> Result<(Option<bool>, [u8; 2]), Fail> {
-    if core.geometry().value_len() != 2 {
-        return Err("values of two bytes".into());
-    }
-    let mut value = [0; 2];
-    let answer = core.get(key, &mut value).ok();
-    Ok((answer, value))
 }
 
 // Three sorted entries. The second has a value other than zeros.
@@ -260,9 +251,8 @@ fn gets_an_entry_in_one_read(rt: HostRuntime) -> Result<(), Fail> {
 }
 
 fn reads_once(rt: &impl Abort, alloc: Global, bytes: &[u8]) -> Result<(), Fail> {
-    let (failed, _) = got(alloc, bytes, 6, key(1))?;
-    assert!(rt; failed == None);
-    assert!(rt; got(alloc, bytes, 7, key(1))? == (Some(true), [7, 0]));
+    let answers = [got_from(alloc, bytes, 6)?, got_from(alloc, bytes, 7)?];
+    assert!(rt; answers == [None, Some((true, [7, 0]))]);
     Ok(())
 }
 

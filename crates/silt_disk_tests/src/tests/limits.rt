@@ -6,7 +6,6 @@ use silt_frame::{Key, Value};
 use silt_store_set::{Core, Event, Reply};
 use std::alloc::Global;
 use std::collections::BTreeMap;
-use std::process::Abort;
 use std::test::Fail;
 
 // Whether this value was found.
@@ -43,10 +42,11 @@ fn has(entries: &BTreeMap<Key, Value>, value: &[u8]) -> bool {
     }
 }
 
-fn finds<D: Disk>(rt: &impl Abort, alloc: Global, core: &mut Core<D>, value: &[u8]) {
-    assert!(rt; put(alloc, core, value) == Some((1, 1)));
-    assert!(rt; is_got(alloc, core, value));
-    assert!(rt; is_listed(alloc, core, value));
+// Whether this value is found in each way.
+fn finds<D: Disk>(alloc: Global, core: &mut Core<D>, value: &[u8]) -> bool {
+    put(alloc, core, value) == Some((1, 1))
+        && is_got(alloc, core, value)
+        && is_listed(alloc, core, value)
 }
 
 // An empty store with the longest values.
@@ -54,11 +54,18 @@ fn of_longest(alloc: Global) -> Result<Core<MemDisk>, Fail> {
     opened_on(alloc, of_values(alloc, 4096)?)
 }
 
+// Whether such a store finds a value of them.
+fn finds_the_longest(alloc: Global) -> Result<bool, Fail> {
+    let mut core = of_longest(alloc)?;
+    let is_found = finds(alloc, &mut core, &[7; 4096]);
+    let _disk = core.close();
+    Ok(is_found)
+}
+
 // A store with the longest values finds one after a put and a flush, by a get and in the list of
 // all entries.
 #[test]
 fn finds_the_longest_values(rt: HostRuntime) -> Result<(), Fail> {
-    let mut core = of_longest(rt.alloc())?;
-    finds(&rt, rt.alloc(), &mut core, &[7; 4096]);
+    assert!(rt; finds_the_longest(rt.alloc())?);
     Ok(())
 }

@@ -16,33 +16,26 @@ const KEYS: u8 = 40;
 // The values that the store has to have.
 type Values = BTreeMap<Key, [u8; 2]>;
 
-// A command that finds no room in the logs changes nothing. It may be refused for nothing else.
-fn finds_no_room<F: Drop>(refusal: Refusal<F>) -> Result<(), Fail> {
-    match refusal {
-        Refusal::NoRoom => Ok(()),
-        _ => Err("another refusal".into()),
-    }
+// Whether a command finds no room in the logs. Then it changes nothing. It may be refused for
+// nothing else.
+fn finds_no_room<F>(refusal: &Refusal<F>) -> bool {
+    matches!(refusal, Refusal::NoRoom)
 }
 
-fn insert(map: &mut Values, key: Key, value: [u8; 2]) -> Result<(), Fail> {
-    let _older = map.insert(key, value)?;
-    Ok(())
-}
-
-// Puts a value.
+// Puts a value. Like all calls here it returns whether the answer is one that may come.
 fn put<D: Disk>(
     alloc: Global,
     core: &mut Core<D>,
     map: &mut Values,
     key: Key,
     value: [u8; 2],
-) -> Result<(), Fail> {
+) -> bool {
     if core.geometry().value_len() != 2 {
-        return Err("values of two bytes".into());
+        return false;
     }
     match core.put(alloc, &key, &value) {
-        Ok(_) => insert(map, key, value),
-        Err(refusal) => finds_no_room(refusal),
+        Ok(_) => map.insert(key, value).is_ok(),
+        Err(refusal) => finds_no_room(&refusal),
     }
 }
 
@@ -57,102 +50,69 @@ fn compared(map: &Values, key: &Key, own: bool, other: [u8; 2]) -> [u8; 2] {
 // Swaps a value. A swap is refused for lack of room only if the key has the old value, and then it
 // changes nothing.
 fn swap<D: Disk>(
-    rt: &impl Abort,
     alloc: Global,
     core: &mut Core<D>,
     map: &mut Values,
     key: Key,
     (old, new): ([u8; 2], [u8; 2]),
-) -> Result<(), Fail> {
+) -> bool {
     if core.geometry().value_len() != 2 {
-        return Err("values of two bytes".into());
+        return false;
     }
     let is_there = map.get(&key) == Some(&old);
     match core.swap(alloc, &key, &old, &new) {
-        Ok(Some(_)) => swapped(rt, map, key, new, is_there),
-        Ok(None) => is_due(rt, !is_there),
-        Err(refusal) => {
-            assert!(rt; is_there);
-            finds_no_room(refusal)
-        }
+        Ok(count) => count.is_some() == is_there && swapped(map, key, new, is_there),
+        Err(refusal) => is_there && finds_no_room(&refusal),
     }
 }
 
-fn swapped(
-    rt: &impl Abort,
-    map: &mut Values,
-    key: Key,
-    new: [u8; 2],
-    is_due: bool,
-) -> Result<(), Fail> {
-    assert!(rt; is_due);
-    insert(map, key, new)
-}
-
-// The answer that came is the one that is due.
-fn is_due(rt: &impl Abort, is_due: bool) -> Result<(), Fail> {
-    assert!(rt; is_due);
-    Ok(())
+fn swapped(map: &mut Values, key: Key, new: [u8; 2], is_there: bool) -> bool {
+    !is_there || map.insert(key, new).is_ok()
 }
 
 // Deletes a key.
-fn delete<D: Disk>(
-    alloc: Global,
-    core: &mut Core<D>,
-    map: &mut Values,
-    key: &Key,
-) -> Result<(), Fail> {
+fn delete<D: Disk>(alloc: Global, core: &mut Core<D>, map: &mut Values, key: &Key) -> bool {
     match core.delete(alloc, key) {
         Ok(_) => {
             let _older = map.remove(key);
-            Ok(())
+            true
         }
-        Err(refusal) => finds_no_room(refusal),
+        Err(refusal) => finds_no_room(&refusal),
     }
 }
 
 // Gets a value.
-fn get<D: Disk>(rt: &impl Abort, core: &Core<D>, map: &Values, key: &Key) -> Result<(), Fail> {
+fn get<D: Disk>(core: &Core<D>, map: &Values, key: &Key) -> bool {
     let Some(answer) = got(core, key, [0; 2]) else {
-        return Err("a get".into());
+        return false;
     };
     let (found, value) = answer;
-    assert!(rt; found.then_some(&value) == map.get(key));
-    Ok(())
+    found.then_some(&value) == map.get(key)
 }
 
-// Such a call is never refused.
-fn done<T: Drop, F: Drop>(answer: Result<T, Refusal<F>>) -> Result<(), Fail> {
-    match answer {
-        Ok(_) => Ok(()),
-        Err(_) => Err("a refusal".into()),
-    }
+// Whether a call is not refused.
+fn is_done<T: Drop, F: Drop>(answer: Result<T, Refusal<F>>) -> bool {
+    answer.is_ok()
 }
 
 // Runs the event of this number. Of sixteen three are puts, one is a delete, one a get, one a
 // flush, one a swap, four are steps of conversion and five of merging. Half of the swaps compare
 // with the key's own value.
-fn step<D: Disk>(
-    rt: &impl Abort,
-    alloc: Global,
-    core: &mut Core<D>,
-    map: &mut Values,
-    number: u32,
-) -> Result<(), Fail> {
+fn step<D: Disk>(alloc: Global, core: &mut Core<D>, map: &mut Values, number: u32) -> bool {
     let [kind, of_key, first, last] = number.to_be_bytes();
     let key = key_of(of_key % KEYS);
     let value = [first, last];
     match kind / 16 {
         0..=2 => put(alloc, core, map, key, value),
         3 => delete(alloc, core, map, &key),
-        4 => get(rt, core, map, &key),
-        5 => done(core.flush()),
+        4 => get(core, map, &key),
+        5 => is_done(core.flush()),
         6 => {
             let old = compared(map, &key, kind % 2 == 0, [last, first]);
-            swap(rt, alloc, core, map, key, (old, value))
+            swap(alloc, core, map, key, (old, value))
         }
-        7..=10 => done(core.convert(alloc)),
-        _ => done(core.merge(alloc)),
+        7..=10 => is_done(core.convert(alloc)),
+        _ => is_done(core.merge(alloc)),
     }
 }
 
@@ -176,56 +136,36 @@ fn other_value(entries: &BTreeMap<Key, Value>, map: &Values) -> Option<u8> {
     None
 }
 
-fn are_same(rt: &impl Abort, entries: &BTreeMap<Key, Value>, map: &Values) {
-    assert!(rt; entries.len() == map.len());
-    let other = other_value(entries, map);
-    assert!(rt; other == None, "{other:?}");
-}
-
-// The store has exactly the entries of the map.
-fn has_entries<D: Disk>(
-    rt: &impl Abort,
-    alloc: Global,
-    core: &Core<D>,
-    map: &Values,
-) -> Result<(), Fail> {
+// Whether the store has exactly the entries of the map.
+fn has_entries<D: Disk>(alloc: Global, core: &Core<D>, map: &Values) -> bool {
     match core.entries(alloc) {
-        Ok(entries) => {
-            are_same(rt, &entries, map);
-            Ok(())
-        }
-        Err(_) => Err("has entries".into()),
+        Ok(entries) => entries.len() == map.len() && other_value(&entries, map) == None,
+        Err(_) => false,
     }
 }
 
-// Runs the fifty events after this number.
+// Runs the fifty events after this number, and returns the number of the last one.
 fn fifty<D: Disk>(
     rt: &impl Abort,
     alloc: Global,
     core: &mut Core<D>,
     map: &mut Values,
     mut number: u32,
-) -> Result<u32, Fail> {
+) -> u32 {
     for _ in 0..50u32 {
         number = next(number);
-        step(rt, alloc, core, map, number)?;
+        assert!(rt; step(alloc, core, map, number), "{number}");
     }
-    Ok(number)
+    number
 }
 
 // Runs two thousand events, and compares all entries after every fiftieth.
-fn run<D: Disk>(
-    rt: &impl Abort,
-    alloc: Global,
-    core: &mut Core<D>,
-    map: &mut Values,
-) -> Result<(), Fail> {
+fn run<D: Disk>(rt: &impl Abort, alloc: Global, core: &mut Core<D>, map: &mut Values) {
     let mut number = 1;
     for _ in 0..40u32 {
-        number = fifty(rt, alloc, core, map, number)?;
-        has_entries(rt, alloc, core, map)?;
+        number = fifty(rt, alloc, core, map, number);
+        assert!(rt; has_entries(alloc, core, map), "{number}");
     }
-    Ok(())
 }
 
 // An empty store of four buckets.
@@ -237,7 +177,7 @@ fn opened(alloc: Global) -> Result<Core<MemDisk>, Fail> {
 // The disk after these events.
 fn ran(rt: &impl Abort, alloc: Global, map: &mut Values) -> Result<MemDisk, Fail> {
     let mut core = opened(alloc)?;
-    run(rt, alloc, &mut core, map)?;
+    run(rt, alloc, &mut core, map);
     Ok(core.close())
 }
 

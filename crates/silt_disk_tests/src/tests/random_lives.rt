@@ -68,8 +68,8 @@ fn value_in(entries: &BTreeMap<Key, Value>, place: u8) -> u16 {
     }
 }
 
-// The values in a list of entries, which has no other keys.
-fn values_of(rt: &impl Abort, entries: &BTreeMap<Key, Value>) -> Values {
+// The values in a list of entries. None if it has other keys.
+fn values_of(entries: &BTreeMap<Key, Value>) -> Option<Values> {
     let mut values = [0; KEYS];
     let mut known = 0usize;
     for place in 0..KEYS {
@@ -78,8 +78,7 @@ fn values_of(rt: &impl Abort, entries: &BTreeMap<Key, Value>) -> Values {
             known = known.saturating_add(1);
         }
     }
-    assert!(rt; entries.len() == known);
-    values
+    (entries.len() == known).then_some(values)
 }
 
 fn now(kept: &[Values]) -> Values {
@@ -94,15 +93,16 @@ fn value_now(kept: &[Values], place: u8) -> u16 {
     }
 }
 
-// Records that an accepted command gave a key this value, 0 for none. Like all calls here it
-// returns whether the life goes on.
-fn accept(kept: &mut Kept, place: u8, value: u16) -> Result<bool, Fail> {
+// Whether the life goes on after a call. None if the call returned what it may not.
+type GoesOn = Option<bool>;
+
+// Records that an accepted command gave a key this value, 0 for none.
+fn accept(kept: &mut Kept, place: u8, value: u16) -> GoesOn {
     let mut values = now(kept);
     if let Some(old) = values.get_mut(place as usize) {
         *old = value;
     }
-    kept.push(values)?;
-    Ok(true)
+    kept.push(values).is_ok().then_some(true)
 }
 
 // Why a command was refused.
@@ -124,14 +124,11 @@ fn reason_of<F>(refusal: &Refusal<F>) -> Reason {
 }
 
 // A fault ends the life. After a refusal for one of these reasons it goes on.
-fn goes_on_after(reason: Reason, allowed: &[Reason]) -> Result<bool, Fail> {
+fn goes_on_after(reason: Reason, allowed: &[Reason]) -> GoesOn {
     if reason == Reason::Fault {
-        return Ok(false);
+        return Some(false);
     }
-    if allowed.contains(&reason) {
-        return Ok(true);
-    }
-    Err("another refusal".into())
+    allowed.contains(&reason).then_some(true)
 }
 
 // Puts a value.
@@ -140,9 +137,9 @@ fn put<D: Disk>(
     core: &mut Core<D>,
     kept: &mut Kept,
     (place, value): (u8, u16),
-) -> Result<bool, Fail> {
+) -> GoesOn {
     if core.geometry().value_len() != 2 {
-        return Err("values of two bytes".into());
+        return None;
     }
     let bytes: [u8; 2] = value.to_be_bytes();
     match core.put(alloc, &key_of(place), &bytes) {
@@ -160,74 +157,60 @@ fn compared(there: u16, is_own: bool) -> [u8; 2] {
 // Swaps this value for a key's own if `own` is true and the key has one, or else for one that no
 // key has.
 fn swap<D: Disk>(
-    rt: &impl Abort,
     alloc: Global,
     core: &mut Core<D>,
     kept: &mut Kept,
     (place, value): (u8, u16),
     own: bool,
-) -> Result<bool, Fail> {
+) -> GoesOn {
     if core.geometry().value_len() != 2 {
-        return Err("values of two bytes".into());
+        return None;
     }
     let there = value_now(kept, place);
     let is_own = own & (there != 0);
     let old = compared(there, is_own);
     let new: [u8; 2] = value.to_be_bytes();
     match core.swap(alloc, &key_of(place), &old, &new) {
-        Ok(count) => swapped(rt, kept, (place, value), (count.is_some(), is_own)),
-        Err(refusal) => not_swapped(rt, reason_of(&refusal), is_own),
+        Ok(count) => swapped(kept, (place, value), (count.is_some(), is_own)),
+        Err(refusal) => not_swapped(reason_of(&refusal), is_own),
     }
 }
 
 // A swap changes the value exactly if the key has the one that it compares with.
-fn swapped(
-    rt: &impl Abort,
-    kept: &mut Kept,
-    (place, value): (u8, u16),
-    (is_done, is_own): (bool, bool),
-) -> Result<bool, Fail> {
-    assert!(rt; is_done == is_own);
-    if !is_own {
-        return Ok(true);
+fn swapped(kept: &mut Kept, (place, value): (u8, u16), (is_done, is_own): (bool, bool)) -> GoesOn {
+    if is_done != is_own {
+        return None;
     }
-    accept(kept, place, value)
+    if is_own {
+        accept(kept, place, value)
+    } else {
+        Some(true)
+    }
 }
 
 // A swap is refused for lack of room only if the key has the value that it compares with.
-fn not_swapped(rt: &impl Abort, reason: Reason, is_own: bool) -> Result<bool, Fail> {
-    assert!(rt; is_own || reason == Reason::Fault);
+fn not_swapped(reason: Reason, is_own: bool) -> GoesOn {
+    if !is_own && reason != Reason::Fault {
+        return None;
+    }
     goes_on_after(reason, &[Reason::NoRoom, Reason::StoreFull])
 }
 
-fn delete<D: Disk>(
-    alloc: Global,
-    core: &mut Core<D>,
-    kept: &mut Kept,
-    place: u8,
-) -> Result<bool, Fail> {
+fn delete<D: Disk>(alloc: Global, core: &mut Core<D>, kept: &mut Kept, place: u8) -> GoesOn {
     match core.delete(alloc, &key_of(place)) {
         Ok(_) => accept(kept, place, 0),
         Err(refusal) => goes_on_after(reason_of(&refusal), &[Reason::NoRoom]),
     }
 }
 
-// The answer of a get is the one that is due. The life goes on.
-fn goes_on_with(rt: &impl Abort, is_due: bool) -> Result<bool, Fail> {
-    assert!(rt; is_due);
-    Ok(true)
-}
-
-fn get<D: Disk>(rt: &impl Abort, core: &Core<D>, kept: &[Values], place: u8) -> Result<bool, Fail> {
+fn get<D: Disk>(core: &Core<D>, kept: &[Values], place: u8) -> GoesOn {
     let expected = value_now(kept, place);
-    match got(core, &key_of(place), [0; 2]) {
-        Some(answer) => goes_on_with(rt, answer == (expected != 0, expected.to_be_bytes())),
-        None => Err("a get".into()),
-    }
+    let answer = got(core, &key_of(place), [0; 2])?;
+    (answer == (expected != 0, expected.to_be_bytes())).then_some(true)
 }
 
 // Acknowledges all that was accepted.
-fn flush<D: Disk>(core: &mut Core<D>, kept: &mut Kept) -> Result<bool, Fail> {
+fn flush<D: Disk>(core: &mut Core<D>, kept: &mut Kept) -> GoesOn {
     match core.flush() {
         Ok(_) => keep_last(kept, now(kept)),
         Err(refusal) => goes_on_after(reason_of(&refusal), &[]),
@@ -235,16 +218,15 @@ fn flush<D: Disk>(core: &mut Core<D>, kept: &mut Kept) -> Result<bool, Fail> {
 }
 
 // From now on only these values count.
-fn keep_last(kept: &mut Kept, values: Values) -> Result<bool, Fail> {
+fn keep_last(kept: &mut Kept, values: Values) -> GoesOn {
     kept.clear();
-    kept.push(values)?;
-    Ok(true)
+    kept.push(values).is_ok().then_some(true)
 }
 
 // The life goes on after this step of the background work unless the step failed with a fault.
-fn work<T: Drop, F: Drop>(done: Result<T, Refusal<F>>) -> Result<bool, Fail> {
+fn work<T: Drop, F: Drop>(done: Result<T, Refusal<F>>) -> GoesOn {
     match done {
-        Ok(_) => Ok(true),
+        Ok(_) => Some(true),
         Err(refusal) => goes_on_after(reason_of(&refusal), &[]),
     }
 }
@@ -252,32 +234,26 @@ fn work<T: Drop, F: Drop>(done: Result<T, Refusal<F>>) -> Result<bool, Fail> {
 // Runs the event of this number. Of sixteen five are puts, one is a delete, one a get, one a flush,
 // one a swap, three are steps of conversion and four of merging. Most of the swaps compare with the
 // key's own value.
-fn step<D: Disk>(
-    rt: &impl Abort,
-    alloc: Global,
-    core: &mut Core<D>,
-    kept: &mut Kept,
-    number: u32,
-) -> Result<bool, Fail> {
+fn step<D: Disk>(alloc: Global, core: &mut Core<D>, kept: &mut Kept, number: u32) -> GoesOn {
     let [kind, of_key, first, last] = number.to_be_bytes();
     let place = (of_key as usize % KEYS) as u8;
     let value = u16::from_be_bytes([first, last]) | 1;
     match kind / 16 {
         0..=4 => put(alloc, core, kept, (place, value)),
         5 => delete(alloc, core, kept, place),
-        6 => get(rt, core, kept, place),
+        6 => get(core, kept, place),
         7 => flush(core, kept),
-        8 => swap(rt, alloc, core, kept, (place, value), kind % 4 != 0),
+        8 => swap(alloc, core, kept, (place, value), kind % 4 != 0),
         9..=11 => work(core.convert(alloc)),
         _ => work(core.merge(alloc)),
     }
 }
 
-// The values in the list of the entries of a store.
-fn listed<D: Disk>(rt: &impl Abort, alloc: Global, core: &Core<D>) -> Result<Values, Fail> {
+// The values in the list of the entries of a store, if it has no other keys.
+fn listed<D: Disk>(alloc: Global, core: &Core<D>) -> Option<Values> {
     match core.entries(alloc) {
-        Ok(entries) => Ok(values_of(rt, &entries)),
-        Err(_) => Err("has entries".into()),
+        Ok(entries) => values_of(&entries),
+        Err(_) => None,
     }
 }
 
@@ -291,63 +267,48 @@ fn is_failed<D: Disk>(alloc: Global, core: &Core<D>) -> bool {
 
 // The opening found one of the sets of values that a crash may leave. From now on only that one
 // counts.
-fn take_up<D: Disk>(
-    rt: &impl Abort,
-    alloc: Global,
-    core: &Core<D>,
-    kept: &mut Kept,
-) -> Result<bool, Fail> {
-    let found = listed(rt, alloc, core)?;
+fn take_up<D: Disk>(rt: &impl Abort, alloc: Global, core: &Core<D>, kept: &mut Kept) -> GoesOn {
+    let found = listed(alloc, core)?;
     assert!(rt; kept.contains(&found), "{found:?} in {kept:?}");
     keep_last(kept, found)
 }
 
 // Runs events of a life from this number on, until one is refused with a fault. Returns whether
 // none is.
-fn events<D: Disk>(
-    rt: &impl Abort,
-    alloc: Global,
-    core: &mut Core<D>,
-    kept: &mut Kept,
-    number: &mut u32,
-) -> Result<bool, Fail> {
+fn events<D: Disk>(alloc: Global, core: &mut Core<D>, kept: &mut Kept, number: &mut u32) -> GoesOn {
     for _ in 0..EVENTS {
         *number = next(*number);
-        if !step(rt, alloc, core, kept, *number)? {
-            return Ok(false);
+        if !step(alloc, core, kept, *number)? {
+            return Some(false);
         }
     }
-    Ok(true)
+    Some(true)
 }
 
-// A store ends with the values of the map, and after a fault it is failed.
-fn ends<D: Disk>(
-    rt: &impl Abort,
-    alloc: Global,
-    core: &Core<D>,
-    kept: &[Values],
-    goes_on: bool,
-) -> Result<(), Fail> {
+// Whether a store ends with the values of the map, or is failed after a fault.
+fn is_ended<D: Disk>(alloc: Global, core: &Core<D>, kept: &[Values], goes_on: bool) -> bool {
     if goes_on {
-        let found = listed(rt, alloc, core)?;
-        assert!(rt; found == now(kept));
+        listed(alloc, core) == Some(now(kept))
     } else {
-        assert!(rt; is_failed(alloc, core));
+        is_failed(alloc, core)
     }
-    Ok(())
 }
 
-// Runs the events of a life whose store is open.
+// Runs the events of a life whose store is open. Returns whether all calls returned what they may.
 fn run<D: Disk>(
     rt: &impl Abort,
     alloc: Global,
     core: &mut Core<D>,
     kept: &mut Kept,
     number: &mut u32,
-) -> Result<(), Fail> {
-    take_up(rt, alloc, core, kept)?;
-    let goes_on = events(rt, alloc, core, kept, number)?;
-    ends(rt, alloc, core, kept, goes_on)
+) -> bool {
+    if take_up(rt, alloc, core, kept).is_none() {
+        return false;
+    }
+    match events(alloc, core, kept, number) {
+        Some(goes_on) => is_ended(alloc, core, kept, goes_on),
+        None => false,
+    }
 }
 
 // The disk after the crash in which such a life ends.
@@ -357,17 +318,16 @@ fn lived(
     mut core: Core<MemDisk>,
     kept: &mut Kept,
     number: &mut u32,
-) -> Result<MemDisk, Fail> {
-    run(rt, alloc, &mut core, kept, number)?;
-    Ok(core.close().restart())
+) -> MemDisk {
+    let is_right = run(rt, alloc, &mut core, kept, number);
+    assert!(rt; is_right, "{number}");
+    core.close().restart()
 }
 
 // The disk after the crash in which an opening ends.
-fn not_opened(fault: OpenFault<MemDisk>) -> Result<MemDisk, Fail> {
-    if reason_of(&fault.refusal) != Reason::Fault {
-        return Err("another refusal".into());
-    }
-    Ok(fault.disk.restart())
+fn not_opened(rt: &impl Abort, fault: OpenFault<MemDisk>) -> MemDisk {
+    assert!(rt; reason_of(&fault.refusal) == Reason::Fault);
+    fault.disk.restart()
 }
 
 // Runs a life, and crashes the disk.
@@ -377,10 +337,10 @@ fn life(
     disk: MemDisk,
     kept: &mut Kept,
     number: &mut u32,
-) -> Result<MemDisk, Fail> {
+) -> MemDisk {
     match Core::open(alloc, disk) {
         Ok(core) => lived(rt, alloc, core, kept, number),
-        Err(fault) => not_opened(fault),
+        Err(fault) => not_opened(rt, fault),
     }
 }
 
@@ -391,11 +351,11 @@ fn lives(
     mut disk: MemDisk,
     kept: &mut Kept,
     mut number: u32,
-) -> Result<MemDisk, Fail> {
+) -> MemDisk {
     for _ in 0..LIVES {
-        disk = life(rt, alloc, disk, kept, &mut number)?;
+        disk = life(rt, alloc, disk, kept, &mut number);
     }
-    Ok(disk)
+    disk
 }
 
 // A new disk of this geometry and version, with an empty store.
@@ -415,34 +375,45 @@ fn left_by(
 ) -> Result<MemDisk, Fail> {
     let stops = random_stops(alloc, seed)?;
     let disk = empty_of(alloc, geometry, version)?;
-    lives(rt, alloc, disk.arm(stops), kept, seed)
+    Ok(lives(rt, alloc, disk.arm(stops), kept, seed))
 }
 
-// The generation of the manifest after all lives on such a disk.
+// The generation of the manifest after all lives on such a disk, whose logs, hash stores and sorted
+// regions have these numbers.
 fn last_generation(
     rt: &impl Abort,
     alloc: Global,
-    geometry: Geometry,
+    [log_capacity, logs, hashes, sorted_capacity]: [u32; 4],
     run: (u32, Version),
 ) -> Result<u64, Fail> {
-    let mut kept = Vec::new(alloc);
-    kept.push([0; KEYS])?;
-    let disk = left_by(rt, alloc, geometry, run, &mut kept)?;
-    Ok(report_of(alloc, &disk)?.generation)
+    let geometry = of_regions(log_capacity, logs, hashes, sorted_capacity)?;
+    let mut kept = vec![in alloc; [0; KEYS]; 1]?;
+    generation_left(rt, alloc, geometry, run, &mut kept)
 }
 
-// Runs all lives on such a disk. The generation of the manifest shows that logs were frozen,
-// converted and merged many times.
-fn all_lives(
+fn generation_left(
     rt: &impl Abort,
     alloc: Global,
     geometry: Geometry,
     run: (u32, Version),
-) -> Result<(), Fail> {
-    let generation = last_generation(rt, alloc, geometry, run)?;
-    assert!(rt; 50 < generation, "{generation}");
+    kept: &mut Kept,
+) -> Result<u64, Fail> {
+    let disk = left_by(rt, alloc, geometry, run, kept)?;
+    Ok(report_of(alloc, &disk)?.generation)
+}
+
+// Runs all lives on disks of each geometry. The generation of the manifest shows that logs were
+// frozen, converted and merged many times.
+fn all_lives(rt: &impl Abort, alloc: Global, run: (u32, Version)) -> Result<(), Fail> {
+    for numbers in GEOMETRIES {
+        let generation = last_generation(rt, alloc, numbers, run)?;
+        assert!(rt; 50 < generation, "{generation}");
+    }
     Ok(())
 }
+
+// The rows of a log, and how many logs, hash stores and sorted entries there may be.
+const GEOMETRIES: [[u32; 4]; 3] = [[3, 3, 2, 30], [1, 2, 2, 12], [8, 4, 1, 40]];
 
 // The seed of each run, and the version of its disks.
 const RUNS: [(u32, Version); 6] = [
@@ -456,11 +427,8 @@ const RUNS: [(u32, Version); 6] = [
 
 #[test]
 fn lives_stopped_at_random(rt: HostRuntime) -> Result<(), Fail> {
-    let alloc = rt.alloc();
     for run in RUNS {
-        all_lives(&rt, alloc, of_regions(3, 3, 2, 30)?, run)?;
-        all_lives(&rt, alloc, of_regions(1, 2, 2, 12)?, run)?;
-        all_lives(&rt, alloc, of_regions(8, 4, 1, 40)?, run)?;
+        all_lives(&rt, rt.alloc(), run)?;
     }
     Ok(())
 }

@@ -18,20 +18,24 @@ fn key_of(first: [u8; 5]) -> Key {
     Key(bytes)
 }
 
-// Puts a value for each of these keys and flushes.
-fn put_all<D: Disk>(rt: &impl Abort, alloc: Global, core: &mut Core<D>, keys: &[[u8; 5]]) {
+// Puts a value for each of these keys and flushes. Returns whether all of these calls succeeded.
+fn put_all<D: Disk>(alloc: Global, core: &mut Core<D>, keys: &[[u8; 5]]) -> bool {
     for first in keys {
-        assert!(rt; put_count(alloc, core, &key_of(*first), [0, first[4]]).is_some());
+        if put_count(alloc, core, &key_of(*first), [0, first[4]]).is_none() {
+            return false;
+        }
     }
-    assert!(rt; core.flush().ok() == Some(keys.len() as u64));
+    core.flush().ok() == Some(keys.len() as u64)
 }
 
-// Each key has the value that was put.
-fn find_all<D: Disk>(rt: &impl Abort, core: &Core<D>, keys: &[[u8; 5]]) {
+// Whether each key has the value that was put.
+fn finds_all<D: Disk>(core: &Core<D>, keys: &[[u8; 5]]) -> bool {
     for first in keys {
-        let answer = got(core, &key_of(*first), [7; 2]);
-        assert!(rt; answer == Some((true, [0, first[4]])));
+        if got(core, &key_of(*first), [7; 2]) != Some((true, [0, first[4]])) {
+            return false;
+        }
     }
+    true
 }
 
 // Puts a value for each of these keys into a new store of two buckets and logs of eight rows,
@@ -39,8 +43,7 @@ fn find_all<D: Disk>(rt: &impl Abort, core: &Core<D>, keys: &[[u8; 5]]) {
 fn filled(rt: &impl Abort, alloc: Global, keys: &[[u8; 5]]) -> Result<MemDisk, Fail> {
     let geometry = of_regions(8, 2, 2, 16)?;
     let mut core = opened_with(alloc, geometry)?;
-    put_all(rt, alloc, &mut core, keys);
-    find_all(rt, &core, keys);
+    assert!(rt; put_all(alloc, &mut core, keys) && finds_all(&core, keys));
     Ok(core.close())
 }
 

@@ -18,18 +18,18 @@ fn formatted(alloc: Global) -> Result<RandomAccessDisk<MemFile>, Fail> {
     Ok(format(alloc, disk, geometry).ok().ok_or("formats")?)
 }
 
-// Puts two values, with a flush between them.
-fn put_two<D: Disk>(rt: &impl Abort, alloc: Global, core: &mut Core<D>) {
-    assert!(rt; put_count(alloc, core, &key(1), [5, 6]).is_some());
-    assert!(rt; core.flush().is_ok());
-    assert!(rt; put_count(alloc, core, &key(2), [7, 8]).is_some());
+// Puts two values, with a flush between them. Returns whether all calls succeeded.
+fn put_two<D: Disk>(alloc: Global, core: &mut Core<D>) -> bool {
+    put_count(alloc, core, &key(1), [5, 6]).is_some()
+        && core.flush().is_ok()
+        && put_count(alloc, core, &key(2), [7, 8]).is_some()
 }
 
 // The file of a store in which one value was flushed, and another one was not.
 fn flushed(rt: &impl Abort, alloc: Global) -> Result<MemFile, Fail> {
     let disk = formatted(alloc)?;
     let mut core = opened_on(alloc, disk)?;
-    put_two(rt, alloc, &mut core);
+    assert!(rt; put_two(alloc, &mut core));
     Ok(core.close().into_file())
 }
 
@@ -50,7 +50,9 @@ fn disk_of(alloc: Global, bytes: Vec<u8>) -> Result<RandomAccessDisk<MemFile>, F
 fn found(alloc: Global, bytes: Vec<u8>) -> Result<Both, Fail> {
     let disk = disk_of(alloc, bytes)?;
     let core = opened_on(alloc, disk)?;
-    Ok(both_of(&core))
+    let both = both_of(&core);
+    let _disk = core.close();
+    Ok(both)
 }
 
 // After a crash that leaves none of the pending bytes, the store has the flushed value and not the

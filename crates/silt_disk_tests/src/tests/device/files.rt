@@ -237,11 +237,15 @@ fn cut_short(rt: &HostRuntime) -> io::Result<(Option<[u8; 4]>, Option<ErrorKind>
 // A read past the end fails if somebody has cut the file short.
 #[test]
 fn a_read_behind_the_end_fails(rt: HostRuntime) -> Result<(), Fail> {
-    make_folder(&rt, "cut")?;
-    let answers = cut_short(&rt)?;
-    assert!(rt; answers == (Some(FIRST), Some(ErrorKind::UnexpectedEof)));
-    fs::remove_dir_all(&rt, "cut")?;
+    assert!(rt; cut_in_a_folder(&rt)? == (Some(FIRST), Some(ErrorKind::UnexpectedEof)));
     Ok(())
+}
+
+fn cut_in_a_folder(rt: &HostRuntime) -> io::Result<(Option<[u8; 4]>, Option<ErrorKind>)> {
+    make_folder(rt, "cut")?;
+    let answers = cut_short(rt)?;
+    fs::remove_dir_all(rt, "cut")?;
+    Ok(answers)
 }
 
 // A disk that is opened for reading only: the error of a write, whether a sync then succeeds, and
@@ -312,10 +316,12 @@ type Owned = (
 );
 
 fn owned(rt: &HostRuntime) -> io::Result<Owned> {
+    make_folder(rt, "owned")?;
     let beside_first = beside_owner(rt, Some(3))?;
     let len = fs::metadata(rt, "owned/disk")?.len();
     let beside_second = beside_owner(rt, None)?;
     let last = len_of(FileDisk::open(rt, "owned/disk"));
+    fs::remove_dir_all(rt, "owned")?;
     Ok((beside_first, len, beside_second, last))
 }
 
@@ -323,9 +329,7 @@ fn owned(rt: &HostRuntime) -> io::Result<Owned> {
 // in it.
 #[test]
 fn a_file_has_one_owner(rt: HostRuntime) -> Result<(), Fail> {
-    make_folder(&rt, "owned")?;
     assert!(rt; owned(&rt)? == ([BUSY; 3], 3, [BUSY; 3], Ok(3)));
-    fs::remove_dir_all(&rt, "owned")?;
     Ok(())
 }
 

@@ -17,29 +17,35 @@ const NEWEST: Finding = Damaged(HashDigest(1));
 
 const OLDER: Finding = Damaged(HashDigest(0));
 
-// A put of a key with its own number as its value.
-fn put_one<D: Disk>(rt: &impl Abort, alloc: Global, core: &mut Core<D>, first: u8) {
-    assert!(rt; put_count(alloc, core, &key(first), [0, first]).is_some());
+// A put of a key with its own number as its value. Like all calls here it returns whether it
+// succeeded.
+fn put_one<D: Disk>(alloc: Global, core: &mut Core<D>, first: u8) -> bool {
+    put_count(alloc, core, &key(first), [0, first]).is_some()
 }
 
 // The steps that convert the log that a put froze.
-fn convert<D: Disk>(rt: &impl Abort, alloc: Global, core: &mut Core<D>) {
+fn convert<D: Disk>(alloc: Global, core: &mut Core<D>) -> bool {
     for _ in 0..9u8 {
-        assert!(rt; core.convert(alloc).is_ok());
+        if core.convert(alloc).is_err() {
+            return false;
+        }
     }
+    true
 }
 
 // The steps that merge one hash store of one row.
-fn merge<D: Disk>(rt: &impl Abort, alloc: Global, core: &mut Core<D>) {
+fn merge<D: Disk>(alloc: Global, core: &mut Core<D>) -> bool {
     for _ in 0..10u8 {
-        assert!(rt; core.merge(alloc).is_ok());
+        if core.merge(alloc).is_err() {
+            return false;
+        }
     }
+    true
 }
 
 // A put of a key that freezes the log of the key before it, and its conversion.
-fn put_and_convert<D: Disk>(rt: &impl Abort, alloc: Global, core: &mut Core<D>, first: u8) {
-    put_one(rt, alloc, core, first);
-    convert(rt, alloc, core);
+fn put_and_convert<D: Disk>(alloc: Global, core: &mut Core<D>, first: u8) -> bool {
+    put_one(alloc, core, first) && convert(alloc, core)
 }
 
 // A device with logs of one row. Key 1 was merged into sorted region 1. Key 2 is in hash store 0,
@@ -48,16 +54,16 @@ fn put_and_convert<D: Disk>(rt: &impl Abort, alloc: Global, core: &mut Core<D>, 
 fn with_three_stores(rt: &impl Abort, alloc: Global) -> Result<MemDisk, Fail> {
     let geometry = of_regions(1, 2, 2, 4)?;
     let mut core = opened_with(alloc, geometry)?;
-    make_three_stores(rt, alloc, &mut core);
+    assert!(rt; make_three_stores(alloc, &mut core));
     Ok(core.close())
 }
 
-fn make_three_stores<D: Disk>(rt: &impl Abort, alloc: Global, core: &mut Core<D>) {
-    put_one(rt, alloc, core, 1);
-    put_and_convert(rt, alloc, core, 2);
-    merge(rt, alloc, core);
-    put_and_convert(rt, alloc, core, 3);
-    put_and_convert(rt, alloc, core, 4);
+fn make_three_stores<D: Disk>(alloc: Global, core: &mut Core<D>) -> bool {
+    put_one(alloc, core, 1)
+        && put_and_convert(alloc, core, 2)
+        && merge(alloc, core)
+        && put_and_convert(alloc, core, 3)
+        && put_and_convert(alloc, core, 4)
 }
 
 const OF_THREE_STORES: Report = Report {
