@@ -113,8 +113,9 @@ const CASES: [Case; 4] = [
     (&[(28_694, 2)], Some(Place::HashDigest(0))),
 ];
 
-fn find_each(rt: &impl Abort, alloc: Global, whole: &[u8], cases: &[Case]) -> Result<(), Fail> {
+fn find_each(rt: &impl Abort, alloc: Global, whole: &[u8]) -> Result<(), Fail> {
     same(rt, &whole.len(), &45_056);
+    let cases: &[Case] = &CASES;
     for (changes, expected) in cases {
         let found = refusal_of(alloc, whole, changes)?;
         same(rt, &found, expected);
@@ -125,5 +126,7 @@ fn find_each(rt: &impl Abort, alloc: Global, whole: &[u8], cases: &[Case]) -> Re
 #[test]
 fn finds_damaged_slots(rt: HostRuntime) -> Result<(), Fail> {
     let disk = converted(&rt, rt.alloc())?;
-    find_each(&rt, rt.alloc(), disk.shown(), &CASES)
+    let found = find_each(&rt, rt.alloc(), disk.shown());
+    drop(disk);
+    found
 }

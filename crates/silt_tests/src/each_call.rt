@@ -39,11 +39,18 @@ fn each_fails(rt: &impl Abort, alloc: Global, life: &Life, fails: Fails) -> Resu
     }
 }
 
-// The life is a conversion, followed by a get, a step and a swap.
-fn conversion_fails(rt: &impl Abort, alloc: Global, fails: Fails) -> Result<(), Fail> {
-    let geometry = small()?;
-    let lines = repeated_with(alloc, &CONVERTED, &ASKED_BEHIND)?;
-    let printed = repeated_with(alloc, &CONVERTED_TOLD, &[Printed::Accepted(6)])?;
+// The life of these lines and others after them on a new disk of this geometry, which gets these
+// replies and a last one.
+fn life_fails(
+    rt: &impl Abort,
+    alloc: Global,
+    geometry: Geometry,
+    (parts, others): (&[(Line, u8)], &[Line]),
+    (replies, last): (&[(Printed, u8)], Printed),
+    fails: Fails,
+) -> Result<(), Fail> {
+    let lines = repeated_with(alloc, parts, others)?;
+    let printed = repeated_with(alloc, replies, &[last])?;
     let life = Life {
         geometry,
         lines: &lines,
@@ -52,17 +59,28 @@ fn conversion_fails(rt: &impl Abort, alloc: Global, fails: Fails) -> Result<(), 
     each_fails(rt, alloc, &life, fails)
 }
 
+// The life is a conversion, followed by a get, a step and a swap.
+fn conversion_fails(rt: &impl Abort, alloc: Global, fails: Fails) -> Result<(), Fail> {
+    life_fails(
+        rt,
+        alloc,
+        small()?,
+        (&CONVERTED, &ASKED_BEHIND),
+        (&CONVERTED_TOLD, Printed::Accepted(6)),
+        fails,
+    )
+}
+
 // The life is a merge beside two conversions, followed by a swap that freezes a log.
 fn merge_fails(rt: &impl Abort, alloc: Global, fails: Fails) -> Result<(), Fail> {
-    let geometry = of_three_hash_stores()?;
-    let lines = repeated_with(alloc, &CONVERTED_MEANWHILE, &[SWAP_MEANWHILE])?;
-    let printed = repeated_with(alloc, &CONVERTED_MEANWHILE_TOLD, &[Printed::Accepted(5)])?;
-    let life = Life {
-        geometry,
-        lines: &lines,
-        printed: &printed,
-    };
-    each_fails(rt, alloc, &life, fails)
+    life_fails(
+        rt,
+        alloc,
+        of_three_hash_stores()?,
+        (&CONVERTED_MEANWHILE, &[SWAP_MEANWHILE]),
+        (&CONVERTED_MEANWHILE_TOLD, Printed::Accepted(5)),
+        fails,
+    )
 }
 
 // The call was refused with a fault of the device.
@@ -185,7 +203,7 @@ fn faults_of_read(rt: &impl Abort, alloc: Global, life: &Life, number: u64) -> R
 fn each_read_fails(rt: &impl Abort, alloc: Global, life: &Life, reads: u64) -> Result<(), Fail> {
     for number in 1..1000u64 {
         let faults = faults_of_read(rt, alloc, life, number)?;
-        assert!(rt; faults < 2, "read {number}");
+        same_in(rt, &(faults < 2), &true, &number);
         if faults == 0 {
             same_in(rt, &number.saturating_sub(1), &reads, &"reads");
             return Ok(());

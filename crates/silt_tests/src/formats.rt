@@ -189,13 +189,22 @@ fn each_formatted_over(rt: &impl Abort, alloc: Global, old: &[u8]) -> Result<(),
 fn formatting_over_a_store_stopped_anywhere(rt: HostRuntime) -> Result<(), Fail> {
     let (disk, left) = entries_of(rt.alloc(), old_disk(rt.alloc())?)?;
     same(&rt, &left, &OLD_VALUES);
-    each_formatted_over(&rt, rt.alloc(), disk.shown())
+    let formatted = each_formatted_over(&rt, rt.alloc(), disk.shown());
+    drop(disk);
+    formatted
+}
+
+// The bytes of the old store on a device of version 1.
+fn old_bytes_of_version_1(alloc: Global) -> Result<Vec<u8>, Fail> {
+    let disk = old_disk(alloc)?;
+    let old = as_version_1(alloc, disk.shown());
+    drop(disk);
+    old
 }
 
 // The same if the old store is on a device of version 1, without digests.
 #[test]
 fn formatting_over_an_old_store_stopped_anywhere(rt: HostRuntime) -> Result<(), Fail> {
-    let disk = old_disk(rt.alloc())?;
-    let old = as_version_1(rt.alloc(), disk.shown())?;
+    let old = old_bytes_of_version_1(rt.alloc())?;
     each_formatted_over(&rt, rt.alloc(), &old)
 }

@@ -19,7 +19,7 @@ enum Asked {
 }
 
 // Which call makes the read that fails: the opening, the call after it, or none.
-#[derive(Clone, Copy, PartialEq, Eq)]
+#[derive(Clone, Copy)]
 enum Made {
     Opening,
     Call,

@@ -170,8 +170,9 @@ fn all_refused(rt: &impl Abort, alloc: Global, bytes: &[u8]) -> Result<Refused, 
 #[test]
 fn reports_each_failed_read_as_a_fault(rt: HostRuntime) -> Result<(), Fail> {
     let disk = with_three_places(&rt, rt.alloc())?;
-    let refused = all_refused(&rt, rt.alloc(), disk.shown())?;
-    are_refused(&rt, refused);
+    let refused = all_refused(&rt, rt.alloc(), disk.shown());
+    drop(disk);
+    are_refused(&rt, refused?);
     Ok(())
 }
 

@@ -55,6 +55,16 @@ pub(crate) fn repeated_with<T: Copy>(
     Ok(lines)
 }
 
+// The event of a line, made once more if memory is refused.
+fn event_twice(alloc: Global, line: Line) -> Result<Event, AllocError>
+    ensures { IfOk result (HasValueOf 2) }
+{
+    match event(alloc, line) {
+        Ok(made) => Ok(made),
+        Err(_) => event(alloc, line),
+    }
+}
+
 /// The events of a life, made once more if memory is refused.
 pub(crate) fn events_twice(alloc: Global, lines: &[Line]) -> Result<Vec<Event>, AllocError>
     ensures { IfOk result (λ events. All (HasValueOf 2) events.items) }
@@ -185,13 +195,10 @@ pub(crate) fn ask<D: Disk>(
     core: &mut Core<D>,
     line: Line,
 ) -> Result<Printed, AllocError> {
-    match event(alloc, line) {
-        Ok(event) => Ok(printed_of(alloc, core, 2, &event)),
-        Err(_) => {
-            let event = event(alloc, line)?;
-            Ok(printed_of(alloc, core, 2, &event))
-        }
-    }
+    let event = event_twice(alloc, line)?;
+    let printed = printed_of(alloc, core, 2, &event);
+    drop(event);
+    Ok(printed)
 }
 
 // The replies to the events of these lines, in an opened store of values of two bytes.

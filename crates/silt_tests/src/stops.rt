@@ -200,18 +200,17 @@ fn stops_at(alloc: Global, new: &[u8], lines: &[Line], k: u32) -> Result<bool, F
     Ok(was_stopped(&printed))
 }
 
-// The life makes exactly this many calls on a new disk of this geometry and version.
+// The life makes exactly this many calls on a disk of these bytes.
 fn makes_calls(
     rt: &impl Abort,
     alloc: Global,
-    (geometry, version): (Geometry, Version),
+    new: &[u8],
     parts: &[(Line, u8)],
     calls: u32,
 ) -> Result<(), Fail> {
     let lines = repeated(alloc, parts)?;
-    let new = new_on(alloc, (geometry, version))?;
-    is_stopped(rt, alloc, &new, &lines, (calls, true))?;
-    is_stopped(rt, alloc, &new, &lines, (calls.saturating_add(1), false))
+    is_stopped(rt, alloc, new, &lines, (calls, true))?;
+    is_stopped(rt, alloc, new, &lines, (calls.saturating_add(1), false))
 }
 
 // A crash at this call is or is not within the life, on a disk of these bytes.
@@ -227,23 +226,28 @@ fn is_stopped(
     Ok(())
 }
 
-// Crashes this life with a swap after it at each of its calls. Without the swap the life makes
-// exactly its own calls.
+// Crashes this life with a swap after it at each of its calls, on a new disk of this version.
 fn sweep_swapped(
     rt: &impl Abort,
     alloc: Global,
     (geometry, parts, calls, swap, more): Swapped,
     version: Version,
 ) -> Result<(), Fail> {
-    makes_calls(rt, alloc, (geometry, version), parts, calls)?;
+    let new = new_on(alloc, (geometry, version))?;
+    sweep_swapped_on(rt, alloc, &new, (geometry, parts, calls, swap, more))
+}
+
+// Crashes this life with a swap after it at each of its calls, on a disk of these bytes. Without the
+// swap the life makes exactly its own calls.
+fn sweep_swapped_on(
+    rt: &impl Abort,
+    alloc: Global,
+    new: &[u8],
+    (geometry, parts, calls, swap, more): Swapped,
+) -> Result<(), Fail> {
+    makes_calls(rt, alloc, new, parts, calls)?;
     let lines = repeated_with(alloc, parts, &[swap])?;
-    sweep_as(
-        rt,
-        alloc,
-        (geometry, version),
-        &lines,
-        calls.saturating_add(more),
-    )
+    sweep_on(rt, alloc, geometry, new, &lines, calls.saturating_add(more))
 }
 
 fn sweep_conversion(rt: &impl Abort, alloc: Global, version: Version) -> Result<(), Fail> {

@@ -244,17 +244,22 @@ fn replies_to_swaps(alloc: Global) -> Result<Vec<Printed>, AllocError> {
     Ok(printed)
 }
 
-// Runs a life of those swaps, and compares their replies.
-fn swapped_all(rt: &impl Abort, alloc: Global, disk: MemDisk) -> Result<MemDisk, Fail> {
-    let lines = swaps(alloc)?;
-    let printed = replies_to_swaps(alloc)?;
-    Ok(lived(rt, alloc, disk, &lines, &printed)?)
+// The values on that device after a life of these lines, which gets these replies.
+fn values_after(
+    rt: &impl Abort,
+    alloc: Global,
+    lines: &[Line],
+    printed: &[Printed],
+) -> Result<[u16; 8], Fail> {
+    let disk = lived(rt, alloc, spread(alloc)?, lines, printed)?;
+    values_on(alloc, disk)
 }
 
 // The values on that device after those swaps.
 fn swapped_values(rt: &impl Abort, alloc: Global) -> Result<[u16; 8], Fail> {
-    let disk = spread(alloc)?;
-    values_on(alloc, swapped_all(rt, alloc, disk)?)
+    let lines = swaps(alloc)?;
+    let printed = replies_to_swaps(alloc)?;
+    values_after(rt, alloc, &lines, &printed)
 }
 
 #[test]

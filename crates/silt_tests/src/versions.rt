@@ -21,6 +21,12 @@ fn converted_as(rt: &impl Abort, alloc: Global, version: Version) -> Result<Vec<
     as_version(alloc, disk.shown(), version)
 }
 
+// A disk of those bytes.
+fn converted_disk_as(rt: &impl Abort, alloc: Global, version: Version) -> Result<MemDisk, Fail> {
+    let whole = converted_as(rt, alloc, version)?;
+    Ok(MemDisk::with_bytes(alloc, &whole)?)
+}
+
 // The digest of the four entries with the keys 1 to 4 and these values.
 const OF_FOUR_ENTRIES: &[u8] =
     b"\x57\x7a\x07\xb5\x9a\x0e\xfa\x7c\x9c\xfd\x45\x70\x0c\x3c\x11\xa2\x4e\xe2\xac\xe3";
@@ -70,12 +76,12 @@ fn merges_as(
     alloc: Global,
     (version, number, layout): (Version, u8, Layout),
 ) -> Result<(), Fail> {
-    let whole = converted_as(rt, alloc, version)?;
-    let disk = MemDisk::with_bytes(alloc, &whole)?;
+    let disk = converted_disk_as(rt, alloc, version)?;
     has_layout(rt, alloc, &disk, layout);
     let disk = merged(rt, alloc, disk)?;
     has_digests(rt, &disk, number);
     has_merged(rt, alloc, &disk);
+    drop(disk);
     Ok(())
 }
 
