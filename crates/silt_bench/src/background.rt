@@ -30,13 +30,51 @@ fn finish_beside<D: Disk, T: Trace, N: DeskId, R: Wait + Clock>(
     }
 }
 
+/// Two workers in threads of their own, and when the merger is woken: once for so many rows, so that each merge takes
+/// several hash stores.
+#[derive(Drop)]
+pub struct Workers {
+    wakes: Wakes,
+    rows_a_merge: u64,
+    // Rows since the merger was last woken.
+    rows: u64,
+}
+
+impl Workers {
+    /// Workers that were not woken yet.
+    pub fn new(wakes: Wakes, rows_a_merge: u64) -> Workers {
+        Workers {
+            wakes,
+            rows_a_merge,
+            rows: 0,
+        }
+    }
+
+    // Wakes the workers that have work, the merger only if its rows are there. A writer that waits for room calls this
+    // again and again, and so wakes it too.
+    fn go<R: Wait>(&mut self, rt: &R, due: Due, puts: u64) {
+        self.rows = self.rows.saturating_add(puts);
+        let merges = due.merges && self.rows >= self.rows_a_merge;
+        if merges {
+            self.rows = 0;
+        }
+        self.wakes.go(
+            rt,
+            Due {
+                converts: due.converts,
+                merges,
+            },
+        );
+    }
+}
+
 /// How a store's background work is done.
 #[derive(Drop)]
 pub enum Background {
     /// The writer, between two groups of puts.
     Turns(Turns),
     /// Two workers in threads of their own.
-    Workers(Wakes),
+    Workers(Workers),
 }
 
 impl Background {
@@ -51,8 +89,8 @@ impl Background {
     ) -> Result<(), BenchError> {
         match self {
             Background::Turns(turns) => turns.take(alloc, &mut *shared.write(rt), seat, puts),
-            Background::Workers(wakes) => {
-                wakes.go(rt, work_due(rt, shared));
+            Background::Workers(workers) => {
+                workers.go(rt, work_due(rt, shared), puts);
                 Ok(())
             }
         }
@@ -68,8 +106,8 @@ impl Background {
     ) -> Result<(), BenchError> {
         match self {
             Background::Turns(turns) => turns.finish(alloc, &mut *shared.write(rt), seat),
-            Background::Workers(wakes) => {
-                finish_beside(rt, shared, wakes);
+            Background::Workers(workers) => {
+                finish_beside(rt, shared, &workers.wakes);
                 Ok(())
             }
         }
@@ -77,8 +115,8 @@ impl Background {
 
     /// Stops the workers.
     pub fn stop<R: Wait>(&self, rt: &R) {
-        if let Background::Workers(wakes) = self {
-            wakes.stop(rt);
+        if let Background::Workers(workers) = self {
+            workers.wakes.stop(rt);
         }
     }
 }

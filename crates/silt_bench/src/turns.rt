@@ -25,8 +25,8 @@ fn owed(puts: u64, steps: u64, before: u64) -> u64 {
     (puts.saturating_mul(steps) / before.max(1)).saturating_add(1)
 }
 
-// The puts after which a log may be frozen: most freeze with nine tenths of their rows or more.
-fn rows_before_freeze(geometry: &Geometry) -> u64 {
+/// The puts after which a log may be frozen: most freeze with nine tenths of their rows or more.
+pub fn rows_before_freeze(geometry: &Geometry) -> u64 {
     u64::from(geometry.log_capacity()) * 7 / 8
 }
 

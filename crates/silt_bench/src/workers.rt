@@ -1,12 +1,14 @@
 // Fills a store while two workers do its background work.
 
-use crate::background::Background;
+use crate::background::{Background, Workers};
 use crate::error::BenchError;
 use crate::job::Plan;
+use crate::turns::rows_before_freeze;
 use crate::writer::{Filled, Writer, fill_all};
 use crossbeam_channel::{Receiver, Sender};
 use silt_desk::{
-    DeskId, Seat, Shared, ShiftGate, Trace, Wake, Wakes, converter, join_over, merger,
+    DeskId, Gate, Seat, Shared, ShiftGate, Spot, Trace, Turn, Wake, Wakes, converter, join_over,
+    merge_once,
 };
 use silt_device::Disk;
 use std::alloc::{AllocError, Global};
@@ -43,7 +45,7 @@ pub fn fill_beside<
     seats: (Seat<N>, Seat<N>, Seat<N>),
     plan: &Plan,
 ) -> Result<Filled, BenchError> {
-    match threads_of(alloc, seats) {
+    match threads_of(alloc, seats, plan) {
         Ok(threads) => run_threads(rt, alloc, shared, threads, plan),
         Err(_) => Err(BenchError::NoMemory),
     }
@@ -53,13 +55,16 @@ pub fn fill_beside<
 fn threads_of<N: DeskId>(
     alloc: Global,
     seats: (Seat<N>, Seat<N>, Seat<N>),
+    plan: &Plan,
 ) -> Result<FillThreads<N>, AllocError> {
     let (to_converter, converter_wakes) = crossbeam_channel::unbounded(alloc)?;
     let (to_merger, merger_wakes) = crossbeam_channel::unbounded(alloc)?;
+    // The writer alone wakes the merger: the converter's messages to it arrive nowhere.
+    let (to_nobody, _) = crossbeam_channel::unbounded(alloc)?;
     let converter = Worker {
         seat: seats.1,
         wakes: converter_wakes,
-        other: to_merger.clone()?,
+        other: to_nobody,
     };
     let merger = Worker {
         seat: seats.2,
@@ -70,8 +75,11 @@ fn threads_of<N: DeskId>(
         converter: to_converter,
         merger: to_merger,
     };
+    let rows = plan
+        .stores
+        .saturating_mul(rows_before_freeze(&plan.geometry));
     Ok(FillThreads {
-        writer: Writer::new(seats.0, Background::Workers(wakes)),
+        writer: Writer::new(seats.0, Background::Workers(Workers::new(wakes, rows))),
         converter,
         merger,
     })
@@ -120,7 +128,7 @@ fn both_workers<D: Disk, T: Trace + Send + Sync, N: DeskId + Send + Sync, R: Thr
             converter(rt, alloc, desk, first.seat, gate, first.wakes, first.other)
         },
         move |desk: &Shared<D, T, N>| {
-            merger(
+            merge_when_woken(
                 rt,
                 alloc,
                 desk,
@@ -131,6 +139,44 @@ fn both_workers<D: Disk, T: Trace + Send + Sync, N: DeskId + Send + Sync, R: Thr
             )
         },
     )
+}
+
+// Does one merge for each message, until it is stopped, and wakes the converter after each. The desk's own merger begins
+// the next merge as soon as there is a hash store. Gives its seat back.
+fn merge_when_woken<D: Disk, T: Trace, N: DeskId, G: Gate, R: Wait>(
+    rt: &R,
+    alloc: Global,
+    shared: &Shared<D, T, N>,
+    mut seat: Seat<N>,
+    gate: &G,
+    wakes: Receiver<Wake>,
+    converter: Sender<Wake>,
+) -> Seat<N> {
+    for _ in rt.forever() {
+        if !matches!(wakes.recv(rt), Ok(Wake::Go)) {
+            return seat;
+        }
+        merge_to_end(rt, alloc, shared, &mut seat, gate);
+        let _ = converter.send(rt, Wake::Go); // it may have ended
+    }
+    unreachable!()
+}
+
+// Does the steps of one merge, each under a guard of its own.
+fn merge_to_end<D: Disk, T: Trace, N: DeskId, G: Gate, R: Wait>(
+    rt: &R,
+    alloc: Global,
+    shared: &Shared<D, T, N>,
+    seat: &mut Seat<N>,
+    gate: &G,
+) {
+    for _ in rt.forever() {
+        gate.pass(Spot::Merger);
+        if merge_once(&mut *shared.write(rt), alloc, seat) != Turn::GoOn {
+            gate.rest(Spot::Merger);
+            return;
+        }
+    }
 }
 
 // Puts all keys, waits until no work is left, and stops the workers.
