@@ -9,7 +9,7 @@ use Rattle.silt_cuckoo.specs.Keys.{first_bucket, second_bucket}
 use Rattle.silt_cuckoo.specs.Placing.{other_bucket}
 use Rattle.silt_frame.specs.declared.key.Kind.{Kind}
 use Rattle.silt_hash_store.specs.Findings.{holds_key, is_in_bucket}
-use Rattle.silt_hash_store.specs.Slots.{has_tag, has_tag_of, hash_rows, is_row_of, rows_before, slot_row, slot_tag}
+use Rattle.silt_hash_store.specs.Slots.{bucket_has_tag, has_tag_of, hash_rows, is_row_of, rows_before, slot_row, slot_tag}
 use Rattle.silt_frame.specs.Rows.{has_known_kind, StoredRow}
 use Rattle.silt_log.specs.declared.found.Found.{Found}
 use Rattle.silt_hash_store.specs.Lookup.{FindsIn, FindsRow, MatchesKey, MatchesTag}
@@ -84,7 +84,7 @@ module _ (store : HashState) (image : List ℕ) (count : ℕ) (is : IsTagged sto
   untagged_none lacks =
       let one : ℕ = first_bucket store.shape.buckets key in
       let two : ℕ = second_bucket store.shape.buckets key in
-      let both = or_parts (has_tag store.tags one two) (has_tag store.tags two one) (sym lacks) in
+      let both = or_parts (bucket_has_tag store.tags one two) (bucket_has_tag store.tags two one) (sym lacks) in
       none_found (λ slot low high tagged. absurd (lacks_tag store.tags one two slot both.0 low high tagged)) (λ slot low high tagged. absurd (lacks_tag store.tags two one slot both.1 low high tagged))
 
   -- the result of the second bucket, if the first has no row of the key

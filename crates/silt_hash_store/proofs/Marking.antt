@@ -6,7 +6,7 @@ use Rattle.std.proofs.lemmas.List.Edits.{get_or-between}
 use Rattle.std.proofs.lemmas.List.Folds.{list_any_at}
 use Rattle.std.proofs.lemmas.List.FromFn.{get_or-range_with_len}
 use Rattle.std.specs.List.{range_with_len}
-use Rattle.silt_hash_store.specs.Slots.{has_tag, is_tag, slot_tag, tag_seen}
+use Rattle.silt_hash_store.specs.Slots.{bucket_has_tag, is_tag, slot_tag, tag_seen}
 
 -- slots without a tag
 pub none_seen : (n : ℕ) → map tag_seen (replicate n 65535) ≡ replicate n None
@@ -40,8 +40,8 @@ four false false false false = refl
 
 -- four numbers in a row are those of the slots of a bucket
 pub has_tag_in : (numbers : List ℕ) (bucket tag : ℕ) → 4 * bucket + 4 ≤ length numbers → tag < 65535 → let part = slice_range numbers (4 * bucket) (4 * bucket + 4) in
-    (((eqb (get_or part 0 0) tag || eqb (get_or part 1 0) tag) || eqb (get_or part 2 0) tag) || eqb (get_or part 3 0) tag) ≡ has_tag (map tag_seen numbers) bucket tag
-unfolding has_tag
+    (((eqb (get_or part 0 0) tag || eqb (get_or part 1 0) tag) || eqb (get_or part 2 0) tag) || eqb (get_or part 3 0) tag) ≡ bucket_has_tag (map tag_seen numbers) bucket tag
+unfolding bucket_has_tag
 has_tag_in numbers bucket tag there below =
     rw (at 0 (omega arith), at 1 (omega arith), at 2 (omega arith), at 3 (omega arith)) (four (tagged 0) (tagged 1) (tagged 2) (tagged 3))
   where
@@ -52,8 +52,8 @@ has_tag_in numbers bucket tag there below =
     at i small = ap (λ n. eqb n tag) (get_or-between numbers (4 * bucket) (4 * bucket + 4) i 0 (omega arith)) ∙ sym (tag_at numbers (4 * bucket + i) tag (omega arith) below)
 
 -- if no slot of a bucket has a tag, then none has it
-pub lacks_tag : (tags : List (Option ℕ)) (bucket tag slot : ℕ) → has_tag tags bucket tag ≡ false → 4 * bucket ≤ slot → slot < 4 * bucket + 4 → slot_tag tags slot ≡ Some tag → ⊥
-unfolding has_tag
+pub lacks_tag : (tags : List (Option ℕ)) (bucket tag slot : ℕ) → bucket_has_tag tags bucket tag ≡ false → 4 * bucket ≤ slot → slot < 4 * bucket + 4 → slot_tag tags slot ≡ Some tag → ⊥
+unfolding bucket_has_tag
 lacks_tag tags bucket tag slot lacks low high tagged =
     let i : ℕ = slot - 4 * bucket in
     let here : get_or (range_with_len 0 4) i 0 ≡ i = get_or-range_with_len 0 4 i 0 (omega arith) ∙ (omega arith) in

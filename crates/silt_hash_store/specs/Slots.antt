@@ -57,12 +57,12 @@ is_tag tag None = false
 is_tag tag (Some its_tag) = its_tag == tag
 
 -- a slot of a bucket has this tag
-unfoldable pub has_tag : List (Option ℕ) → ℕ → ℕ → Bool
-has_tag tags bucket tag = list_any (λ i. is_tag tag (slot_tag tags (4 * bucket + i))) (range_with_len 0 4)
+unfoldable pub bucket_has_tag : List (Option ℕ) → ℕ → ℕ → Bool
+bucket_has_tag tags bucket tag = list_any (λ i. is_tag tag (slot_tag tags (4 * bucket + i))) (range_with_len 0 4)
 
 -- a slot of one of a key's buckets has the number of the other as its tag
 abbrev pub has_tag_of : List (Option ℕ) → ℕ → List ℕ → Bool
-has_tag_of tags buckets key = has_tag tags (first_bucket buckets key) (second_bucket buckets key) || has_tag tags (second_bucket buckets key) (first_bucket buckets key)
+has_tag_of tags buckets key = bucket_has_tag tags (first_bucket buckets key) (second_bucket buckets key) || bucket_has_tag tags (second_bucket buckets key) (first_bucket buckets key)
 
 -- the tag that a number of 16 bits means: none for the greatest number
 abbrev pub tag_seen : ℕ → Option ℕ

@@ -1,6 +1,6 @@
 // The tags of the slots of a hash region, in two bytes a slot.
 ghost use Rattle.std.specs.Prelude.{◌≡◌, ◌+◌, ◌*◌, ◌<◌, ◌≤◌, ◌^◌, IfOk, None, Some, length, replicate, slice_set};
-ghost use Rattle.silt_hash_store.specs.Slots.{has_tag, slot_tag};
+ghost use Rattle.silt_hash_store.specs.Slots.{bucket_has_tag, slot_tag};
 
 use std::alloc::{AllocError, Global};
 use std::marker::Model;
@@ -50,7 +50,7 @@ impl Tags {
     pub fn has(&self, bucket: u32, tag: u32) -> bool
         requires bucket { 4 * bucket + 4 ≤ length self.now }
         requires tag { tag < 2 ^ 15 }
-        ensures { result ≡ has_tag self.now bucket tag }
+        ensures { result ≡ bucket_has_tag self.now bucket tag }
     {
         let start = 4 * bucket as usize;
         let number = tag as u16;
