@@ -387,10 +387,6 @@ grown_places g from bytes size room fits =
     let before : length g.bytes ≤ from = elim (cases_lt 0 (length g.bytes)) [ inl some ↦ omega (arith, continues g from (length bytes) room some) | inr none ↦ omega arith ] in
     omega (arith, before, length-append g.bytes bytes)
 
--- a range of the disk is a range of its inner disk
-pub fits_inner : (g : BufferedBytes) (inner : Content) (end : ℕ) → end ≤ size (content_over g inner) → end ≤ size inner
-fits_inner g inner end fits = omega (arith, fits, size_over g inner)
-
 -- ---- exits of a call, by the waiting bytes and their place
 
 -- the waiting bytes were written

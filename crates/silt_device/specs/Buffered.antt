@@ -135,8 +135,8 @@ module _ {D : Type 0} (writes_of syncs_of : D → ℕ) where
     pub none : new.buffers ≡ cleared old.buffers
     pub made : Makes writes_of syncs_of (owed_all old.buffers) 1 old.inner new.inner
 
-  -- From the old state to the new one the inner disk made no more than this many writes, if the write that the waiting bytes will
-  -- take is added to both sides, and exactly this many syncs.
+  -- From the old state to the new one the inner disk made no more than this many writes, if those that the waiting bytes will take
+  -- are added to both sides, and exactly this many syncs.
   pub record SavesWrites (w s : ℕ) (old new : BufferedState D) : Type 0 where
     pub made : ℕ
     pub fewer : made + owed_all new.buffers ≤ w + owed_all old.buffers
