@@ -33,7 +33,7 @@ pub use life::{Fill, Stop};
 pub use memory::{MemDisk, MemFault};
 pub use silt_disk::{
     BadGeometry, Call, CallAt, Disk, Geometry, HEADER_LEN, REGIONS_AT, SECTOR, Stoppable,
-    geometry_of, header_bytes, is_formatted, regions_lie_apart, slot_start, write_synced,
+    geometry_of, header_bytes, is_formatted, regions_law, slot_start, write_synced,
 };
 pub use source::{DiskSource, FileDisks, NamedDisk, NoSuchDisk};
 pub use system::{FileSystem, RandomAccessFile};

@@ -94,7 +94,7 @@ pub fn slot_start(slot: u32) -> u64
 /// The law of the layout, for code that reads or writes a device by offsets: in every geometry the regions do not overlap, and
 /// they lie within the device.
 #[tactic(auto, using(crate::proofs::Regions::regions_apart))]
-pub fn regions_lie_apart()
+pub fn regions_law()
     ensures { (shape : Shape) → RegionsApart shape }
 {}
 

@@ -27,5 +27,5 @@ mod geometry;
 mod header;
 
 pub use disk::{Call, CallAt, Disk, Stoppable, write_synced};
-pub use geometry::{BadGeometry, Geometry, REGIONS_AT, SECTOR, regions_lie_apart, slot_start};
+pub use geometry::{BadGeometry, Geometry, REGIONS_AT, SECTOR, regions_law, slot_start};
 pub use header::{HEADER_LEN, Version, geometry_of, header_bytes, is_formatted, version_of};

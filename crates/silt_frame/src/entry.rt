@@ -6,7 +6,6 @@ use crate::{KEY_LEN, Key};
 
 /// Writes the bytes of an entry, the key and then the value, over a buffer of exactly that length. The inverse of `entry_of`, for
 /// code that makes a region's bytes outside of a store.
-/// makes a region's bytes outside of a store.
 pub fn write_entry(key: &Key, value: &[u8], out: &mut [u8])
     requires { length out.old ≡ key_len + length value.now }
     ensures { out.new ≡ entry_bytes key.now value.now }
@@ -28,6 +27,6 @@ pub fn entry_of(bytes: &[u8]) -> (Key, &[u8])
 }
 
 /// The law of entries: an entry reads back as it was written, and no other bytes read as the same entry. The crates above rely on it.
-pub fn entry_reads_back()
+pub fn entry_bytes_law()
     ensures { EntryLaw }
 {}

@@ -28,7 +28,7 @@ pub fn head_of(bytes: &[u8; HEAD_LEN]) -> Option<(Kind, Key)>
 }
 
 /// The law of heads: a head reads back as it was written, and no other bytes read as the same head. The crates above rely on it.
-pub fn head_reads_back()
+pub fn head_bytes_law()
     ensures { HeadLaw }
 {}
 

@@ -13,8 +13,8 @@ mod key;
 mod value;
 
 pub use digest::{Digest, row_bytes_law};
-pub use entry::{entry_of, entry_reads_back, write_entry};
+pub use entry::{entry_bytes_law, entry_of, write_entry};
 pub use gate::{GATE_CLOSED, GATE_OPEN, gates_differ, is_open};
-pub use head::{HEAD_LEN, head_bytes, head_of, head_reads_back};
+pub use head::{HEAD_LEN, head_bytes, head_bytes_law, head_of};
 pub use key::{KEY_LEN, Key, Kind, Row};
 pub use value::Value;

@@ -35,7 +35,7 @@ pub use body::Body;
 pub use digests::Digests;
 pub use ids::Ids;
 pub use manifest::{
-    Manifest, closed_slots_do_not_count, first_record_is_current, other_records_do_not_count,
-    other_regions_do_not_count, read_current, write_first,
+    Manifest, closed_slot_law, first_is_current_law, other_records_law, other_regions_law,
+    read_current, write_first,
 };
 pub use slot::{Damage, ReadFault, SlotRecord};

@@ -253,22 +253,22 @@ pub fn write_first<D: Disk>(disk: &mut D, digests: &Digests) -> Result<(), D::Fa
 }
 
 /// The law of closed slots, which says which bytes matter: a change in a slot that is closed before and after changes nothing.
-pub fn closed_slots_do_not_count()
+pub fn closed_slot_law()
     ensures { ClosedSlotLaw }
 {}
 
 /// The law of other records, which says which bytes matter: the record of a slot does not depend on bytes outside the two slots.
-pub fn other_records_do_not_count()
+pub fn other_records_law()
     ensures { OtherRecordsLaw }
 {}
 
 /// The law of the other regions, which says which bytes matter: outside the two slots, the current record depends only on the
 /// version in the header.
-pub fn other_regions_do_not_count()
+pub fn other_regions_law()
     ensures { OtherRegionsLaw }
 {}
 
 /// The law of the first record: it is current in any store's geometry, whatever the header's version.
-pub fn first_record_is_current()
+pub fn first_is_current_law()
     ensures { FirstIsCurrentLaw }
 {}

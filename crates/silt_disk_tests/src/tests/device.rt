@@ -4,7 +4,7 @@ mod buffered_disk;
 mod files;
 
 use silt_device::{
-    BadGeometry, Call, Disk, FaultDisk, Fill, Geometry, MemDisk, Stop, Stoppable, regions_lie_apart,
+    BadGeometry, Call, Disk, FaultDisk, Fill, Geometry, MemDisk, Stop, Stoppable, regions_law,
 };
 use std::alloc::{AllocError, Global};
 use std::process::Abort;
@@ -389,6 +389,6 @@ fn layouts(rt: HostRuntime) -> Result<(), Fail> {
         .ok()
         .ok_or("in limits")?;
     assert_eq!(rt; (small.size(), large.size()), (45_056, 27_471_872));
-    regions_lie_apart();
+    regions_law();
     Ok(())
 }

@@ -1,5 +1,5 @@
 use Rattle.silt_manifest.proofs.Laws.{other_records}
-use Rattle.silt_manifest.proofs.manifest.other_records_do_not_count.Goals as goal
+use Rattle.silt_manifest.proofs.manifest.other_records_law.Goals as goal
 
 pub returns : goal.returns
 returns c = other_records

@@ -1,5 +1,5 @@
 use Rattle.silt_manifest.proofs.Laws.{other_regions}
-use Rattle.silt_manifest.proofs.manifest.other_regions_do_not_count.Goals as goal
+use Rattle.silt_manifest.proofs.manifest.other_regions_law.Goals as goal
 
 pub returns : goal.returns
 returns c = other_regions

@@ -2,7 +2,7 @@ use Rattle.std.proofs.Common.{◌≡◌, List, ℕ, ◌++◌, take, drop, sym, �
 use Rattle.std.proofs.Math.Seq.{take-append_seam, drop-append_seam}
 use Rattle.std.proofs.lemmas.List.{take-append-drop}
 use Rattle.silt_frame.specs.declared.key.Key.{Key}
-use Rattle.silt_frame.proofs.entry.entry_reads_back.Goals as goal
+use Rattle.silt_frame.proofs.entry.entry_bytes_law.Goals as goal
 
 pub returns : goal.returns
 returns c = (
