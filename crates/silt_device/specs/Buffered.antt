@@ -5,7 +5,7 @@ use Rattle.std.proofs.Common.{sym, ◌∙◌, inl, inr, arith}
 use Rattle.std.proofs.lemmas.Bool.{cases_lt, cond-true, cond-false}
 use Rattle.std.proofs.lemmas.List.{get_or_past}
 use Rattle.std.proofs.lemmas.List.FromFn.{length-map-range_with_len, get_or-map-range_with_len}
-use Rattle.silt_disk.specs.Disk.{Content, GaveAny, Makes, size, within}
+use Rattle.silt_disk.specs.Disk.{Content, GaveAny, Makes, MakesAtMost, size, within}
 use Rattle.silt_disk.specs.declared.disk.Call.{Call}
 use Rattle.silt_device.specs.declared.buffered_disk.BufferFault.{BufferFault}
 use Rattle.silt_device.specs.declared.calls.Calls.{Calls}
@@ -141,6 +141,12 @@ module _ {D : Type 0} (writes_of syncs_of : D → ℕ) where
     pub made : ℕ
     pub fewer : made + owed_all new.buffers ≤ w + owed_all old.buffers
     pub makes : Makes writes_of syncs_of made s old.inner new.inner
+
+  -- What is saved adds up: so over any calls the inner disk makes no more writes than this one was asked for, with one more for each call
+  -- that failed. The bytes that waited at first count too; if none did, they add nothing.
+  pub record SavesWritesLaw : Type 0 where
+    pub both : (a b c d : ℕ) (old mid new : BufferedState D) → SavesWrites a b old mid → SavesWrites c d mid new → SavesWrites (a + c) (b + d) old new
+    pub most : (w s : ℕ) (old new : BufferedState D) → owed_all old.buffers ≡ 0 → SavesWrites w s old new → MakesAtMost writes_of syncs_of w s old.inner new.inner
 
 -- whether the byte of a place is waiting
 abbrev pub waits : BufferedBytes → ℕ → Bool

@@ -1,7 +1,7 @@
 // A disk that buffers adjacent writes for another disk.
 ghost use Rattle.std.specs.Prelude.{◌≡◌, ◌+◌, ◌≤◌, ◌%◌, ◌^◌, ◌==◌, IfOk, OnOk, IfErr, MatchResult, IsTrue, length, []};
 ghost use Rattle.silt_disk.specs.Disk.{GaveAny, Stays, Tears, Writes, size};
-ghost use Rattle.silt_device.specs.Buffered.{no_bytes};
+ghost use Rattle.silt_device.specs.Buffered.{SavesWritesLaw, no_bytes};
 ghost use Rattle.silt_device.specs.Calls.{no_calls};
 
 use crate::calls::Calls;
@@ -265,3 +265,8 @@ impl<D: Stoppable> Stoppable for BufferedDisk<D> {
         }
     }
 }
+
+/// What a buffering disk saves adds up, from one call to the next. The call of this law does nothing.
+pub fn saves_writes_law<D: Disk>()
+    ensures { SavesWritesLaw D.Disk.writes D.Disk.syncs }
+{}

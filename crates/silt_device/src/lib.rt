@@ -26,7 +26,7 @@ mod system_disk;
 mod write_buffer;
 mod write_buffers;
 
-pub use buffered_disk::{BufferFault, BufferedDisk};
+pub use buffered_disk::{BufferFault, BufferedDisk, saves_writes_law};
 pub use fault::FaultDisk;
 pub use file::{FileFault, RandomAccessDisk};
 pub use life::{Fill, Stop};

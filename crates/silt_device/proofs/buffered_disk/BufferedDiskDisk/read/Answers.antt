@@ -1,4 +1,4 @@
-use Rattle.std.proofs.Common.{◌≡◌, ◌≤◌, ◌+◌, ◌<◌, ◌^◌, length, slice_range, ℕ, ap, rules, arith, sym, subst, ◌∙◌}
+use Rattle.std.proofs.Common.{◌≤◌, ◌+◌, length, slice_range, ℕ, ap, rules, arith, sym, subst, ◌∙◌}
 use Rattle.silt_disk.specs.Disk.{size}
 use Rattle.silt_device.specs.Buffered.{buffered_content, image_over}
 use Rattle.silt_device.proofs.Freeing.{all_held, all_laid}

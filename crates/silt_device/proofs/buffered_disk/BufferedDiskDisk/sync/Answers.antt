@@ -1,4 +1,4 @@
-use Rattle.std.proofs.Common.{◌≡◌, ◌≤◌, false, true, rules, arith, refl, sym, ap, subst, ◌∙◌, inl, inr}
+use Rattle.std.proofs.Common.{◌≡◌, rules, arith, refl, sym, ◌∙◌, inl, inr}
 use Rattle.silt_disk.proofs.Costs.{made_both}
 use Rattle.silt_device.proofs.Freeing.{empty_thrice, freed_makes, freed_owes, freed_sizes, freed_thrice, frees_empty, frees_none, frees_out, not_freed, owed_thrice, settles_over_all, AreEmpty}
 use Rattle.silt_device.proofs.Gathering.{gathers_so}

@@ -1,10 +1,10 @@
-use Rattle.std.proofs.Common.{◌≡◌, ◌≤◌, ◌+◌, IsTrue, length, false, true, rules, arith, refl, sym, ap, subst, ◌∙◌, inl, inr}
-use Rattle.silt_disk.specs.Disk.{Stays, size}
+use Rattle.std.proofs.Common.{◌≡◌, ◌≤◌, ◌+◌, IsTrue, length, rules, arith, refl, sym, ap, subst, ◌∙◌}
+use Rattle.silt_disk.specs.Disk.{size}
 use Rattle.silt_disk.proofs.Costs.{made_both}
-use Rattle.silt_device.specs.Buffered.{Buffers, HasPlaces, buffered_content, content_over_all, readied, takes, to_free}
+use Rattle.silt_device.specs.Buffered.{buffered_content, takes, to_free}
 use Rattle.silt_device.proofs.Freeing.{appended_owes, appended_places, appended_tears, appended_writes, brought_places, freed_makes, frees_empty, frees_none, frees_out, sizes_over_all, tears_over_all, way_made, way_none, way_owes, way_passed, way_stays, way_unwritten, passes_appended, passes_written, writes_over_all}
 use Rattle.silt_device.proofs.Gathering.{gathers_so}
-use Rattle.silt_device.proofs.Waiting.{size_over_all, stays_tears, stays_twice, stays_writes}
+use Rattle.silt_device.proofs.Waiting.{size_over_all, stays_tears, stays_writes}
 use Rattle.silt_device.proofs.buffered_disk.BufferedDiskDisk.write.Goals as goal
 use Rattle.silt_device.proofs.buffered_disk.BufferedDiskDisk.write.Goals.{then-not-is_last_empty+in_default, else-not-is_last_empty}
 
