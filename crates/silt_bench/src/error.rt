@@ -1,7 +1,8 @@
 // Why a job of the bench ends early.
 
 use std::alloc::AllocError;
-use std::{fmt, io};
+use std::fmt;
+use std::io::{self, ErrorKind};
 
 /// A call of a store.
 #[derive(Clone, Copy)]
@@ -29,8 +30,8 @@ impl fmt::Display for Call {
     }
 }
 
-/// Why a job ends early.
-#[derive(Drop)]
+/// Why a job ends early. It owns nothing, so a call that passes it on has nothing to drop.
+#[derive(Clone, Copy)]
 pub enum BenchError {
     /// The words name no job.
     Words,
@@ -39,7 +40,7 @@ pub enum BenchError {
     /// A get did not find the value that was put, or found a value of an absent key.
     Wrong,
     /// The clock, a file or the output failed.
-    System(io::Error),
+    System(ErrorKind),
     /// Out of memory.
     NoMemory,
 }
@@ -53,7 +54,7 @@ impl fmt::Display for BenchError {
                 f,
                 "a look did not find what is there, or found what is not"
             ),
-            BenchError::System(error) => write!(f, "{error}"),
+            BenchError::System(kind) => write!(f, "{kind}"),
             BenchError::NoMemory => write!(f, "no memory was found"),
         }
     }
@@ -61,7 +62,7 @@ impl fmt::Display for BenchError {
 
 impl From<io::Error> for BenchError {
     fn from(error: io::Error) -> BenchError {
-        BenchError::System(error)
+        BenchError::System(error.kind())
     }
 }
 

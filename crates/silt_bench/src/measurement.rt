@@ -179,7 +179,7 @@ fn open_by_clock<D: Disk, R: Clock>(
     let core = open_store(alloc, disk)?;
     match lap.turn(rt) {
         Ok(nanos) => Ok((core.close(), nanos)),
-        Err(error) => Err(BenchError::System(error)),
+        Err(error) => Err(error.into()),
     }
 }
 
