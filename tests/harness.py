@@ -99,6 +99,10 @@ class Case(unittest.TestCase):
                 self.fail(f"silt {' '.join(map(str, words))} did not end in {limit} seconds")
         return Ended(running.returncode, out.decode(errors="replace"), err.decode(errors="replace"))
 
+    def assert_ends(self, call, out, err="", status=0, text=""):
+        """The program ends so: it is called with the words of a text, and reads another one."""
+        self.assertEqual(self.silt(*call.split(), text=text), Ended(status, out, err), call)
+
     def store(self, geometry, lines=(), name="store"):
         """Makes a store of this geometry ('2 2 4 2 2 8') in the test's folder, and runs these lines on it. Returns its path.
 

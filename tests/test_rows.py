@@ -8,7 +8,8 @@ the run, and rows/NAME.status the status, if it is not 0. Files of rows have thr
 
     01..        forty digits: these ones, and zeros
     moved x 8   this line eight times
-    {a*300}     300 letters a; `{\\r*1}` is a carriage return, and `{ *1}` a space at a line's end
+    {a*300}     300 letters a; `{\\r*1}` is a carriage return, `{\\x7f*1}` a delete character, and
+                `{ *1}` a space at a line's end
 """
 import itertools
 import re
@@ -18,6 +19,8 @@ import model
 from harness import TESTS, Case
 
 ROWS = TESTS / "rows"
+# Characters that a row's file cannot show.
+ESCAPED = {r"\r": "\r", r"\x7f": "\x7f"}
 
 
 def spell_out(text):
@@ -26,7 +29,7 @@ def spell_out(text):
     for line in text.splitlines():
         line, times = re.fullmatch(r"(.*?)(?: x (\d+))?", line).groups()
         line = re.sub(r"\b([0-9a-f]+)\.\.", lambda it: it[1].ljust(40, "0"), line)
-        line = re.sub(r"\{(\\r|.)\*(\d+)\}", lambda it: it[1].replace("\\r", "\r") * int(it[2]), line)
+        line = re.sub(r"\{(\\\w+|.)\*(\d+)\}", lambda it: ESCAPED.get(it[1], it[1]) * int(it[2]), line)
         made += [line + "\n"] * int(times or 1)
     return "".join(made).encode()
 

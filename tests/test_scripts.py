@@ -86,6 +86,33 @@ class Scripts(Case):
         self.assertEqual([it for it in wanted if not counts[it]], [], "no script led to these")
 
 
+class Worked(Case):
+    """Scripts whose ends and empty lines matter, letter for letter. tests/rows has those that are whole lines."""
+
+    def assert_printed(self, text, *lines):
+        out = "".join(line + "\n" for line in lines)
+        self.assert_ends("script 2 2 4 2 2 8", out, text=text)
+
+    def test_no_line(self):
+        self.assert_printed("", "opened")
+
+    def test_a_stop_at_the_end(self):
+        """Behind it comes a life without lines."""
+        self.assert_printed("stop 0 old\n", "opened", "stopped", "opened")
+
+    def test_carriage_returns_and_a_last_line_without_its_end(self):
+        """One carriage return is removed. What is behind the last line feed gets no reply."""
+        text = "put =abc 0102\r\n\r\n\nflush\r\r\nget =abc\r\nget =abc"
+        self.assert_printed(text, "opened", "accepted 1", "refused 20 BadLine", "value 0102")
+
+    def test_lives_without_lines(self):
+        """They are opened and stopped too. A stop may be at a call that never comes."""
+        for stop, end in (("stop 0 old", "\n"), ("stop 4294967295 old", "\n"), ("stop 0000000000 mix", "\r\n")):
+            text = f"flush\nno line\n{stop}{end}\r\n{stop}{end}flush\n{stop}{end.removesuffix(chr(10))}"
+            self.assert_printed(text, "opened", "acknowledged 0", "refused 20 BadLine", "stopped", "opened", "stopped",
+                                "opened", "acknowledged 0")
+
+
 class Calls(Case):
     """The model counts device calls as the rules do: a stop at the last one, and one past it."""
 

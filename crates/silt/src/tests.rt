@@ -1,12 +1,9 @@
 // What no contract says: printed text and statuses, letter for letter, through the program in memory.
 
 mod damage;
-mod examples;
 mod files;
 mod library;
-mod lines;
 mod notes;
-mod scripts;
 mod steps;
 
 use crate::done;
@@ -128,16 +125,7 @@ pub(crate) fn status_of_call<
     ))
 }
 
-// A call of the program, the text that it reads, its status, and its output. In the text that it reads, `..` means the
-// last thirty-eight digits of a key, all zero.
-pub(crate) struct Example {
-    pub call: &'static str,
-    pub text: &'static str,
-    pub status: u8,
-    pub output: &'static str,
-}
-
-// The text with the zeros of its keys.
+// The text with the zeros of its keys: `..` means the last thirty-eight digits of a key, all zero.
 pub(crate) fn with_keys<S: AllocGlobal>(rt: &S, text: &str) -> Result<Vec<u8>, AllocError> {
     let mut bytes = Vec::new(rt.alloc());
     let mut zeros = b"".as_slice();
@@ -185,30 +173,6 @@ pub(crate) fn answers<
         &mut NoteLines::new(Vec::new(rt.alloc())),
     );
     compare(rt, call, code.ok(), &out, status, output.as_bytes());
-    Ok(())
-}
-
-// Runs the program on each of these.
-pub(crate) fn answers_each<
-    S: Files<File = File>
-        + AllocGlobal
-        + Abort
-        + Net<Listener = TcpListener, Stream = TcpStream>
-        + Clock
-        + Threads
-        + Wait
-        + HasErrors
-        + Sync,
->(rt: &S, examples: &[Example]) -> Result<(), Fail> {
-    for example in examples {
-        answers(
-            rt,
-            example.call,
-            example.text,
-            example.status,
-            example.output,
-        )?;
-    }
     Ok(())
 }
 

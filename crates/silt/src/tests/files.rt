@@ -1,18 +1,9 @@
 // The jobs on files, letter for letter, through the program. Each test has its own folder in the working directory.
 
-use crate::tests::lines::REFUSED;
 use crate::tests::steps::{Step, make_folder, take_in_folder};
-use crate::tests::{HasErrors, Pieces, answers, reads, writes_short};
-use std::alloc::AllocError;
+use crate::tests::{Pieces, answers, reads, writes_short};
 use std::fs;
-use std::fs::File;
-use std::net::{Net, TcpListener, TcpStream};
-use std::process::Abort;
-use std::rt::Files;
-use std::sync::Wait;
 use std::test::Fail;
-use std::thread::Threads;
-use std::time::Clock;
 
 // The length of the device is printed, and the file has this length.
 const FORMATTED: [Step; 4] = [
@@ -171,69 +162,6 @@ const LIVES: [Step; 5] = [
 #[test]
 fn runs_on_a_file(rt: HostRuntime) -> Result<(), Fail> {
     take_in_folder(&rt, "runs", &LIVES)
-}
-
-// Appends a line to the text, and its reply to the output.
-fn push_line(
-    text: &mut String,
-    output: &mut String,
-    line: &str,
-    reply: &str,
-) -> Result<(), AllocError> {
-    text.push_str(line)?;
-    text.push_str("\r\n")?;
-    output.push_str(reply)
-}
-
-// Appends lines to the text, and their common reply to the output for each of them.
-fn push_lines(
-    text: &mut String,
-    output: &mut String,
-    lines: &[&str],
-    reply: &str,
-) -> Result<(), AllocError> {
-    output.push_str("opened\n")?;
-    for line in lines {
-        push_line(text, output, line, reply)?;
-    }
-    Ok(())
-}
-
-// Each line is refused by this reply on the store in the file `lines/disk`.
-fn refuses<
-    S: Files<File = File>
-        + AllocGlobal
-        + Abort
-        + Net<Listener = TcpListener, Stream = TcpStream>
-        + Clock
-        + Threads
-        + Wait
-        + HasErrors
-        + Sync,
->(rt: &S, lines: &[&str], reply: &str) -> Result<(), Fail> {
-    let mut text = String::new(rt.alloc());
-    let mut output = String::new(rt.alloc());
-    push_lines(&mut text, &mut output, lines, reply)?;
-    answers(rt, "silt run lines/disk", &text, 0, &output)
-}
-
-// Each fault of a line has its own reply. A stop line of a script is a bad line here.
-#[test]
-fn refuses_lines_on_a_file(rt: HostRuntime) -> Result<(), Fail> {
-    make_folder(&rt, "lines")?;
-    answers(
-        &rt,
-        "silt format lines/disk 2 2 4 2 2 8",
-        "",
-        0,
-        "formatted 45056\n",
-    )?;
-    for (lines, reply) in REFUSED {
-        refuses(&rt, lines, reply)?;
-    }
-    refuses(&rt, &["stop 0 old"], "refused 20 BadLine\n")?;
-    fs::remove_dir_all(&rt, "lines")?;
-    Ok(())
 }
 
 // The report of a store before and after five puts. The last put freezes a log.
