@@ -4,7 +4,7 @@ import socket
 import unittest
 
 from commands import answer, done, value_of
-from harness import scaled
+from harness import Ended, scaled
 from served import ServedCase
 from watch import WatchedCase
 
@@ -14,6 +14,25 @@ NAMED = "V 2, B 2, CAP 4, NL 2, NH 2, S 8"
 # Logs of 56 rows: without background work 168 rows fill all of them.
 MANY = "8 16 56 3 4 2000"
 DEVICE = "refused 5 Device\n"
+OTHER = "silt: file: it holds other data; --force overwrites it\n"
+DAMAGED = "silt: file holds a store that is damaged or cannot be read; it is overwritten\n"
+FULL = ("silt: 1 line refused 7 StoreFull, first line {}; merging drops what was overwritten or deleted (run with --tend, or silt "
+        "tend), and more keys need a larger S\n")
+# Six numbers, and which one is out of its limits.
+OUT_OF_LIMITS = {
+    "0 2 4 2 2 8": "V is 0, and may be 1 to 4096",
+    "4097 2 4 2 2 8": "V is 4097, and may be 1 to 4096",
+    "2 3 4 2 2 8": "B is 3, and may be 2 to 32768, a power of two",
+    "2 12 4 2 2 8": "B is 12, and may be 2 to 32768, a power of two",
+    "2 65536 4 2 2 8": "B is 65536, and may be 2 to 32768, a power of two",
+    "2 2 9 2 2 8": "CAP is 9, and may be 1 to 8, four times B at most",
+    "2 2 4 1 2 8": "NL is 1, and may be 2 to 8",
+    "2 2 4 9 2 8": "NL is 9, and may be 2 to 8",
+    "2 2 4 2 0 8": "NH is 0, and may be 1 to 16",
+    "2 2 4 2 17 8": "NH is 17, and may be 1 to 16",
+    "2 2 4 2 2 0": "S is 0, and may be 1 to 16777216",
+    "2 2 4 2 2 4294967295": "S is 4294967295, and may be 1 to 16777216",
+}
 
 
 class Formats(WatchedCase):
@@ -82,16 +101,19 @@ class Formats(WatchedCase):
         self.check_formatted(self.format())
 
     def test_numbers_out_of_their_limits(self):
-        self.path("file").write_bytes(b"kept")
-        for numbers, name, limits in (("0 2 4 2 2 8", "V", "1 to 4096"), ("4097 2 4 2 2 8", "V", "1 to 4096"),
-                                      ("2 3 4 2 2 8", "B", "power of two"), ("2 65536 4 2 2 8", "B", "2 to 32768"),
-                                      ("2 2 9 2 2 8", "CAP", "1 to 8"), ("2 2 4 1 2 8", "NL", "2 to 8"),
-                                      ("2 2 4 2 17 8", "NH", "1 to 16"), ("2 2 4 2 2 0", "S", "1 to 16777216")):
-            for words in (("format", "file", *numbers.split(), "--force"), ("script", *numbers.split())):
-                ended = self.silt(*words)
-                self.assertEqual((ended.status, ended.out), (1, "refused 2 BadGeometry\n"), ended)
-                self.assertRegex(ended.err, rf"\Asilt: {name}\b.*{limits}.*\n\Z", words)
-        self.assertEqual(self.path("file").read_bytes(), b"kept")
+        """No file is made or touched. The first such number is named."""
+        self.path("kept").write_bytes(b"kept")
+        for numbers, said in OUT_OF_LIMITS.items():
+            due = Ended(1, "refused 2 BadGeometry\n", f"silt: {said}\n")
+            for words in ("format kept", "format kept --force", "format none", "format none/none", "script"):
+                self.assertEqual(self.silt(*words.split(), *numbers.split(), text="flush\n"), due, (words, numbers))
+        self.assertEqual((self.path("kept").read_bytes(), [it.name for it in self.folder.iterdir()]), (b"kept", ["kept"]))
+
+    def test_numbers_within_their_limits(self):
+        """A number may begin with zeros."""
+        for numbers in ("3 2 1 2 1 1", "2 2 8 8 16 100", "2 2 4 2 16 8", "0000000002 2 4 2 2 8"):
+            ended = self.silt("script", *numbers.split(), text="flush\n")
+            self.assertEqual(ended, Ended(0, "opened\nacknowledged 0\n", ""), numbers)
 
 
 class Runs(WatchedCase):
@@ -213,20 +235,39 @@ class Plans(WatchedCase):
                 ended = self.silt("run", "store", "--tend", text="\n".join([*lines, "flush", ""]))
                 self.assertEqual([it for it in ended.lines if it.startswith("refused")], [])
 
+    def test_worked_plans(self):
+        """Keys and the length of values, with a limit of memory or without."""
+        for words, out in (
+            ("1000000 100", "100 8192 28672 3 8 1315392\ndisk 357920768\nmemory 29544256\n"),
+            ("1000 100", "100 8 28 3 8 1308\ndisk 389120\nmemory 29344\n"),
+            ("0 1", "1 2 7 3 8 77\ndisk 77824\nmemory 2086\n"),
+            ("16000000 32", "32 16384 57344 3 8 16630784\ndisk 1766690816\nmemory 353088512\n"),
+            ("100000 8 --memory 3000000", "8 512 1792 3 8 119712\ndisk 7385088\nmemory 2634016\n"),
+            ("100000 8 --memory 2102086", "8 2 7 3 8 100077\ndisk 5681152\nmemory 2102086\n"),
+        ):
+            self.assert_ends(f"plan {words}", out)
+
     def test_less_memory(self):
         free, _ = self.planned(1_000_000, 100)
         bound, _ = self.planned(1_000_000, 100, "--memory", 25_000_000)
         self.assertLess(int(bound.split()[1]), int(free.split()[1]))
 
     def test_no_plan(self):
+        """The value is looked at first, then the keys, and then the memory."""
         for words, reason in (
-            ((16_777_140, 100), "KEYS is 16777140, and may be 0 to 16777139"),
-            ((1000, 4097), "V is 4097, and may be 1 to 4096"),
-            ((1000, 0), "V is 0, and may be 1 to 4096"),
-            ((1_000_000, 100, "--memory", 1000), "1000000 keys need 21002086 bytes of memory or more"),
+            ("16777140 100", "KEYS is 16777140, and may be 0 to 16777139"),
+            ("16777216 8", "KEYS is 16777216, and may be 0 to 16777139"),
+            ("4294967295 8", "KEYS is 4294967295, and may be 0 to 16777139"),
+            ("16777140 8 --memory 2102085", "KEYS is 16777140, and may be 0 to 16777139"),
+            ("1000 4097", "V is 4097, and may be 1 to 4096"),
+            ("4294967295 4097 --memory 2102085", "V is 4097, and may be 1 to 4096"),
+            ("1000 0", "V is 0, and may be 1 to 4096"),
+            ("100000 0", "V is 0, and may be 1 to 4096"),
+            ("1 0 --memory 2102085", "V is 0, and may be 1 to 4096"),
+            ("1000000 100 --memory 1000", "1000000 keys need 21002086 bytes of memory or more"),
+            ("100000 8 --memory 2102085", "100000 keys need 2102086 bytes of memory or more"),
         ):
-            ended = self.silt("plan", *words)
-            self.assertEqual((ended.status, ended.out, ended.err), (1, "no plan\n", f"silt: {reason}\n"), ended)
+            self.assert_ends(f"plan {words}", "no plan\n", f"silt: {reason}\n", 1)
 
 
 class Reasons(ServedCase):
@@ -265,30 +306,6 @@ class Reasons(ServedCase):
         port_line, damage_line = ended.err.splitlines()
         self.assertIn("Address already in use", port_line)
         self.assertIn("a row of a log is damaged", damage_line)
-
-    def test_words(self):
-        for words, reason in ((("plan", "1_000", "100"), "KEYS cannot be '1_000': a number is written without separators"),
-                            (("format", "f", "2", "2", "4", "2", "2", "1,000"), "S cannot be '1,000': a number is written without separators"),
-                            (("serve", "f", "0", "--audit"), "--audit needs a number behind it"),
-                            (("serve", "f", "0", "--audit", "--idle", "1"), "--audit needs a number behind it"),
-                            (("serve", "f", "0", "--audit", "1", "--audit=1"), "--audit is given twice"),
-                            (("serve", "f", "0", "--pipeline", "--pipeline"), "--pipeline is given twice"),
-                            (("serve", "f", "0", "--pipeline=1"), "'--pipeline=1' is no option here"),
-                            (("serve", "f", "65536"), "PORT cannot be '65536': a port is at most 65535"),
-                            (("run", "f", "--force"), "'--force' is no option here"),
-                            (("format", "f", "2", "2", "4", "2", "2"), "S is missing")):
-            ended = self.silt(*words)
-            self.assertEqual((ended.status, ended.out), (2, "usage\n"), words)
-            self.assertTrue(ended.err.startswith(f"silt: {reason}\n"), ended.err)
-            self.assertIn("silt serve FILE PORT", ended.err)
-        self.assertFalse(self.path("f").exists())
-
-    def test_help_names_all_jobs(self):
-        ended = self.silt("--help")
-        self.assertEqual((ended.status, ended.out), (2, "usage\n"))
-        for form in ("silt format FILE", "silt run FILE [--tend]", "silt tend FILE", "silt check FILE", "silt plan KEYS V", "silt serve FILE PORT",
-                     "--force", "--audit N", "--sessions M", "--idle SECONDS", "--pipeline", "--memory BYTES"):
-            self.assertIn(form, ended.err)
 
     def test_a_silent_connection(self):
         self.store(SMALL)

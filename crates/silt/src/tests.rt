@@ -6,7 +6,6 @@ mod library;
 mod notes;
 mod steps;
 
-use crate::done;
 use crate::program::{program, refuse_words};
 use silt_device::{Disk, FileDisk, FileDisks};
 use silt_jobs::{
@@ -17,7 +16,7 @@ use std::alloc::AllocError;
 use std::fs::File;
 use std::io::{self, Cursor, ErrorKind, Read, Stderr, Write};
 use std::net::{Net, TcpListener, TcpStream};
-use std::process::{Abort, ExitCode};
+use std::process::Abort;
 use std::rt::Files;
 use std::sync::Wait;
 use std::test::Fail;
@@ -176,24 +175,6 @@ pub(crate) fn answers<
     Ok(())
 }
 
-// Runs each of these calls on a flush. All have this status and this output.
-pub(crate) fn answers_calls<
-    S: Files<File = File>
-        + AllocGlobal
-        + Abort
-        + Net<Listener = TcpListener, Stream = TcpStream>
-        + Clock
-        + Threads
-        + Wait
-        + HasErrors
-        + Sync,
->(rt: &S, calls: &[&str], status: u8, output: &str) -> Result<(), Fail> {
-    for call in calls {
-        answers(rt, call, "flush\n", status, output)?;
-    }
-    Ok(())
-}
-
 #[test]
 fn answers_any_pieces(rt: HostRuntime) -> Result<(), Fail> {
     for most in [1, 2, 7, 64] {
@@ -291,64 +272,5 @@ fn reports_no_memory_for_the_words(rt: HostRuntime) -> Result<(), Fail> {
     let code = refuse_words(WordsError::NoMemory, &mut out).unwrap_or(0);
     assert_eq!(rt; code, 1);
     assert_eq!(rt; out.as_slice(), b"refused 6 NoMemory\n".as_slice());
-    Ok(())
-}
-
-// Words that name no job.
-const BAD_WORDS: [&str; 21] = [
-    "silt",
-    "silt help",
-    "silt --help",
-    "silt script",
-    "silt script 2 2 4 2 2",
-    "silt script 2 2 4 2 2 8 8",
-    "silt script +2 2 4 2 2 8",
-    "silt script 2 2 4 2 2 4294967296",
-    "silt script 2 2 4 2 2 00000000008",
-    "silt script 2 2 4 2 2 ",
-    "silt scripts 2 2 4 2 2 8",
-    "silt format",
-    "silt format bad_words",
-    "silt format bad_words 2 2 4 2 2",
-    "silt format bad_words 2 2 4 2 2 +8",
-    "silt format bad_words 2 2 4 2 2 8 8",
-    "silt run",
-    "silt run bad_words bad_words",
-    "silt run --help",
-    "silt check",
-    "silt check bad_words 2",
-];
-
-// Numbers out of their limits. They are refused before anything else is done.
-const BAD_GEOMETRIES: [&str; 7] = [
-    "silt script 0 2 4 2 2 8",
-    "silt script 4097 2 4 2 2 8",
-    "silt script 2 3 4 2 2 8",
-    "silt script 2 2 9 2 2 8",
-    "silt script 2 2 4 9 2 8",
-    "silt script 2 2 4 2 17 8",
-    "silt script 2 2 4 2 2 4294967295",
-];
-
-// Geometries within the limits. A number may begin with zeros.
-const GEOMETRIES: [&str; 3] = [
-    "silt script 3 2 1 2 1 1",
-    "silt script 2 2 8 8 16 100",
-    "silt script 0000000002 2 4 2 2 8",
-];
-
-#[test]
-fn reads_words(rt: HostRuntime) -> Result<(), Fail> {
-    answers_calls(&rt, &BAD_WORDS, 2, "usage\n")?;
-    answers_calls(&rt, &BAD_GEOMETRIES, 1, "refused 2 BadGeometry\n")?;
-    answers_calls(&rt, &GEOMETRIES, 0, "opened\nacknowledged 0\n")
-}
-
-// The words of a test's own process name no job. This is reported, and the process would end with 2.
-#[test]
-fn hands_on_the_status(rt: HostRuntime) -> Result<(), Fail> {
-    let mut errors = Vec::new(rt.alloc());
-    assert!(rt; done(&rt, &mut errors, rt.stderr()) == ExitCode::from(2));
-    assert!(rt; !errors.is_empty());
     Ok(())
 }

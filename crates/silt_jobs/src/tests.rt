@@ -5,7 +5,6 @@ mod damage;
 mod formats;
 mod jobs;
 mod notes;
-mod plans;
 mod progress;
 
 use crate::failure::{Failure, Watched};

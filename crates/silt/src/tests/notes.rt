@@ -1,14 +1,13 @@
 // The notes for people about files and words, and the one owner of a file. Each test has its own folder.
 
 use crate::tests::steps::{Step, make_folder, take_in_folder, take_steps};
-use crate::tests::{HasErrors, answers, compare, status_of_call, words};
+use crate::tests::{HasErrors, answers, compare, status_of_call};
 use silt_device::{Disk, DiskSource, FileDisk, FileDisks, FileSystem};
 use silt_jobs::{
     NoteLines, Notes, Progress, Watched, WatchedFiles, WatchedReader, WatchedWriter, run_file,
 };
 use silt_wire::SessionEnd;
-use silt_words::{FORMS, complaint_of};
-use std::alloc::{AllocError, Global};
+use std::alloc::Global;
 use std::fs::{self, File, OpenOptions};
 use std::io::{self, Cursor, Read, Write};
 use std::net::{Net, TcpListener, TcpStream};
@@ -548,18 +547,6 @@ fn reports_why_a_session_broke_off(rt: HostRuntime) -> Result<(), Fail> {
     Ok(())
 }
 
-// Replies that cannot be written are reported.
-#[test]
-fn reports_why_answers_are_not_written(rt: HostRuntime) -> Result<(), Fail> {
-    let printed = format!(in rt.alloc();
-        "silt: there is no job 'prune'\n{FORMS}silt: No space left on device (os error 28)\n"
-    )?;
-    let reader = Cursor::new(b"".as_slice());
-    let writer = FullWriter { room: 0, error: 28 };
-    breaks_off(&rt, "silt prune", reader, writer, &printed);
-    Ok(())
-}
-
 // This port is in use. A server on it and on the file `port/disk` is refused after `opened`, and a note names the port.
 fn refuses_port<
     S: Files<File = File>
@@ -597,151 +584,5 @@ fn reports_a_port_that_is_in_use(rt: HostRuntime) -> Result<(), Fail> {
     drop(listener);
     refused?;
     fs::remove_dir_all(&rt, "port")?;
-    Ok(())
-}
-
-// Words that name no job, and what is wrong with them.
-const COMPLAINTS: [(&str, &str); 34] = [
-    ("silt", "no job is named"),
-    ("silt prune disk", "there is no job 'prune'"),
-    ("silt run", "FILE is missing"),
-    ("silt check disk disk2", "'disk2' is one word too many"),
-    ("silt run disk --fast", "'--fast' is no option here"),
-    ("silt run disk --force", "'--force' is no option here"),
-    ("silt run disk --tend=yes", "'--tend=yes' is no option here"),
-    ("silt run disk --tend --tend", "--tend is given twice"),
-    ("silt run --tend", "FILE is missing"),
-    ("silt tend", "FILE is missing"),
-    (
-        "silt run --tend -- --tend --tend",
-        "'--tend' is one word too many",
-    ),
-    ("silt format disk 2 2 4 2 2", "S is missing"),
-    (
-        "silt format disk 2 2 4 2 2 8 -- --force",
-        "'--force' is one word too many",
-    ),
-    ("silt format disk 2 2 4 2 2 -8", "'-8' is no option here"),
-    (
-        "silt format disk 2 x 4 2 2 8",
-        "B cannot be 'x': a number is written in digits alone",
-    ),
-    (
-        "silt format disk 2 2 4 2 2 ",
-        "S cannot be '': a number is written in digits alone",
-    ),
-    (
-        "silt script 2 2 4 2 2 4294967296",
-        "S cannot be '4294967296': a number has at most ten digits, and is at most 4294967295",
-    ),
-    (
-        "silt script 2 2 4 2 2 00000000008",
-        "S cannot be '00000000008': a number has at most ten digits, and is at most 4294967295",
-    ),
-    ("silt plan", "KEYS is missing"),
-    ("silt plan 1000", "V is missing"),
-    (
-        "silt plan 1_000 100",
-        "KEYS cannot be '1_000': a number is written without separators",
-    ),
-    (
-        "silt plan 1,000 100",
-        "KEYS cannot be '1,000': a number is written without separators",
-    ),
-    (
-        "silt plan 1.000 100",
-        "KEYS cannot be '1.000': a number is written without separators",
-    ),
-    (
-        "silt plan 1000 100 --memory",
-        "--memory needs a number behind it",
-    ),
-    (
-        "silt plan 1000 100 --memory=1MB",
-        "--memory cannot be '1MB': a number is written in digits alone",
-    ),
-    (
-        "silt serve disk 65536",
-        "PORT cannot be '65536': a port is at most 65535",
-    ),
-    (
-        "silt serve disk 0 --audit",
-        "--audit needs a number behind it",
-    ),
-    (
-        "silt serve disk 0 --audit --sessions 1",
-        "--audit needs a number behind it",
-    ),
-    (
-        "silt serve disk 0 --audit x",
-        "--audit cannot be 'x': a number is written in digits alone",
-    ),
-    (
-        "silt serve disk 0 --audit=1 --audit 2",
-        "--audit is given twice",
-    ),
-    (
-        "silt serve disk 0 --sessions 1 2",
-        "'2' is one word too many",
-    ),
-    (
-        "silt serve disk 0 --idle",
-        "--idle needs a number behind it",
-    ),
-    (
-        "silt serve disk 0 --pipeline --idle 1 --pipeline",
-        "--pipeline is given twice",
-    ),
-    (
-        "silt serve disk 0 --pipeline=1",
-        "'--pipeline=1' is no option here",
-    ),
-];
-
-// The complaint about the words of a call, as a text.
-fn complaint<S: AllocGlobal>(rt: &S, call: &str) -> Result<Option<String>, AllocError> {
-    let words = words(rt, call)?;
-    match complaint_of(words.as_slice()) {
-        Some(found) => Ok(Some(format!(in rt.alloc(); "{found}")?)),
-        None => Ok(None),
-    }
-}
-
-// A call is refused with this complaint.
-fn complains<
-    S: Files<File = File>
-        + AllocGlobal
-        + Abort
-        + Net<Listener = TcpListener, Stream = TcpStream>
-        + Clock
-        + Threads
-        + Wait
-        + HasErrors
-        + Sync,
->(rt: &S, call: &str, expected: &str) -> Result<(), Fail> {
-    let Some(found) = complaint(rt, call)? else {
-        return Err(Fail::new("no complaint"));
-    };
-    assert_eq!(rt; found.as_str(), expected);
-    let printed = format!(in rt.alloc(); "silt: {found}\n{FORMS}")?;
-    reports(rt, call, 2, &printed)
-}
-
-// The complaint says what is wrong with words that name no job. A call for help has none.
-#[test]
-fn reports_which_word_is_wrong(rt: HostRuntime) -> Result<(), Fail> {
-    for (call, complaint) in COMPLAINTS {
-        complains(&rt, call, complaint)?;
-        answers(&rt, call, "", 2, "usage\n")?;
-    }
-    for (call, printed) in [
-        ("silt --help", FORMS),
-        ("silt run --help", FORMS),
-        ("silt --version", "silt 0.1.0\n"),
-        ("silt -V", "silt 0.1.0\n"),
-    ] {
-        reports(&rt, call, 2, printed)?;
-        answers(&rt, call, "", 2, "usage\n")?;
-    }
     Ok(())
 }

@@ -1,12 +1,9 @@
 // The notes for people, letter for letter.
 
-use crate::geometry::out_of_limits;
 use crate::input_lines::InputLines;
 use crate::note_lines::NoteLines;
 use crate::notes::Notes;
 use crate::tally::Tally;
-use silt_words::{Numbers, PlanRequest};
-use std::process::Abort;
 use std::test::Fail;
 
 // The notes about an input and the replies to it.
@@ -54,34 +51,6 @@ silt: the last line has no line feed, and is not answered
     Ok(())
 }
 
-// What no store has room for: the value first, then the keys, and then the memory.
-#[test]
-fn reports_why_there_is_no_plan(rt: HostRuntime) -> Result<(), Fail> {
-    for (keys, value_len, due) in [
-        (1, 0, b"silt: V is 0, and may be 1 to 4096\n".as_slice()),
-        (u32::MAX, 4097, b"silt: V is 4097, and may be 1 to 4096\n"),
-        (
-            16_777_140,
-            8,
-            b"silt: KEYS is 16777140, and may be 0 to 16777139\n",
-        ),
-        (
-            100_000,
-            8,
-            b"silt: 100000 keys need 2102086 bytes of memory or more\n",
-        ),
-    ] {
-        let mut text = Vec::new(rt.alloc());
-        NoteLines::new(&mut text).report_no_plan(&PlanRequest {
-            keys,
-            value_len,
-            memory: Some(2_102_085),
-        });
-        assert_eq!(rt; text.as_slice(), due);
-    }
-    Ok(())
-}
-
 // Lines that are written in pieces are counted as whole ones are.
 #[test]
 fn counts_lines_in_pieces(rt: HostRuntime) -> Result<(), Fail> {
@@ -106,64 +75,5 @@ fn knows_where_it_lost_count(rt: HostRuntime) -> Result<(), Fail> {
     }
     lines.take(b"get =a\n");
     assert!(rt; lines.number_of(1) == Some(1) && lines.number_of(2).is_none());
-    Ok(())
-}
-
-// A store's numbers, in their order.
-fn numbers(of: [u32; 6]) -> Numbers {
-    Numbers {
-        value_len: of[0],
-        buckets: of[1],
-        log_capacity: of[2],
-        logs: of[3],
-        hashes: of[4],
-        sorted_capacity: of[5],
-    }
-}
-
-// The notes about these numbers.
-fn complaint<S: AllocGlobal>(rt: &S, numbers: &Numbers) -> Vec<u8> {
-    let mut text = Vec::new(rt.alloc());
-    NoteLines::new(&mut text).report_numbers(numbers);
-    text
-}
-
-fn is_reported<S: AllocGlobal + Abort>(rt: &S, numbers: &Numbers, text: &[u8]) {
-    assert_eq!(rt; complaint(rt, numbers).as_slice(), text);
-}
-
-#[test]
-fn names_a_number_out_of_limits(rt: HostRuntime) -> Result<(), Fail> {
-    is_reported(
-        &rt,
-        &numbers([4097, 2, 4, 2, 2, 8]),
-        b"silt: V is 4097, and may be 1 to 4096\n",
-    );
-    is_reported(
-        &rt,
-        &numbers([2, 12, 4, 2, 2, 8]),
-        b"silt: B is 12, and may be 2 to 32768, a power of two\n",
-    );
-    is_reported(
-        &rt,
-        &numbers([2, 2, 9, 2, 2, 8]),
-        b"silt: CAP is 9, and may be 1 to 8, four times B at most\n",
-    );
-    is_reported(
-        &rt,
-        &numbers([2, 2, 4, 1, 2, 8]),
-        b"silt: NL is 1, and may be 2 to 8\n",
-    );
-    is_reported(
-        &rt,
-        &numbers([2, 2, 4, 2, 0, 8]),
-        b"silt: NH is 0, and may be 1 to 16\n",
-    );
-    is_reported(
-        &rt,
-        &numbers([2, 2, 4, 2, 2, 0]),
-        b"silt: S is 0, and may be 1 to 16777216\n",
-    );
-    assert!(rt; out_of_limits(&numbers([2, 2, 4, 2, 16, 8])).is_none());
     Ok(())
 }
