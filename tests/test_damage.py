@@ -8,6 +8,7 @@ import itertools
 import model
 from damages import DAMAGES, HARMLESS
 from harness import PROVED, scaled
+from layout import as_version_1
 from lines import Maker, join_lines
 from test_stores import FileCase
 
@@ -41,6 +42,15 @@ def rich_lines(random, geometry):
     for _ in range(min(geometry.nh, 2)):
         lines += commands(geometry.cap) + convert
     return [*lines, b"flush"], [*commands((geometry.nl - 1) * geometry.cap), b"flush"]
+
+
+def changed(image, *changes):
+    """An image with these bytes in place: (offset, hexadecimal digits)."""
+    made = bytearray(image)
+    for at, digits in changes:
+        data = bytes.fromhex(digits)
+        made[at : at + len(data)] = data
+    return made
 
 
 class DamageCase(FileCase):
@@ -126,11 +136,7 @@ class WorkedDamage(DamageCase):
 
     def crafted(self, *changes, geometry=GEOMETRY, lines=()):
         """A store's image, with these bytes in place: (offset, hexadecimal digits)."""
-        image = bytearray(self.store(geometry, lines).read_bytes())
-        for at, digits in changes:
-            data = bytes.fromhex(digits)
-            image[at : at + len(data)] = data
-        return image
+        return changed(self.store(geometry, lines).read_bytes(), *changes)
 
     def converted(self):
         """The image after five puts and a conversion."""
@@ -210,3 +216,64 @@ class WorkedDamage(DamageCase):
         image[12288] = 0
         self.path("store").write_bytes(image)
         self.assertEqual(self.check_report().lines[-3:], ["sorted entries 8", "charge 8", "layout 1"])
+
+
+# A new store of `2 2 4 2 2 8` with these bytes in place is refused so, and this is said of it. Fields of slot 0: the
+# active log at 4105, the hash stores at 4141, the sorted store's region at 4209, the number of its entries at 4213.
+LOG_1 = ((4105, "00000001"), (20480, "a7a7a7a7"), (24576, "".join(f"010{it}{38 * '0'}0001" for it in (1, 2, 3))))
+HASH_0, HASH_1 = (4141, "0000000100000000"), (4141, "0000000100000001")
+SORTED_1 = (4209, "00000001")
+ENTRIES_3 = ((4213, "00000003"), (40960 + 22, "01"), (40960 + 44, "01"))
+PLACES = {
+    ((17, "00000003"),): ("header", "a number of the header is out of its limits, at byte 13"),
+    ((8192, "a7"),): ("slot 1", "a manifest slot is damaged, at byte 8192"),
+    ((4105, "00000002"),): ("slot 0", "a manifest slot is damaged, at byte 4096"),
+    ((4096, "00"),): ("no slot", "no manifest slot is open, at byte 4096"),
+    ((12288, "a7"),): ("log 0 row 0", "a row of a log is damaged, at byte 16384"),
+    (*LOG_1, (24645, "03")): ("log 1 row 3", "a row of a log is damaged, at byte 24645"),
+    (HASH_0, (28695, "03")): ("hash 0 slot 1", "a slot of a hash store is damaged, at byte 28695"),
+    (HASH_1, (32929, "03")): ("hash 1 slot 7", "a slot of a hash store is damaged, at byte 32929"),
+    (HASH_0,): ("hash 0 digest", "a hash store has another digest than the manifest says, at byte 28672"),
+    (HASH_1,): ("hash 1 digest", "a hash store has another digest than the manifest says, at byte 32768"),
+    ((4213, "00000001"),): ("sorted digest", "the sorted store has another digest than the manifest says, at byte 36864"),
+    (SORTED_1, (4213, "00000001")): ("sorted digest", "the sorted store has another digest than the manifest says, at byte 40960"),
+    (SORTED_1, (4213, "00000002")): ("sorted 1", "an entry of the sorted store is damaged, at byte 40982"),
+    (SORTED_1, *ENTRIES_3): ("sorted 2", "an entry of the sorted store is damaged, at byte 41004"),
+}
+
+
+class Places(DamageCase):
+    """What is said of a damaged store, letter for letter, and where the damage begins."""
+
+    GEOMETRY = "2 2 4 2 2 8"
+
+    def assert_said(self, image, refusal, said):
+        """Each job but `format` refuses the file, says this of it, and leaves it as it is."""
+        self.path("store").write_bytes(image)
+        for call in ("check store", "run store", "tend store", "dump store", "serve store 0"):
+            self.assert_ends(call, f"refused {refusal}\n", f"silt: store: {said}\n", 1, "flush\n")
+        self.assertEqual(self.image(), bytes(image))
+
+    def test_each_place(self):
+        sound = self.store(self.GEOMETRY).read_bytes()
+        for changes, (place, said) in PLACES.items():
+            with self.subTest(place=place):
+                self.assert_said(changed(sound, *changes), f"3 Damaged {place}", said)
+
+    def test_the_first_of_several(self):
+        """Each comes before those that were there."""
+        image = self.store(self.GEOMETRY).read_bytes()
+        for changes in (((4213, "00000001"),), (HASH_1,), ((12288, "a7"),), ((8192, "a7"),), ((17, "00000003"),)):
+            image = changed(image, *changes)
+            place, said = PLACES[changes]
+            self.assert_said(image, f"3 Damaged {place}", said)
+
+    def test_the_whole(self):
+        """A length and a charge have no offset. A file without a store may get one by a format."""
+        sound = self.store(self.GEOMETRY).read_bytes()
+        self.assert_said(sound[:-1], "3 Damaged length", "it has another length than its header says")
+        entries = "".join(f"0{it}".ljust(40, "0") + "0001" for it in range(1, 9))
+        image = changed(as_version_1(sound), (4213, "00000008"), (36864, entries), (12288, "a7"), (16384, f"0101{38 * '0'}0001"))
+        self.assert_said(image, "3 Damaged charge", "it holds more rows than it may")
+        for image in (changed(sound[:-1], (0, "00")), b"", bytes(45056)):
+            self.assert_said(image, "1 NotFormatted", "it is not a silt store; make one with silt format")

@@ -1,4 +1,5 @@
 """The first day with silt: what a newcomer does wrong destroys no data, leaves no work undone, and is reported with its reason."""
+import os
 import re
 import socket
 import unittest
@@ -53,7 +54,7 @@ class Formats(WatchedCase):
             self.path("file").write_bytes(data)
             ended = self.format()
             self.assertEqual((ended.status, ended.out), (1, DEVICE), ended)
-            self.assertEqual(ended.err, "silt: file: it holds other data; --force overwrites it\n")
+            self.assertEqual(ended.err, OTHER)
             self.assertEqual(self.path("file").read_bytes(), data)
 
     def test_nothing_of_other_data_is_touched(self):
@@ -99,6 +100,56 @@ class Formats(WatchedCase):
         image[0] = 0
         self.path("file").write_bytes(image)
         self.check_formatted(self.format())
+
+    def assert_new(self):
+        """The file is an empty store, and takes a put."""
+        lines = "get =abc\nput =abc 0102\nflush\n"
+        self.assert_ends("run file", "opened\nabsent\naccepted 1\nacknowledged 1\n", text=lines)
+
+    def test_a_file_that_is_formatted_again(self):
+        """Its length is set, and what it held is lost."""
+        self.path("file").write_bytes(b"short")
+        self.assert_ends("format file 2 2 8 2 2 16", DEVICE, OTHER, 1)
+        self.assertEqual(self.path("file").read_bytes(), b"short")
+        self.assert_ends("format file 2 2 8 2 2 16 --force", "formatted 45056\n")
+        self.assert_new()
+        held = "silt: file holds a store (V 2, B 2, CAP 8, NL 2, NH 2, S 16) of at most 1 keys; it is overwritten\n"
+        self.assert_ends(f"format file {SMALL}", "formatted 45056\n", held)
+        self.assert_new()
+        self.assertEqual(self.path("file").stat().st_size, 45056)
+
+    def test_each_kind_of_what_is_overwritten(self):
+        """Other data, an empty store, a store of another length than its header says, and other data that
+        begin almost as a store."""
+        empty = f"silt: file holds a store ({NAMED}) of at most 0 keys; it is overwritten\n"
+        text = b"no store, but a text of more bytes than a header has"
+        self.path("file").write_bytes(text)
+        self.assert_ends(f"format file {SMALL}", DEVICE, OTHER, 1)
+        self.assertEqual(self.path("file").read_bytes(), text)
+        self.assert_ends(f"format file {SMALL} --force", "formatted 45056\n")
+        self.assert_ends(f"format file {SMALL}", "formatted 45056\n", empty)
+        self.assert_ends("format file 100 1024 3000 4 4 100000 --force", "formatted 27471872\n", empty)
+        os.truncate(self.path("file"), 45056)
+        self.assert_ends(f"format file {SMALL}", "formatted 45056\n", DAMAGED)
+        with self.path("file").open("r+b") as file:
+            file.seek(1)
+            file.write(b"s")
+        self.assert_ends(f"format file {SMALL}", DEVICE, OTHER, 1)
+
+    def test_other_data_of_the_length_of_a_store(self):
+        """They stay to the last byte. Behind a forced format comes a store, and it is named."""
+        diary = b"a diary".ljust(45056, b"\0")
+        self.path("file").write_bytes(diary)
+        self.assert_ends(f"format file {SMALL}", DEVICE, OTHER, 1)
+        self.assertEqual(self.path("file").read_bytes(), diary)
+        self.assert_ends(f"format file {SMALL} --force", "formatted 45056\n")
+        empty = f"silt: file holds a store ({NAMED}) of at most 0 keys; it is overwritten\n"
+        self.assert_ends(f"format file {SMALL}", "formatted 45056\n", empty)
+
+    def test_a_header_that_is_damaged_or_written_in_part(self):
+        for first in (b"\x00SILTFLSH", b"\xffSILTFLSH\x00\x00\x00\x01"):
+            self.path("file").write_bytes(first.ljust(45056, b"\0"))
+            self.assert_ends(f"format file {SMALL}", "formatted 45056\n", DAMAGED)
 
     def test_numbers_out_of_their_limits(self):
         """No file is made or touched. The first such number is named."""

@@ -1,6 +1,5 @@
 // What no contract says: printed text and statuses, letter for letter, through the program in memory.
 
-mod damage;
 mod files;
 mod library;
 mod notes;
