@@ -192,11 +192,46 @@ class Runs(WatchedCase):
         self.assertEqual(ended.lines[-2:], ["refused 8 NoRoom", "acknowledged 8"])
         self.assertEqual(ended.err, "silt: 4 lines refused 8 NoRoom, first line 9; background work makes room: run with --tend, or silt tend\n")
 
+    def test_lines_are_those_of_the_input(self):
+        """Blank ones count. Reasons come in the order of their numbers."""
+        self.store(SMALL, [f"delete =k{n}" for n in range(8)] + ["flush"])
+        text = "get =a\n\nput =b 0102\n\r\n\r\nput =c 01\nput =d 0102\nnone\n"
+        out = "opened\nabsent\nrefused 8 NoRoom\nrefused 22 BadValue\nrefused 8 NoRoom\nrefused 20 BadLine\n"
+        err = ("silt: 2 lines refused 8 NoRoom, first line 3; background work makes room: run with --tend, or silt tend\n"
+               "silt: 1 line refused 20 BadLine, first line 8\n"
+               "silt: 1 line refused 22 BadValue, first line 6\n")
+        self.assert_ends("run store", out, err, text=text)
+
+    def test_lines_that_are_written_in_pieces(self):
+        """Each byte goes out by itself. A value that looks like a refusal is none."""
+        path = self.store("7 2 4 2 2 8", ["put =a 72656675736564", "flush"])
+        image = bytearray(path.read_bytes())
+        image[8192:8192 + 461] = image[4096:4096 + 461]
+        image[8193:8201] = b"\xff" * 8  # the last generation, with digests
+        path.write_bytes(image)
+        text = "get =a\n\n" + "".join(f"put =k{n} {n:014x}\n" for n in range(4))
+        ended, _ = self.recorded("run", "store", text=text, short=["read:1+", "write:1+"])
+        out = "opened\nvalue 72656675736564\naccepted 1\naccepted 2\naccepted 3\nrefused 10 Spent\n"
+        self.assertEqual(ended, Ended(0, out, "silt: 1 line refused 10 Spent, first line 6\n"))
+
+    def test_more_blank_lines_than_are_kept(self):
+        """65,536 of them are kept by their numbers."""
+        self.store(SMALL)
+        for blank, where in ((65_536, "first line 65538"), (65_537, "first far behind many blank lines")):
+            err = f"silt: 1 line refused 20 BadLine, first line 1\nsilt: 1 line refused 21 BadKey, {where}\n"
+            self.assert_ends("run store", "opened\nrefused 20 BadLine\nrefused 21 BadKey\n", err,
+                             text="pot\n" + "\n" * blank + "get =\n")
+
     def test_a_full_store(self):
         self.store("2 2 4 2 2 3")
         ended = self.run_lines(*(f"put =k{n} 0102" for n in range(4)), "flush")
         self.assertEqual(ended.lines[-2:], ["refused 7 StoreFull", "acknowledged 3"])
-        self.assertRegex(ended.err, r"\Asilt: 1 line refused 7 StoreFull, first line 4; .*silt tend.*larger S\n\Z")
+        self.assertEqual(ended.err, FULL.format(4))
+
+    def test_a_full_store_and_a_last_line_without_its_end(self):
+        self.store("2 2 4 2 2 1", ["put =a 0102", "flush"])
+        rest = "silt: the last line has no line feed, and is not answered\n"
+        self.assert_ends("run store", "opened\nrefused 7 StoreFull\n", FULL.format(1) + rest, text="put =a 0102\nput")
 
     def test_a_last_line_without_its_end(self):
         self.store(SMALL)
@@ -255,6 +290,29 @@ class Tends(WatchedCase):
         self.check_answers(keys, lines)
         again = self.silt("tend", "store")
         self.assertEqual((again.status, again.out), (0, "opened\nconverted 0 steps, merged 0 steps\n"), again)
+
+    def run_puts(self, *options):
+        """Puts of three keys, five times each, and a get. How many were accepted, and how many found no room."""
+        lines = [f"put ={key} 00{round}{number}" for round in range(5) for number, key in enumerate("abc", 1)]
+        ended = self.silt("run", "store", *options, text="\n".join([*lines, "get =b", ""]))
+        self.assertEqual((ended.status, len(ended.lines)), (0, 17), ended)
+        return sum(it.startswith("accepted") for it in ended.lines), ended.lines.count("refused 8 NoRoom")
+
+    def test_two_logs_of_four_rows(self):
+        """They are full after eight rows, unless there is background work."""
+        for options, counts in (([], (8, 7)), (["--tend"], (15, 0))):
+            self.path("store").unlink(missing_ok=True)
+            self.store("2 2 4 2 2 16")
+            self.assertEqual(self.run_puts(*options), counts)
+
+    def test_the_steps_of_a_tend(self):
+        """A log is converted in nine steps, and a hash store of three rows merged in twelve. Then a run finds room,
+        also for the rows that no flush settled."""
+        self.store("2 2 4 2 2 16")
+        self.assertEqual(self.run_puts(), (8, 7))
+        self.assert_ends("tend store", "opened\nconverted 9 steps, merged 12 steps\n")
+        self.assert_ends("tend store", "opened\nconverted 0 steps, merged 0 steps\n")
+        self.assertEqual(self.run_puts(), (8, 7))
 
     def test_tend_without_a_store(self):
         ended = self.silt("tend", "none")

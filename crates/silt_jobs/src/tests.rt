@@ -1,8 +1,6 @@
 // What no contract says of the jobs: their texts, letter for letter, in memory.
 
-mod background_work;
 mod jobs;
-mod notes;
 mod progress;
 
 use crate::failure::{Failure, Watched};
