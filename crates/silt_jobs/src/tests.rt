@@ -1,7 +1,6 @@
 // What no contract says of the jobs: their texts, letter for letter, in memory.
 
 mod jobs;
-mod progress;
 
 use crate::failure::{Failure, Watched};
 use crate::held_data::HeldStore;

@@ -1,0 +1,154 @@
+"""The line that shows on a terminal how far a long opening is.
+
+It is written again after reads of 16 MiB, or of 65,536 heads of rows. It ends before any other note or
+reply, and after that there is none.
+"""
+import concurrent.futures
+import os
+import pty
+import tty
+import unittest
+
+from harness import PROVED, TIME_LIMIT
+from layout import as_version_1
+from watch import WatchedCase, read_record, watching
+
+# A read counts with its bytes, but with so many at least.
+STEP, LEAST = 1 << 24, 256
+# One log of many rows. The file has 14,430,208 bytes.
+MANY_ROWS = "1 32768 131072 2 1 131072"
+GATES, ROWS, ROW = 12288, 12288 + 131072, 22
+ERRORS = "standard error"
+SLOW = unittest.skipUnless(PROVED, "a build with checks takes long for this")
+# What a long opening of it shows, and what ends that.
+LINE = "\rsilt: opening: 1 MiB read of a file of 13 MiB"
+END = ", 100 percent of what it needs\n"
+
+
+class Progress(WatchedCase):
+    def make_rows(self, count):
+        """A store whose log has so many rows. An opening reads the head of each by itself."""
+        self.path("store").unlink(missing_ok=True)
+        self.store(MANY_ROWS)
+        self.keys = [self.random.randbytes(20) for _ in range(count)]
+        with self.path("store").open("r+b") as file:
+            file.seek(GATES)
+            file.write(b"\xa7" * count)
+            file.seek(ROWS)
+            file.write(b"".join(b"\x01" + key + b"\x07" for key in self.keys))
+
+    def make_entries(self, count, length):
+        """A store with so many sorted entries, and values of this length. An opening reads many together."""
+        self.store(f"{length} 2 4 2 2 {count}")
+        image = bytearray(as_version_1(self.path("store").read_bytes()))
+        image[4213:4217] = count.to_bytes(4, "big")
+        begin = len(image) - 2 * -(-count * (20 + length) // 4096) * 4096
+        for number in range(count):
+            at = begin + number * (20 + length)
+            image[at:at + 20] = number.to_bytes(20, "big")
+        self.path("store").write_bytes(image)
+
+    def on_terminal(self, *words, text="", replies=None):
+        """Runs the program with its standard error on a terminal, to its end or until it has printed so many replies.
+        Its status, its output, and what the terminal shows."""
+        terminal, inner = pty.openpty()
+        tty.setraw(inner)
+        with concurrent.futures.ThreadPoolExecutor(1) as pool, open(terminal, "rb", 0) as screen:
+            with self.start(*words, stderr=inner, env=watching(self, log="record")) as running:
+                os.close(inner)
+                shown = pool.submit(read_all, screen)
+                if replies is None:
+                    out = running.communicate(text.encode(), timeout=TIME_LIMIT)[0]
+                else:
+                    out = b"".join(running.stdout.readline() for _ in range(replies))
+                    running.kill()
+            return running.returncode, out.decode(), shown.result()
+
+    def check_times(self):
+        """The line was written right behind each read that made it due, and before the next one. Behind the first reply,
+        or another note, there is none. Returns what all reads count, and what those before the first reply count."""
+        cost = read = 0
+        due, said, size, opened = [], "", self.path("store").stat().st_size, None
+        for call in read_record(self.path("record")):
+            if call.file == ERRORS:
+                said += call.moved.decode()
+            elif call.name == "write" and opened is None:
+                opened = cost
+            elif call.name == "pread":
+                self.assertEqual(said.count("\rsilt: opening: "), len(due) + (opened is not None and due != []))
+                before, cost, read = cost, cost + max(call.result, LEAST), read + call.result
+                if cost // STEP > before // STEP and opened is None:
+                    due.append(f"\rsilt: opening: {read >> 20} MiB read of a file of {size >> 20} MiB")
+        self.assertTrue(said.startswith("".join(due)), said)
+        return cost, opened
+
+    def test_a_long_opening(self):
+        """Each job shows it that opens a store."""
+        self.make_rows(66_000)
+        jobs = [("run store", "opened\n", None), ("tend store", "opened\nconverted 0 steps, merged 0 steps\n", None),
+                ("serve store 0", "opened\n", 1)]
+        for words, out, replies in jobs if PROVED else jobs[:1]:
+            _, printed, shown = self.on_terminal(*words.split(), replies=replies)
+            self.assertEqual((printed, shown), (out, LINE + LINE + END), words)
+            self.check_times()
+
+    @SLOW
+    def test_a_dump(self):
+        """It reads the rows once more, before it prints the first one."""
+        self.make_rows(66_000)
+        status, out, shown = self.on_terminal("dump", "store")
+        self.assertEqual((status, out), (0, "".join(f"put {key.hex()} 07\n" for key in sorted(self.keys))))
+        self.assertTrue(shown.startswith(LINE) and shown.endswith(END), shown)
+        self.check_times()
+
+    def test_a_check(self):
+        """It shows the line too, and then what a check says."""
+        self.make_rows(66_000)
+        status, out, shown = self.on_terminal("check", "store")
+        numbers = "silt: store: V 1, B 32768, CAP 131072, NL 2, NH 1, S 131072; charge 66000 of 131072\n"
+        self.assertEqual((status, shown), (0, LINE + LINE + END + numbers))
+        self.check_times()
+
+    def test_a_finding_at_the_end_of_a_long_opening(self):
+        """The line ends before what is wrong is reported."""
+        self.make_rows(66_000)
+        with self.path("store").open("r+b") as file:
+            file.seek(ROWS + 65_990 * ROW)
+            file.write(b"\x03")
+        note = f"silt: store: a row of a log is damaged, at byte {ROWS + 65_990 * ROW}\n"
+        status, out, shown = self.on_terminal("run", "store")
+        self.assertEqual((status, out), (1, "refused 3 Damaged log 0 row 65990\n"))
+        self.assertEqual(shown, LINE + LINE + END + note)
+
+    def test_a_short_opening(self):
+        """It shows nothing, and neither do the reads of gets, which would have made the line due."""
+        self.make_rows(65_000)
+        lines = "".join(f"get {key.hex()}\n" for key in self.keys[:40])
+        self.assertEqual(self.on_terminal("run", "store", text=lines), (0, "opened\n" + "value 07\n" * 40, ""))
+        cost, opened = self.check_times()
+        self.assertTrue(STEP - 40 * LEAST < opened < STEP < cost, (opened, cost))
+
+    def test_no_terminal(self):
+        self.make_rows(66_000)
+        self.assert_ends("run store", "opened\n")
+
+    @SLOW
+    def test_a_long_opening_of_entries(self):
+        """Reads of many entries: they count with their bytes, and the line is due twice."""
+        self.make_entries(66_000, 490)
+        status, out, shown = self.on_terminal("run", "store")
+        lines = [f"\rsilt: opening: {it} MiB read of a file of 64 MiB" for it in (16, 32, 32)]
+        self.assertEqual((status, out, shown), (0, "opened\n", "".join(lines) + END))
+        cost, _ = self.check_times()
+        self.assertEqual(cost // STEP, 2)
+
+
+def read_all(terminal):
+    """What a terminal shows, to the end. The system reports that as an error."""
+    shown = b""
+    try:
+        while part := terminal.read(4096):
+            shown += part
+    except OSError:
+        pass
+    return shown.decode()
