@@ -5,7 +5,9 @@ A job ends with a refusal, one line is refused, or the store has failed; the rea
 standard error. After each run the file is whole: it holds the accepted commands up to one that
 is not before the last acknowledged one.
 """
+import contextlib
 import errno
+import fcntl
 import os
 import re
 import resource
@@ -17,7 +19,9 @@ from commands import answer, is_command, maps_after
 from failing import DEVICE, EVERY, GEOMETRY, LINES, LIVES, NO_STORE, Job, JobCase
 from harness import NUMBERS, PROGRAM, TIME_LIMIT, Ended
 from notes import input_of, notes_of_lines
-from watch import read_counts, watching
+from watch import WatchedCase, read_counts, read_record, watching
+
+SMALL = "2 2 4 2 2 8"
 
 
 @dataclass
@@ -217,6 +221,115 @@ class Runs(FaultCase):
             self.judge_run(job, Fault("fdatasync", "EIO"), whole, hidden, calls)
 
 
+class Pieces(WatchedCase):
+    """Standard input in pieces, each read interrupted first, and streams that fail in the middle, letter for letter."""
+
+    def run_in_pieces(self, words, text, size, error=""):
+        """Runs the program on a text that comes in pieces of so many bytes. It may fail behind the last one."""
+        pieces = [text[at:at + size] for at in range(0, len(text), size)]
+        fail = [f"read:{2 * number + 1}:EINTR" for number in range(len(pieces) + 1)]
+        fail += [f"read:{2 * len(pieces) + 2}:{error}"] * bool(error)
+        source, sink = os.pipe2(os.O_DIRECT)  # each read returns what one write wrote
+        with self.start(*words.split(), stdin=source, env=watching(self, log="record", fail=fail)) as running:
+            os.close(source)
+            with contextlib.suppress(BrokenPipeError), open(sink, "wb", 0) as into:
+                for piece in pieces:
+                    into.write(piece)
+            out, err = running.communicate(timeout=TIME_LIMIT)
+        reads = [it.result for it in read_record(self.path("record")) if it.name == "read"]
+        self.assertEqual(reads[:-1], [it for piece in pieces for it in (-1, len(piece))] + [-1])
+        return Ended(running.returncode, out.decode(), err.decode())
+
+    def test_pieces_of_each_size(self):
+        text = b"put =abc 0102\r\n\nflush\nget =abc\nget =abc"
+        out = "opened\naccepted 1\nacknowledged 1\nvalue 0102\n"
+        rest = "silt: the last line has no line feed, and is not answered\n"
+        for size in (1, 2, 7, 64):
+            self.path("store").unlink(missing_ok=True)
+            self.store(SMALL)
+            self.assertEqual(self.run_in_pieces(f"script {SMALL}", text, size), Ended(0, out, ""), size)
+            self.assertEqual(self.run_in_pieces("run store", text, size), Ended(0, out, rest), size)
+
+    def test_a_reader_that_fails(self):
+        """A script is read whole before its first life begins. A run has replied to the lines that came."""
+        self.store(SMALL)
+        text, reset = b"put =abc 0102\nflush\nget", "silt: Connection reset by peer (os error 104)\n"
+        self.assertEqual(self.run_in_pieces(f"script {SMALL}", text, 9, "ECONNRESET"), Ended(1, "", reset))
+        out = "opened\naccepted 1\nacknowledged 1\n"
+        rest = "silt: the last line has no line feed, and is not answered\n"
+        self.assertEqual(self.run_in_pieces("run store", text, 9, "ECONNRESET"), Ended(1, out, reset + rest))
+        ended = self.run_in_pieces("run store", b"get =abc\nflush\n", 64, "EIO")
+        self.assertEqual(ended, Ended(1, "opened\nvalue 0102\nacknowledged 0\n", "silt: Input/output error (os error 5)\n"))
+
+    def check_writer(self, words, text, out, rooms):
+        """The writer takes so many bytes, and then fails. If the pipe is closed, nothing is said."""
+        for room in rooms:
+            for error, said in (("EPIPE", ""), ("ENOSPC", "silt: No space left on device (os error 28)\n")):
+                env = watching(self, short="write:1+", fail=f"write:{room + 1}:{error}")
+                self.assertEqual(self.silt(*words.split(), text=text, env=env), Ended(1, out[:room], said), (room, error))
+
+    def test_a_writer_that_fails(self):
+        self.check_writer(f"script {SMALL}", "put =abc 0102\nget =abc\n", "opened\naccepted 1\nvalue 0102\n",
+                          (0, 6, 7, 8, 17, 18, 28))
+        self.store(SMALL, ["put =abc 0102", "flush"])
+        self.check_writer("run store", "get =abc\nflush\n", "opened\nvalue 0102\nacknowledged 0\n", (0, 6, 7, 17))
+
+    def test_a_full_device_and_a_closed_pipe(self):
+        full = "silt: No space left on device (os error 28)\n"
+        for place, said in (("/dev/full", full), (None, "")):
+            self.path("store").unlink(missing_ok=True)
+            self.store(SMALL, ["put =a 0102", "flush"])
+            for words in ("run store", "tend store", "check store", "dump store", f"script {SMALL}"):
+                self.assertEqual(self.run_into(place, words), Ended(1, "", said), (words, place))
+            held = "silt: store holds a store (V 2, B 2, CAP 4, NL 2, NH 2, S 8) of at most 1 keys; it is overwritten\n"
+            self.assertEqual(self.run_into(place, f"format store {SMALL}"), Ended(1, "", held + said), place)
+
+    def run_into(self, place, words):
+        """Runs the program with its standard output at a place, or in a pipe that is closed."""
+        if place is None:
+            source, sink = os.pipe()
+            os.close(source)
+        else:
+            sink = os.open(place, os.O_WRONLY)
+        with self.start(*words.split(), stdout=sink) as running:
+            os.close(sink)
+            err = running.communicate(b"flush\n", timeout=TIME_LIMIT)[1]
+        return Ended(running.returncode, "", err.decode())
+
+
+class WorkedFaults(WatchedCase):
+    """Device calls that fail, letter for letter."""
+
+    def test_a_failed_write(self):
+        """The third line freezes the log, and so writes the row of the second one."""
+        self.store("2 2 1 3 3 8")
+        text = "get =a\nput =a 0102\nput =b 0102\nput =c 0102\nflush\n"
+        ended, _ = self.recorded("run", "store", text=text, fail="pwrite:1+:EBADF")
+        out = "opened\nabsent\naccepted 1\nrefused 5 Device\nrefused 9 Failed\nrefused 9 Failed\n"
+        err = ("silt: 1 line refused 5 Device, first line 3\n"
+               "silt: 2 lines refused 9 Failed, first line 4; an earlier write or sync failed, and running again opens the "
+               "store anew\nsilt: store: a write at 16384: Bad file descriptor (os error 9)\n")
+        self.assertEqual(ended, Ended(0, out, err))
+
+    def test_a_failed_read(self):
+        """The file is cut short while it is open. The first failed read is reported, and behind the replies."""
+        self.store(SMALL, ["put =a 0102", "put =b 0304", "flush"])
+        with self.start("run", "store") as running:
+            self.assertEqual(running.stdout.readline(), b"opened\n")
+            os.truncate(self.path("store"), 16384)
+            out, err = running.communicate(b"get =a\nget =b\nflush\n", timeout=TIME_LIMIT)
+        self.assertEqual((running.returncode, out), (0, b"refused 5 Device\nrefused 5 Device\nacknowledged 0\n"))
+        self.assertEqual(err, b"silt: 2 lines refused 5 Device, first line 1\n"
+                         b"silt: store: a read at 16384: failed to fill whole buffer\n")
+
+    def test_a_failed_sync_of_an_opening(self):
+        """The next run works."""
+        self.store(SMALL)
+        ended, _ = self.recorded("run", "store", text="flush\n", fail="fdatasync:1:EIO")
+        self.assertEqual(ended, Ended(1, DEVICE, "silt: store: a sync: Input/output error (os error 5)\n"))
+        self.assert_ends("run store", "opened\nacknowledged 0\n", text="flush\n")
+
+
 class Others(FaultCase):
     """Checks, scripts and formattings."""
 
@@ -309,23 +422,42 @@ class Files(FaultCase):
     def test_files_that_cannot_be_opened(self):
         missing, folder = "No such file or directory (os error 2)", "Is a directory (os error 21)"
         self.path("folder").mkdir()
-        for job in ("run", "tend", "check"):
-            self.refused(job, "none", reason=f"none: {missing}")
-        self.refused("serve", "none", 0, reason=f"none: {missing}")
-        self.refused("run", "folder", reason=f"folder: {folder}")
+        for name in ("none", "folder/none"):
+            for job in ("run", "tend", "check", "dump"):
+                self.refused(job, name, reason=f"{name}: {missing}")
+            self.refused("serve", name, 0, reason=f"{name}: {missing}")
+            self.refused("format", f"{name}/store", *GEOMETRY.split(), reason=f"{name}/store: {missing}")
+            self.assertFalse(self.path(name).exists())
+        for job in ("run", "tend"):
+            self.refused(job, "folder", reason=f"folder: {folder}")
         self.refused("format", "folder", *GEOMETRY.split(), reason=f"folder: {folder}")
-        self.refused("format", "none/store", *GEOMETRY.split(), reason=f"none/store: {missing}")
-        self.assertFalse(self.path("none").exists())
+        ended = self.silt("check", "folder")
+        self.assertEqual((ended.status, ended.out), (1, DEVICE))
+        self.assertRegex(ended.err, r"\Asilt: folder: .*\n\Z")
 
     def test_a_file_in_use(self):
+        """Each job is refused before it reads or writes anything."""
         before = self.store(GEOMETRY).read_bytes()
         with self.start("run", "store") as running:
             running.stdout.readline()
-            for job in ("run", "tend", "check", "serve", "format"):
-                more = {"serve": ["0"], "format": GEOMETRY.split()}.get(job, [])
-                self.refused(job, "store", *more, reason=f"store: {IN_USE}")
+            for job in ("run", "tend", "check", "dump", "serve"):
+                self.refused(job, "store", *["0"] * (job == "serve"), reason=f"store: {IN_USE}")
+            for numbers in (GEOMETRY, "2 2 8 2 2 16", "100 1024 3000 4 4 100000"):
+                self.refused("format", "store", *numbers.split(), reason=f"store: {IN_USE}")
             running.communicate()
         self.assertEqual(self.path("store").read_bytes(), before)
+        self.assert_ends("run store", "opened\n")
+
+    def test_a_file_that_others_read(self):
+        """A check shares it. A job that may write does not."""
+        self.store(SMALL)
+        with self.path("store").open("rb") as reader:
+            fcntl.flock(reader, fcntl.LOCK_SH)
+            checked = self.silt("check", "store")
+            self.assertEqual((checked.status, checked.err), (0, "silt: store: V 2, B 2, CAP 4, NL 2, NH 2, S 8; charge 0 of 8\n"))
+            self.assertEqual(self.silt("dump", "store"), Ended(0, "", ""))
+            for job in ("run", "tend"):
+                self.refused(job, "store", reason=f"store: {IN_USE}")
 
     def limited(self, limit, job, is_ignored):
         """Runs a job that may write no file beyond this length. A signal comes with that, which

@@ -178,6 +178,30 @@ class Runs(WatchedCase):
         ended = self.run_lines("put =a 0102", "", "flush", "get =a")
         self.assertEqual((ended.status, ended.err), (0, ""), ended)
 
+    def test_jobs_that_are_done_say_nothing(self):
+        """But a check names the numbers of the store."""
+        report = "active log 0 rows {0}\nfrozen logs 0 rows 0\nhash stores 0 rows 0\nsorted entries 0\ncharge {0}\nlayout 2\n"
+        numbers = "silt: store: V 2, B 2, CAP 4, NL 2, NH 2, S 8; charge {} of 8\n"
+        self.assert_ends(f"format store {SMALL}", "formatted 45056\n")
+        self.assert_ends("run store", "opened\n")
+        self.assert_ends("tend store", "opened\nconverted 0 steps, merged 0 steps\n")
+        self.assert_ends("check store", "generation 0\n" + report.format(0), numbers.format(0))
+        self.assert_ends("run store", "opened\naccepted 1\nacknowledged 1\n", text="put =abc 0102\nflush\n")
+        self.assert_ends("check store", "generation 0\n" + report.format(1), numbers.format(1))
+
+    def test_several_runs(self):
+        """Each finds what was flushed. The end of a run flushes nothing."""
+        rest = "silt: the last line has no line feed, and is not answered\n"
+        bad = "silt: 1 line refused 20 BadLine, first line 2\n"
+        self.store(SMALL)
+        self.assert_ends("run store", "opened\naccepted 1\nacknowledged 1\nvalue 0102\n", text="put =abc 0102\nflush\nget =abc\n")
+        self.assert_ends("run store", "opened\naccepted 1\nvalue 0304\naccepted 2\n", rest,
+                         text="put =abc 0304\nget =abc\nput =abc 0506\r\n\r\nflush")
+        self.assert_ends("run store", "opened\nvalue 0102\n", text="get =abc\n")
+        self.assert_ends("run store", "opened\nvalue 0102\nrefused 20 BadLine\naccepted 1\n", bad + rest,
+                         text="get =abc\nstop 0 old\ndelete =abc\nget =abc")
+        self.assert_ends("run store", "opened\n")
+
     def test_refusals_are_counted_by_their_reason(self):
         self.store(SMALL)
         ended = self.run_lines("pot", "put =a 01", "put =a 0102", "get 12", "put =b 0", "", "get", "put =c 04", "flush")

@@ -12,7 +12,7 @@ import unittest
 
 from commands import answer, differs, is_command, tried
 from failing import DEVICE, GEOMETRY, KEYS, LINES, LIVES, NO_STORE, Job, JobCase
-from harness import PROVED, TOP
+from harness import PROVED, TOP, Ended
 from watch import read_counts, watching
 
 NO_MEMORY = "refused 6 NoMemory\n"
@@ -98,14 +98,44 @@ class Jobs(MemoryCase):
         left, replies = self.left(), ended.lines[1:]
         if not onwards:
             self.judge_lines(job, whole, ended)
+        if ended.status and ended.out.startswith("opened\n"):
+            self.assertTrue(ended.err.startswith("silt: memory was wanted\n"), ended)
+            self.broken_off += 1
         accepted = [line for line, reply in zip(job.lines, replies) if reply.startswith("accepted")]
         lost = [line for line, reply in zip(job.lines, whole.lines[1:]) if reply.startswith("accepted")]
         lost = [line for line in job.lines[len(replies):][:1] if line in lost]
         self.judge_file(left, accepted + lost, ended.lines)
 
     def test_a_run(self):
-        before = self.store(GEOMETRY).read_bytes()
+        before, self.broken_off = self.store(GEOMETRY).read_bytes(), 0
         self.try_all(Job(["run", "store"], LINES, before), self.judge_run)
+        self.assertGreater(self.broken_off, 0)
+
+    def recorded_all(self, *words, text=""):
+        """Runs a job with each request refused in turn: how it ended, and its calls."""
+        self.silt(*words, text=text, env=watching(self, short="read:1+", counts="counts"))
+        for number in range(1, self.requests() + 1):
+            yield self.recorded(*words, text=text, short="read:1+", **self.plan(number))
+
+    def test_words(self):
+        """If there is no memory for the words, that is reported, and no file is opened."""
+        before, refused = self.store(GEOMETRY).read_bytes(), 0
+        for ended, calls in self.recorded_all("run", "store"):
+            if not any(it.name == "open" for it in calls):
+                self.assertEqual(ended, Ended(1, NO_MEMORY, ""))
+                refused += 1
+        self.assertGreater(refused, 0)
+        self.assertEqual(self.left(), before)
+
+    def test_lines_of_a_script(self):
+        """If there is no memory for a line, the reading ends, and no life begins."""
+        text, refused = "get =a\nno line\nput =b 00\nget =c\n", set()
+        for ended, calls in self.recorded_all("script", "1", *GEOMETRY.split()[1:], text=text):
+            reads = [it for it in calls if it.name == "read"]
+            if 0 < len(reads) <= len(text):
+                self.assertEqual(ended, Ended(1, NO_MEMORY, ""))
+                refused.add(len(reads))
+        self.assertIn(text.index("\nget =c") + 1, refused)
 
     def judge_script(self, job, whole, ended, onwards):
         if not onwards:

@@ -27,8 +27,6 @@ mod script_lines;
 mod stop;
 mod streams;
 mod tally;
-#[cfg(test)]
-mod tests;
 mod transcript;
 mod watched_file;
 
