@@ -90,14 +90,17 @@ class Case(unittest.TestCase):
 
     def silt(self, *words, text="", env=None, limit=TIME_LIMIT):
         """Runs the program with these words and this standard input to its end."""
-        data = text if isinstance(text, bytes) else text.encode()
         with self.start(*words, env=env) as running:
-            try:
-                out, err = running.communicate(data, timeout=limit)
-            except subprocess.TimeoutExpired:
-                running.kill()
-                self.fail(f"silt {' '.join(map(str, words))} did not end in {limit} seconds")
-        return Ended(running.returncode, out.decode(errors="replace"), err.decode(errors="replace"))
+            return self.finish(running, text, limit)
+
+    def finish(self, running, text="", limit=TIME_LIMIT):
+        """Gives a started program the rest of its standard input, and reads what it prints to its end."""
+        try:
+            out, err = running.communicate(text if isinstance(text, bytes) else text.encode(), timeout=limit)
+        except subprocess.TimeoutExpired:
+            running.kill()
+            self.fail(f"silt {' '.join(map(str, running.args[1:]))} did not end in {limit} seconds")
+        return Ended(running.returncode, *((it or b"").decode(errors="replace") for it in (out, err)))
 
     def assert_ends(self, call, out, err="", status=0, text=""):
         """The program ends so: it is called with the words of a text, and reads another one."""

@@ -235,10 +235,10 @@ class Pieces(WatchedCase):
             with contextlib.suppress(BrokenPipeError), open(sink, "wb", 0) as into:
                 for piece in pieces:
                     into.write(piece)
-            out, err = running.communicate(timeout=TIME_LIMIT)
+            ended = self.finish(running)
         reads = [it.result for it in read_record(self.path("record")) if it.name == "read"]
         self.assertEqual(reads[:-1], [it for piece in pieces for it in (-1, len(piece))] + [-1])
-        return Ended(running.returncode, out.decode(), err.decode())
+        return ended
 
     def test_pieces_of_each_size(self):
         text = b"put =abc 0102\r\n\nflush\nget =abc\nget =abc"
@@ -293,8 +293,7 @@ class Pieces(WatchedCase):
             sink = os.open(place, os.O_WRONLY)
         with self.start(*words.split(), stdout=sink) as running:
             os.close(sink)
-            err = running.communicate(b"flush\n", timeout=TIME_LIMIT)[1]
-        return Ended(running.returncode, "", err.decode())
+            return self.finish(running, "flush\n")
 
 
 class WorkedFaults(WatchedCase):
@@ -317,10 +316,11 @@ class WorkedFaults(WatchedCase):
         with self.start("run", "store") as running:
             self.assertEqual(running.stdout.readline(), b"opened\n")
             os.truncate(self.path("store"), 16384)
-            out, err = running.communicate(b"get =a\nget =b\nflush\n", timeout=TIME_LIMIT)
-        self.assertEqual((running.returncode, out), (0, b"refused 5 Device\nrefused 5 Device\nacknowledged 0\n"))
-        self.assertEqual(err, b"silt: 2 lines refused 5 Device, first line 1\n"
-                         b"silt: store: a read at 16384: failed to fill whole buffer\n")
+            ended = self.finish(running, "get =a\nget =b\nflush\n")
+        out = "refused 5 Device\nrefused 5 Device\nacknowledged 0\n"
+        err = ("silt: 2 lines refused 5 Device, first line 1\n"
+               "silt: store: a read at 16384: failed to fill whole buffer\n")
+        self.assertEqual(ended, Ended(0, out, err))
 
     def test_a_failed_sync_of_an_opening(self):
         """The next run works."""

@@ -9,7 +9,7 @@ import pty
 import tty
 import unittest
 
-from harness import PROVED, TIME_LIMIT
+from harness import PROVED
 from layout import as_version_1
 from watch import WatchedCase, read_record, watching
 
@@ -58,11 +58,11 @@ class Progress(WatchedCase):
                 os.close(inner)
                 shown = pool.submit(read_all, screen)
                 if replies is None:
-                    out = running.communicate(text.encode(), timeout=TIME_LIMIT)[0]
+                    out = self.finish(running, text).out
                 else:
-                    out = b"".join(running.stdout.readline() for _ in range(replies))
+                    out = "".join(running.stdout.readline().decode() for _ in range(replies))
                     running.kill()
-            return running.returncode, out.decode(), shown.result()
+            return running.returncode, out, shown.result()
 
     def check_times(self):
         """The line was written right behind each read that made it due, and before the next one. Behind the first reply,

@@ -114,6 +114,6 @@ class Words(Case):
     def test_a_full_device(self):
         """Why `usage` is not written comes behind what is wrong with the words."""
         with open("/dev/full", "wb") as full, self.start("prune", stdout=full) as running:
-            err = running.communicate(b"")[1].decode()
+            ended = self.finish(running)
         said = f"silt: there is no job 'prune'\n{FORMS}silt: No space left on device (os error 28)\n"
-        self.assertEqual((running.returncode, err), (1, said))
+        self.assertEqual(ended, Ended(1, "", said))
