@@ -224,6 +224,12 @@ class ServedCase(WatchedCase):
         self.assert_checked(checked, name)
         return {words: int(number) for words, number in (it.rsplit(" ", 1) for it in checked.lines)}
 
+    def check_empty(self, name="store"):
+        """`check` finds an empty store: no call has changed it."""
+        numbers = self.check_whole(name)
+        words = ("generation", "active log 0 rows", "sorted entries", "charge")
+        self.assertEqual([numbers[it] for it in words], [0] * len(words), numbers)
+
     def found(self, *keys, name="store"):
         """What a new run of the store replies to gets of these keys."""
         ran = self.silt("run", name, text="".join(f"get {key}\n" for key in keys))

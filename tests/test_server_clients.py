@@ -1,5 +1,6 @@
 """Many clients of a server, slow ones, broken ones: each gets its replies and disturbs no other."""
 import os
+import socket
 import threading
 import time
 import unittest
@@ -11,6 +12,10 @@ from watch import read_record, watching
 # Values of this length make a swap under a name of 8,000 bytes a line of 16,600.
 LONG_VALUE = 2148
 LONG_NAMES = f"{LONG_VALUE} 16 64 4 4 400"
+# How many lines each of many clients sends.
+EACH = 200 if PROVED else 80
+# The replies to a command for which a store has no room.
+FULL = ("refused 7 StoreFull", "refused 8 NoRoom")
 WORDS = (b"put", b"delete", b"swap", b"get", b"flush")
 GOOD_LINES = (b"put =key 0304", b"swap =key 0304 0506", b"get =key", b"delete =key", b"flush", b"get " + b"0a" * 20)
 
@@ -31,8 +36,37 @@ def longest_swap(number):
     return line
 
 
+class OneOfMany:
+    """A client with a key of its own, which it puts, deletes, gets and flushes in turn. It knows the
+    value by its accepted commands."""
+
+    def __init__(self, client, number):
+        self.client, self.key, self.value, self.wrong = client, f"={number}", "absent", []
+
+    def line(self, turn):
+        if turn % 4 == 0:
+            return f"put {self.key} {turn % 256:04x}"
+        return {2: f"delete {self.key}", 6: "flush"}.get(turn % 8, f"get {self.key}")
+
+    def take(self, turn, reply):
+        """Checks the reply to the line of this turn. A refused command changes nothing."""
+        if turn % 4 == 0 or turn % 8 == 2:
+            is_right = reply.startswith("accepted ") or reply in FULL
+            if reply.startswith("accepted "):
+                self.value = f"value {turn % 256:04x}" if turn % 4 == 0 else "absent"
+        elif turn % 8 == 6:
+            is_right = reply.startswith("acknowledged ")
+        else:
+            is_right = reply == self.value
+        if not is_right:
+            self.wrong.append((turn, self.line(turn), reply, self.value))
+
+
 class ManyClients(ServedCase):
     """As many clients as a server has places for."""
+
+    # How many lines each client sends in one write, where all of them send many.
+    burst = 1
 
     def setUp(self):
         super().setUp()
@@ -73,6 +107,31 @@ class ManyClients(ServedCase):
         self.assertEqual(server.ended().status, 0)
         found = self.found(*(f"=client/{it}/1" for it in range(MOST_SESSIONS)))
         self.assertEqual(found, [f"value {it:02x}03" for it in range(MOST_SESSIONS)])
+
+    def test_many_commands_of_each(self):
+        """All clients send at once, and then all receive. The store ends with the values that they know."""
+        server = self.serve("--sessions", MOST_SESSIONS, "--audit", 400_000)
+        ones = [OneOfMany(self.client(server), it) for it in range(MOST_SESSIONS)]
+        for first in range(0, EACH, self.burst):
+            turns = range(first, first + self.burst)
+            for one in ones:
+                one.client.send(*map(one.line, turns))
+            for one in ones:
+                for turn in turns:
+                    one.take(turn, one.client.reply())
+        self.assertEqual([it.wrong for it in ones], [[]] * MOST_SESSIONS)
+        for one in ones:
+            one.client.close()
+        self.assertEqual(server.ended().status, 0)
+        self.assertGreater(sum(it.value != "absent" for it in ones), 0)
+        self.assertEqual(self.found(*(it.key for it in ones)), [it.value for it in ones])
+        self.assertEqual(len(self.silt("dump", "store").lines), sum(it.value != "absent" for it in ones))
+
+    def test_clients_that_send_nothing(self):
+        server = self.serve("--sessions", MOST_SESSIONS)
+        for client in self.clients(server, MOST_SESSIONS):
+            client.close()
+        self.check_calls(server.ended(), 0)
 
     def test_one_more_is_closed_and_not_counted(self):
         server = self.serve("--sessions", MOST_SESSIONS + 1)
@@ -131,6 +190,7 @@ class ManyPipelinedClients(ManyClients):
     """The same, where what each of them sent is one batch up to the next get."""
 
     options = ("--pipeline",)
+    burst = 20
 
 
 class SlowClients(ServedCase):
@@ -267,6 +327,22 @@ class BrokenClients(ServedCase):
     def refusal(line):
         return "refused 23 LineTooLong" if len(line) > LONGEST_LINE else "refused 20 BadLine"
 
+    def test_bytes_that_no_line_has(self):
+        lines = [
+            (b"x" * (LONGEST_LINE + 1), "refused 23 LineTooLong"),
+            (b"x" * LONGEST_LINE, "refused 20 BadLine"),
+            (b"\xff\xff\xff", "refused 20 BadLine"),
+            (b"\x00", "refused 20 BadLine"),
+            (b"get =\x00", "refused 21 BadKey"),
+            (b"get =\x7f", "refused 21 BadKey"),
+            (b"get =\xc3\xa4", "refused 21 BadKey"),
+            (b"\nflush", "acknowledged 0"),
+        ]
+        client = self.client(self.serve())
+        client.send_bytes(b"".join(line + b"\n" for line, _ in lines))
+        client.end_input()
+        self.assertEqual(client.rest(), [reply for _, reply in lines])
+
     def test_lines_that_are_nearly_well_formed(self):
         client = self.client(self.serve())
         self.assertEqual(client.ask("put =marker 0102"), ["accepted 1"])
@@ -290,6 +366,30 @@ class BrokenClients(ServedCase):
             self.assertEqual(other.ask("get =half"), ["absent"])
         self.assertTrue(server.is_running())
         self.assertRegex(other.ask("put =abc 0001")[0], "^accepted [0-9]+$")
+
+    def test_a_half_line_and_a_silent_client(self):
+        server = self.serve("--sessions", 3)
+        first = self.client(server)
+        self.assertEqual(first.ask("put =a 0001"), ["accepted 1"])
+        first.send_bytes(b"put =b 00")
+        first.close()
+        silent, third = self.clients(server, 2)
+        self.assertEqual([third.ask(it) for it in ("get =a", "get =b")], [["value 0001"], ["absent"]])
+        silent.close()
+        third.close()
+        self.check_calls(server.ended(), 2)
+
+    def test_a_reply_that_is_never_read(self):
+        """The system resets a connection that is closed before all is received."""
+        server = self.serve("--sessions", 2)
+        first = self.client(server)
+        first.send("put =a 0001", "get =a")
+        self.assertEqual(first.socket.recv(1, socket.MSG_PEEK), b"a")
+        first.close()
+        second = self.client(server)
+        self.assertEqual(second.ask("get =a"), ["value 0001"])
+        second.close()
+        self.check_calls(server.ended(), 2)
 
     def test_input_that_ends_with_many_replies_due(self):
         server = self.serve("--sessions", 1)

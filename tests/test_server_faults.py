@@ -228,6 +228,14 @@ class Accepting(ServedCase):
         self.check_whole()
         self.assertEqual(self.found("=abc"), ["value 0102"])
 
+    def test_a_listener_that_is_gone_at_once(self):
+        for options in ([], ["--audit", 10]):
+            server = self.serve(*options, env=watching(self, fail="accept:1+:EINVAL"))
+            lines = ["opened", f"listening {server.port}", "network fault"]
+            ended = server.ended()
+            self.assertEqual((ended.status, ended.lines), (1, lines), ended)
+            self.check_empty()
+
     def test_the_cause_is_reported(self):
         self.assertIn("Invalid argument (os error 22)", self.gone().err)
 

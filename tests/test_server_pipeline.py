@@ -82,6 +82,9 @@ class Pipelined(PipelineCase):
     up to the next other line."""
 
     many = 10_000
+    # What the flushes acknowledge behind the seventh command and behind the eighth, and the number of calls, in
+    # `test_three_batches`.
+    acknowledged, calls = (8, 8), 11
 
     def check_calls_made(self, calls, commands, batches):
         """There were so many commands, and a flush for each of these batches."""
@@ -142,6 +145,26 @@ class Pipelined(PipelineCase):
         self.check_replies(lines, replies)
         self.check_calls_made(calls, commands=5, batches=1)
 
+    def test_three_batches(self):
+        """Three puts, three other commands, and two puts: eight commands, and a flush for each batch."""
+        lines = ["put =a 0001", "put =b 0002", "put =a 0003", "get =a",
+                 "put =a 0004", "delete =b", "swap =a 0004 0005", "get =a", "get =b", "merge",
+                 "put =c 0006", "flush", "put =d 0007", "flush"]
+        replies, calls = self.answers(*lines)
+        first, second = self.acknowledged
+        self.assertEqual(replies, [
+            "accepted 1", "accepted 2", "accepted 3", "value 0003",
+            "accepted 4", "accepted 5", "accepted 6", "value 0005", "absent", "refused 20 BadLine",
+            "accepted 7", f"acknowledged {first}", "accepted 8", f"acknowledged {second}"])
+        self.assertEqual(calls, self.calls)
+
+    def test_more_than_one_read(self):
+        """The server reads 256 KiB at once, and the get sees the last put."""
+        count = min(self.many, 6000)
+        lines = [f"put {'01'.ljust(40, '0')} {it:04x}" for it in range(count)]
+        replies, _ = self.answers(*lines, f"get {'01'.ljust(40, '0')}")
+        self.assertEqual(replies, [f"accepted {it}" for it in range(1, count + 1)] + [f"value {count - 1:04x}"])
+
     def test_flushes_alone(self):
         replies, calls = self.answers("flush", "flush", "get =a", "flush")
         self.assertEqual(replies, ["acknowledged 0", "acknowledged 0", "absent", "acknowledged 0"])
@@ -199,6 +222,8 @@ class Plain(Pipelined):
     """The same lines without the option have the same replies. Each command waits for a flush of its own."""
 
     options, many = (), 500
+    # Each command and each flush has a flush of its own.
+    acknowledged, calls = (7, 8), 18
 
     def check_calls_made(self, calls, commands, batches):
         # A line `flush` is done by its own flush.
@@ -246,6 +271,13 @@ class Flushes(PipelineCase):
 
     def test_the_sync_of_the_rows_fails(self):
         self.check_failure("fdatasync:2:EIO", "a sync: Input/output error (os error 5)")
+
+    def test_batches_behind_a_flush_that_fails(self):
+        server = self.serve("--sessions", 1, env=watching(self, fail="fdatasync:2+:EIO"))
+        lines = ["swap =a 0000 0001", "put =a 0001", "put =b 0002", "flush", "get =a", "put =c 0003", "flush"]
+        due = ["differs", "unsettled 1", "unsettled 2", "refused 5 Device"] + ["refused 9 Failed"] * 3
+        self.assertEqual(self.exchange(self.client(server), lines), due)
+        self.assertEqual(server.ended().status, 0)
 
     def test_the_sync_of_the_commit_bytes_fails(self):
         self.check_failure("fdatasync:3:ENOSPC", "a sync: No space left on device (os error 28)")
