@@ -1,13 +1,11 @@
-// Servers: the replies to a client over a socket, and what threads do at the same time.
+// Servers: the replies to a client over a socket, and what threads do at the same time. The suite from
+// outside shows what needs no Rust.
 
-mod broken;
-mod crowd;
 mod held;
 mod lines;
 mod looks;
 mod lost;
 mod network;
-mod pipelined;
 mod record;
 mod replies;
 mod swaps;
@@ -61,14 +59,6 @@ fn limits_of(sessions: u32, audit: Option<u64>) -> Limits {
         audit,
         idle: None,
         pipeline: false,
-    }
-}
-
-// The same with one flush for all commands of a read.
-fn pipelined_limits_of(sessions: u32, audit: Option<u64>) -> Limits {
-    Limits {
-        pipeline: true,
-        ..limits_of(sessions, audit)
     }
 }
 
@@ -138,16 +128,6 @@ fn served<
     let ended = serve_beside(rt, alloc, disk, limits_of(sessions, None), gate, clients)?;
     let got = ended.got?;
     Ok((got, ended.status, ended.written))
-}
-
-// The replies to these lines of one connection.
-fn asked<
-    D: Disk,
-    R: Net<Listener = TcpListener, Stream = TcpStream> + Clock + Threads + Wait + Sync,
->(rt: &R, alloc: Global, disk: D, lines: &[u8]) -> Result<Served<Vec<u8>>, Fail> {
-    served(rt, alloc, disk, 1, &Open, |addr: SocketAddr| {
-        ask(rt, alloc, addr, lines)
-    })
 }
 
 // A connection whose reads and writes wait for at most half a minute.

@@ -1,8 +1,8 @@
-// A client that asks line by line, and the replies.
+// Background work that a server does for its clients.
 
 use crate::tests::Open;
-use crate::tests::server::{Served, ask, asked, limits_of, serve_beside};
-use silt_device::{Disk, Fill, MemDisk, Stop};
+use crate::tests::server::{Served, ask, limits_of, serve_beside};
+use silt_device::Disk;
 use silt_event::{Layout, Report};
 use silt_fixtures::formatted;
 use silt_recovery::check;
@@ -12,44 +12,6 @@ use std::sync::Wait;
 use std::test::Fail;
 use std::thread::Threads;
 use std::time::Clock;
-
-#[test]
-fn reads_a_write_back(rt: HostRuntime) -> Result<(), Fail> {
-    let alloc = rt.alloc();
-    let lines = b"put =abc 0102\nget =abc\nmerge\nflush";
-    let (got, status, written) = asked(&rt, alloc, formatted(alloc)?, lines)?;
-    assert_eq!(rt;
-        got.as_slice(),
-        b"accepted 1\nvalue 0102\nrefused 20 BadLine\n".as_slice()
-    );
-    assert_eq!(rt; status, 0);
-    assert!(rt; written.as_slice().starts_with(b"opened\nlistening "));
-    Ok(())
-}
-
-// A disk whose fourth write or sync fails, and all calls after it. The fourth is the first sync of
-// the first flush.
-fn failing(alloc: Global) -> Result<MemDisk, Fail> {
-    let mut stops = Vec::new(alloc);
-    stops.push(Stop {
-        k: 4,
-        fill: Fill::Old,
-    })?;
-    Ok(formatted(alloc)?.arm(stops))
-}
-
-#[test]
-fn reports_what_is_not_settled(rt: HostRuntime) -> Result<(), Fail> {
-    let alloc = rt.alloc();
-    let lines =
-        b"put 0100000000000000000000000000000000000000 0102\nflush\nget 0100000000000000000000000000000000000000\n";
-    let (got, _status, _written) = asked(&rt, alloc, failing(alloc)?, lines)?;
-    assert_eq!(rt;
-        got.as_slice(),
-        b"unsettled 1\nrefused 9 Failed\nrefused 9 Failed\n".as_slice()
-    );
-    Ok(())
-}
 
 const FIVE_PUTS: &[u8] = b"put 0100000000000000000000000000000000000000 0001\n\
     put 0200000000000000000000000000000000000000 0002\n\

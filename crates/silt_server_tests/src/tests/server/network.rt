@@ -1,12 +1,11 @@
-// A network that fails: before the port is known, while the server waits for a connection, or from
-// the start.
+// A network that fails before the port is known.
 
 use crate::tests::server::limits_of;
 use crate::tests::{Open, opened};
 use silt_device::Disk;
 use silt_fixtures::formatted;
 use silt_recovery::check;
-use silt_server::{Listens, refuse_network, serve_on};
+use silt_server::{Listens, serve_on};
 use std::alloc::Global;
 use std::io::{self, ErrorKind};
 use std::net::TcpStream;
@@ -59,41 +58,6 @@ fn serve_deaf<D: Disk, R: Threads + Wait + Sync>(
 fn reports_that_its_port_is_not_known(rt: HostRuntime) -> Result<(), Fail> {
     let alloc = rt.alloc();
     let (status, written, is_empty) = serve_deaf(&rt, alloc, formatted(alloc)?, None, None)?;
-    assert_eq!(rt; (status, is_empty), (1, Some(true)));
-    assert_eq!(rt; written.as_slice(), b"opened\nnetwork fault\n".as_slice());
-    Ok(())
-}
-
-#[test]
-fn reports_that_nobody_can_connect(rt: HostRuntime) -> Result<(), Fail> {
-    let alloc = rt.alloc();
-    let (status, written, is_empty) = serve_deaf(
-        &rt,
-        alloc,
-        formatted(alloc)?,
-        Some(7_000),
-        Some(10),
-    )?;
-    assert_eq!(rt; (status, is_empty), (1, Some(true)));
-    assert_eq!(rt;
-        written.as_slice(),
-        b"opened\nlistening 7000\nnetwork fault\n".as_slice()
-    );
-    Ok(())
-}
-
-// The status, what was printed, and whether the store is empty, if there is no network.
-fn refuse<D: Disk>(alloc: Global, disk: D) -> Result<(u8, Vec<u8>, Option<bool>), Fail> {
-    let core = opened(alloc, disk)?;
-    let mut written = Vec::new(alloc);
-    let (disk, status) = refuse_network(core, &mut written);
-    Ok((status?, written, is_empty(alloc, &disk)))
-}
-
-#[test]
-fn refuses_without_a_network(rt: HostRuntime) -> Result<(), Fail> {
-    let alloc = rt.alloc();
-    let (status, written, is_empty) = refuse(alloc, formatted(alloc)?)?;
     assert_eq!(rt; (status, is_empty), (1, Some(true)));
     assert_eq!(rt; written.as_slice(), b"opened\nnetwork fault\n".as_slice());
     Ok(())

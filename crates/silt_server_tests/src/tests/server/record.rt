@@ -1,20 +1,12 @@
-// Sixty-four sessions at once. Each gets the replies of a plain map of its own, all calls are
-// recorded, and the store has what was acknowledged.
+// Sixty-four sessions at once. Each gets the replies of a plain map of its own, and all calls are
+// recorded.
 
 mod kept;
 
-use crate::tests::server::{connected, limits_of, pipelined_limits_of, read_line, serve_beside};
-use crate::tests::{Open, opened};
-use silt_device::{Disk, Geometry};
-use silt_fixtures::formatted_with;
-use silt_server::Limits;
+use crate::tests::server::{connected, read_line};
 use std::alloc::Global;
 use std::io::{self, Write};
-use std::net::{Net, SocketAddr, TcpListener, TcpStream};
-use std::sync::Wait;
-use std::test::Fail;
-use std::thread::Threads;
-use std::time::Clock;
+use std::net::{Net, SocketAddr, TcpStream};
 
 const SESSIONS: u32 = 64;
 
@@ -144,55 +136,4 @@ fn ask_all<R: Net<Stream = TcpStream>>(
     }
     let keys = count_keys(sessions.as_slice());
     Ok(Found { wrong, keys })
-}
-
-// What all sessions found at a server of this disk, its status, and how many entries the store has
-// afterwards.
-fn ask_beside<
-    D: Disk,
-    R: Net<Listener = TcpListener, Stream = TcpStream> + Clock + Threads + Wait + Sync,
->(rt: &R, alloc: Global, disk: D, limits: Limits, rounds: u32) -> Result<(Found, u8, u64), Fail> {
-    let ended = serve_beside(rt, alloc, disk, limits, &Open, |addr: SocketAddr| {
-        ask_all(rt, alloc, addr, rounds)
-    })?;
-    let found = ended.got?;
-    let entries = count_entries(alloc, ended.disk)?;
-    Ok((found, ended.status, entries))
-}
-
-// How many entries the store on this disk has.
-fn count_entries<D: Disk>(alloc: Global, disk: D) -> Result<u64, Fail> {
-    let core = opened(alloc, disk)?;
-    let entries = core.entries(alloc).ok().ok_or("has entries")?;
-    Ok(entries.len() as u64)
-}
-
-// At the end the store has exactly as many keys as its clients have given values to.
-fn keeps_all<R: Net<Listener = TcpListener, Stream = TcpStream> + Clock + Threads + Wait + Sync>(
-    rt: &R,
-    alloc: Global,
-    limits: Limits,
-    rounds: u32,
-) -> Result<bool, Fail> {
-    let geometry = Geometry::new(2, 16, 64, 8, 16, 4000)
-        .ok()
-        .ok_or("in limits")?;
-    let disk = formatted_with(alloc, geometry)?;
-    let (found, status, entries) = ask_beside(rt, alloc, disk, limits, rounds)?;
-    let is_right = (status, found.wrong) == (0, 0) && found.keys > 0;
-    Ok(is_right && entries == u64::from(found.keys))
-}
-
-#[test]
-fn many_sessions(rt: HostRuntime) -> Result<(), Fail> {
-    let limits = limits_of(SESSIONS, Some(400_000));
-    assert!(rt; keeps_all(&rt, rt.alloc(), limits, 1)?);
-    Ok(())
-}
-
-#[test]
-fn many_sessions_that_pipeline(rt: HostRuntime) -> Result<(), Fail> {
-    let limits = pipelined_limits_of(SESSIONS, Some(400_000));
-    assert!(rt; keeps_all(&rt, rt.alloc(), limits, 20)?);
-    Ok(())
 }

@@ -1,8 +1,7 @@
-// Swaps in a batch, and in the lines of a session. A swap that differs is no command: no flush
-// settles it, and no refused flush makes it unsettled.
+// Swaps in a batch. A swap that differs is no command: no flush settles it, and no refused flush
+// makes it unsettled.
 ghost use Rattle.std.specs.Prelude.{◌≡◌};
 
-use crate::tests::server::asked;
 use crate::tests::{Open, opened};
 use silt_desk::{Count, Desk, DeskId, Shared};
 use silt_device::{Disk, Fill, MemDisk, Stop};
@@ -189,18 +188,5 @@ fn differs_where_the_flush_is_refused(rt: HostRuntime) -> Result<(), Fail> {
         Got::Refused(5),
     ];
     assert!(rt; got.as_slice() == due.as_slice());
-    Ok(())
-}
-
-#[test]
-fn answers_swap_lines(rt: HostRuntime) -> Result<(), Fail> {
-    let alloc = rt.alloc();
-    let lines =
-        b"swap =a 0001 0002\nput =a 0001\nswap =a 0001 0002\nswap =a 0001 0003\nget =a\nswap =a 0002 00\ndelete =a\nswap =a 0002 0004\nflush\n";
-    let (got, status, _written) = asked(&rt, alloc, formatted(alloc)?, lines)?;
-    let due =
-        b"differs\naccepted 1\naccepted 2\ndiffers\nvalue 0002\nrefused 22 BadValue\naccepted 3\ndiffers\nacknowledged 3\n";
-    assert_eq!(rt; got.as_slice(), due.as_slice());
-    assert_eq!(rt; status, 0);
     Ok(())
 }
