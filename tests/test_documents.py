@@ -279,6 +279,16 @@ class Examples(Shell):
         self.assertEqual(sorted(printed.splitlines()), sorted(f"{it} ok" for it in self.calls()))
 
 
+class Library(unittest.TestCase):
+    """The example of the library is the text of a test that is proved and run."""
+
+    def test_its_functions(self):
+        shown = next(it for it in blocks_of(TOP / "docs/library.md") if it.language == "rust")
+        functions = "\n".join(shown.lines[shown.lines.index("// A new store on this disk."):])
+        self.assertEqual(functions.count("\nfn "), 2)
+        self.assertIn(f"\n{functions}\n", (TOP / "crates/silt_tests/src/library.rt").read_text())
+
+
 class Parsing(unittest.TestCase):
     """How a document is read."""
 

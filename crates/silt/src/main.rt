@@ -23,8 +23,6 @@
 mod listener;
 mod program;
 mod service;
-#[cfg(test)]
-mod tests;
 
 use program::{program, refuse_words, status_of};
 use silt_device::FileDisks;

@@ -19,6 +19,8 @@ mod first_steps;
 mod formats;
 #[cfg(test)]
 mod kept;
+#[cfg(test)]
+mod library;
 mod life_lines;
 #[cfg(test)]
 mod lines;

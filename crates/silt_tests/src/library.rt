@@ -10,7 +10,7 @@ fn make<D: Disk>(alloc: Global, disk: D, geometry: Geometry) -> Option<Core<D>> 
     Core::open(alloc, disk).ok()
 }
 
-// A value that is put, flushed and found.
+// A value that is put, settled and found.
 fn keep_one<D: Disk>(alloc: Global, store: &mut Core<D>) -> Option<Vec<u8>> {
     let key = Key([7; 20]);
     let value = vec![in alloc; 1u8; store.geometry().value_len() as usize].ok()?;

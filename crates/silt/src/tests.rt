@@ -1,3 +1,0 @@
-// The example of docs/library.md.
-
-mod library;
