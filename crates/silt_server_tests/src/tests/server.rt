@@ -1,55 +1,34 @@
-// Servers: the replies to a client over a socket, and what threads do at the same time. The suite from
-// outside shows what needs no Rust.
+// Servers: the replies to clients over sockets, and what threads do at the same time.
+//
+// What needs no Rust of a server is in the suite from outside.
 
 mod held;
-mod lines;
 mod looks;
 mod lost;
 mod network;
 mod record;
 mod replies;
 mod swaps;
+mod work;
 
-use crate::tests::Open;
+use crate::tests::opened;
 use silt_desk::Gate;
 use silt_device::{Disk, Geometry, MemDisk};
 use silt_fixtures::formatted_with;
-use silt_server::{Limits, Listens, serve_on};
+use silt_server::{Limits, serve_on};
 use silt_store_set::Core;
 use std::alloc::Global;
-use std::io::{self, ErrorKind, Read, Write};
-use std::net::{Net, Shutdown, SocketAddr, TcpListener, TcpStream};
+use std::io::{self, Read, Write};
+use std::net::{Net, SocketAddr, TcpListener, TcpStream};
 use std::sync::Wait;
 use std::test::Fail;
 use std::thread::{self, Threads};
-use std::time::{Clock, Duration};
+use std::time::Duration;
 
-/// A listener that waits for a connection for at most a million turns.
-#[derive(Drop)]
-struct Patient<'a, R: Clock> {
-    pub rt: &'a R,
-    pub listener: TcpListener,
-}
-
-impl<R: Clock> Listens for Patient<'_, R> {
-    ghost has_port = { λ listener port. Unit {0} };
-
-    fn port(&self) -> io::Result<u16> {
-        Ok(self.listener.local_addr()?.port())
-    }
-
-    fn wait(&self) -> io::Result<TcpStream> {
-        self.listener.set_nonblocking(true)?;
-        for _ in 0..1_000_000u32 {
-            match self.listener.accept() {
-                Ok((stream, _)) => return Ok(stream),
-                Err(error) if error.kind() == ErrorKind::WouldBlock => {}
-                Err(error) => return Err(error),
-            }
-            thread::sleep(self.rt, Duration::from_micros(10));
-        }
-        Err(io::Error::from(ErrorKind::TimedOut))
-    }
+/// The clients of a server.
+trait Clients: Sync {
+    /// Asks at this address, and appends the replies.
+    fn ask(&self, addr: SocketAddr, got: &mut Vec<u8>) -> io::Result<()>;
 }
 
 // Limits of this many sessions and recorded calls. A silent connection is never ended.
@@ -70,64 +49,76 @@ fn roomy(alloc: Global) -> Result<MemDisk, Fail> {
     formatted_with(alloc, geometry)
 }
 
-/// What a server and its clients return.
-#[derive(Drop)]
-struct Ended<D: Disk, X: Drop> {
-    pub disk: D,
-    pub status: u8,
-    pub written: Vec<u8>,
-    pub got: X,
+// Lets the clients ask the server of this listener. If that fails, some replies are missing.
+fn ask_at<C: Clients>(listener: &TcpListener, clients: &C, got: &mut Vec<u8>) {
+    if let Ok(addr) = listener.local_addr() {
+        let _ = clients.ask(addr, got);
+    }
 }
 
-// Runs a server within these limits in one thread, and its clients in another, until both are done.
-fn serve_beside<
-    D: Disk,
-    G: Gate + Sync,
-    X: Drop,
-    C: FnOnce(SocketAddr) -> X,
-    R: Net<Listener = TcpListener, Stream = TcpStream> + Clock + Threads + Wait + Sync,
->(rt: &R, alloc: Global, disk: D, limits: Limits, gate: &G, clients: C) -> Result<Ended<D, X>, Fail>
-    requires { C.IsAlwaysCallable clients }
-{
-    let listener = TcpListener::bind(rt, ("127.0.0.1", 0u16))?;
-    let addr = listener.local_addr()?;
-    let listener = Patient { rt, listener };
-    let mut written = Vec::new(alloc);
-    let (served, got) = thread::join(
+// Serves a store within these limits in one thread, and lets clients ask in another, until both are
+// done. Returns the store's disk and the status.
+fn serve_beside<D: Disk, G: Gate + Sync, C: Clients, R: Threads + Wait + Sync>(
+    rt: &R,
+    alloc: Global,
+    listener: &TcpListener,
+    core: Core<D>,
+    limits: Limits,
+    gate: &G,
+    clients: &C,
+    written: &mut Vec<u8>,
+    got: &mut Vec<u8>,
+) -> (D, io::Result<u8>) {
+    let (ended, ()) = thread::join(
         rt,
-        || -> Option<(D, io::Result<u8>)> {
-            let core = Core::open(alloc, disk).ok()?;
-            Some(serve_on(rt, alloc, &listener, core, limits, gate, &mut written))
-        },
-        move || -> X
-            requires { C.IsAlwaysCallable clients }
-        { clients(addr) },
+        || -> (D, io::Result<u8>) { serve_on(rt, alloc, listener, core, limits, gate, written) },
+        || ask_at(listener, clients, got),
     );
-    let (disk, status) = served.ok_or("opens")?;
-    Ok(Ended {
-        disk,
-        status: status?,
-        written,
-        got,
-    })
+    ended
 }
 
-/// What the clients got, the server's status, and what it printed.
-type Served<X> = (X, u8, Vec<u8>);
-
-// Runs a server and its clients as `serve_beside` does, and drops the store.
-fn served<
+// Whether the clients of a server get these replies, and the server ends well. It serves the store
+// on this disk in so many sessions.
+fn is_served<
     D: Disk,
     G: Gate + Sync,
-    X: Drop,
-    C: FnOnce(SocketAddr) -> io::Result<X>,
-    R: Net<Listener = TcpListener, Stream = TcpStream> + Clock + Threads + Wait + Sync,
->(rt: &R, alloc: Global, disk: D, sessions: u32, gate: &G, clients: C) -> Result<Served<X>, Fail>
-    requires { C.IsAlwaysCallable clients }
-{
-    let ended = serve_beside(rt, alloc, disk, limits_of(sessions, None), gate, clients)?;
-    let got = ended.got?;
-    Ok((got, ended.status, ended.written))
+    C: Clients,
+    R: Net<Listener = TcpListener, Stream = TcpStream> + Threads + Wait + Sync,
+>(
+    rt: &R,
+    alloc: Global,
+    disk: D,
+    sessions: u32,
+    gate: &G,
+    clients: &C,
+    due: &[u8],
+) -> Result<bool, Fail> {
+    let listener = TcpListener::bind(rt, ("127.0.0.1", 0u16))?;
+    let core = opened(alloc, disk)?;
+    let limits = limits_of(sessions, None);
+    let mut written = Vec::new(alloc);
+    let mut got = Vec::new(alloc);
+    let (disk, status) = serve_beside(
+        rt,
+        alloc,
+        &listener,
+        core,
+        limits,
+        gate,
+        clients,
+        &mut written,
+        &mut got,
+    );
+    drop(disk);
+    Ok(is_zero(status) && got.as_slice() == due)
+}
+
+// Whether a server ended with status 0.
+fn is_zero(status: io::Result<u8>) -> bool {
+    match status {
+        Ok(status) => status == 0,
+        Err(_) => false,
+    }
 }
 
 // A connection whose reads and writes wait for at most half a minute.
@@ -138,40 +129,30 @@ fn connected<R: Net<Stream = TcpStream>>(rt: &R, addr: SocketAddr) -> io::Result
     Ok(stream)
 }
 
-// All replies to these lines of one connection, until the server closes it.
-fn ask<R: Net<Stream = TcpStream>>(
-    rt: &R,
-    alloc: Global,
-    addr: SocketAddr,
-    lines: &[u8],
-) -> io::Result<Vec<u8>> {
-    let mut stream = connected(rt, addr)?;
-    stream.write_all(lines)?;
-    stream.shutdown(Shutdown::Write)?;
-    let mut got = Vec::new(alloc);
-    stream.read_to_end(&mut got)?;
-    Ok(got)
-}
-
-// The next line of the server with its line feed, or the part of it that came before the connection
-// ended.
-fn read_line(alloc: Global, stream: &mut TcpStream) -> io::Result<Vec<u8>> {
-    let mut line = Vec::new(alloc);
+// Appends the next so many lines of a server with their line feeds, or what comes before the
+// connection ends.
+fn read_lines(stream: &mut TcpStream, got: &mut Vec<u8>, count: u32) -> io::Result<()> {
+    let mut left = count;
     let mut byte = [0u8; 1];
     for _ in 0..20_000u32 {
-        if stream.read(&mut byte)? == 0 {
+        if left == 0 || stream.read(&mut byte)? == 0 {
             break;
         }
-        line.push(byte[0])?;
+        got.push(byte[0])?;
         if byte[0] == b'\n' {
-            break;
+            left = left.saturating_sub(1);
         }
     }
-    Ok(line)
+    Ok(())
 }
 
-// Sends one line, and returns the reply.
-fn ask_line(alloc: Global, stream: &mut TcpStream, line: &[u8]) -> io::Result<Vec<u8>> {
-    stream.write_all(line)?;
-    read_line(alloc, stream)
+// Sends so many lines, and appends the replies.
+fn ask_lines(
+    stream: &mut TcpStream,
+    lines: &[u8],
+    got: &mut Vec<u8>,
+    count: u32,
+) -> io::Result<()> {
+    stream.write_all(lines)?;
+    read_lines(stream, got, count)
 }

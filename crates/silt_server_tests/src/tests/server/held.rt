@@ -1,15 +1,17 @@
 // Clients get replies between two steps of the converter.
 
 use crate::tests::reaches;
-use crate::tests::server::{ask_line, connected, served};
+use crate::tests::server::{Clients, ask_lines, connected, is_served};
 use silt_desk::{Gate, Spot};
 use silt_device::Disk;
 use silt_fixtures::formatted;
 use std::alloc::Global;
 use std::io;
-use std::net::{Net, SocketAddr, TcpStream};
+use std::net::{Net, SocketAddr, TcpListener, TcpStream};
+use std::sync::Wait;
 use std::sync::atomic::{AtomicU64, Ordering};
 use std::test::Fail;
+use std::thread::Threads;
 use std::time::Clock;
 
 /// What happened so far.
@@ -22,12 +24,10 @@ struct Marks {
 }
 
 impl Marks {
-    fn new() -> Marks {
-        Marks {
-            hash_writes: AtomicU64::new(0),
-            held: AtomicU64::new(0),
-            opened: AtomicU64::new(0),
-            missed: AtomicU64::new(0),
+    // Waits until this happened, and notes it if it did not.
+    fn wait_for<R: Clock>(&self, rt: &R, mark: &AtomicU64) {
+        if !reaches(rt, mark, 1) {
+            self.missed.store(1, Ordering::SeqCst);
         }
     }
 }
@@ -41,13 +41,12 @@ struct Hold<'a, R: Clock> {
 
 impl<R: Clock> Gate for Hold<'_, R> {
     fn pass(&self, spot: Spot) {
-        if spot != Spot::Converter || self.marks.hash_writes.load(Ordering::SeqCst) == 0 {
+        let marks = self.marks;
+        if spot != Spot::Converter || marks.hash_writes.load(Ordering::SeqCst) == 0 {
             return;
         }
-        if self.marks.held.fetch_add(1, Ordering::SeqCst) == 0
-            && !reaches(self.rt, &self.marks.opened, 1)
-        {
-            self.marks.missed.store(1, Ordering::SeqCst);
+        if marks.held.fetch_add(1, Ordering::SeqCst) == 0 {
+            marks.wait_for(self.rt, &marks.opened);
         }
     }
 }
@@ -92,64 +91,60 @@ impl<D: Disk> Disk for Marked<'_, D> {
     }
 }
 
-const FIVE_PUTS: [&[u8]; 5] = [
-    b"put 0100000000000000000000000000000000000000 0001\n",
-    b"put 0200000000000000000000000000000000000000 0002\n",
-    b"put 0300000000000000000000000000000000000000 0003\n",
-    b"put 0400000000000000000000000000000000000000 0004\n",
-    b"put 0500000000000000000000000000000000000000 0005\n",
-];
+const FIVE_PUTS: &[u8] = b"put 0100000000000000000000000000000000000000 0001\n\
+    put 0200000000000000000000000000000000000000 0002\n\
+    put 0300000000000000000000000000000000000000 0003\n\
+    put 0400000000000000000000000000000000000000 0004\n\
+    put 0500000000000000000000000000000000000000 0005\n";
 
-const THEN: [&[u8]; 3] = [
-    b"put 0600000000000000000000000000000000000000 0006\n",
-    b"get 0600000000000000000000000000000000000000\n",
-    b"flush\n",
-];
+const THEN: &[u8] = b"put 0600000000000000000000000000000000000000 0006\n\
+    get 0600000000000000000000000000000000000000\n\
+    flush\n";
 
-// Five puts; then, while the converter is held, a put, a get and a flush; and only then it is freed. Whether it was held in time.
-fn ask_while_held<R: Net<Stream = TcpStream> + Clock>(
-    rt: &R,
-    alloc: Global,
-    addr: SocketAddr,
-    marks: &Marks,
-) -> io::Result<(bool, Vec<u8>)> {
-    let mut stream = connected(rt, addr)?;
-    let mut got = Vec::new(alloc);
-    for line in FIVE_PUTS.iter() {
-        got.extend_from_slice(ask_line(alloc, &mut stream, line)?.as_slice())?;
+const DUE: &[u8] = b"accepted 1\naccepted 2\naccepted 3\naccepted 4\naccepted 5\n\
+    accepted 6\nvalue 0006\nacknowledged 6\n";
+
+/// A client that sends five puts; then, while the converter is held, a put, a get and a flush. Only
+/// then it frees the converter.
+#[derive(Drop)]
+struct AskWhileHeld<'a, R> {
+    rt: &'a R,
+    marks: &'a Marks,
+}
+
+impl<R: Net<Stream = TcpStream> + Clock + Sync> Clients for AskWhileHeld<'_, R> {
+    fn ask(&self, addr: SocketAddr, got: &mut Vec<u8>) -> io::Result<()> {
+        let mut stream = connected(self.rt, addr)?;
+        ask_lines(&mut stream, FIVE_PUTS, got, 5)?;
+        self.marks.wait_for(self.rt, &self.marks.held);
+        ask_lines(&mut stream, THEN, got, 3)?;
+        self.marks.opened.store(1, Ordering::SeqCst);
+        Ok(())
     }
-    let held = reaches(rt, &marks.held, 1);
-    for line in THEN.iter() {
-        got.extend_from_slice(ask_line(alloc, &mut stream, line)?.as_slice())?;
-    }
-    marks.opened.store(1, Ordering::SeqCst);
-    Ok((held, got))
+}
+
+// Whether the replies are those while the converter is held.
+fn is_served_while_held<
+    R: Net<Listener = TcpListener, Stream = TcpStream> + Clock + Threads + Wait + Sync,
+>(rt: &R, alloc: Global, marks: &Marks) -> Result<bool, Fail> {
+    let disk = Marked {
+        disk: formatted(alloc)?,
+        marks,
+    };
+    let gate = Hold { rt, marks };
+    let clients = AskWhileHeld { rt, marks };
+    is_served(rt, alloc, disk, 1, &gate, &clients, DUE)
 }
 
 #[test]
 fn held_server(rt: HostRuntime) -> Result<(), Fail> {
-    let alloc = rt.alloc();
-    let marks = Marks::new();
-    let disk = Marked {
-        disk: formatted(alloc)?,
-        marks: &marks,
+    let marks = Marks {
+        hash_writes: AtomicU64::new(0),
+        held: AtomicU64::new(0),
+        opened: AtomicU64::new(0),
+        missed: AtomicU64::new(0),
     };
-    let gate = Hold {
-        rt: &rt,
-        marks: &marks,
-    };
-    let ((held, got), _status, _written) = served(
-        &rt,
-        alloc,
-        disk,
-        1,
-        &gate,
-        |addr: SocketAddr| { ask_while_held(&rt, alloc, addr, &marks) },
-    )?;
-    let due =
-        b"accepted 1\naccepted 2\naccepted 3\naccepted 4\naccepted 5\naccepted 6\nvalue 0006\nacknowledged 6\n";
-    assert_eq!(rt; got.as_slice(), due.as_slice());
-    assert!(rt; held);
-    assert_eq!(rt; marks.missed.load(Ordering::SeqCst), 0);
+    assert!(rt; is_served_while_held(&rt, rt.alloc(), &marks)?);
+    assert!(rt; marks.missed.load(Ordering::SeqCst) == 0);
     Ok(())
 }

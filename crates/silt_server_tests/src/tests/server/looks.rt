@@ -1,37 +1,35 @@
 // Gets of two sessions are looked up at the same time.
 
-use crate::tests::reaches;
-use crate::tests::server::{ask_line, connected, read_line, served};
-use silt_desk::{Gate, Spot};
+use crate::tests::server::{Clients, ask_lines, connected, is_served, read_lines};
+use crate::tests::{Open, reaches};
 use silt_device::Disk;
 use silt_fixtures::formatted;
 use std::alloc::Global;
 use std::io::{self, Write};
-use std::net::{Net, SocketAddr, TcpStream};
+use std::net::{Net, SocketAddr, TcpListener, TcpStream};
+use std::sync::Wait;
 use std::sync::atomic::{AtomicU64, Ordering};
 use std::test::Fail;
+use std::thread::Threads;
 use std::time::Clock;
 
-/// How many reads have begun since they were armed, whether the gets have replies, and whether anyone waited in vain.
+/// How many reads have begun since they were armed, and whether one waited in vain.
 #[derive(Drop)]
 struct Reads {
     armed: AtomicU64,
     begun: AtomicU64,
-    answered: AtomicU64,
     missed: AtomicU64,
 }
 
-/// Holds the converter and the merger until both gets have replies.
-#[derive(Drop)]
-struct Hold<'a, R: Clock> {
-    rt: &'a R,
-    reads: &'a Reads,
-}
-
-impl<R: Clock> Gate for Hold<'_, R> {
-    fn pass(&self, spot: Spot) {
-        if spot != Spot::Writer && !reaches(self.rt, &self.reads.answered, 2) {
-            self.reads.missed.store(1, Ordering::SeqCst);
+impl Reads {
+    // A read has begun. If they are armed it waits for a second one.
+    fn meet<R: Clock>(&self, rt: &R) {
+        if self.armed.load(Ordering::SeqCst) == 0 {
+            return;
+        }
+        self.begun.fetch_add(1, Ordering::SeqCst);
+        if !reaches(rt, &self.begun, 2) {
+            self.missed.store(1, Ordering::SeqCst);
         }
     }
 }
@@ -62,12 +60,7 @@ impl<D: Disk, R: Clock + Send + Sync> Disk for Meeting<'_, D, R> {
     }
 
     fn read(&self, at: u64, buf: &mut [u8]) -> Result<(), D::Fault> {
-        if self.reads.armed.load(Ordering::SeqCst) == 1 {
-            self.reads.begun.fetch_add(1, Ordering::SeqCst);
-            if !reaches(self.rt, &self.reads.begun, 2) {
-                self.reads.missed.store(1, Ordering::SeqCst);
-            }
-        }
+        self.reads.meet(self.rt);
         self.disk.read(at, buf)
     }
 
@@ -80,51 +73,57 @@ impl<D: Disk, R: Clock + Send + Sync> Disk for Meeting<'_, D, R> {
     }
 }
 
-// A put by one session. Then two sessions ask for the key at once.
-fn ask_both<R: Net<Stream = TcpStream>>(
-    rt: &R,
-    alloc: Global,
-    addr: SocketAddr,
+/// A client that puts a key. Then it and another one ask for the key at once.
+#[derive(Drop)]
+struct AskBoth<'a, R> {
+    rt: &'a R,
+    reads: &'a Reads,
+}
+
+impl<R: Net<Stream = TcpStream> + Sync> Clients for AskBoth<'_, R> {
+    fn ask(&self, addr: SocketAddr, got: &mut Vec<u8>) -> io::Result<()> {
+        let mut first = connected(self.rt, addr)?;
+        let mut second = connected(self.rt, addr)?;
+        ask_both(&mut first, &mut second, self.reads, got)
+    }
+}
+
+fn ask_both(
+    first: &mut TcpStream,
+    second: &mut TcpStream,
     reads: &Reads,
-) -> io::Result<Vec<u8>> {
-    let mut first = connected(rt, addr)?;
-    let mut second = connected(rt, addr)?;
-    let mut got = ask_line(alloc, &mut first, b"put =a 0102\n")?;
+    got: &mut Vec<u8>,
+) -> io::Result<()> {
+    ask_lines(first, b"put =a 0102\n", got, 1)?;
     reads.armed.store(1, Ordering::SeqCst);
     first.write_all(b"get =a\n")?;
     second.write_all(b"get =a\n")?;
-    got.extend_from_slice(read_line(alloc, &mut first)?.as_slice())?;
-    reads.answered.fetch_add(1, Ordering::SeqCst);
-    got.extend_from_slice(read_line(alloc, &mut second)?.as_slice())?;
-    reads.answered.fetch_add(1, Ordering::SeqCst);
-    Ok(got)
+    read_lines(first, got, 1)?;
+    read_lines(second, got, 1)
+}
+
+// Whether both get the value. There is no background work, so no other thread reads.
+fn both_find<
+    R: Net<Listener = TcpListener, Stream = TcpStream> + Clock + Threads + Wait + Send + Sync,
+>(rt: &R, alloc: Global, reads: &Reads) -> Result<bool, Fail> {
+    let disk = Meeting {
+        disk: formatted(alloc)?,
+        rt,
+        reads,
+    };
+    let clients = AskBoth { rt, reads };
+    let due = b"accepted 1\nvalue 0102\nvalue 0102\n";
+    is_served(rt, alloc, disk, 2, &Open, &clients, due)
 }
 
 #[test]
 fn two_looks(rt: HostRuntime) -> Result<(), Fail> {
-    let alloc = rt.alloc();
     let reads = Reads {
         armed: AtomicU64::new(0),
         begun: AtomicU64::new(0),
-        answered: AtomicU64::new(0),
         missed: AtomicU64::new(0),
     };
-    let disk = Meeting {
-        disk: formatted(alloc)?,
-        rt: &rt,
-        reads: &reads,
-    };
-    let gate = Hold {
-        rt: &rt,
-        reads: &reads,
-    };
-    let (got, _status, _written) = served(&rt, alloc, disk, 2, &gate, |addr: SocketAddr| {
-        ask_both(&rt, alloc, addr, &reads)
-    })?;
-    assert_eq!(rt;
-        got.as_slice(),
-        b"accepted 1\nvalue 0102\nvalue 0102\n".as_slice()
-    );
-    assert_eq!(rt; reads.missed.load(Ordering::SeqCst), 0);
+    assert!(rt; both_find(&rt, rt.alloc(), &reads)?);
+    assert!(rt; reads.missed.load(Ordering::SeqCst) == 0);
     Ok(())
 }

@@ -6,9 +6,36 @@ use silt_server::{AskBy, Asking, Client, Outlet, Unanswered};
 use silt_wire::{SessionEnd, session};
 use std::alloc::Global;
 use std::io::{self, Read};
-use std::net::{Net, Shutdown, TcpListener, TcpStream};
+use std::net::{Net, TcpListener, TcpStream};
 use std::sync::atomic::AtomicU64;
 use std::test::Fail;
+
+/// What comes back for the events that a session asks together.
+#[derive(Clone, Copy)]
+enum Back {
+    /// So many replies that no key has a value.
+    Absent(usize),
+    Nothing(Unanswered),
+}
+
+// What comes back, as the session gets it.
+fn replies_of(alloc: Global, back: Back) -> Result<Vec<Reply<()>>, Unanswered> {
+    match back {
+        Back::Absent(count) => absent(alloc, count),
+        Back::Nothing(why) => Err(why),
+    }
+}
+
+// So many replies that no key has a value.
+fn absent(alloc: Global, count: usize) -> Result<Vec<Reply<()>>, Unanswered> {
+    let mut replies = Vec::new(alloc);
+    for _ in 0..count {
+        if replies.push(Reply::Absent).is_err() {
+            return Err(Unanswered::NoMemory);
+        }
+    }
+    Ok(replies)
+}
 
 // Two ends of one connection.
 fn both_ends<R: Net<Listener = TcpListener, Stream = TcpStream>>(
@@ -31,78 +58,73 @@ fn end_of<A: Asking>(alloc: Global, stream: &TcpStream, asking: A, lines: &[u8])
     session(alloc, 2, &mut reader, &mut outlet, &mut client)
 }
 
-// How the session ends, and the bytes that the other end of the connection got.
-fn sent<A: Asking, R: Net<Listener = TcpListener, Stream = TcpStream>>(
-    rt: &R,
-    alloc: Global,
-    asking: A,
-    lines: &[u8],
-) -> io::Result<(SessionEnd, Vec<u8>)>
-    requires { A.can_ask asking }
-{
-    let (mut near, far) = both_ends(rt)?;
-    let end = end_of(alloc, &far, asking, lines);
-    far.shutdown(Shutdown::Both)?;
-    let mut got = Vec::new(alloc);
-    near.read_to_end(&mut got)?;
-    Ok((end, got))
+// How a session ends at this end of a connection, which is then closed, if this comes back.
+fn end_with(alloc: Global, stream: TcpStream, back: Back, lines: &[u8]) -> SessionEnd {
+    let ask = |_events: Vec<Event>| -> Result<Vec<Reply<()>>, Unanswered> {
+        replies_of(alloc, back)
+    };
+    end_of(alloc, &stream, AskBy { ask }, lines)
 }
 
-// The reply that no key has a value to each of so many events.
-fn absent(alloc: Global, count: usize) -> Result<Vec<Reply<()>>, Unanswered> {
-    let mut replies = Vec::new(alloc);
-    for _ in 0..count {
-        if replies.push(Reply::Absent).is_err() {
-            return Err(Unanswered::NoMemory);
-        }
-    }
-    Ok(replies)
+// How the session ends if this comes back. Appends the bytes that the other end of the connection
+// gets.
+fn sent<R: Net<Listener = TcpListener, Stream = TcpStream>>(
+    rt: &R,
+    alloc: Global,
+    back: Back,
+    lines: &[u8],
+    got: &mut Vec<u8>,
+) -> io::Result<SessionEnd> {
+    let (mut near, far) = both_ends(rt)?;
+    let end = end_with(alloc, far, back, lines);
+    near.read_to_end(got)?;
+    Ok(end)
+}
+
+// Whether the session ends so, and its client gets these bytes.
+fn ends_so<R: Net<Listener = TcpListener, Stream = TcpStream>>(
+    rt: &R,
+    alloc: Global,
+    back: Back,
+    lines: &[u8],
+    due: (SessionEnd, &[u8]),
+) -> io::Result<bool> {
+    let mut got = Vec::new(alloc);
+    let end = sent(rt, alloc, back, lines, &mut got)?;
+    Ok(end == due.0 && got.as_slice() == due.1)
 }
 
 const TWO_GETS: &[u8] = b"get =a\nget =b\n";
 
 #[test]
 fn sends_nothing_once_a_reply_did_not_come(rt: HostRuntime) -> Result<(), Fail> {
-    let lines = b"put =a 0102\nget =a\n".as_slice();
-    let ask = |_events: Vec<Event>| -> Result<Vec<Reply<()>>, Unanswered> { Err(Unanswered::Lost) };
-    let (end, got) = sent(&rt, rt.alloc(), AskBy { ask }, lines)?;
-    assert_eq!(rt; (end == SessionEnd::WriteFault, got.len()), (true, 0));
+    let back = Back::Nothing(Unanswered::Lost);
+    let due = (SessionEnd::WriteFault, b"".as_slice());
+    assert!(rt; ends_so(&rt, rt.alloc(), back, b"put =a 0102\nget =a\n", due)?);
     Ok(())
 }
 
 #[test]
 fn sends_the_replies_that_come(rt: HostRuntime) -> Result<(), Fail> {
-    let alloc = rt.alloc();
-    let ask = |events: Vec<Event>| -> Result<Vec<Reply<()>>, Unanswered> {
-        absent(alloc, events.len())
-    };
-    let (end, got) = sent(&rt, alloc, AskBy { ask }, TWO_GETS)?;
-    assert_eq!(rt;
-        (end == SessionEnd::End, got.as_slice()),
-        (true, b"absent\nabsent\n".as_slice())
-    );
+    let due = (SessionEnd::End, b"absent\nabsent\n".as_slice());
+    assert!(rt; ends_so(&rt, rt.alloc(), Back::Absent(2), TWO_GETS, due)?);
     Ok(())
 }
 
 #[test]
 fn sends_nothing_if_too_few_replies_come(rt: HostRuntime) -> Result<(), Fail> {
-    let alloc = rt.alloc();
-    let ask = |_events: Vec<Event>| -> Result<Vec<Reply<()>>, Unanswered> { absent(alloc, 1) };
-    let (end, got) = sent(&rt, alloc, AskBy { ask }, TWO_GETS)?;
-    assert_eq!(rt; (end == SessionEnd::WriteFault, got.len()), (true, 0));
+    let due = (SessionEnd::WriteFault, b"".as_slice());
+    assert!(rt; ends_so(&rt, rt.alloc(), Back::Absent(1), TWO_GETS, due)?);
     Ok(())
 }
 
 #[test]
 fn goes_on_if_memory_runs_out(rt: HostRuntime) -> Result<(), Fail> {
-    let alloc = rt.alloc();
-    let ask = |_events: Vec<Event>| -> Result<Vec<Reply<()>>, Unanswered> {
-        Err(Unanswered::NoMemory)
-    };
-    let (end, got) = sent(&rt, alloc, AskBy { ask }, TWO_GETS)?;
-    assert_eq!(rt;
-        (end == SessionEnd::End, got.as_slice()),
-        (true, b"refused 6 NoMemory\nrefused 6 NoMemory\n".as_slice())
+    let back = Back::Nothing(Unanswered::NoMemory);
+    let due = (
+        SessionEnd::End,
+        b"refused 6 NoMemory\nrefused 6 NoMemory\n".as_slice(),
     );
+    assert!(rt; ends_so(&rt, rt.alloc(), back, TWO_GETS, due)?);
     Ok(())
 }

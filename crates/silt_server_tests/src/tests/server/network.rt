@@ -1,9 +1,9 @@
 // A network that fails before the port is known.
 
+use crate::tests::Open;
 use crate::tests::server::limits_of;
-use crate::tests::{Open, opened};
 use silt_device::Disk;
-use silt_fixtures::formatted;
+use silt_fixtures::opened;
 use silt_recovery::check;
 use silt_server::{Listens, serve_on};
 use std::alloc::Global;
@@ -13,17 +13,15 @@ use std::sync::Wait;
 use std::test::Fail;
 use std::thread::Threads;
 
-/// A listener at this port, if there is one, to which nobody can connect.
+/// A listener without a port, to which nobody can connect.
 #[derive(Drop)]
-struct Deaf {
-    port: Option<u16>,
-}
+struct Portless;
 
-impl Listens for Deaf {
+impl Listens for Portless {
     ghost has_port = { λ listener port. Unit {0} };
 
     fn port(&self) -> io::Result<u16> {
-        self.port.ok_or(io::Error::from(ErrorKind::NotConnected))
+        Err(io::Error::from(ErrorKind::NotConnected))
     }
 
     fn wait(&self) -> io::Result<TcpStream> {
@@ -32,33 +30,40 @@ impl Listens for Deaf {
 }
 
 // Whether an empty store is on the disk.
-fn is_empty<D: Disk>(alloc: Global, disk: &D) -> Option<bool> {
-    let report = check(alloc, disk).ok()?;
-    Some((report.generation, report.active_rows, report.charge) == (0, 0, 0))
+fn is_empty<D: Disk>(alloc: Global, disk: &D) -> bool {
+    match check(alloc, disk) {
+        Ok(report) => (report.generation, report.active_rows, report.charge) == (0, 0, 0),
+        Err(_) => false,
+    }
 }
 
-// Serves the store on this disk at a port to which nobody can connect. Returns the status, what was
-// printed, and whether the store is empty.
-fn serve_deaf<D: Disk, R: Threads + Wait + Sync>(
+// Serves an empty store without a port. Returns the status, and whether the store is still empty.
+fn serve_portless<R: Threads + Wait + Sync>(
     rt: &R,
     alloc: Global,
-    disk: D,
-    port: Option<u16>,
-    audit: Option<u64>,
-) -> Result<(u8, Vec<u8>, Option<bool>), Fail> {
-    let core = opened(alloc, disk)?;
-    let mut written = Vec::new(alloc);
-    let deaf = Deaf { port };
-    let limits = limits_of(1, audit);
-    let (disk, status) = serve_on(rt, alloc, &deaf, core, limits, &Open, &mut written);
-    Ok((status?, written, is_empty(alloc, &disk)))
+    written: &mut Vec<u8>,
+) -> Result<(u8, bool), Fail> {
+    let core = opened(alloc)?;
+    let (disk, status) = serve_on(
+        rt,
+        alloc,
+        &Portless,
+        core,
+        limits_of(1, None),
+        &Open,
+        written,
+    );
+    let is_empty = is_empty(alloc, &disk);
+    drop(disk);
+    Ok((status?, is_empty))
 }
 
 #[test]
 fn reports_that_its_port_is_not_known(rt: HostRuntime) -> Result<(), Fail> {
     let alloc = rt.alloc();
-    let (status, written, is_empty) = serve_deaf(&rt, alloc, formatted(alloc)?, None, None)?;
-    assert_eq!(rt; (status, is_empty), (1, Some(true)));
-    assert_eq!(rt; written.as_slice(), b"opened\nnetwork fault\n".as_slice());
+    let mut written = Vec::new(alloc);
+    let found = serve_portless(&rt, alloc, &mut written)?;
+    assert!(rt; found == (1, true));
+    assert!(rt; written.as_slice() == b"opened\nnetwork fault\n".as_slice());
     Ok(())
 }

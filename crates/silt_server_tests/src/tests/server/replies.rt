@@ -1,55 +1,78 @@
 // The replies of jobs: who sends them, and that all arrive.
 
-use crate::tests::server::{Ended, connected, limits_of, read_line, roomy, serve_beside};
+use crate::tests::server::{Clients, connected, is_served, read_lines, roomy};
 use crossbeam_channel::{Receiver, Sender};
 use silt_desk::{Gate, Spot};
 use silt_fixtures::reaches;
 use silt_server::{Job, Request, Task, send_replies};
 use std::alloc::{AllocError, Global};
 use std::io::{self, Write};
-use std::net::{Net, SocketAddr, TcpStream};
+use std::net::{Net, SocketAddr, TcpListener, TcpStream};
 use std::sync::Wait;
 use std::sync::atomic::{AtomicU64, Ordering};
 use std::test::Fail;
-use std::thread;
+use std::thread::{self, Threads};
 use std::time::{Clock, Duration};
 
 /// Jobs, and where the replies of each come.
-type JobsAndWays = (Vec<Job>, Vec<Receiver<Vec<Task>>>);
+#[derive(Drop)]
+struct JobsAndWays {
+    jobs: Vec<Job>,
+    ways: Vec<Receiver<Vec<Task>>>,
+}
 
-// A job of so many flushes, and where its replies come.
-fn flushes(alloc: Global, count: usize) -> Result<(Job, Receiver<Vec<Task>>), AllocError> {
+// The tasks of so many flushes.
+fn flushes(alloc: Global, count: usize) -> Result<Vec<Task>, AllocError> {
     let mut tasks = Vec::new(alloc);
     for _ in 0..count {
         tasks.push(Task::new(Request::Flush))?;
     }
-    let (replies, way) = crossbeam_channel::bounded(alloc, 1)?;
-    Ok((Job { tasks, replies }, way))
+    Ok(tasks)
 }
 
-// So many jobs. The first has no task, and each further one has one task more.
-fn jobs_of(alloc: Global, count: usize) -> Result<JobsAndWays, AllocError> {
-    let mut jobs = Vec::new(alloc);
-    let mut ways = Vec::new(alloc);
-    for number in 0..count {
-        let (job, way) = flushes(alloc, number)?;
-        jobs.push(job)?;
-        ways.push(way)?;
+impl JobsAndWays {
+    // Adds a job of so many flushes.
+    fn add(&mut self, alloc: Global, count: usize) -> Result<(), AllocError> {
+        let (replies, way) = crossbeam_channel::bounded(alloc, 1)?;
+        self.ways.push(way)?;
+        let tasks = flushes(alloc, count)?;
+        self.jobs.push(Job { tasks, replies })?;
+        Ok(())
     }
-    Ok((jobs, ways))
+
+    // Adds so many jobs. The first has no task, and each further one has one task more.
+    fn add_all(&mut self, alloc: Global, count: usize) -> Result<(), AllocError> {
+        for number in 0..count {
+            self.add(alloc, number)?;
+        }
+        Ok(())
+    }
+}
+
+// Whether the replies of a job of so many tasks have come.
+fn has_come<R: Wait>(rt: &R, way: &Receiver<Vec<Task>>, count: usize) -> bool {
+    match way.try_recv(rt) {
+        Ok(tasks) => tasks.len() == count,
+        Err(_) => false,
+    }
 }
 
 // How many of the jobs have got their own replies.
-fn arrived<R: Wait>(rt: &R, ways: &Vec<Receiver<Vec<Task>>>) -> usize {
+fn arrived<R: Wait>(rt: &R, ways: &[Receiver<Vec<Task>>]) -> usize {
     let mut count = 0usize;
     for number in 0..ways.len() {
-        if let Ok(tasks) = ways[number].try_recv(rt)
-            && tasks.len() == number
-        {
+        if has_come(rt, &ways[number], number) {
             count = count.saturating_add(1);
         }
     }
     count
+}
+
+// Sends the replies of these jobs, and returns how many arrive.
+fn send_now<R: Wait>(rt: &R, replier: &Sender<Vec<Job>>, both: JobsAndWays) -> usize {
+    let JobsAndWays { jobs, ways } = both;
+    send_replies(rt, replier, jobs);
+    arrived(rt, ways.as_slice())
 }
 
 // How many of so many jobs get their replies from the writer.
@@ -58,20 +81,15 @@ fn sent_by_writer<R: Wait>(
     alloc: Global,
     replier: &Sender<Vec<Job>>,
     count: usize,
-) -> Result<usize, AllocError> {
-    let (jobs, ways) = jobs_of(alloc, count)?;
-    send_replies(rt, replier, jobs);
-    Ok(arrived(rt, &ways))
-}
-
-#[test]
-fn the_writer_replies_to_few_jobs(rt: HostRuntime) -> Result<(), Fail> {
-    let alloc = rt.alloc();
-    let (replier, batches) = crossbeam_channel::bounded(alloc, 1)?;
-    assert!(rt; sent_by_writer(&rt, alloc, &replier, 0)? == 0);
-    assert!(rt; sent_by_writer(&rt, alloc, &replier, 8)? == 8);
-    assert!(rt; batches.is_empty());
-    Ok(())
+) -> Option<usize> {
+    let mut both = JobsAndWays {
+        jobs: Vec::new(alloc),
+        ways: Vec::new(alloc),
+    };
+    match both.add_all(alloc, count) {
+        Ok(()) => Some(send_now(rt, replier, both)),
+        Err(_) => None,
+    }
 }
 
 // How many jobs wait for the replier, which takes them now.
@@ -82,41 +100,74 @@ fn waiting<R: Wait>(rt: &R, batches: &Receiver<Vec<Job>>) -> usize {
     }
 }
 
+// How many of 0 jobs and of 8 get their replies from the writer, and whether none waits.
+fn few_jobs<R: Wait>(rt: &R, alloc: Global) -> Result<([Option<usize>; 2], bool), AllocError> {
+    let (replier, batches) = crossbeam_channel::bounded(alloc, 1)?;
+    let none = sent_by_writer(rt, alloc, &replier, 0);
+    let eight = sent_by_writer(rt, alloc, &replier, 8);
+    Ok(([none, eight], batches.is_empty()))
+}
+
+#[test]
+fn the_writer_replies_to_few_jobs(rt: HostRuntime) -> Result<(), Fail> {
+    assert!(rt; few_jobs(&rt, rt.alloc())? == ([Some(0), Some(8)], true));
+    Ok(())
+}
+
+/// How many jobs get their replies from the writer, how many from the replier, and so on in turn.
+type InTurn = (Option<usize>, Option<usize>, usize, Option<usize>, usize);
+
+// 9 jobs and 64 while the replier is busy, and then 10 jobs.
+fn beside_a_busy_replier<R: Wait>(rt: &R, alloc: Global) -> Result<InTurn, AllocError> {
+    let (replier, batches) = crossbeam_channel::bounded(alloc, 1)?;
+    let nine = sent_by_writer(rt, alloc, &replier, 9);
+    let many = sent_by_writer(rt, alloc, &replier, 64);
+    let waited = waiting(rt, &batches);
+    let ten = sent_by_writer(rt, alloc, &replier, 10);
+    Ok((nine, many, waited, ten, waiting(rt, &batches)))
+}
+
 // The replier gets the first nine jobs. It is busy then, so the writer replies to the next ones itself.
 #[test]
 fn the_writer_does_not_wait_for_a_busy_replier(rt: HostRuntime) -> Result<(), Fail> {
-    let alloc = rt.alloc();
-    let (replier, batches) = crossbeam_channel::bounded(alloc, 1)?;
-    assert!(rt; sent_by_writer(&rt, alloc, &replier, 9)? == 0);
-    assert!(rt; sent_by_writer(&rt, alloc, &replier, 64)? == 64);
-    assert!(rt; waiting(&rt, &batches) == 9);
-    assert!(rt; sent_by_writer(&rt, alloc, &replier, 10)? == 0);
-    assert!(rt; waiting(&rt, &batches) == 10);
+    let found = beside_a_busy_replier(&rt, rt.alloc())?;
+    assert!(rt; found == (Some(0), Some(64), 9, Some(0), 10));
     Ok(())
+}
+
+// How many of 9 jobs and of 64 get their replies from the writer if there is no replier.
+fn without_a_replier<R: Wait>(rt: &R, alloc: Global) -> Result<[Option<usize>; 2], AllocError> {
+    let (replier, batches) = crossbeam_channel::bounded(alloc, 1)?;
+    drop(batches);
+    let nine = sent_by_writer(rt, alloc, &replier, 9);
+    let many = sent_by_writer(rt, alloc, &replier, 64);
+    Ok([nine, many])
 }
 
 #[test]
 fn the_writer_replies_if_there_is_no_replier(rt: HostRuntime) -> Result<(), Fail> {
-    let alloc = rt.alloc();
-    let (replier, batches) = crossbeam_channel::bounded(alloc, 1)?;
-    drop(batches);
-    assert!(rt; sent_by_writer(&rt, alloc, &replier, 9)? == 9);
-    assert!(rt; sent_by_writer(&rt, alloc, &replier, 64)? == 64);
+    assert!(rt; without_a_replier(&rt, rt.alloc())? == [Some(9), Some(64)]);
     Ok(())
+}
+
+/// How many commands the writer has begun, and whether it may go on.
+#[derive(Drop)]
+struct Passes {
+    count: AtomicU64,
+    opened: AtomicU64,
 }
 
 /// Holds the writer at its first command until it is opened.
 #[derive(Drop)]
 struct HoldsWriter<'a, R: Clock> {
     rt: &'a R,
-    passes: &'a AtomicU64,
-    opened: &'a AtomicU64,
+    passes: &'a Passes,
 }
 
 impl<R: Clock> Gate for HoldsWriter<'_, R> {
     fn pass(&self, spot: Spot) {
-        if spot == Spot::Writer && self.passes.fetch_add(1, Ordering::SeqCst) == 0 {
-            let _ = reaches(self.rt, self.opened, 1);
+        if spot == Spot::Writer && self.passes.count.fetch_add(1, Ordering::SeqCst) == 0 {
+            let _ = reaches(self.rt, &self.passes.opened, 1);
         }
     }
 }
@@ -124,85 +175,112 @@ impl<R: Clock> Gate for HoldsWriter<'_, R> {
 /// How many clients ask at once.
 const CLIENTS: u32 = 24;
 
-// The line of a client: a put of its own key, or every second time a swap that differs.
-fn line_of(alloc: Global, number: u32) -> io::Result<String> {
-    let line = if number % 2 == 0 {
-        format!(in alloc; "put =k{number} {number:04x}\n")?
+// The line of a client: a put, or every second time a swap that differs.
+fn line_of(number: u32) -> &'static [u8] {
+    if number % 2 == 0 {
+        b"put =a 0001\n"
     } else {
-        format!(in alloc; "swap =k{number} {number:04x} 0000\n")?
-    };
-    Ok(line)
+        b"swap =b 0001 0000\n"
+    }
 }
 
-// Sends the lines of all clients but the first, each on a connection of its own.
-fn send_others<R: Net<Stream = TcpStream>>(
-    rt: &R,
+// The first words of the replies that are due.
+const DUE: &[u8] = b"accepted\ndiffers\naccepted\ndiffers\naccepted\ndiffers\naccepted\ndiffers\n\
+    accepted\ndiffers\naccepted\ndiffers\naccepted\ndiffers\naccepted\ndiffers\n\
+    accepted\ndiffers\naccepted\ndiffers\naccepted\ndiffers\naccepted\ndiffers\n";
+
+/// Twenty-four clients that ask at once.
+#[derive(Drop)]
+struct AskAtOnce<'a, R> {
+    rt: &'a R,
     alloc: Global,
+    passes: &'a Passes,
+}
+
+impl<R: Net<Stream = TcpStream> + Clock + Sync> Clients for AskAtOnce<'_, R> {
+    fn ask(&self, addr: SocketAddr, got: &mut Vec<u8>) -> io::Result<()> {
+        let mut streams = Vec::new(self.alloc);
+        send_all(self.rt, addr, self.passes, &mut streams)?;
+        read_words(self.alloc, &mut streams, got)
+    }
+}
+
+// Lets the writer take the first command and holds it there, until all others have been sent.
+fn send_all<R: Net<Stream = TcpStream> + Clock>(
+    rt: &R,
     addr: SocketAddr,
+    passes: &Passes,
     streams: &mut Vec<TcpStream>,
 ) -> io::Result<()> {
+    send(rt, addr, line_of(0), streams)?;
+    let _ = reaches(rt, &passes.count, 1);
     for number in 1..CLIENTS {
-        let mut stream = connected(rt, addr)?;
-        stream.write_all(line_of(alloc, number)?.as_bytes())?;
-        streams.push(stream)?;
+        send(rt, addr, line_of(number), streams)?;
+    }
+    thread::sleep(rt, Duration::from_millis(200)); // so that their sessions have handed them over
+    passes.opened.store(1, Ordering::SeqCst);
+    Ok(())
+}
+
+// Sends a line on a connection of its own.
+fn send<R: Net<Stream = TcpStream>>(
+    rt: &R,
+    addr: SocketAddr,
+    line: &[u8],
+    streams: &mut Vec<TcpStream>,
+) -> io::Result<()> {
+    let mut stream = connected(rt, addr)?;
+    stream.write_all(line)?;
+    streams.push(stream)?;
+    Ok(())
+}
+
+// Reads a reply from each connection, and appends its first word as a line.
+fn read_words(alloc: Global, streams: &mut Vec<TcpStream>, got: &mut Vec<u8>) -> io::Result<()> {
+    let mut line = Vec::new(alloc);
+    for stream in streams.iter_mut() {
+        line.clear();
+        read_lines(stream, &mut line, 1)?;
+        push_word(line.as_slice(), got)?;
     }
     Ok(())
 }
 
-// How many clients read the reply that is due.
-fn read_replies(alloc: Global, streams: &mut Vec<TcpStream>) -> io::Result<u32> {
-    let mut right = 0u32;
-    let mut is_put = true;
-    for stream in streams.iter_mut() {
-        let line = read_line(alloc, stream)?;
-        let due: &[u8] = if is_put { b"accepted " } else { b"differs\n" };
-        if line.as_slice().starts_with(due) {
-            right = right.saturating_add(1);
+// Appends the first word of a line as a line.
+fn push_word(line: &[u8], got: &mut Vec<u8>) -> Result<(), AllocError> {
+    for byte in line {
+        if *byte == b' ' || *byte == b'\n' {
+            break;
         }
-        is_put = !is_put;
+        got.push(*byte)?;
     }
-    Ok(right)
+    got.push(b'\n')?;
+    Ok(())
 }
 
-// Lets the writer take the first command and holds it there, until all others have been sent.
-fn ask_at_once<R: Net<Stream = TcpStream> + Clock>(
-    rt: &R,
-    alloc: Global,
-    addr: SocketAddr,
-    passes: &AtomicU64,
-    opened: &AtomicU64,
-) -> io::Result<u32> {
-    let mut streams = Vec::new(alloc);
-    let mut first = connected(rt, addr)?;
-    first.write_all(line_of(alloc, 0)?.as_bytes())?;
-    streams.push(first)?;
-    let _ = reaches(rt, passes, 1);
-    send_others(rt, alloc, addr, &mut streams)?;
-    thread::sleep(rt, Duration::from_millis(200)); // so that their sessions have handed them over
-    opened.store(1, Ordering::SeqCst);
-    read_replies(alloc, &mut streams)
+// Whether each client gets its own reply.
+fn all_are_served<
+    R: Net<Listener = TcpListener, Stream = TcpStream> + Clock + Threads + Wait + Sync,
+>(rt: &R, alloc: Global) -> Result<bool, Fail> {
+    let passes = Passes {
+        count: AtomicU64::new(0),
+        opened: AtomicU64::new(0),
+    };
+    let gate = HoldsWriter {
+        rt,
+        passes: &passes,
+    };
+    let clients = AskAtOnce {
+        rt,
+        alloc,
+        passes: &passes,
+    };
+    is_served(rt, alloc, roomy(alloc)?, CLIENTS, &gate, &clients, DUE)
 }
 
 // The batch behind the first command has some twenty jobs, whose replies the replier sends.
 #[test]
 fn each_of_many_sessions_gets_its_own_reply(rt: HostRuntime) -> Result<(), Fail> {
-    let alloc = rt.alloc();
-    let (passes, opened) = (AtomicU64::new(0), AtomicU64::new(0));
-    let gate = HoldsWriter {
-        rt: &rt,
-        passes: &passes,
-        opened: &opened,
-    };
-    let limits = limits_of(CLIENTS, None);
-    let Ended { status, got, .. } = serve_beside(
-        &rt,
-        alloc,
-        roomy(alloc)?,
-        limits,
-        &gate,
-        |addr: SocketAddr| { ask_at_once(&rt, alloc, addr, &passes, &opened) },
-    )?;
-    assert!(rt; got? == CLIENTS);
-    assert!(rt; status == 0);
+    assert!(rt; all_are_served(&rt, rt.alloc())?);
     Ok(())
 }
