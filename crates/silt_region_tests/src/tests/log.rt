@@ -1,16 +1,18 @@
 // Logs: the worked bytes, how many device calls an operation makes, and calls that allocate and
 // succeed with enough memory.
-ghost use Rattle.std.specs.Prelude.{◌≡◌, ◌≤◌, IfOk};
+ghost use Rattle.std.specs.Prelude.{◌≡◌, ◌≤◌};
 ghost use Rattle.silt_disk.specs.Disk.{size};
 ghost use Rattle.silt_disk.specs.Layout.{device_size};
 ghost use Rattle.silt_device.specs.Memory.{memory_content};
 
-use crate::tests::{LEN, blank, four_rows, shows};
-use silt_device::{Disk, Fill, Geometry, MemDisk, Stop};
+use crate::tests::{
+    LEN, Refusal, blank, done, four_rows, largest, put, refused, same, same_in, shows,
+};
+use silt_device::{Disk, Fill, MemDisk, Stop};
 use silt_frame::{Key, Kind, Row};
-use silt_log::{Log, ScanError};
+use silt_log::Log;
 use std::alloc::{AllocError, Global};
-use std::test::Fail;
+use std::process::Abort;
 
 // The digest of "abc".
 const ABC: [u8; 20] = [
@@ -30,6 +32,13 @@ fn one_stop(alloc: Global, k: u32) -> Result<Vec<Stop>, AllocError> {
     Ok(stops)
 }
 
+// The disk in a life whose K-th write or sync fails.
+fn armed(rt: &impl Abort, alloc: Global, disk: MemDisk, k: u32) -> MemDisk
+    ensures { size (memory_content result) ≡ size (memory_content disk) }
+{
+    disk.arm(done(rt, one_stop(alloc, k)))
+}
+
 // Prepares a log, appends a row and opens its gate. `done` counts the calls that returned Ok.
 fn write_one<D: Disk>(log: &mut Log, disk: &mut D, done: &mut u32) -> Result<(), D::Fault>
     requires value { log.old.shape.value_len ≡ 2 }
@@ -46,215 +55,170 @@ fn write_one<D: Disk>(log: &mut Log, disk: &mut D, done: &mut u32) -> Result<(),
     Ok(())
 }
 
-// A blank disk whose K-th write or sync fails.
-fn armed(alloc: Global, k: u32) -> Result<MemDisk, AllocError>
-    ensures { IfOk result (λ disk. size (memory_content disk) ≡ 45056) }
-{
-    let stops = one_stop(alloc, k)?;
-    Ok(blank(alloc, LEN)?.arm(stops))
-}
-
 // Whether the disk shows the open gate and the row.
 fn shows_row(disk: &MemDisk) -> bool {
     shows(disk, 12_288, &[0xA7, 0, 0, 0]) && shows(disk, 16_384, &BODY) && shows(disk, 16_407, &[0])
 }
 
+// A new log of four rows.
+fn new_log(rt: &impl Abort, alloc: Global) -> Log
+    ensures { result.shape ≡ record { value_len = 2; buckets = 2; log_capacity = 4; logs = 2; hashes = 2; sorted_capacity = 8 } }
+{
+    done(rt, Log::new(alloc, four_rows(rt), 0))
+}
+
 // Writes a row on a blank disk whose K-th write or sync fails. Returns how many calls returned Ok, whether all did, and
 // whether the disk shows the open gate and the row.
-fn written(alloc: Global, k: u32) -> Result<(u32, bool, bool), Fail> {
-    let geometry = four_rows()?;
-    let mut log = Log::new(alloc, geometry, 0)?;
-    let mut disk = armed(alloc, k)?;
-    let mut done = 0;
-    let ended = write_one(&mut log, &mut disk, &mut done).is_ok();
-    Ok((done, ended, shows_row(&disk)))
+fn written(rt: &impl Abort, alloc: Global, k: u32) -> (u32, bool, bool) {
+    let mut log = new_log(rt, alloc);
+    let mut disk = armed(rt, alloc, blank(rt, alloc, LEN), k);
+    let mut count = 0;
+    let ended = write_one(&mut log, &mut disk, &mut count).is_ok();
+    (count, ended, shows_row(&disk))
 }
 
 #[test]
-fn a_row_lies_on_the_device(rt: HostRuntime) -> Result<(), Fail> {
-    assert_eq!(rt; written(rt.alloc(), 0)?, (3, true, true));
-    Ok(())
+fn a_row_lies_on_the_device(rt: HostRuntime) {
+    same(&rt, &written(&rt, rt.alloc(), 0), &(3, true, true));
+}
+
+// If the K-th write or sync fails, this many calls return Ok.
+fn is_counted(rt: &impl Abort, alloc: Global, k: u32, count: u32) {
+    let (done, ended, _shown) = written(rt, alloc, k);
+    same_in(rt, &(done, ended), &(count, count == 3), &k);
 }
 
 // The K-th write or sync fails. The first two are made by `prepare`, the next two by `append`, and
 // three by `open_gates`.
 #[test]
-fn calls_are_counted(rt: HostRuntime) -> Result<(), Fail> {
-    for (k, want) in [
-        (1, 0),
-        (2, 0),
-        (3, 1),
-        (4, 1),
-        (5, 2),
-        (6, 2),
-        (7, 2),
-        (8, 3),
-    ] {
-        let (done, ended, _shown) = written(rt.alloc(), k)?;
-        assert_eq!(rt; (done, ended), (want, want == 3), "at {k}");
-    }
-    Ok(())
+fn calls_are_counted(rt: HostRuntime) {
+    let alloc = rt.alloc();
+    is_counted(&rt, alloc, 1, 0);
+    is_counted(&rt, alloc, 2, 0);
+    is_counted(&rt, alloc, 3, 1);
+    is_counted(&rt, alloc, 4, 1);
+    is_counted(&rt, alloc, 5, 2);
+    is_counted(&rt, alloc, 6, 2);
+    is_counted(&rt, alloc, 7, 2);
+    is_counted(&rt, alloc, 8, 3);
 }
 
-// Writes the first three gates of log 0 and the body of its first row.
-fn craft<D: Disk>(disk: &mut D, gates: &[u8; 3], body: &[u8; 23]) -> Result<(), D::Fault>
-    requires { 45056 ≤ size (D.content disk.old) }
-    ensures { size (D.content disk.new) ≡ size (D.content disk.old) }
+// A disk with these first three gates of log 0 and this body of its first row, and zeros elsewhere.
+fn crafted(rt: &impl Abort, alloc: Global, gates: &[u8; 3], body: &[u8; 23]) -> MemDisk
+    ensures { size (memory_content result) ≡ 45056 }
 {
-    disk.write(12_288, gates)?;
-    disk.write(16_384, body)?;
-    disk.sync()?;
-    Ok(())
+    let mut disk = blank(rt, alloc, LEN);
+    put(rt, &mut disk, 12_288, gates);
+    put(rt, &mut disk, 16_384, body);
+    done(rt, disk.sync());
+    disk
 }
 
-// A disk with these gates and this body, and zeros elsewhere.
-fn crafted(alloc: Global, gates: &[u8; 3], body: &[u8; 23]) -> Result<MemDisk, Fail>
-    ensures { IfOk result (λ disk. size (memory_content disk) ≡ 45056) }
-{
-    let mut disk = blank(alloc, LEN)?;
-    craft(&mut disk, gates, body)?;
-    Ok(disk)
-}
+// Scans a log: its only row, or none if it has another number of rows, how many it has and how many
+// are settled. Or why the scan is refused.
+type Scanned = Result<(Option<Row>, u32, u32), Refusal>;
 
-// Scans a log: its rows, how many it has and how many are settled. None if the scan is refused.
-fn scanned<D: Disk>(alloc: Global, log: &mut Log, disk: &D) -> Option<(Vec<Row>, (u32, u32))>
-    requires { device_size log.old.shape ≤ size (D.content disk.now) }
+fn scanned(alloc: Global, log: &mut Log, disk: &MemDisk) -> Scanned
+    requires { device_size log.old.shape ≤ size (memory_content disk.now) }
     ensures { log.new.shape ≡ log.old.shape }
 {
-    let Ok(rows) = log.scan(alloc, disk) else {
-        return None;
-    };
-    Some((rows, (log.len(), log.settled())))
+    match log.scan(alloc, disk) {
+        Ok(rows) => Ok((only(&rows), log.len(), log.settled())),
+        Err(error) => Err(refused(&error)),
+    }
+}
+
+fn only(rows: &[Row]) -> Option<Row> {
+    match rows {
+        [row] => Some(*row),
+        _ => None,
+    }
 }
 
 // The key and the value of the first row.
-fn first_row<D: Disk>(log: &Log, disk: &D) -> Option<(Key, [u8; 2])>
+fn first_row(rt: &impl Abort, log: &Log, disk: &MemDisk) -> (Key, [u8; 2])
     requires value { log.now.shape.value_len ≡ 2 }
     requires room { 1 ≤ log.now.shape.log_capacity }
-    requires size { device_size log.now.shape ≤ size (D.content disk.now) }
+    requires size { device_size log.now.shape ≤ size (memory_content disk.now) }
 {
     let mut value = [0; 2];
-    log.read_value(disk, 0, &mut value).ok()?;
-    let key = log.read_key(disk, 0).ok()?;
-    Some((key, value))
+    done(rt, log.read_value(disk, 0, &mut value));
+    (done(rt, log.read_key(disk, 0)), value)
 }
-
-// Scans a log with one row: the row, and how many the log has and how many are settled.
-fn scanned_one<D: Disk>(alloc: Global, log: &mut Log, disk: &D) -> Option<(Row, (u32, u32))>
-    requires { device_size log.old.shape ≤ size (D.content disk.now) }
-    ensures { log.new.shape ≡ log.old.shape }
-{
-    let (rows, counts) = scanned(alloc, log, disk)?;
-    if rows.len() != 1 {
-        return None;
-    }
-    Some((rows[0], counts))
-}
-
-// What a scan finds of a row, how many it counts, and the key and the value that are then read.
-type FirstRow = (Option<(Row, (u32, u32))>, Option<(Key, [u8; 2])>);
 
 // Scans a log whose second gate is closed, and reads its first row.
-fn scanned_gates(alloc: Global) -> Result<FirstRow, Fail> {
-    let geometry = four_rows()?;
-    let mut log = Log::new(alloc, geometry, 0)?;
-    let disk = crafted(alloc, &[0xA7, 0x55, 0xA7], &BODY)?;
-    let scanned = scanned_one(alloc, &mut log, &disk);
-    Ok((scanned, first_row(&log, &disk)))
+fn scanned_gates(rt: &impl Abort, alloc: Global) -> (Scanned, (Key, [u8; 2])) {
+    let mut log = new_log(rt, alloc);
+    let disk = crafted(rt, alloc, &[0xA7, 0x55, 0xA7], &BODY);
+    let scanned = scanned(alloc, &mut log, &disk);
+    (scanned, first_row(rt, &log, &disk))
 }
 
 #[test]
-fn a_scan_ends_at_the_first_closed_gate(rt: HostRuntime) -> Result<(), Fail> {
+fn a_scan_ends_at_the_first_closed_gate(rt: HostRuntime) {
     let row = Row {
         kind: Kind::Put,
         key: Key(ABC),
         place: 0,
     };
-    let due = (Some((row, (1, 1))), Some((Key(ABC), [1, 2])));
-    assert_eq!(rt; scanned_gates(rt.alloc())?, due);
-    Ok(())
+    let due = (Ok((Some(row), 1, 1)), (Key(ABC), [1, 2]));
+    same(&rt, &scanned_gates(&rt, rt.alloc()), &due);
+}
+
+// The capacity and the region of a new log with the largest geometry.
+fn new_largest(rt: &impl Abort, alloc: Global) -> (u32, u32) {
+    let log = done(rt, Log::new(alloc, largest(rt), 1));
+    (log.capacity(), log.region())
 }
 
 // With enough memory even a log with the most rows is made.
 #[test]
-fn the_longest_log_is_made(rt: HostRuntime) -> Result<(), Fail> {
-    let alloc = rt.alloc();
-    let geometry = Geometry::new(1, 32_768, 131_072, 2, 1, 1)?;
-    let log = Log::new(alloc, geometry, 1)?;
-    assert_eq!(rt; (log.capacity(), log.region()), (131_072, 1));
-    Ok(())
+fn the_longest_log_is_made(rt: HostRuntime) {
+    same(&rt, &new_largest(&rt, rt.alloc()), &(131_072, 1));
 }
 
-// The place at which a scan finds damage, if the first row has an unknown kind.
-fn damaged_place(alloc: Global) -> Result<Option<u32>, Fail> {
+// A scan of a log whose first row has an unknown kind.
+fn scanned_unknown(rt: &impl Abort, alloc: Global) -> Scanned {
     let mut body = BODY;
     body[0] = 3;
-    let geometry = four_rows()?;
-    let mut log = Log::new(alloc, geometry, 0)?;
-    let disk = crafted(alloc, &[0xA7, 0, 0], &body)?;
-    match log.scan(alloc, &disk) {
-        Err(ScanError::Damaged(place)) => Ok(Some(place)),
-        _ => Ok(None),
-    }
+    let mut log = new_log(rt, alloc);
+    let disk = crafted(rt, alloc, &[0xA7, 0, 0], &body);
+    scanned(alloc, &mut log, &disk)
 }
 
 #[test]
-fn an_unknown_kind_is_damage(rt: HostRuntime) -> Result<(), Fail> {
-    assert!(rt; damaged_place(rt.alloc())? == Some(0));
-    Ok(())
+fn an_unknown_kind_is_damage(rt: HostRuntime) {
+    let due: Scanned = Err(Refusal::Damaged(0));
+    same(&rt, &scanned_unknown(&rt, rt.alloc()), &due);
 }
 
-// Scans after a sync and seals. Returns whether the seal returned Ok, or None if an earlier call did not.
-fn seal<D: Disk>(alloc: Global, log: &mut Log, disk: &mut D) -> Option<bool>
+// Scans after a sync and seals. Returns whether the seal returned Ok.
+fn seal<D: Disk>(rt: &impl Abort, alloc: Global, log: &mut Log, disk: &mut D) -> bool
     requires { device_size log.old.shape ≤ size (D.content disk.old) }
 {
-    let Ok(()) = disk.sync() else {
-        return None;
-    };
-    let Ok(_rows) = log.scan(alloc, disk) else {
-        return None;
-    };
-    Some(log.seal(disk).is_ok())
-}
-
-// A disk with these gates and one row, whose K-th write or sync fails.
-fn crafted_and_armed(alloc: Global, gates: &[u8; 3], k: u32) -> Result<MemDisk, Fail>
-    ensures { IfOk result (λ disk. size (memory_content disk) ≡ 45056) }
-{
-    let stops = one_stop(alloc, k)?;
-    Ok(crafted(alloc, gates, &BODY)?.arm(stops))
+    done(rt, disk.sync());
+    drop(done(rt, log.scan(alloc, disk)));
+    log.seal(disk).is_ok()
 }
 
 // Scans and seals a log on a disk with these gates, whose K-th write or sync fails. The sync before
-// the scan is the first. Also returns whether the disk then shows the gates `left`.
-fn sealed(
-    alloc: Global,
-    gates: &[u8; 3],
-    k: u32,
-    left: &[u8; 4],
-) -> Result<(Option<bool>, bool), Fail> {
-    let geometry = four_rows()?;
-    let mut log = Log::new(alloc, geometry, 0)?;
-    let mut disk = crafted_and_armed(alloc, gates, k)?;
-    let ended = seal(alloc, &mut log, &mut disk);
-    Ok((ended, shows(&disk, 12_288, left)))
+// the scan is the first. The disk then shows a gate of this byte as the third one, and the others as
+// they were.
+fn seals(rt: &impl Abort, alloc: Global, third: u8, left: u8, k: u32, expected: bool) {
+    let mut log = new_log(rt, alloc);
+    let disk = crafted(rt, alloc, &[0xA7, 0x55, third], &BODY);
+    let mut disk = armed(rt, alloc, disk, k);
+    let ended = seal(rt, alloc, &mut log, &mut disk);
+    let is_shown = shows(&disk, 12_288, &[0xA7, 0x55, left, 0]);
+    same_in(rt, &(ended, is_shown), &(expected, true), &(third, k));
 }
 
 // A seal makes one write and one sync, or no call. It never writes to the first closed gate.
 #[test]
-fn a_seal_leaves_the_first_closed_gate(rt: HostRuntime) -> Result<(), Fail> {
+fn a_seal_leaves_the_first_closed_gate(rt: HostRuntime) {
     let alloc = rt.alloc();
-    for (last, left, k, ended) in [
-        (0xA7, 0, 2, false),
-        (0xA7, 0, 3, false),
-        (0xA7, 0, 4, true),
-        (0x33, 0x33, 2, true),
-    ] {
-        assert_eq!(rt;
-            sealed(alloc, &[0xA7, 0x55, last], k, &[0xA7, 0x55, left, 0])?,
-            (Some(ended), true),
-            "gate {last} at {k}"
-        );
-    }
-    Ok(())
+    seals(&rt, alloc, 0xA7, 0, 2, false);
+    seals(&rt, alloc, 0xA7, 0, 3, false);
+    seals(&rt, alloc, 0xA7, 0, 4, true);
+    seals(&rt, alloc, 0x33, 0x33, 2, true);
 }

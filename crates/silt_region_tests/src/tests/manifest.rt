@@ -1,12 +1,14 @@
 // The manifest: the layout's bytes, damaged slots, and the forms of slots on devices of either
 // version. A crash comes at each call of a write, and the first call is looked at by itself.
-ghost use Rattle.std.specs.Prelude.{◌≡◌, ◌+◌, ◌≤◌, ◌<◌, ◌↔◌, IsTrue, IfSome, OnOk};
+ghost use Rattle.std.specs.Prelude.{◌≡◌, ◌+◌, ◌≤◌, ◌<◌, ◌↔◌, length, IsTrue, IfOk, IfSome, OnOk};
 ghost use Rattle.silt_disk.specs.Disk.{Rests, size};
 ghost use Rattle.silt_manifest.specs.Standing.{IsNext, IsCurrent};
 ghost use Rattle.silt_disk.specs.Header.{header_of, version_of};
 ghost use Rattle.silt_disk.specs.Layout.{slot_at};
+ghost use Rattle.silt_device.specs.Fault.{fault_content};
+ghost use Rattle.silt_device.specs.Memory.{memory_content};
 
-use crate::tests::shows;
+use crate::tests::{done, same, same_in, shows};
 use silt_device::{
     Call, Disk, FaultDisk, Fill, Geometry, HEADER_LEN, MemDisk, Stop, Stoppable, write_synced,
 };
@@ -15,7 +17,6 @@ use silt_frame::Digest;
 use silt_manifest::{Body, Damage, Digests, Ids, Manifest, ReadFault, read_current, write_first};
 use std::alloc::{AllocError, Global};
 use std::process::Abort;
-use std::test::Fail;
 
 const FILLS: [Fill; 5] = [Fill::Old, Fill::New, Fill::Zero, Fill::Ones, Fill::Mix];
 
@@ -24,6 +25,9 @@ const LEN: usize = 12_288;
 
 // The bytes of a slot that count: the gate, the body, and the digests or zeros.
 type Slot = [u8; 461];
+
+// The current record on a device, or the damage. None if a read fails.
+type Current = Option<Result<Body, Damage>>;
 
 // Values of 2 bytes, 2 buckets, logs of 4 rows, 2 logs, 2 hash regions and 8 sorted entries.
 fn small(rt: &impl Abort) -> Geometry {
@@ -35,30 +39,46 @@ fn large(rt: &impl Abort) -> Geometry {
     Geometry::new(2, 2, 4, 8, 16, 8).expect(rt, "the numbers are within their limits")
 }
 
-// A device of version 1 with these slots and two lives. The first one is not interrupted, the
-// second one ends with this crash.
-fn device(alloc: Global, first: &Slot, second: &Slot, stop: Stop) -> Result<MemDisk, AllocError> {
-    device_as(alloc, 1, (first, second), stop)
-}
-
-// The same with a header that has this number as its version.
-fn device_as(
-    alloc: Global,
-    number: u8,
-    (first, second): (&Slot, &Slot),
-    stop: Stop,
-) -> Result<MemDisk, AllocError> {
+// The bytes of a device with these slots and a header that has this number as its version.
+fn bytes_of(alloc: Global, number: u8, first: &Slot, second: &Slot) -> Result<Vec<u8>, AllocError>
+    ensures { IfOk result (λ bytes. length bytes.items ≡ 12288) }
+{
     let mut bytes = vec![in alloc; 0u8; LEN]?;
     bytes[12] = number;
     bytes[4096..4557].copy_from_slice(first);
     bytes[8192..8653].copy_from_slice(second);
+    Ok(bytes)
+}
+
+// The ends of two lives. The first one is not interrupted, the second one ends with this crash.
+fn stops_of(alloc: Global, stop: Stop) -> Result<Vec<Stop>, AllocError> {
     let mut stops = Vec::new(alloc);
-    stops.push(Stop {
-        k: 0,
-        fill: Fill::Old,
-    })?;
+    stops.push(NEVER)?;
     stops.push(stop)?;
-    Ok(MemDisk::with_bytes(alloc, &bytes)?.arm(stops))
+    Ok(stops)
+}
+
+// A device of this version with these slots, in the second of those lives.
+fn device_as(
+    rt: &impl Abort,
+    alloc: Global,
+    number: u8,
+    slots: (&Slot, &Slot),
+    stop: Stop,
+) -> MemDisk
+    ensures { Rests (memory_content result) }
+{
+    let bytes = bytes_of(alloc, number, slots.0, slots.1).expect(rt, "memory");
+    let stops = stops_of(alloc, stop).expect(rt, "memory");
+    let disk = MemDisk::with_bytes(alloc, &bytes).expect(rt, "memory");
+    disk.arm(stops).restart()
+}
+
+// The same of version 1.
+fn device(rt: &impl Abort, alloc: Global, first: &Slot, second: &Slot, stop: Stop) -> MemDisk
+    ensures { Rests (memory_content result) }
+{
+    device_as(rt, alloc, 1, (first, second), stop)
 }
 
 const NEVER: Stop = Stop {
@@ -66,12 +86,27 @@ const NEVER: Stop = Stop {
     fill: Fill::Old,
 };
 
+// The crash of this number, of those at each call with each fill.
+fn stop_of(number: u32) -> Stop {
+    Stop {
+        k: number / 5,
+        fill: FILLS[(number % 5) as usize],
+    }
+}
+
 // A slot with this gate, this generation below 256, and zeros elsewhere.
 fn slot_of(gate: u8, generation: u8) -> Slot {
     let mut slot = [0; 461];
     slot[0] = gate;
     slot[8] = generation;
     slot
+}
+
+// A device whose slot 0 is open with generation 0, and whose slot 1 is closed.
+fn first_device(rt: &impl Abort, alloc: Global, stop: Stop) -> MemDisk
+    ensures { Rests (memory_content result) }
+{
+    device(rt, alloc, &slot_of(0xA7, 0), &slot_of(0, 0), stop)
 }
 
 // The version in the header of a device, if it can be read.
@@ -87,7 +122,7 @@ fn version_on<D: Disk>(disk: &D) -> Option<Version>
 }
 
 // The current record in the slots of a disk of this length, or the damage.
-fn current<D: Disk>(disk: &D, geometry: Geometry) -> Option<Result<Body, Damage>> {
+fn current<D: Disk>(disk: &D, geometry: Geometry) -> Current {
     if disk.len() != LEN as u64 {
         return None;
     }
@@ -99,16 +134,15 @@ fn current<D: Disk>(disk: &D, geometry: Geometry) -> Option<Result<Body, Damage>
     }
 }
 
-// The digests of the current record on a disk of this length, if there are any.
-fn said<D: Disk>(disk: &D, geometry: Geometry) -> Option<Digests> {
-    if disk.len() != LEN as u64 {
-        return None;
-    }
-    let version = version_on(disk)?;
-    match read_current(disk, geometry, version) {
-        Ok(manifest) => manifest.digests(),
-        Err(_) => None,
-    }
+// The manifest in the slots of a disk of at least this length.
+fn opened<D: Disk>(rt: &impl Abort, disk: &D, geometry: Geometry) -> Manifest
+    requires { Rests (D.content disk.now) }
+    ensures size { 12288 ≤ size (D.content disk.now) }
+    ensures current { IsCurrent result (D.content disk.now) }
+{
+    assert!(rt; disk.len() >= LEN as u64);
+    let version = version_on(disk).expect(rt, "a header");
+    done(rt, read_current(disk, geometry, version))
 }
 
 // Whether a body may be the next one: it has the next generation, and is well formed for the slot
@@ -157,46 +191,30 @@ fn write<D: Disk>(manifest: &mut Manifest, disk: &mut D, next: Body) -> Result<(
 }
 
 // Reads the manifest and writes the next one. Returns whether all six calls returned Ok.
-fn write_next<D: Disk>(disk: &mut D, geometry: Geometry, next: Body) -> bool
+fn write_next<D: Disk>(rt: &impl Abort, disk: &mut D, geometry: Geometry, next: Body) -> bool
     requires { Rests (D.content disk.old) }
 {
-    if disk.len() < LEN as u64 {
-        return false;
-    }
-    let Some(version) = version_on(disk) else {
-        return false;
-    };
-    let Ok(mut manifest) = read_current(disk, geometry, version) else {
-        return false;
-    };
-    if !is_next(&manifest, &next) {
-        return false;
-    }
+    let mut manifest = opened(rt, disk, geometry);
+    assert!(rt; is_next(&manifest, &next));
     write(&mut manifest, disk, next).is_ok()
 }
 
 // Reads the manifest and writes the next one, and then the one after it. Returns whether all twelve calls returned Ok.
-fn write_two<D: Disk>(disk: &mut D, geometry: Geometry, next: Body, last: Body) -> bool
+fn write_two<D: Disk>(
+    rt: &impl Abort,
+    disk: &mut D,
+    geometry: Geometry,
+    next: Body,
+    last: Body,
+) -> bool
     requires { Rests (D.content disk.old) }
 {
-    if disk.len() < LEN as u64 {
-        return false;
-    }
-    let Some(version) = version_on(disk) else {
-        return false;
-    };
-    let Ok(mut manifest) = read_current(disk, geometry, version) else {
-        return false;
-    };
-    if !is_next(&manifest, &next) {
-        return false;
-    }
+    let mut manifest = opened(rt, disk, geometry);
+    assert!(rt; is_next(&manifest, &next));
     let Ok(()) = write(&mut manifest, disk, next) else {
         return false;
     };
-    if !is_next(&manifest, &last) {
-        return false;
-    }
+    assert!(rt; is_next(&manifest, &last));
     write(&mut manifest, disk, last).is_ok()
 }
 
@@ -231,38 +249,40 @@ fn body_of(generation: u64) -> Body {
 }
 
 // The current record on a device with these slots, or the damage.
-fn current_of(
+fn current_of(rt: &impl Abort, alloc: Global, first: &Slot, second: &Slot) -> Current {
+    let geometry = small(rt);
+    let disk = device(rt, alloc, first, second, NEVER);
+    current(&disk, geometry)
+}
+
+// A device with these slots has this record, or this damage.
+fn has(
+    rt: &impl Abort,
     alloc: Global,
-    geometry: Geometry,
-    first: &Slot,
-    second: &Slot,
-) -> Result<Option<Result<Body, Damage>>, Fail> {
-    let disk = device(alloc, first, second, NEVER)?.restart();
-    Ok(current(&disk, geometry))
+    (first, second): (&Slot, &Slot),
+    found: Result<Body, Damage>,
+) {
+    same(rt, &current_of(rt, alloc, first, second), &Some(found));
 }
 
 #[test]
-fn finds_the_damaged_slot(rt: HostRuntime) -> Result<(), Fail> {
-    let geometry = small(&rt);
+fn finds_the_damaged_slot(rt: HostRuntime) {
+    let alloc = rt.alloc();
     let good = slot_of(0xA7, 0);
     let closed = slot_of(0, 0);
     let mut active_2 = slot_of(0xA7, 0);
     active_2[12] = 2;
-    let cases = [
-        (closed, slot_of(0xA7, 0), Err(Damage::Slot(1))),
-        (active_2, closed, Err(Damage::Slot(0))),
-        (active_2, slot_of(0xA7, 0), Err(Damage::Slot(0))),
-        (good, slot_of(0xA7, 2), Err(Damage::Slot(1))),
-        (closed, slot_of(0xA6, 1), Err(Damage::NoSlot)),
-        (good, slot_of(0xFF, 0), Ok(Body::first())),
-    ];
-    for (first, second, found) in cases {
-        assert_eq!(rt;
-            current_of(rt.alloc(), geometry, &first, &second)?,
-            Some(found)
-        );
-    }
-    Ok(())
+    has(&rt, alloc, (&closed, &good), Err(Damage::Slot(1)));
+    has(&rt, alloc, (&active_2, &closed), Err(Damage::Slot(0)));
+    has(&rt, alloc, (&active_2, &good), Err(Damage::Slot(0)));
+    has(&rt, alloc, (&good, &slot_of(0xA7, 2)), Err(Damage::Slot(1)));
+    has(
+        &rt,
+        alloc,
+        (&closed, &slot_of(0xA6, 1)),
+        Err(Damage::NoSlot),
+    );
+    has(&rt, alloc, (&good, &slot_of(0xFF, 0)), Ok(Body::first()));
 }
 
 // A slot without digests, with a well-formed body. A change of one byte can break each rule of
@@ -278,76 +298,54 @@ fn good_slot() -> Slot {
     good
 }
 
-// The current record, or the damage, if this byte of that slot is changed.
-fn current_changed(
-    alloc: Global,
-    geometry: Geometry,
-    place: usize,
-    byte: u8,
-) -> Result<Option<Result<Body, Damage>>, Fail>
+// This byte of that slot is damage.
+fn is_refused(rt: &impl Abort, alloc: Global, place: usize, byte: u8)
     requires { place < 461 }
 {
     let mut slot = good_slot();
     slot[place] = byte;
-    current_of(alloc, geometry, &slot, &slot_of(0, 0))
+    let found = current_of(rt, alloc, &slot, &slot_of(0, 0));
+    same_in(rt, &found, &Some(Err(Damage::Slot(0))), &(place, byte));
 }
 
 // Each rule of well-formed bodies is broken, one at a time.
 #[test]
-fn refuses_each_fault_of_a_body(rt: HostRuntime) -> Result<(), Fail> {
-    let geometry = small(&rt);
-    let good = current_changed(rt.alloc(), geometry, 0, 0xA7)?;
-    assert!(rt; matches!(good, Some(Ok(_))));
-    let cases: [(usize, u8); 10] = [
-        (12, 2),
-        (12, 0),
-        (16, 2),
-        (20, 1),
-        (48, 3),
-        (52, 0),
-        (52, 2),
-        (56, 2),
-        (116, 2),
-        (120, 9),
-    ];
-    for (place, byte) in cases {
-        assert!(rt; place < 461);
-        assert_eq!(rt;
-            current_changed(rt.alloc(), geometry, place, byte)?,
-            Some(Err(Damage::Slot(0))),
-            "{byte} at {place}"
-        );
-    }
-    Ok(())
+fn refuses_each_fault_of_a_body(rt: HostRuntime) {
+    let alloc = rt.alloc();
+    let good = current_of(&rt, alloc, &good_slot(), &slot_of(0, 0));
+    same(&rt, &matches!(good, Some(Ok(_))), &true);
+    is_refused(&rt, alloc, 12, 2);
+    is_refused(&rt, alloc, 12, 0);
+    is_refused(&rt, alloc, 16, 2);
+    is_refused(&rt, alloc, 20, 1);
+    is_refused(&rt, alloc, 48, 3);
+    is_refused(&rt, alloc, 52, 0);
+    is_refused(&rt, alloc, 52, 2);
+    is_refused(&rt, alloc, 56, 2);
+    is_refused(&rt, alloc, 116, 2);
+    is_refused(&rt, alloc, 120, 9);
+}
+
+// The first body with this generation.
+fn first_of(generation: u64) -> Body {
+    let mut body = Body::first();
+    body.generation = generation;
+    body
 }
 
 #[test]
-fn the_greater_generation_is_current(rt: HostRuntime) -> Result<(), Fail> {
-    let geometry = small(&rt);
-    for (second, greater) in [(1, 2), (3, 3)] {
-        let mut body = Body::first();
-        body.generation = greater;
-        assert_eq!(rt;
-            current_of(
-                rt.alloc(),
-                geometry,
-                &slot_of(0xA7, 2),
-                &slot_of(0xA7, second)
-            )?,
-            Some(Ok(body)),
-            "{second}"
-        );
-    }
-    Ok(())
+fn the_greater_generation_is_current(rt: HostRuntime) {
+    let alloc = rt.alloc();
+    let first = slot_of(0xA7, 2);
+    has(&rt, alloc, (&first, &slot_of(0xA7, 1)), Ok(first_of(2)));
+    has(&rt, alloc, (&first, &slot_of(0xA7, 3)), Ok(first_of(3)));
 }
 
 // A slot with the first body, but of the generation before the last one, without digests.
 fn last_but_one() -> Slot {
     let mut slot = slot_of(0xA7, 0xFE);
     slot[1] = 0x7F;
-    for place in 2..8usize {
-        slot[place] = 0xFF;
-    }
+    slot[2..8].fill(0xFF);
     slot
 }
 
@@ -382,57 +380,76 @@ fn greatest_slot() -> Slot {
     slot
 }
 
-// The device after a write of the greatest body, whether the write succeeded, and whether the disk
-// shows its bytes.
-fn write_greatest(alloc: Global, geometry: Geometry) -> Result<(MemDisk, bool, bool), Fail> {
-    let mut disk = device(alloc, &last_but_one(), &slot_of(0, 0), NEVER)?.restart();
-    let done = write_next(&mut disk, geometry, greatest());
-    let is_shown = disk.shown().len() == LEN && shows(&disk, 8192, &greatest_slot());
-    Ok((disk.restart(), done, is_shown))
+// The disk shows the greatest body and the digests.
+fn shows_greatest(rt: &impl Abort, disk: &MemDisk) {
+    same(rt, &disk.shown().len(), &LEN);
+    same(rt, &shows(disk, 8192, &greatest_slot()), &true);
 }
 
-// The current body and its digests are those that were written.
-fn reads_back(rt: &impl Abort, disk: &MemDisk, geometry: Geometry) {
-    assert_eq!(rt; current(disk, geometry), Some(Ok(greatest())));
-    assert!(rt; said(disk, geometry) == Some(some_digests()));
+// The device after a write of the greatest body, which succeeds and leaves its bytes.
+fn with_greatest(rt: &impl Abort, alloc: Global) -> MemDisk
+    ensures { Rests (memory_content result) }
+{
+    let geometry = large(rt);
+    let mut disk = device(rt, alloc, &last_but_one(), &slot_of(0, 0), NEVER);
+    same(rt, &write_next(rt, &mut disk, geometry, greatest()), &true);
+    shows_greatest(rt, &disk);
+    disk.restart()
 }
 
 // A write has the layout's bytes, and reads back. It has digests on a device of version 1 too.
 #[test]
-fn writes_the_layouts_bytes(rt: HostRuntime) -> Result<(), Fail> {
-    let (disk, done, is_shown) = write_greatest(rt.alloc(), large(&rt))?;
-    assert_eq!(rt; (done, is_shown), (true, true));
-    reads_back(&rt, &disk, large(&rt));
-    Ok(())
+fn writes_the_layouts_bytes(rt: HostRuntime) {
+    let geometry = large(&rt);
+    let disk = with_greatest(&rt, rt.alloc());
+    let found = (
+        current(&disk, geometry),
+        opened(&rt, &disk, geometry).digests(),
+    );
+    drop(disk);
+    same(&rt, &found, &(Some(Ok(greatest())), Some(some_digests())));
 }
 
-// The current record, or the damage, on a device of this version, and whether there are digests.
-// The first slot is open with generation 0, and has this byte after its gate.
-fn current_as(
-    alloc: Global,
-    geometry: Geometry,
-    (number, byte): (u8, u8),
-) -> Result<(Option<Result<Body, Damage>>, bool), Fail> {
+// A device of this version. The first slot is open with generation 0, and has this byte after its
+// gate.
+fn with_form(rt: &impl Abort, alloc: Global, number: u8, byte: u8) -> MemDisk
+    ensures { Rests (memory_content result) }
+{
     let mut slot = slot_of(0xA7, 0);
     slot[1] = byte;
-    let disk = device_as(alloc, number, (&slot, &slot_of(0, 1)), NEVER)?.restart();
-    Ok((current(&disk, geometry), said(&disk, geometry).is_some()))
+    device_as(rt, alloc, number, (&slot, &slot_of(0, 1)), NEVER)
+}
+
+// The first body is current on such a device, with digests or none.
+fn takes(rt: &impl Abort, alloc: Global, number: u8, byte: u8, has_digests: bool) {
+    let geometry = small(rt);
+    let disk = with_form(rt, alloc, number, byte);
+    let found = current(&disk, geometry);
+    let digests = opened(rt, &disk, geometry).digests();
+    drop(disk);
+    same_in(rt, &found, &Some(Ok(Body::first())), &(number, byte));
+    same_in(rt, &digests.is_some(), &has_digests, &(number, byte));
+}
+
+// What is current on such a device, or the damage.
+fn current_as(rt: &impl Abort, alloc: Global, number: u8, byte: u8) -> Current {
+    let geometry = small(rt);
+    let disk = with_form(rt, alloc, number, byte);
+    current(&disk, geometry)
 }
 
 // A slot may have digests or none on a device of version 1. On one of version 2 it needs them.
 #[test]
-fn takes_the_forms_of_its_version(rt: HostRuntime) -> Result<(), Fail> {
-    let geometry = small(&rt);
-    let first = Some(Ok(Body::first()));
-    for (form, found) in [
-        ((1, 0x00), (first, false)),
-        ((1, 0x80), (first, true)),
-        ((2, 0x00), (Some(Err(Damage::Slot(0))), false)),
-        ((2, 0x80), (first, true)),
-    ] {
-        assert_eq!(rt; current_as(rt.alloc(), geometry, form)?, found, "{form:?}");
-    }
-    Ok(())
+fn takes_the_forms_of_its_version(rt: HostRuntime) {
+    let alloc = rt.alloc();
+    takes(&rt, alloc, 1, 0x00, false);
+    takes(&rt, alloc, 1, 0x80, true);
+    same(
+        &rt,
+        &current_as(&rt, alloc, 2, 0x00),
+        &Some(Err(Damage::Slot(0))),
+    );
+    takes(&rt, alloc, 2, 0x80, true);
 }
 
 // The two slots in their order, if this generation is current and the other slot has this gate.
@@ -446,18 +463,24 @@ fn slots_of(old: u8, spare: u8) -> (Slot, Slot) {
     }
 }
 
+// What is current after a crash.
+fn current_after(disk: MemDisk, geometry: Geometry) -> Current {
+    current(&disk.restart(), geometry)
+}
+
 // Whether a write of the next body on a device with these slots ends before this crash, and what is
 // current after the crash.
 fn stopped_write(
+    rt: &impl Abort,
     alloc: Global,
-    geometry: Geometry,
     slots: &(Slot, Slot),
     next: Body,
     stop: Stop,
-) -> Result<(bool, Option<Result<Body, Damage>>), Fail> {
-    let mut disk = device(alloc, &slots.0, &slots.1, stop)?.restart();
-    let done = write_next(&mut disk, geometry, next);
-    Ok((done, current(&disk.restart(), geometry)))
+) -> (bool, Current) {
+    let geometry = small(rt);
+    let mut disk = device(rt, alloc, &slots.0, &slots.1, stop);
+    let done = write_next(rt, &mut disk, geometry, next);
+    (done, current_after(disk, geometry))
 }
 
 // Whether a crash at the call that writes a gate leaves the gate written.
@@ -465,40 +488,49 @@ fn keeps_the_gate(fill: Fill) -> bool {
     fill == Fill::New || fill == Fill::Mix
 }
 
-// From each state of the slots a crash at each of the six calls, with every fill, leaves the old
-// body or the new one. The fifth call writes the gate, at an even offset.
-#[test]
-fn each_stop_leaves_the_old_or_the_new_body(rt: HostRuntime) -> Result<(), Fail> {
-    let alloc = rt.alloc();
-    let geometry = small(&rt);
-    for (old, spare) in [(0u8, 0u8), (1, 0), (2, 0xA7), (3, 0xA7)] {
-        let slots = slots_of(old, spare);
-        let next = body_of(u64::from(old) + 1);
-        let before = current_of(alloc, geometry, &slots.0, &slots.1)?;
-        for k in 0..8u32 {
-            for fill in FILLS {
-                let done = k == 0 || k > 6;
-                let is_new = done || (k >= 5 && keeps_the_gate(fill));
-                assert_eq!(rt;
-                    stopped_write(alloc, geometry, &slots, next, Stop { k, fill })?,
-                    (done, if is_new { Some(Ok(next)) } else { before }),
-                    "{k} {fill:?}"
-                );
-            }
-        }
+// This crash leaves the old body or the new one. The fifth call writes the gate, at an even offset.
+fn leaves_old_or_new(
+    rt: &impl Abort,
+    alloc: Global,
+    slots: &(Slot, Slot),
+    next: &Body,
+    before: &Current,
+    stop: Stop,
+) {
+    let found = stopped_write(rt, alloc, slots, *next, stop);
+    let done = stop.k == 0 || stop.k > 6;
+    let is_new = done || (stop.k >= 5 && keeps_the_gate(stop.fill));
+    let left = if is_new { Some(Ok(*next)) } else { *before };
+    same_in(rt, &found, &(done, left), &stop);
+}
+
+// That of each crash, if this generation is current and the other slot has this gate.
+fn each_leaves_old_or_new(rt: &impl Abort, alloc: Global, old: u8, spare: u8) {
+    let slots = slots_of(old, spare);
+    let next = body_of(u64::from(old) + 1);
+    let before = current_of(rt, alloc, &slots.0, &slots.1);
+    for number in 0..40u32 {
+        leaves_old_or_new(rt, alloc, &slots, &next, &before, stop_of(number));
     }
-    Ok(())
+}
+
+// From each state of the slots a crash at each of the six calls, with every fill, leaves the old
+// body or the new one.
+#[test]
+fn each_stop_leaves_the_old_or_the_new_body(rt: HostRuntime) {
+    let alloc = rt.alloc();
+    each_leaves_old_or_new(&rt, alloc, 0, 0);
+    each_leaves_old_or_new(&rt, alloc, 1, 0);
+    each_leaves_old_or_new(&rt, alloc, 2, 0xA7);
+    each_leaves_old_or_new(&rt, alloc, 3, 0xA7);
 }
 
 // Whether writes of two bodies end before this crash, and what is current after the crash.
-fn stopped_writes(
-    alloc: Global,
-    geometry: Geometry,
-    stop: Stop,
-) -> Result<(bool, Option<Result<Body, Damage>>), Fail> {
-    let mut disk = device(alloc, &slot_of(0xA7, 0), &slot_of(0, 0), stop)?.restart();
-    let done = write_two(&mut disk, geometry, body_of(1), body_of(2));
-    Ok((done, current(&disk.restart(), geometry)))
+fn stopped_writes(rt: &impl Abort, alloc: Global, stop: Stop) -> (bool, Current) {
+    let geometry = small(rt);
+    let mut disk = first_device(rt, alloc, stop);
+    let done = write_two(rt, &mut disk, geometry, body_of(1), body_of(2));
+    (done, current_after(disk, geometry))
 }
 
 // Which body is current after a crash at this call.
@@ -513,202 +545,214 @@ fn left_of_two(k: u32, fill: Fill) -> Body {
     Body::first()
 }
 
+// This crash leaves one of three bodies.
+fn leaves_one_of_three(rt: &impl Abort, alloc: Global, stop: Stop) {
+    let done = stop.k == 0 || stop.k > 12;
+    let left = Some(Ok(left_of_two(stop.k, stop.fill)));
+    let found = stopped_writes(rt, alloc, stop);
+    same_in(rt, &found, &(done, left), &stop);
+}
+
 // Two writes in one life, the first over a closed slot and the second over an open one. A crash at
 // each of the twelve calls leaves one of three bodies.
 #[test]
-fn each_stop_leaves_one_of_three_bodies(rt: HostRuntime) -> Result<(), Fail> {
-    let geometry = small(&rt);
-    for k in 0..14u32 {
-        for fill in FILLS {
-            assert_eq!(rt;
-                stopped_writes(rt.alloc(), geometry, Stop { k, fill })?,
-                (k == 0 || k > 12, Some(Ok(left_of_two(k, fill)))),
-                "{k} {fill:?}"
-            );
-        }
+fn each_stop_leaves_one_of_three_bodies(rt: HostRuntime) {
+    for number in 0..70u32 {
+        leaves_one_of_three(&rt, rt.alloc(), stop_of(number));
     }
-    Ok(())
+}
+
+// The device after one more life, in which a body of this generation is written and then current.
+fn written_in_turn(rt: &impl Abort, disk: MemDisk, generation: u64) -> MemDisk {
+    let geometry = small(rt);
+    let mut disk = disk.restart();
+    let done = write_next(rt, &mut disk, geometry, body_of(generation));
+    let found = current(&disk, geometry);
+    same_in(
+        rt,
+        &(done, found),
+        &(true, Some(Ok(body_of(generation)))),
+        &generation,
+    );
+    disk
 }
 
 // In several lives each write goes to the slot of its generation.
 #[test]
-fn writes_in_turn(rt: HostRuntime) -> Result<(), Fail> {
-    let geometry = small(&rt);
-    let mut disk = device(rt.alloc(), &slot_of(0xA7, 0), &slot_of(0, 0), NEVER)?;
-    for generation in 1..6u64 {
-        disk = disk.restart();
-        let done = write_next(&mut disk, geometry, body_of(generation));
-        let found = current(&disk, geometry);
-        assert_eq!(rt; (done, found), (true, Some(Ok(body_of(generation)))));
-    }
-    Ok(())
+fn writes_in_turn(rt: HostRuntime) {
+    let disk = first_device(&rt, rt.alloc(), NEVER);
+    let disk = written_in_turn(&rt, disk, 1);
+    let disk = written_in_turn(&rt, disk, 2);
+    let disk = written_in_turn(&rt, disk, 3);
+    let disk = written_in_turn(&rt, disk, 4);
+    drop(written_in_turn(&rt, disk, 5));
 }
 
-// How many bytes a disk shows, and the place of the first 0xFF among them.
-fn first_ones(disk: &MemDisk) -> (usize, Option<usize>) {
+// How many bytes a disk shows after a crash, and the place of the first 0xFF among them.
+fn first_ones(disk: MemDisk) -> (usize, Option<usize>) {
+    let disk = disk.restart();
     let shown = disk.shown();
     (shown.len(), shown.iter().position(|byte| *byte == 0xFF))
 }
 
-// Crashes at the first call of a write of generation 3. Returns whether the write succeeds, how
-// many bytes the disk has, and the place that the crash changed.
-fn changed_place(
-    alloc: Global,
-    geometry: Geometry,
-    spare: u8,
-) -> Result<(bool, (usize, Option<usize>)), Fail> {
-    let stop = Stop {
-        k: 1,
+// A crash at this call that fills with ones.
+fn ones_at(k: u32) -> Stop {
+    Stop {
+        k,
         fill: Fill::Ones,
-    };
-    let mut disk = device(alloc, &slot_of(0xA7, 2), &slot_of(spare, 1), stop)?.restart();
-    let done = write_next(&mut disk, geometry, body_of(3));
-    Ok((done, first_ones(&disk.restart())))
+    }
+}
+
+// A write of generation 3 beside a slot with this gate ends with a crash at its first call. The
+// crash changes this place.
+fn changes_first(rt: &impl Abort, alloc: Global, spare: u8, place: usize) {
+    let geometry = small(rt);
+    let mut disk = device(rt, alloc, &slot_of(0xA7, 2), &slot_of(spare, 1), ones_at(1));
+    let done = write_next(rt, &mut disk, geometry, body_of(3));
+    same(rt, &(done, first_ones(disk)), &(false, (LEN, Some(place))));
 }
 
 // The first call writes to the gate if that is open, and else to the last place of the slot.
 #[test]
-fn the_first_call_spares_a_closed_gate(rt: HostRuntime) -> Result<(), Fail> {
-    let geometry = small(&rt);
-    for (spare, place) in [(0xA7u8, 8192usize), (0, 12_287)] {
-        assert_eq!(rt;
-            changed_place(rt.alloc(), geometry, spare)?,
-            (false, (LEN, Some(place)))
-        );
-    }
-    Ok(())
+fn the_first_call_spares_a_closed_gate(rt: HostRuntime) {
+    changes_first(&rt, rt.alloc(), 0xA7, 8192);
+    changes_first(&rt, rt.alloc(), 0, 12_287);
 }
 
 // A device with these slots after a write of the first body that this crash may interrupt, and
 // whether the write succeeds.
 fn first_written(
+    rt: &impl Abort,
     alloc: Global,
     first: &Slot,
     second: &Slot,
     stop: Stop,
-) -> Result<(MemDisk, bool), Fail> {
-    let mut disk = device(alloc, first, second, stop)?.restart();
-    if disk.len() != LEN as u64 {
-        return Err(Fail::new("a disk of another length"));
-    }
+) -> (MemDisk, bool) {
+    let mut disk = device(rt, alloc, first, second, stop);
+    assert!(rt; disk.len() == LEN as u64);
     let done = write_slots(&mut disk).is_ok();
-    Ok((disk, done))
+    (disk, done)
 }
 
-// Writes the first body over two old ones, with this crash. Returns whether the write ends before
-// it, what is current after it, and whether the disk then has the body and the digests.
-fn stopped_first(
-    alloc: Global,
-    geometry: Geometry,
-    stop: Stop,
-) -> Result<(bool, Option<Result<Body, Damage>>, bool), Fail> {
+// The same over two old bodies.
+fn written_over_old(rt: &impl Abort, alloc: Global, stop: Stop) -> (MemDisk, bool) {
+    first_written(rt, alloc, &slot_of(0xA7, 4), &slot_of(0xA7, 5), stop)
+}
+
+// The slot with the first body and the digests.
+fn first_slot() -> Slot {
     let mut slot = slot_of(0xA7, 0);
     put_digests(&mut slot);
-    let (disk, done) = first_written(alloc, &slot_of(0xA7, 4), &slot_of(0xA7, 5), stop)?;
-    let disk = disk.restart();
-    Ok((done, current(&disk, geometry), shows(&disk, 4096, &slot)))
+    slot
 }
 
-// The first body is written over two old ones, with a crash at each of the eight calls and with
-// every fill. It is current from the call on that writes its gate: the seventh, at an even offset.
-#[test]
-fn the_first_body_is_current_once_it_is_written(rt: HostRuntime) -> Result<(), Fail> {
-    let geometry = small(&rt);
-    for k in 0..10u32 {
-        for fill in FILLS {
-            let (done, found, is_shown) = stopped_first(rt.alloc(), geometry, Stop { k, fill })?;
-            assert_eq!(rt; done, k == 0 || k > 8, "{k} {fill:?}");
-            if done || (k >= 7 && keeps_the_gate(fill)) {
-                assert_eq!(rt;
-                    (found, is_shown),
-                    (Some(Ok(Body::first())), true),
-                    "{k} {fill:?}"
-                );
-            } else if k >= 5 {
-                assert_eq!(rt; found, Some(Err(Damage::NoSlot)), "{k} {fill:?}");
-            }
-        }
+// What is current after a crash, and whether the disk then has the first body and the digests.
+fn first_after(disk: MemDisk, geometry: Geometry) -> (Current, bool) {
+    let disk = disk.restart();
+    (current(&disk, geometry), shows(&disk, 4096, &first_slot()))
+}
+
+// The first body is written over two old ones, with this crash. It is current from the call on that
+// writes its gate: the seventh, at an even offset.
+fn leaves_first(rt: &impl Abort, alloc: Global, stop: Stop) {
+    let geometry = small(rt);
+    let (disk, done) = written_over_old(rt, alloc, stop);
+    let left = first_after(disk, geometry);
+    same_in(rt, &done, &(stop.k == 0 || stop.k > 8), &stop);
+    if done || (stop.k >= 7 && keeps_the_gate(stop.fill)) {
+        same_in(rt, &left, &(Some(Ok(Body::first())), true), &stop);
+    } else if stop.k >= 5 {
+        same_in(rt, &left.0, &Some(Err(Damage::NoSlot)), &stop);
     }
-    Ok(())
+}
+
+// A crash comes at each of the eight calls, with every fill.
+#[test]
+fn the_first_body_is_current_once_it_is_written(rt: HostRuntime) {
+    for number in 0..50u32 {
+        leaves_first(&rt, rt.alloc(), stop_of(number));
+    }
 }
 
 // The first write of the first body goes to the gate of slot 0, though that is closed.
 #[test]
-fn the_first_body_begins_at_its_gate(rt: HostRuntime) -> Result<(), Fail> {
+fn the_first_body_begins_at_its_gate(rt: HostRuntime) {
     let closed = slot_of(0, 0);
-    let stop = Stop {
-        k: 3,
-        fill: Fill::Ones,
-    };
-    let (disk, done) = first_written(rt.alloc(), &closed, &closed, stop)?;
-    let changed = first_ones(&disk.restart());
-    assert_eq!(rt; (done, changed), (false, (LEN, Some(4096))));
-    Ok(())
+    let (disk, done) = first_written(&rt, rt.alloc(), &closed, &closed, ones_at(3));
+    same(&rt, &(done, first_ones(disk)), &(false, (LEN, Some(4096))));
 }
 
-// Whether a write of the first body ends before a crash at this call, and whether slot 0 then shows
-// this gate.
-fn has_gate(alloc: Global, k: u32, gate: u8) -> Result<(bool, bool), Fail> {
+// A write of the first body ends with a crash at this call, and slot 0 then shows this gate.
+fn has_gate(rt: &impl Abort, alloc: Global, k: u32, gate: u8) {
     let stop = Stop { k, fill: Fill::Old };
-    let (disk, done) = first_written(alloc, &slot_of(0xA7, 4), &slot_of(0xA7, 5), stop)?;
-    Ok((done, shows(&disk, 4096, &[gate])))
+    let (disk, done) = written_over_old(rt, alloc, stop);
+    let is_shown = shows(&disk, 4096, &[gate]);
+    drop(disk);
+    same_in(rt, &(done, is_shown), &(false, true), &k);
 }
 
 // The gate of slot 0 is open before the first body is written. Of the six calls that write it, the
 // first one closes the gate with a zero, and the fifth one opens it.
 #[test]
-fn the_first_gate_is_closed_by_a_zero(rt: HostRuntime) -> Result<(), Fail> {
-    for (k, gate) in [
-        (2, 0xA7),
-        (3, 0),
-        (4, 0),
-        (5, 0),
-        (6, 0),
-        (7, 0xA7),
-        (8, 0xA7),
-    ] {
-        assert_eq!(rt; has_gate(rt.alloc(), k, gate)?, (false, true), "call {k}");
-    }
-    Ok(())
+fn the_first_gate_is_closed_by_a_zero(rt: HostRuntime) {
+    let alloc = rt.alloc();
+    has_gate(&rt, alloc, 2, 0xA7);
+    has_gate(&rt, alloc, 3, 0);
+    has_gate(&rt, alloc, 4, 0);
+    has_gate(&rt, alloc, 5, 0);
+    has_gate(&rt, alloc, 6, 0);
+    has_gate(&rt, alloc, 7, 0xA7);
+    has_gate(&rt, alloc, 8, 0xA7);
+}
+
+// A disk whose call of this kind and this number fails.
+fn failing(rt: &impl Abort, alloc: Global, call: Call, number: u64) -> FaultDisk
+    ensures { Rests (fault_content result) }
+{
+    FaultDisk::new(first_device(rt, alloc, NEVER), call, number)
 }
 
 // Whether the manifest can be read if the read of this number fails.
-fn reads_with_fault(alloc: Global, geometry: Geometry, number: u64) -> Result<bool, Fail> {
-    let disk = device(alloc, &slot_of(0xA7, 0), &slot_of(0, 0), NEVER)?.restart();
-    let disk = FaultDisk::new(disk, Call::Read, number);
-    Ok(current(&disk, geometry).is_some())
+fn reads_with_fault(rt: &impl Abort, alloc: Global, number: u64) -> bool {
+    let geometry = small(rt);
+    let disk = failing(rt, alloc, Call::Read, number);
+    current(&disk, geometry).is_some()
 }
 
 // Whether a write of the next body succeeds if a call of this kind and this number fails.
-fn writes_with_fault(
-    alloc: Global,
-    geometry: Geometry,
-    call: Call,
-    number: u64,
-) -> Result<bool, Fail> {
-    let disk = device(alloc, &slot_of(0xA7, 0), &slot_of(0, 0), NEVER)?.restart();
-    let mut disk = FaultDisk::new(disk, call, number);
-    Ok(write_next(&mut disk, geometry, body_of(1)))
+fn writes_with_fault(rt: &impl Abort, alloc: Global, call: Call, number: u64) -> bool {
+    let geometry = small(rt);
+    let mut disk = failing(rt, alloc, call, number);
+    write_next(rt, &mut disk, geometry, body_of(1))
+}
+
+// The fault of the read of this number is returned, and those of the write and of the sync.
+fn hands_on(rt: &impl Abort, alloc: Global, number: u64) {
+    same_in(
+        rt,
+        &reads_with_fault(rt, alloc, number),
+        &(number == 4),
+        &number,
+    );
+    same_in(
+        rt,
+        &writes_with_fault(rt, alloc, Call::Write, number),
+        &(number > 3),
+        &number,
+    );
+    same_in(
+        rt,
+        &writes_with_fault(rt, alloc, Call::Sync, number),
+        &(number > 3),
+        &number,
+    );
 }
 
 // The fault of each read is returned, that of the header too, and the fault of each of the six
 // calls of a write.
 #[test]
-fn hands_on_each_fault(rt: HostRuntime) -> Result<(), Fail> {
-    let geometry = small(&rt);
+fn hands_on_each_fault(rt: HostRuntime) {
     for number in 1..5u64 {
-        assert_eq!(rt;
-            reads_with_fault(rt.alloc(), geometry, number)?,
-            number == 4
-        );
+        hands_on(&rt, rt.alloc(), number);
     }
-    for call in [Call::Write, Call::Sync] {
-        for number in 1..5u64 {
-            assert_eq!(rt;
-                writes_with_fault(rt.alloc(), geometry, call, number)?,
-                number > 3
-            );
-        }
-    }
-    Ok(())
 }

@@ -1,24 +1,25 @@
 // A merge of some hundred keys. The finished store finds each of them by one read.
-ghost use Rattle.std.specs.Prelude.{◌≡◌, ◌+◌, ◌≤◌, ◌<◌, IfOk};
+ghost use Rattle.std.specs.Prelude.{◌≡◌, ◌+◌, ◌≤◌, ◌<◌};
 ghost use Rattle.silt_disk.specs.Disk.{size};
 ghost use Rattle.silt_disk.specs.Layout.{device_size};
+ghost use Rattle.silt_device.specs.Memory.{memory_content};
 
 use crate::tests::merge::merge_stores;
-use crate::tests::{blank, with_fault};
-use silt_device::{BadGeometry, Call, Disk, Geometry, MemDisk};
+use crate::tests::{blank_of, done, put, row, same, same_in, with_fault};
+use silt_device::{Call, Disk, Geometry, MemDisk};
 use silt_frame::Key;
 use silt_sorted_store::SortedStore;
 use std::alloc::Global;
-use std::test::Fail;
+use std::process::Abort;
 
 /// How many keys the stores have rows of.
 const KEYS: u16 = 300;
 
 // Values of two bytes, 128 buckets and 400 entries. The hash regions begin at 28,672 and 40,960, the sorted regions at 53,248 and 65,536.
-fn wide() -> Result<Geometry, BadGeometry>
-    ensures { IfOk result (λ geometry. geometry ≡ record { value_len = 2; buckets = 128; log_capacity = 4; logs = 2; hashes = 2; sorted_capacity = 400 }) }
+fn wide(rt: &impl Abort) -> Geometry
+    ensures { result ≡ record { value_len = 2; buckets = 128; log_capacity = 4; logs = 2; hashes = 2; sorted_capacity = 400 } }
 {
-    Geometry::new(2, 128, 4, 2, 2, 400)
+    done(rt, Geometry::new(2, 128, 4, 2, 2, 400))
 }
 
 // The key of this number. The keys rise, and slot `number` is in one of the key's buckets. The last
@@ -58,57 +59,39 @@ fn merged_value(number: u16) -> Option<u8> {
 }
 
 // Writes the rows of a key into its slot of both hash regions.
-fn fill_rows<D: Disk>(disk: &mut D, number: u16) -> Result<(), D::Fault>
+fn fill_rows(rt: &impl Abort, disk: &mut MemDisk, number: u16)
     requires number { number < 300 }
-    requires size { 77824 ≤ size (D.content disk.old) }
-    ensures { size (D.content disk.new) ≡ size (D.content disk.old) }
+    requires size { 77824 ≤ size (memory_content disk.old) }
+    ensures { size (memory_content disk.new) ≡ size (memory_content disk.old) }
 {
     let key = numbered(number, 0);
     let at = 28_672 + u64::from(number) * 23;
-    disk.write(at, &[newest_kind(number)])?;
-    disk.write(at + 1, &key.0)?;
-    disk.write(at + 21, &[0, 1])?;
-    disk.write(at + 12_288, &[older_kind(number)])?;
-    disk.write(at + 12_289, &key.0)?;
-    disk.write(at + 12_309, &[0, 2])?;
-    Ok(())
+    put(rt, disk, at, &row(newest_kind(number), &key, 1));
+    put(rt, disk, at + 12_288, &row(older_kind(number), &key, 2));
 }
 
 // Writes the entry at a place of sorted region 0. Each fifth key has one.
-fn fill_fifth<D: Disk>(disk: &mut D, place: u16) -> Result<(), D::Fault>
+fn fill_fifth(rt: &impl Abort, disk: &mut MemDisk, place: u16)
     requires place { place < 60 }
-    requires size { 77824 ≤ size (D.content disk.old) }
-    ensures { size (D.content disk.new) ≡ size (D.content disk.old) }
+    requires size { 77824 ≤ size (memory_content disk.old) }
+    ensures { size (memory_content disk.new) ≡ size (memory_content disk.old) }
 {
     let at = 53_248 + u64::from(place) * 22;
-    disk.write(at, &numbered(5 * place, 0).0)?;
-    disk.write(at + 20, &[0, 3])?;
-    Ok(())
+    put(rt, disk, at, &numbered(5 * place, 0).0);
+    put(rt, disk, at + 20, &[0, 3]);
 }
 
 // Writes all rows and entries.
-fn fill_all<D: Disk>(disk: &mut D) -> Result<(), D::Fault>
-    requires { 77824 ≤ size (D.content disk.old) }
-    ensures { size (D.content disk.new) ≡ size (D.content disk.old) }
+fn fill_all(rt: &impl Abort, disk: &mut MemDisk)
+    requires { 77824 ≤ size (memory_content disk.old) }
+    ensures { size (memory_content disk.new) ≡ size (memory_content disk.old) }
 {
     for number in 0..KEYS {
-        fill_rows(disk, number)?;
+        fill_rows(rt, disk, number);
     }
     for place in 0..KEYS / 5 {
-        fill_fifth(disk, place)?;
+        fill_fifth(rt, disk, place);
     }
-    Ok(())
-}
-
-// The merged store, after at most 1,500 steps: one for each of the 1,024 slots and one for each key.
-fn merge_many<D: Disk>(alloc: Global, disk: &mut D, geometry: Geometry) -> Option<SortedStore>
-    requires hashes { geometry.hashes ≡ 2 }
-    requires capacity { 60 ≤ geometry.sorted_capacity }
-    requires size { device_size geometry ≤ size (D.content disk.old) }
-    ensures { size (D.content disk.new) ≡ size (D.content disk.old) }
-{
-    let (_outcome, store) = merge_stores(alloc, disk, geometry, 60, 1500)?;
-    Some(store)
 }
 
 // The last byte of the value that a store on this disk finds for a key, or none if it finds no
@@ -168,39 +151,39 @@ fn count_merged() -> u64 {
     count
 }
 
-// A disk with all rows and entries, merged, and the merged store.
-fn merged(alloc: Global) -> Result<(MemDisk, SortedStore), Fail> {
-    let geometry = wide()?;
-    let mut disk = blank(alloc, geometry.size() as usize)?;
-    fill_all(&mut disk)?;
-    match merge_many(alloc, &mut disk, geometry) {
-        Some(store) => Ok((disk, store)),
-        None => Err(Fail::new("no merge")),
-    }
+// A disk with all rows and entries, merged, and the merged store. The merge takes at most 1,500
+// steps: one for each of the 1,024 slots and one for each key.
+fn merged(rt: &impl Abort, alloc: Global) -> (MemDisk, SortedStore) {
+    let geometry = wide(rt);
+    let mut disk = blank_of(rt, alloc, geometry);
+    fill_all(rt, &mut disk);
+    let (_outcome, store) = merge_stores(rt, alloc, &mut disk, geometry, 60, 1500);
+    (disk, store)
+}
+
+// How many keys the store has after a merge, and the first one that it finds wrong.
+fn look_up_all(rt: &impl Abort, alloc: Global) -> (u64, Option<u16>) {
+    let (disk, store) = merged(rt, alloc);
+    (u64::from(store.len()), first_wrong(&store, &disk))
 }
 
 #[test]
-fn finds_each_key_of_a_merge(rt: HostRuntime) -> Result<(), Fail> {
-    let (disk, store) = merged(rt.alloc())?;
-    let wrong = first_wrong(&store, &disk);
-    drop(disk);
-    assert_eq!(rt; (u64::from(store.len()), wrong), (count_merged(), None));
-    Ok(())
+fn finds_each_key_of_a_merge(rt: HostRuntime) {
+    same(&rt, &look_up_all(&rt, rt.alloc()), &(count_merged(), None));
 }
 
-// The first key that is missed after a merge if the read of this number fails.
-fn missed_with_fault(alloc: Global, number: u64) -> Result<Option<u16>, Fail> {
-    let (disk, store) = merged(alloc)?;
+// This is the first key that is missed after a merge if the read of this number fails.
+fn misses(rt: &impl Abort, alloc: Global, number: u64, expected: Option<u16>) {
+    let (disk, store) = merged(rt, alloc);
     let disk = with_fault(disk, Call::Read, number);
-    Ok(first_missed(&store, &disk))
+    let missed = first_missed(&store, &disk);
+    same_in(rt, &missed, &expected, &number);
 }
 
 // As many reads as there are keys find them all. The last read finds the last key, 298.
 #[test]
-fn each_look_up_after_a_merge_makes_one_read(rt: HostRuntime) -> Result<(), Fail> {
-    for (further, want) in [(0, Some(298)), (1, None)] {
-        let number = count_merged().saturating_add(further);
-        assert_eq!(rt; missed_with_fault(rt.alloc(), number)?, want);
-    }
-    Ok(())
+fn each_look_up_after_a_merge_makes_one_read(rt: HostRuntime) {
+    let count = count_merged();
+    misses(&rt, rt.alloc(), count, Some(298));
+    misses(&rt, rt.alloc(), count.saturating_add(1), None);
 }

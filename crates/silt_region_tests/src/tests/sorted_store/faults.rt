@@ -1,68 +1,62 @@
 // How many reads a rebuild and a look-up make. The read of each number fails, and a call that makes
 // it returns the fault.
-ghost use Rattle.std.specs.Prelude.{◌≡◌, ◌<◌, ◌≤◌, IfOk};
+ghost use Rattle.std.specs.Prelude.{◌≡◌, ◌<◌, ◌≤◌};
 ghost use Rattle.silt_disk.specs.Disk.{size};
 ghost use Rattle.silt_device.specs.Memory.{memory_content};
 
 use crate::tests::sorted_store::{Outcome, filled, find, find_in, key, rebuild, rebuild_in};
-use crate::tests::{blank, with_fault};
-use silt_device::{BadGeometry, Call, Disk, Geometry, MemDisk};
+use crate::tests::{Refusal, blank, done, put, same_in, with_fault};
+use silt_device::{Call, Disk, Geometry, MemDisk};
 use silt_frame::Key;
 use std::alloc::Global;
-use std::test::Fail;
+use std::process::Abort;
 
-// The place of a key among eight entries, with one failing read. None if that is a read of the rebuild or of the
-// look-up.
-fn finds_with_fault(alloc: Global, number: u64, key: &Key) -> Result<Option<Option<u32>>, Fail> {
-    let disk = with_fault(filled(alloc, 8)?, Call::Read, number);
-    Ok(find(alloc, &disk, 8, key))
+// The place of the key that begins with these two bytes among eight entries, with one failing read.
+// None if that is a read of the rebuild or of the look-up.
+fn finds_at(
+    rt: &impl Abort,
+    alloc: Global,
+    number: u64,
+    first: (u8, u8),
+    expected: Option<Option<u32>>,
+) {
+    let disk = with_fault(filled(rt, alloc, 8), Call::Read, number);
+    let found = find(rt, alloc, &disk, 8, &key(first.0, first.1));
+    drop(disk);
+    same_in(rt, &found, &expected, &(number, first));
 }
 
-// The result of a rebuild of this many of eight entries if the read of this number fails.
-fn rebuilds_with_fault(alloc: Global, count: u32, number: u64) -> Result<Outcome, Fail>
+// A rebuild of this many of eight entries returns this if the read of this number fails.
+fn rebuilds_at(rt: &impl Abort, alloc: Global, number: u64, count: u32, expected: Outcome)
     requires { count ≤ 8 }
 {
-    let disk = with_fault(filled(alloc, 8)?, Call::Read, number);
-    Ok(rebuild(alloc, &disk, 1, count))
+    let disk = with_fault(filled(rt, alloc, 8), Call::Read, number);
+    let outcome = rebuild(rt, alloc, &disk, 1, count);
+    drop(disk);
+    same_in(rt, &outcome, &expected, &(number, count));
 }
 
 // After the one read of the rebuild a look-up of a present key makes one read. So does that of an
 // absent key with the first byte of a present one. If no key has its first byte, the look-up makes
 // none.
 #[test]
-fn a_failed_read_of_a_look_up_is_reported(rt: HostRuntime) -> Result<(), Fail> {
-    for (number, first, second, want) in [
-        (1, 50, 0, None),
-        (2, 50, 0, None),
-        (3, 50, 0, Some(Some(4))),
-        (2, 50, 1, None),
-        (3, 50, 1, Some(None)),
-        (2, 55, 0, Some(None)),
-    ] {
-        assert_eq!(rt;
-            finds_with_fault(rt.alloc(), number, &key(first, second))?,
-            want,
-            "read {number}, key {first} {second}"
-        );
-    }
-    Ok(())
+fn a_failed_read_of_a_look_up_is_reported(rt: HostRuntime) {
+    let alloc = rt.alloc();
+    finds_at(&rt, alloc, 1, (50, 0), None);
+    finds_at(&rt, alloc, 2, (50, 0), None);
+    finds_at(&rt, alloc, 3, (50, 0), Some(Some(4)));
+    finds_at(&rt, alloc, 2, (50, 1), None);
+    finds_at(&rt, alloc, 3, (50, 1), Some(None));
+    finds_at(&rt, alloc, 2, (55, 0), Some(None));
 }
 
 // A rebuild of three short entries makes one read, and one of none makes none.
 #[test]
-fn a_failed_read_of_a_rebuild_is_reported(rt: HostRuntime) -> Result<(), Fail> {
-    for (number, count, want) in [
-        (1, 3, Outcome::Failed),
-        (2, 3, Outcome::Rebuilt(3)),
-        (1, 0, Outcome::Rebuilt(0)),
-    ] {
-        assert_eq!(rt;
-            rebuilds_with_fault(rt.alloc(), count, number)?,
-            want,
-            "read {number} of {count} entries"
-        );
-    }
-    Ok(())
+fn a_failed_read_of_a_rebuild_is_reported(rt: HostRuntime) {
+    let alloc = rt.alloc();
+    rebuilds_at(&rt, alloc, 1, 3, Err(Refusal::Failed));
+    rebuilds_at(&rt, alloc, 2, 3, Ok(3));
+    rebuilds_at(&rt, alloc, 1, 0, Ok(0));
 }
 
 // The key that ends with this byte, after zeros.
@@ -73,147 +67,122 @@ fn last(byte: u8) -> Key {
 }
 
 // Values of 4,096 bytes and twenty sorted entries of 4,116 bytes: sorted region 1 begins at 184,320.
-fn long() -> Result<Geometry, BadGeometry>
-    ensures { IfOk result (λ geometry. geometry ≡ record { value_len = 4096; buckets = 2; log_capacity = 4; logs = 2; hashes = 1; sorted_capacity = 20 }) }
+fn long(rt: &impl Abort) -> Geometry
+    ensures { result ≡ record { value_len = 4096; buckets = 2; log_capacity = 4; logs = 2; hashes = 1; sorted_capacity = 20 } }
 {
-    Geometry::new(4096, 2, 4, 2, 1, 20)
+    done(rt, Geometry::new(4096, 2, 4, 2, 1, 20))
 }
 
 // Writes the key of an entry of 4,116 bytes into sorted region 1.
-fn write_long_key<D: Disk>(disk: &mut D, place: u32, key: &Key) -> Result<(), D::Fault>
+fn write_long_key(rt: &impl Abort, disk: &mut MemDisk, place: u8, key: &Key)
     requires place { place < 20 }
-    requires size { 270336 ≤ size (D.content disk.old) }
-    ensures { size (D.content disk.new) ≡ size (D.content disk.old) }
+    requires size { 270336 ≤ size (memory_content disk.old) }
+    ensures { size (memory_content disk.new) ≡ size (memory_content disk.old) }
 {
-    disk.write(184_320 + u64::from(place) * 4116, &key.0)?;
-    Ok(())
+    put(rt, disk, 184_320 + u64::from(place) * 4116, &key.0);
 }
 
 // Twenty long entries, whose keys differ in their last byte alone, and all lie in one group.
-fn fill_long<D: Disk>(disk: &mut D) -> Result<(), D::Fault>
-    requires size { 270336 ≤ size (D.content disk.old) }
-    ensures { size (D.content disk.new) ≡ size (D.content disk.old) }
+fn fill_long(rt: &impl Abort, disk: &mut MemDisk)
+    requires size { 270336 ≤ size (memory_content disk.old) }
+    ensures { size (memory_content disk.new) ≡ size (memory_content disk.old) }
 {
-    for place in 0..20 {
-        write_long_key(disk, u32::from(place), &last(place + 1))?;
+    for place in 0..20u8 {
+        write_long_key(rt, disk, place, &last(place + 1));
     }
-    Ok(())
 }
 
 // The result of a rebuild of this many long entries.
-fn rebuild_long<D: Disk>(alloc: Global, disk: &D, count: u32) -> Outcome
+fn rebuild_long<D: Disk>(rt: &impl Abort, alloc: Global, disk: &D, count: u32) -> Outcome
     requires count { count ≤ 20 }
     requires size { 270336 ≤ size (D.content disk.now) }
 {
-    match long() {
-        Ok(geometry) => rebuild_in(alloc, disk, geometry, 1, count),
-        Err(_) => Outcome::Failed,
-    }
-}
-
-// The place of a key among the twenty long entries.
-fn find_long<D: Disk>(alloc: Global, disk: &D, key: &Key) -> Option<Option<u32>>
-    requires { 270336 ≤ size (D.content disk.now) }
-{
-    match long() {
-        Ok(geometry) => find_in(alloc, disk, geometry, 20, key),
-        Err(_) => None,
-    }
+    rebuild_in(alloc, disk, long(rt), 1, count)
 }
 
 // A disk with the twenty long entries.
-fn filled_long(alloc: Global) -> Result<MemDisk, Fail>
-    ensures { IfOk result (λ disk. size (memory_content disk) ≡ 270336) }
+fn filled_long(rt: &impl Abort, alloc: Global) -> MemDisk
+    ensures { size (memory_content result) ≡ 270336 }
 {
-    let mut disk = blank(alloc, 270_336)?;
-    fill_long(&mut disk)?;
-    Ok(disk)
+    let mut disk = blank(rt, alloc, 270_336);
+    fill_long(rt, &mut disk);
+    disk
 }
 
-// The result of a rebuild of this many of them if the read of this number fails.
-fn rebuilds_long_with_fault(alloc: Global, count: u32, number: u64) -> Result<Outcome, Fail>
+// A rebuild of this many of them returns this if the read of this number fails.
+fn rebuilds_long_at(rt: &impl Abort, alloc: Global, number: u64, count: u32, expected: Outcome)
     requires { count ≤ 20 }
 {
-    let disk = with_fault(filled_long(alloc)?, Call::Read, number);
-    Ok(rebuild_long(alloc, &disk, count))
+    let disk = with_fault(filled_long(rt, alloc), Call::Read, number);
+    let outcome = rebuild_long(rt, alloc, &disk, count);
+    drop(disk);
+    same_in(rt, &outcome, &expected, &(number, count));
 }
 
 // Fifteen entries of 4,116 bytes are one read of at most 65,536 bytes, so twenty are two reads.
 #[test]
-fn a_rebuild_reads_in_chunks(rt: HostRuntime) -> Result<(), Fail> {
-    for (number, count, want) in [
-        (1, 20, Outcome::Failed),
-        (2, 20, Outcome::Failed),
-        (3, 20, Outcome::Rebuilt(20)),
-        (2, 16, Outcome::Failed),
-        (2, 15, Outcome::Rebuilt(15)),
-    ] {
-        assert_eq!(rt;
-            rebuilds_long_with_fault(rt.alloc(), count, number)?,
-            want,
-            "read {number} of {count} entries"
-        );
-    }
-    Ok(())
+fn a_rebuild_reads_in_chunks(rt: HostRuntime) {
+    let alloc = rt.alloc();
+    rebuilds_long_at(&rt, alloc, 1, 20, Err(Refusal::Failed));
+    rebuilds_long_at(&rt, alloc, 2, 20, Err(Refusal::Failed));
+    rebuilds_long_at(&rt, alloc, 3, 20, Ok(20));
+    rebuilds_long_at(&rt, alloc, 2, 16, Err(Refusal::Failed));
+    rebuilds_long_at(&rt, alloc, 2, 15, Ok(15));
 }
 
-// The results of two rebuilds if the entry at this place has the key that ends with this byte: of
-// all entries, and of those before the place.
-fn rebuilds_changed(alloc: Global, place: u32, byte: u8) -> Result<(Outcome, Outcome), Fail>
+// If the entry at this place has the key that ends with this byte, a rebuild of all entries finds it
+// damaged, and one of those before the place does not.
+fn is_refused(rt: &impl Abort, alloc: Global, place: u8, byte: u8)
     requires { place < 20 }
 {
-    let mut disk = filled_long(alloc)?;
-    write_long_key(&mut disk, place, &last(byte))?;
-    Ok((
-        rebuild_long(alloc, &disk, 20),
-        rebuild_long(alloc, &disk, place),
-    ))
+    let mut disk = filled_long(rt, alloc);
+    write_long_key(rt, &mut disk, place, &last(byte));
+    let all = rebuild_long(rt, alloc, &disk, 20);
+    let count = u32::from(place);
+    let before = rebuild_long(rt, alloc, &disk, count);
+    drop(disk);
+    let due = (Err(Refusal::Damaged(count)), Ok(count));
+    same_in(rt, &(all, before), &due, &(place, byte));
 }
 
 // The first equal or falling key is damage, at the ends of a read too: entry 14 is the last one of
 // the first read.
 #[test]
-fn a_rebuild_refuses_at_the_borders_of_chunks(rt: HostRuntime) -> Result<(), Fail> {
-    for (place, byte) in [
-        (1, 1),
-        (14, 14),
-        (14, 1),
-        (15, 15),
-        (15, 1),
-        (16, 16),
-        (19, 0),
-    ] {
-        assert_eq!(rt;
-            rebuilds_changed(rt.alloc(), place, byte)?,
-            (Outcome::Damaged(place), Outcome::Rebuilt(place)),
-            "entry {place} with {byte}"
-        );
-    }
-    Ok(())
+fn a_rebuild_refuses_at_the_borders_of_chunks(rt: HostRuntime) {
+    let alloc = rt.alloc();
+    is_refused(&rt, alloc, 1, 1);
+    is_refused(&rt, alloc, 14, 14);
+    is_refused(&rt, alloc, 14, 1);
+    is_refused(&rt, alloc, 15, 15);
+    is_refused(&rt, alloc, 15, 1);
+    is_refused(&rt, alloc, 16, 16);
+    is_refused(&rt, alloc, 19, 0);
 }
 
-// The first of the twenty places whose key is not found there.
-fn first_missed<D: Disk>(alloc: Global, disk: &D) -> Option<u8>
-    requires { 270336 ≤ size (D.content disk.now) }
+// The look-up of the key that ends with this byte returns this among the twenty long entries.
+fn finds_long(rt: &impl Abort, alloc: Global, disk: &MemDisk, byte: u8, expected: Option<u32>)
+    requires { 270336 ≤ size (memory_content disk.now) }
+{
+    let found = find_in(alloc, disk, long(rt), 20, &last(byte));
+    same_in(rt, &found, &Some(expected), &byte);
+}
+
+// The key of each of the twenty places is found there.
+fn finds_each_long(rt: &impl Abort, alloc: Global, disk: &MemDisk)
+    requires { 270336 ≤ size (memory_content disk.now) }
 {
     for place in 0..20u8 {
-        if find_long(alloc, disk, &last(place + 1)) != Some(Some(u32::from(place))) {
-            return Some(place);
-        }
+        finds_long(rt, alloc, disk, place + 1, Some(u32::from(place)));
     }
-    None
 }
 
 // Look-ups find keys that differ only in their last bits, whichever read of the rebuild they are
 // in.
 #[test]
-fn finds_keys_that_differ_in_the_last_bits(rt: HostRuntime) -> Result<(), Fail> {
-    let alloc = rt.alloc();
-    let disk = filled_long(alloc)?;
-    let missed = first_missed(alloc, &disk);
-    let before = find_long(alloc, &disk, &last(0));
-    let behind = find_long(alloc, &disk, &last(21));
+fn finds_keys_that_differ_in_the_last_bits(rt: HostRuntime) {
+    let disk = filled_long(&rt, rt.alloc());
+    finds_each_long(&rt, rt.alloc(), &disk);
+    finds_long(&rt, rt.alloc(), &disk, 0, None);
+    finds_long(&rt, rt.alloc(), &disk, 21, None);
     drop(disk);
-    assert_eq!(rt; (missed, before, behind), (None, Some(None), Some(None)));
-    Ok(())
 }

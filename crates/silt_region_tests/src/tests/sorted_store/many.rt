@@ -4,30 +4,29 @@ ghost use Rattle.silt_disk.specs.Disk.{size};
 ghost use Rattle.silt_disk.specs.Layout.{device_size};
 ghost use Rattle.silt_device.specs.Memory.{memory_content};
 
-use crate::tests::{blank, with_fault};
-use silt_device::{BadGeometry, Call, Disk, Geometry, MemDisk};
+use crate::tests::{blank, done, put, same, same_in, with_fault};
+use silt_device::{Call, Disk, Geometry, MemDisk};
 use silt_frame::Key;
 use silt_sorted_store::SortedStore;
 use std::alloc::{AllocError, Global};
-use std::test::Fail;
+use std::process::Abort;
 
 // Values of two bytes and 2,000 sorted entries: sorted region 1 begins at 77,824.
-fn wide() -> Result<Geometry, BadGeometry>
-    ensures { IfOk result (λ geometry. geometry ≡ record { value_len = 2; buckets = 2; log_capacity = 4; logs = 2; hashes = 1; sorted_capacity = 2000 }) }
+fn wide(rt: &impl Abort) -> Geometry
+    ensures { result ≡ record { value_len = 2; buckets = 2; log_capacity = 4; logs = 2; hashes = 1; sorted_capacity = 2000 } }
 {
-    Geometry::new(2, 2, 4, 2, 1, 2000)
+    done(rt, Geometry::new(2, 2, 4, 2, 1, 2000))
 }
 
 // Writes the keys of entries of 22 bytes into sorted region 1.
-fn write_keys<D: Disk>(disk: &mut D, keys: &[Key]) -> Result<(), D::Fault>
+fn write_keys(rt: &impl Abort, disk: &mut MemDisk, keys: &[Key])
     requires count { length keys.now ≤ 2000 }
-    requires size { 122880 ≤ size (D.content disk.old) }
-    ensures { size (D.content disk.new) ≡ size (D.content disk.old) }
+    requires size { 122880 ≤ size (memory_content disk.old) }
+    ensures { size (memory_content disk.new) ≡ size (memory_content disk.old) }
 {
     for place in 0..keys.len() {
-        disk.write(77_824 + place as u64 * 22, &keys[place].0)?;
+        put(rt, disk, 77_824 + place as u64 * 22, &keys[place].0);
     }
-    Ok(())
 }
 
 // 256 keys, one for each first byte.
@@ -58,59 +57,60 @@ fn spread(alloc: Global) -> Result<Vec<Key>, AllocError>
     Ok(keys)
 }
 
-// The first of all keys whose look-up does not return its place, or the number of keys if no store
-// is made.
-fn first_missed<D: Disk>(alloc: Global, disk: &D, geometry: Geometry, keys: &[Key]) -> Option<usize>
+// The first of all keys whose look-up does not return its place.
+fn first_missed<D: Disk>(
+    rt: &impl Abort,
+    alloc: Global,
+    disk: &D,
+    geometry: Geometry,
+    keys: &[Key],
+) -> Option<usize>
     requires count { length keys.now ≤ geometry.sorted_capacity }
     requires size { device_size geometry ≤ size (D.content disk.now) }
 {
-    let Ok(store) = SortedStore::rebuild(alloc, disk, geometry, 1, keys.len() as u32) else {
-        return Some(keys.len());
-    };
+    let store = done(
+        rt,
+        SortedStore::rebuild(alloc, disk, geometry, 1, keys.len() as u32),
+    );
     for (place, key) in keys.iter().enumerate() {
-        match store.find(disk, key) {
-            Ok(Some(found)) if found as usize == place => {}
-            _ => return Some(place),
+        if store.find(disk, key).ok() != Some(Some(place as u32)) {
+            return Some(place);
         }
     }
     None
 }
 
 // A disk with these keys.
-fn written(alloc: Global, keys: &[Key]) -> Result<MemDisk, Fail>
+fn written(rt: &impl Abort, alloc: Global, keys: &[Key]) -> MemDisk
     requires { length keys.now ≤ 2000 }
-    ensures { IfOk result (λ disk. size (memory_content disk) ≡ 122880) }
+    ensures { size (memory_content result) ≡ 122880 }
 {
-    let mut disk = blank(alloc, 122_880)?;
-    write_keys(&mut disk, keys)?;
-    Ok(disk)
+    let mut disk = blank(rt, alloc, 122_880);
+    write_keys(rt, &mut disk, keys);
+    disk
 }
 
-// The first of 256 keys whose look-up does not return its place, if the read of this number fails.
-fn missed_with_fault(alloc: Global, number: u64) -> Result<Option<usize>, Fail> {
-    let geometry = wide()?;
-    let keys = one_a_group(alloc)?;
-    let disk = with_fault(written(alloc, &keys)?, Call::Read, number);
-    Ok(first_missed(alloc, &disk, geometry, &keys))
+// If the read of this number fails, this is the first of these keys whose look-up does not return its
+// place.
+fn misses(rt: &impl Abort, alloc: Global, keys: &[Key], number: u64, expected: Option<usize>)
+    requires { length keys.now ≤ 2000 }
+{
+    let disk = with_fault(written(rt, alloc, keys), Call::Read, number);
+    let missed = first_missed(rt, alloc, &disk, wide(rt), keys);
+    drop(disk);
+    same_in(rt, &missed, &expected, &number);
 }
 
 // With one key in each group the rebuild makes one read, and then each look-up makes one.
 #[test]
-fn each_look_up_makes_one_read(rt: HostRuntime) -> Result<(), Fail> {
-    for (number, want) in [
-        (2, Some(0)),
-        (3, Some(1)),
-        (130, Some(128)),
-        (257, Some(255)),
-        (258, None),
-    ] {
-        assert_eq!(rt;
-            missed_with_fault(rt.alloc(), number)?,
-            want,
-            "read {number}"
-        );
-    }
-    Ok(())
+fn each_look_up_makes_one_read(rt: HostRuntime) {
+    let alloc = rt.alloc();
+    let keys = done(&rt, one_a_group(alloc));
+    misses(&rt, alloc, &keys, 2, Some(0));
+    misses(&rt, alloc, &keys, 3, Some(1));
+    misses(&rt, alloc, &keys, 130, Some(128));
+    misses(&rt, alloc, &keys, 257, Some(255));
+    misses(&rt, alloc, &keys, 258, None);
 }
 
 // Whether a look-up returns what a plain search among the keys does.
@@ -134,13 +134,20 @@ fn turned(key: &Key, at: usize) -> Key
 
 // For how many of these keys and their neighbours, five of each, a look-up returns what a plain
 // search does.
-fn count_agreeing<D: Disk>(alloc: Global, disk: &D, geometry: Geometry, keys: &[Key]) -> Option<u64>
+fn count_agreeing(
+    rt: &impl Abort,
+    alloc: Global,
+    disk: &MemDisk,
+    geometry: Geometry,
+    keys: &[Key],
+) -> u64
     requires count { length keys.now ≤ geometry.sorted_capacity }
-    requires size { device_size geometry ≤ size (D.content disk.now) }
+    requires size { device_size geometry ≤ size (memory_content disk.now) }
 {
-    let Ok(store) = SortedStore::rebuild(alloc, disk, geometry, 1, keys.len() as u32) else {
-        return None;
-    };
+    let store = done(
+        rt,
+        SortedStore::rebuild(alloc, disk, geometry, 1, keys.len() as u32),
+    );
     let mut count = 0u64;
     for key in keys.iter() {
         count = count.saturating_add(u64::from(agrees(disk, &store, keys, key)));
@@ -149,18 +156,21 @@ fn count_agreeing<D: Disk>(alloc: Global, disk: &D, geometry: Geometry, keys: &[
             count = count.saturating_add(u64::from(agrees(disk, &store, keys, &near)));
         }
     }
-    Some(count)
+    count
+}
+
+// Whether the 2,000 keys rise, and for how many of them and their neighbours a look-up returns what a
+// plain search does.
+fn search_spread(rt: &impl Abort, alloc: Global) -> (bool, u64) {
+    let keys = done(rt, spread(alloc));
+    let disk = written(rt, alloc, &keys);
+    let agreeing = count_agreeing(rt, alloc, &disk, wide(rt), &keys);
+    drop(disk);
+    (keys.is_sorted(), agreeing)
 }
 
 // Tries 2,000 keys, and 10,000 others that differ from one of them in one bit.
 #[test]
-fn finds_what_a_plain_search_finds(rt: HostRuntime) -> Result<(), Fail> {
-    let alloc = rt.alloc();
-    let geometry = wide()?;
-    let keys = spread(alloc)?;
-    let disk = written(alloc, &keys)?;
-    let agreeing = count_agreeing(alloc, &disk, geometry, &keys);
-    drop(disk);
-    assert_eq!(rt; (keys.is_sorted(), agreeing), (true, Some(12_000)));
-    Ok(())
+fn finds_what_a_plain_search_finds(rt: HostRuntime) {
+    same(&rt, &search_spread(&rt, rt.alloc()), &(true, 12_000));
 }
