@@ -1,193 +1,247 @@
-// Sixty-four sessions at once, whose calls are recorded. A plain map repeats the recorded calls.
-ghost use Rattle.std.specs.Prelude.{◌≡◌, []};
-ghost use Rattle.silt_desk.specs.Seeing.{seen};
-ghost use Rattle.silt_desk.specs.Traces.{IsHistory};
+// Sixty-four sessions at once, whose calls are recorded. Each session has a key of its own, and gets the replies of a
+// plain map. The recorded calls are repeated on another one.
 
-mod again;
-mod sessions;
+mod kept;
 
-use crate::tests::server::limits_of;
-use crate::tests::server::record::again::{Again, replayed};
-use crate::tests::server::record::sessions::ask_all;
-use crate::tests::{Open, are_those};
-use silt_desk::{Desk, DeskId, Kept, Seat};
-use silt_device::{Disk, Geometry, MemDisk};
-use silt_fixtures::{formatted_with, opened_with};
-use silt_inbox::InboxId;
-use silt_server::{ServerState, serve_desk};
-use silt_store_set::Core;
-use std::alloc::Global;
-use std::io;
-use std::marker::Brand;
+use crate::tests::server::{connected, read_lines};
+use crate::tests::two_bytes;
+use silt_desk::RecordedCall;
+use silt_event::{Event, Reply};
+use silt_frame::{Key, Value};
+use std::alloc::{AllocError, Global};
+use std::collections::BTreeMap;
+use std::io::{self, Write};
 use std::net::{Net, TcpListener, TcpStream};
-use std::sync::Wait;
-use std::sync::ledger::Blank;
-use std::test::Fail;
-use std::thread::{self, Threads};
 
-const SESSIONS: u32 = 64;
+/// How many commands each session asks.
+const COMMANDS: u32 = 200;
 
-/// What a record shows.
-#[derive(Clone, Copy)]
-struct Printed {
-    // How many calls are recorded.
-    calls: u64,
-    // How many of them had another reply than that of a plain map.
-    wrong: u64,
-    // How many commands were accepted.
-    accepted: u64,
-    // Whether the store ends with the entries of the plain map.
-    ends_alike: bool,
+/// A connection, its key, and the value that this should have.
+#[derive(Drop)]
+struct Session {
+    stream: TcpStream,
+    key: u8,
+    value: Option<u8>,
 }
 
-// Whether the store has the entries of the plain map.
-fn is_alike<D: Disk>(alloc: Global, core: &Core<D>, again: &Again) -> bool {
-    match core.entries(alloc) {
-        Ok(entries) => are_those(&entries, &again.map),
-        Err(_) => false,
+impl Session {
+    // Sends the command of a round: puts, deletes, gets and flushes in turn.
+    fn ask(&mut self, round: u32, line: &mut Vec<u8>) -> io::Result<()> {
+        line.clear();
+        push_line(line, self.key, round)?;
+        self.stream.write_all(line.as_slice())
     }
-}
 
-// What the record of a desk shows once its calls are repeated.
-fn printed_by<D: Disk, N: DeskId>(alloc: Global, desk: Desk<D, Kept, N>) -> Option<Printed> {
-    let calls = desk.trace().calls().len() as u64;
-    let again = replayed(alloc, desk.trace().calls()).ok()?;
-    let core = desk.into_core();
-    let ends_alike = is_alike(alloc, &core, &again);
-    drop(core);
-    Some(Printed {
-        calls,
-        wrong: again.wrong,
-        accepted: again.accepted,
-        ends_alike,
-    })
-}
+    // Whether the reply to the round's command is that of a plain map.
+    fn is_answered(&mut self, round: u32, line: &mut Vec<u8>) -> io::Result<bool> {
+        line.clear();
+        read_lines(&mut self.stream, line, 1)?;
+        Ok(self.is_due(round, line.as_slice()))
+    }
 
-/// What a record shows, and the status of the server.
-type Ended = Option<(Printed, u8)>;
-
-// Serves the store of a desk with these seats. Returns what its record shows, and the status.
-fn serve_seated<
-    D: Disk,
-    N: DeskId + Send + Sync,
-    P: InboxId + Send + Sync,
-    R: Threads + Wait + Sync,
->(
-    rt: &R,
-    alloc: Global,
-    listener: &TcpListener,
-    desk: Desk<D, Kept, N>,
-    seats: Vec<Seat<N>>,
-    put: Blank,
-    taken: Blank,
-) -> Ended
-    requires put { (put.name ≡ P.put_name) × (put.parts ≡ P.feeders) × (P.feeders ≡ 64) }
-    requires taken { (taken.name ≡ P.taken_name) × (taken.parts ≡ 1) }
-{
-    let state = ServerState::<N, P>::new(alloc, seats, put, taken)?;
-    let limits = limits_of(SESSIONS, None);
-    let mut written = Vec::new(alloc);
-    let (desk, status) = serve_desk(
-        rt,
-        alloc,
-        listener,
-        desk,
-        state,
-        limits,
-        &Open,
-        &mut written,
-    );
-    let printed = printed_by(alloc, desk);
-    Some((printed?, status.ok()?))
-}
-
-// Serves a store and records all calls. The blanks become the ledgers.
-fn serve_recorded<
-    D: Disk,
-    N: DeskId + Send + Sync,
-    P: InboxId + Send + Sync,
-    R: Threads + Wait + Sync,
->(
-    rt: &R,
-    alloc: Global,
-    listener: &TcpListener,
-    core: Core<D>,
-    kept: Kept,
-    desk_blanks: (Blank, Blank),
-    inbox_blanks: (Blank, Blank),
-) -> Ended
-    requires calls { (desk_blanks.0.name ≡ N.calls_name) × (desk_blanks.0.parts ≡ N.seats) × (N.seats ≡ 3) }
-    requires accepted { (desk_blanks.1.name ≡ N.accepted_name) × (desk_blanks.1.parts ≡ N.seats) }
-    requires put { (inbox_blanks.0.name ≡ P.put_name) × (inbox_blanks.0.parts ≡ P.feeders) × (P.feeders ≡ 64) }
-    requires taken { (inbox_blanks.1.name ≡ P.taken_name) × (inbox_blanks.1.parts ≡ 1) }
-    requires trace { IsHistory kept (seen D.Disk core) × (kept.calls ≡ []) }
-{
-    let (calls, accepted) = desk_blanks;
-    let (put, taken) = inbox_blanks;
-    match Desk::<D, Kept, N>::new(alloc, core, kept, 3, calls, accepted) {
-        Ok((desk, seats)) => {
-            serve_seated::<D, N, P, R>(rt, alloc, listener, desk, seats, put, taken)
+    // Takes the reply to the round's command. A refused command changes nothing.
+    fn is_due(&mut self, round: u32, line: &[u8]) -> bool {
+        match round % 8 {
+            0 | 4 => self.is_changed(line, Some((round % 256) as u8)),
+            2 => self.is_changed(line, None),
+            6 => line.starts_with(b"acknowledged "),
+            _ => is_value(line, self.value),
         }
-        Err(_) => None,
+    }
+
+    // Takes the reply to a command that gives the key this value, or none.
+    fn is_changed(&mut self, line: &[u8], value: Option<u8>) -> bool {
+        if line.starts_with(b"accepted ") {
+            self.value = value;
+            return true;
+        }
+        is_full(line)
     }
 }
 
-// Serves and records in the same way.
-fn serve_kept<R: Threads + Wait + Sync>(
-    rt: &R,
-    alloc: Global,
-    listener: &TcpListener,
-    core: Core<MemDisk>,
-) -> Ended {
-    match Kept::new(alloc, &core, 400_000) {
-        Ok(kept) => serve_recorded::<MemDisk, Brand, Brand, R>(
-            rt,
-            alloc,
-            listener,
-            core,
-            kept,
-            (Blank::new(3), Blank::new(3)),
-            (Blank::new(64), Blank::new(1)),
-        ),
-        Err(_) => None,
+// Whether a command is refused because the store has no room.
+fn is_full(line: &[u8]) -> bool {
+    line == b"refused 7 StoreFull\n".as_slice() || line == b"refused 8 NoRoom\n".as_slice()
+}
+
+// Whether this is the reply to a get of a key with this value, or none.
+fn is_value(line: &[u8], value: Option<u8>) -> bool {
+    match value {
+        Some(low) => is_value_line(line, digits(low)),
+        None => line == b"absent\n".as_slice(),
     }
 }
 
-// Runs a server of this store beside sixty-four sessions. Returns what its record shows, and how
-// many commands got a wrong reply.
-fn serve_all<R: Net<Listener = TcpListener, Stream = TcpStream> + Threads + Wait + Sync>(
-    rt: &R,
-    alloc: Global,
-    listener: &TcpListener,
-    core: Core<MemDisk>,
-) -> (Ended, io::Result<u32>) {
-    thread::join(
-        rt,
-        || serve_kept(rt, alloc, listener, core),
-        || ask_all(rt, alloc, listener, SESSIONS),
-    )
+// Whether this is the line of a value with these digits.
+fn is_value_line(line: &[u8], digits: [u8; 2]) -> bool {
+    let [high, low] = digits;
+    line == [
+        b'v', b'a', b'l', b'u', b'e', b' ', b'0', b'0', high, low, b'\n',
+    ]
+    .as_slice()
 }
 
-// The same on an empty store.
-fn served_and_asked<R: Net<Listener = TcpListener, Stream = TcpStream> + Threads + Wait + Sync>(
-    rt: &R,
-    alloc: Global,
-) -> Result<(Printed, u8, u32), Fail> {
-    let geometry = Geometry::new(2, 16, 64, 8, 16, 4000)
-        .ok()
-        .ok_or("in limits")?;
-    let listener = TcpListener::bind(rt, ("127.0.0.1", 0u16))?;
-    let core = opened_with(alloc, geometry)?;
-    let (ended, wrong) = serve_all(rt, alloc, &listener, core);
-    let (printed, status) = ended.ok_or("served")?;
-    Ok((printed, status, wrong?))
+// A hexadecimal digit.
+fn digit(number: u8) -> u8 {
+    match number {
+        0..=9 => b'0'.wrapping_add(number),
+        _ => b'a'.wrapping_add(number.wrapping_sub(10)),
+    }
 }
 
-#[test]
-fn records_what_a_plain_map_does(rt: HostRuntime) -> Result<(), Fail> {
-    let (printed, status, wrong) = served_and_asked(&rt, rt.alloc())?;
-    assert!(rt; (status, wrong, printed.wrong) == (0, 0, 0));
-    assert!(rt; printed.ends_alike);
-    assert!(rt; printed.accepted > 0 && printed.accepted < printed.calls);
+// Both hexadecimal digits of a byte.
+fn digits(byte: u8) -> [u8; 2] {
+    [digit(byte / 16), digit(byte % 16)]
+}
+
+// Appends the line of a round for this key.
+fn push_line(line: &mut Vec<u8>, key: u8, round: u32) -> Result<(), AllocError> {
+    match round % 8 {
+        0 | 4 => push_put(line, key, (round % 256) as u8)?,
+        2 => push_words(line, b"delete =s", key)?,
+        6 => line.extend_from_slice(b"flush")?,
+        _ => push_words(line, b"get =s", key)?,
+    }
+    line.push(b'\n')?;
     Ok(())
+}
+
+// Appends a word and a key.
+fn push_words(line: &mut Vec<u8>, word: &[u8], key: u8) -> Result<(), AllocError> {
+    line.extend_from_slice(word)?;
+    line.extend_from_slice(digits(key).as_slice())
+}
+
+// Appends a put of a value of two bytes, the first of them zero.
+fn push_put(line: &mut Vec<u8>, key: u8, low: u8) -> Result<(), AllocError> {
+    push_words(line, b"put =s", key)?;
+    push_words(line, b" 00", low)
+}
+
+// Opens so many connections, each with a key of its own.
+fn connect_all<R: Net<Stream = TcpStream>>(
+    rt: &R,
+    listener: &TcpListener,
+    count: u32,
+    sessions: &mut Vec<Session>,
+) -> io::Result<()> {
+    let addr = listener.local_addr()?;
+    for number in 0..count {
+        sessions.push(Session {
+            stream: connected(rt, addr)?,
+            key: (number % 256) as u8,
+            value: None,
+        })?;
+    }
+    Ok(())
+}
+
+// All sessions ask the command of a round.
+fn ask_round(sessions: &mut Vec<Session>, round: u32, line: &mut Vec<u8>) -> io::Result<()> {
+    for session in sessions.iter_mut() {
+        session.ask(round, line)?;
+    }
+    Ok(())
+}
+
+// How many of the replies are not those of a plain map.
+fn count_wrong(sessions: &mut Vec<Session>, round: u32, line: &mut Vec<u8>) -> io::Result<u32> {
+    let mut wrong = 0u32;
+    for session in sessions.iter_mut() {
+        if !session.is_answered(round, line)? {
+            wrong = wrong.saturating_add(1);
+        }
+    }
+    Ok(wrong)
+}
+
+// The same for all rounds.
+fn count_all_wrong(sessions: &mut Vec<Session>, line: &mut Vec<u8>) -> io::Result<u32> {
+    let mut wrong = 0u32;
+    for round in 0..COMMANDS {
+        ask_round(sessions, round, line)?;
+        wrong = wrong.saturating_add(count_wrong(sessions, round, line)?);
+    }
+    Ok(wrong)
+}
+
+/// So many sessions ask the server of this listener, each command at the same time. Returns how many
+/// commands got a wrong reply.
+fn ask_all<R: Net<Stream = TcpStream>>(
+    rt: &R,
+    alloc: Global,
+    listener: &TcpListener,
+    count: u32,
+) -> io::Result<u32> {
+    let mut line = Vec::new(alloc);
+    let mut sessions = Vec::new(alloc);
+    connect_all(rt, listener, count, &mut sessions)?;
+    count_all_wrong(&mut sessions, &mut line)
+}
+
+/// A map of one thread, how many commands it has accepted, and how many calls had another reply
+/// than the map's.
+#[derive(Drop)]
+struct Again {
+    pub map: BTreeMap<Key, [u8; 2]>,
+    pub accepted: u64,
+    pub wrong: u64,
+}
+
+impl Again {
+    // Repeats one call. Returns whether it had the reply of a plain map. A refused call and a step
+    // change nothing.
+    fn does(&mut self, call: &RecordedCall) -> Result<bool, AllocError> {
+        match (&call.event, &call.reply) {
+            (Event::Put(key, value), Reply::Accepted(number)) => self.puts(key, value, *number),
+            (Event::Delete(key), Reply::Accepted(number)) => Ok(self.deletes(key, *number)),
+            (Event::Flush, Reply::Acknowledged(number)) => Ok(*number == self.accepted),
+            (Event::Get(key), Reply::Found(value)) => Ok(self.has(key, value)),
+            (Event::Get(key), Reply::Absent) => Ok(self.map.get(key).is_none()),
+            (Event::Convert | Event::Merge, Reply::Progress(_)) => Ok(true),
+            (_, Reply::Refused(_)) => Ok(true),
+            _ => Ok(false),
+        }
+    }
+
+    fn puts(&mut self, key: &Key, value: &Value, number: u64) -> Result<bool, AllocError> {
+        self.map.insert(*key, two_bytes(value))?;
+        Ok(self.is_next(number))
+    }
+
+    fn deletes(&mut self, key: &Key, number: u64) -> bool {
+        self.map.remove(key);
+        self.is_next(number)
+    }
+
+    fn has(&self, key: &Key, value: &Value) -> bool {
+        self.map.get(key) == Some(&two_bytes(value))
+    }
+
+    // Counts one more command, and returns whether it has this number.
+    fn is_next(&mut self, number: u64) -> bool {
+        self.accepted = self.accepted.wrapping_add(1);
+        self.accepted == number
+    }
+
+    // Repeats all calls, and counts those that had another reply.
+    fn do_all(&mut self, calls: &[RecordedCall]) -> Result<(), AllocError> {
+        for call in calls {
+            if !self.does(call)? {
+                self.wrong = self.wrong.wrapping_add(1);
+            }
+        }
+        Ok(())
+    }
+}
+
+/// Repeats all calls, on a map that is empty at first.
+fn replayed(alloc: Global, calls: &[RecordedCall]) -> Result<Again, AllocError> {
+    let mut again = Again {
+        map: BTreeMap::new(alloc),
+        accepted: 0,
+        wrong: 0,
+    };
+    again.do_all(calls)?;
+    Ok(again)
 }

@@ -1,4 +1,4 @@
-use Rattle.silt_server_tests.proofs.tests.server.record.serve_kept.Given as goal
+use Rattle.silt_server_tests.proofs.tests.server.record.kept.serve_kept.Given as goal
 
 abbrev pub ghosts-serve_recorded-N-DeskId : goal.ghosts-serve_recorded-N-DeskId
 ghosts-serve_recorded-N-DeskId g a = record { calls_name = a.desk_blanks.0.name; accepted_name = a.desk_blanks.1.name; seats = a.desk_blanks.0.parts }
