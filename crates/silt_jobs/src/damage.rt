@@ -99,7 +99,7 @@ fn sorted_on<D: Disk>(disk: &D, header: &Header) -> u32
 }
 
 // The offset of a part of a disk with this geometry, and with the sorted store in this region.
-pub(crate) fn offset_of(geometry: &Geometry, sorted: u32, place: Place) -> Option<u64>
+fn offset_of(geometry: &Geometry, sorted: u32, place: Place) -> Option<u64>
     requires { sorted < 2 }
     ensures { result ≡ offset_of geometry.now sorted place }
 {

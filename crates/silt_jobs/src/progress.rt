@@ -47,7 +47,7 @@ impl Progress {
     }
 
     // Counts this many more bytes. Returns how many there are now, if the line is due.
-    pub(crate) fn take(&self, count: usize) -> Option<u64> {
+    fn take(&self, count: usize) -> Option<u64> {
         if self.is_over.load(Ordering::SeqCst) {
             return None;
         }
@@ -83,14 +83,14 @@ impl Progress {
 }
 
 // Whether a read of this cost reaches the next step.
-pub(crate) fn is_due(before: u64, cost: u64) -> bool
+fn is_due(before: u64, cost: u64) -> bool
     ensures { result ≡ nat_le (16777216 - before % 16777216) cost }
 {
     STEP - before % STEP <= cost
 }
 
 // Writes how many bytes were read from a file of this length, over the old line.
-pub(crate) fn write_line<W: Write>(to: &mut W, bytes: u64, len: u64) -> io::Result<()> {
+fn write_line<W: Write>(to: &mut W, bytes: u64, len: u64) -> io::Result<()> {
     let (read, whole) = (bytes >> 20, len >> 20);
     write!(
         to,
@@ -99,7 +99,7 @@ pub(crate) fn write_line<W: Write>(to: &mut W, bytes: u64, len: u64) -> io::Resu
 }
 
 // Writes how many bytes were read in all, and ends the line.
-pub(crate) fn write_end<W: Write>(to: &mut W, bytes: u64, len: u64) -> io::Result<()> {
+fn write_end<W: Write>(to: &mut W, bytes: u64, len: u64) -> io::Result<()> {
     write_line(to, bytes, len)?;
     to.write_all(b", 100 percent of what it needs\n")
 }
