@@ -13,74 +13,157 @@ mod shifts;
 mod steps;
 mod wakes;
 
-use silt_desk::{Desk, DeskId, Kept, Seat, Shared, Trace, settle};
+use crossbeam_channel::{Receiver, Sender};
+use silt_desk::{Desk, DeskId, Gate, Kept, Seat, Shared, Trace, Wake, converter, merger, settle};
 use silt_device::Disk;
-use silt_event::Refusal;
+use silt_event::{Progress, Refusal};
 use silt_fixtures::key;
 use silt_frame::Key;
 use silt_store_set::Core;
-use std::alloc::{AllocError, Global};
-use std::sync::Wait;
+use std::alloc::Global;
 use std::sync::ledger::Blank;
-use std::test::Fail;
+use std::sync::{RwLock, Wait};
+use std::thread;
+use std::thread::Threads;
 
-// A put, if the store has values of this length.
+// The number of a refusal that lacks memory, of one by a failed store, and of one by a full history.
+const NO_MEMORY: u32 = 6;
+
+const FAILED: u32 = 9;
+
+const HISTORY_FULL: u32 = 11;
+
+// What stands for the number of a refusal if the values of the store have not two bytes.
+const OTHER_LENGTH: u32 = 0;
+
+// An answer with the number of its refusal.
+fn plain<A, F: Drop>(answer: Result<A, Refusal<F>>) -> Result<A, u32> {
+    match answer {
+        Ok(found) => Ok(found),
+        Err(refusal) => Err(refusal.label().0),
+    }
+}
+
+// A put.
 fn put<D: Disk, T: Trace, N: DeskId>(
     desk: &mut Desk<D, T, N>,
     alloc: Global,
     seat: &mut Seat<N>,
     key: &Key,
-    value: &[u8],
-) -> Option<Result<u64, Refusal<D::Fault>>> {
-    if desk.geometry().value_len() as usize != value.len() {
-        return None;
+    value: [u8; 2],
+) -> Result<u64, u32> {
+    if desk.geometry().value_len() != 2 {
+        return Err(OTHER_LENGTH);
     }
-    Some(desk.put(alloc, seat, key, value))
+    plain(desk.put(alloc, seat, key, &value))
 }
 
-// A swap, if the store has values of these lengths.
+// A swap of the second value for the first one.
 fn swap<D: Disk, T: Trace, N: DeskId>(
     desk: &mut Desk<D, T, N>,
     alloc: Global,
     seat: &mut Seat<N>,
     key: &Key,
-    old: &[u8],
-    new: &[u8],
-) -> Option<Result<Option<u64>, Refusal<D::Fault>>> {
-    let len = desk.geometry().value_len() as usize;
-    if old.len() != len || new.len() != len {
-        return None;
+    old: [u8; 2],
+    new: [u8; 2],
+) -> Result<Option<u64>, u32> {
+    if desk.geometry().value_len() != 2 {
+        return Err(OTHER_LENGTH);
     }
-    Some(desk.swap(alloc, seat, key, old, new))
+    plain(desk.swap(alloc, seat, key, &old, &new))
 }
 
-// A get, if the store has values of this length.
+// The value that a get finds.
 fn get<D: Disk, T: Trace, N: DeskId>(
     desk: &mut Desk<D, T, N>,
     alloc: Global,
     seat: &mut Seat<N>,
     key: &Key,
-    out: &mut [u8],
-) -> Option<Result<bool, Refusal<D::Fault>>> {
-    if desk.geometry().value_len() as usize != out.len() {
-        return None;
+) -> Result<Option<[u8; 2]>, u32> {
+    if desk.geometry().value_len() != 2 {
+        return Err(OTHER_LENGTH);
     }
-    Some(desk.get(alloc, seat, key, out))
+    let mut out = [7; 2];
+    match plain(desk.get(alloc, seat, key, &mut out)) {
+        Ok(found) => Ok(found.then_some(out)),
+        Err(number) => Err(number),
+    }
 }
 
-// A look, if the store has values of this length.
-fn look<D: Disk, T: Trace, N: DeskId>(
-    desk: &Desk<D, T, N>,
+// How many commands a look counts, and the value that it finds. None if it is refused.
+type Look = Option<(u64, Option<[u8; 2]>)>;
+
+fn look<D: Disk, T: Trace, N: DeskId>(desk: &Desk<D, T, N>, key: &Key) -> Look {
+    if desk.geometry().value_len() != 2 {
+        return None;
+    }
+    let mut out = [7; 2];
+    match desk.look(key, &mut out) {
+        Ok((count, found)) => Some((count, found.then_some(out))),
+        Err(_) => None,
+    }
+}
+
+// A put of a key under a guard of its own.
+fn put_alone<D: Disk, N: DeskId, R: Wait>(
+    rt: &R,
+    alloc: Global,
+    shared: &Shared<D, Kept, N>,
+    seat: &mut Seat<N>,
     key: &Key,
-    out: &mut [u8],
-) -> Option<(u64, bool)> {
-    if desk.geometry().value_len() as usize != out.len() {
-        return None;
-    }
-    desk.look(key, out).ok()
+    value: [u8; 2],
+) -> Result<u64, u32> {
+    put(&mut *shared.write(rt), alloc, seat, key, value)
 }
 
-// A desk that keeps at most this many calls, with this many seats.
+fn delete_alone<D: Disk, N: DeskId, R: Wait>(
+    rt: &R,
+    alloc: Global,
+    shared: &Shared<D, Kept, N>,
+    seat: &mut Seat<N>,
+    key: &Key,
+) -> Result<u64, u32> {
+    plain(shared.write(rt).delete(alloc, seat, key))
+}
+
+fn get_alone<D: Disk, N: DeskId, R: Wait>(
+    rt: &R,
+    alloc: Global,
+    shared: &Shared<D, Kept, N>,
+    seat: &mut Seat<N>,
+    key: &Key,
+) -> Result<Option<[u8; 2]>, u32> {
+    get(&mut *shared.write(rt), alloc, seat, key)
+}
+
+fn flush_alone<D: Disk, N: DeskId, R: Wait>(
+    rt: &R,
+    alloc: Global,
+    shared: &Shared<D, Kept, N>,
+    seat: &mut Seat<N>,
+) -> Result<u64, u32> {
+    plain(shared.write(rt).flush(alloc, seat))
+}
+
+fn convert_alone<D: Disk, N: DeskId, R: Wait>(
+    rt: &R,
+    alloc: Global,
+    shared: &Shared<D, Kept, N>,
+    seat: &mut Seat<N>,
+) -> Result<Progress, u32> {
+    plain(shared.write(rt).convert(alloc, seat))
+}
+
+// A look under a read guard.
+fn look_beside<D: Disk, N: DeskId, R: Wait>(
+    rt: &R,
+    shared: &Shared<D, Kept, N>,
+    key: &Key,
+) -> Look {
+    look(&*shared.read(rt), key)
+}
+
+// A desk under a lock that keeps at most this many calls, with this many seats.
 fn seated<D: Disk, N: DeskId>(
     alloc: Global,
     core: Core<D>,
@@ -88,17 +171,17 @@ fn seated<D: Disk, N: DeskId>(
     count: u64,
     calls: Blank,
     accepted: Blank,
-) -> Result<(Desk<D, Kept, N>, Vec<Seat<N>>), Fail>
+) -> Option<(Shared<D, Kept, N>, Vec<Seat<N>>)>
     requires calls { (calls.name ≡ N.calls_name) × (calls.parts ≡ N.seats) }
     requires accepted { (accepted.name ≡ N.accepted_name) × (accepted.parts ≡ N.seats) }
     requires seats { N.seats ≡ count }
 {
     let Ok(trace) = Kept::new(alloc, &core, most) else {
-        return Err("a trace".into());
+        return None;
     };
     match Desk::<D, Kept, N>::new(alloc, core, trace, count, calls, accepted) {
-        Ok(made) => Ok(made),
-        Err(_) => Err("a desk".into()),
+        Ok((desk, seats)) => Some((RwLock::new(desk), seats)),
+        Err(_) => None,
     }
 }
 
@@ -109,37 +192,13 @@ fn pop_two<N: DeskId>(seats: &mut Vec<Seat<N>>) -> Option<(Seat<N>, Seat<N>)> {
     Some((first, second))
 }
 
-// A desk that keeps at most this many calls, and its two seats, the first one first.
-fn two_seats<D: Disk, N: DeskId>(
-    alloc: Global,
-    core: Core<D>,
-    most: u64,
-    calls: Blank,
-    accepted: Blank,
-) -> Result<(Desk<D, Kept, N>, Seat<N>, Seat<N>), Fail>
-    requires calls { (calls.name ≡ N.calls_name) × (calls.parts ≡ N.seats) }
-    requires accepted { (accepted.name ≡ N.accepted_name) × (accepted.parts ≡ N.seats) }
-    requires seats { N.seats ≡ 2 }
-{
-    let (desk, mut seats) = seated::<D, N>(alloc, core, most, 2, calls, accepted)?;
-    match pop_two(&mut seats) {
-        Some((first, second)) => Ok((desk, first, second)),
-        None => Err("two seats".into()),
-    }
-}
-
-// How many calls and accepted commands a desk reports once it has both seats.
-fn settle_two<D: Disk, N: DeskId, R: Wait>(
+// How many calls and accepted commands a desk reports. None if a seat is missing.
+fn settled<D: Disk, N: DeskId, R: Wait>(
     rt: &R,
-    alloc: Global,
     shared: &Shared<D, Kept, N>,
-    first: Seat<N>,
-    second: Seat<N>,
-) -> Result<Option<(u64, u64)>, AllocError> {
-    let mut seats = Vec::new(alloc);
-    seats.push(first)?;
-    seats.push(second)?;
-    Ok(settle(rt, shared, seats).ok())
+    seats: Vec<Seat<N>>,
+) -> Option<(u64, u64)> {
+    settle(rt, shared, seats).ok()
 }
 
 // Puts the keys 1 to 5: the fifth put freezes the first log.
@@ -150,12 +209,94 @@ fn put_five<D: Disk, N: DeskId, R: Wait>(
     seat: &mut Seat<N>,
 ) {
     for first in 1..6u8 {
-        let _ = put(
-            &mut *shared.write(rt),
-            alloc,
-            seat,
-            &key(first),
-            &[0, first],
-        );
+        let _ = put_alone(rt, alloc, shared, seat, &key(first), [0, first]);
     }
+}
+
+// The channel to a worker, and its channel to the other worker.
+#[derive(Drop)]
+struct Channels {
+    wake: Sender<Wake>,
+    wakes: Receiver<Wake>,
+    other: Sender<Wake>,
+    others: Receiver<Wake>,
+}
+
+fn new_channels(alloc: Global) -> Option<Channels> {
+    let (wake, wakes) = crossbeam_channel::unbounded(alloc).ok()?;
+    let (other, others) = crossbeam_channel::unbounded(alloc).ok()?;
+    Some(Channels {
+        wake,
+        wakes,
+        other,
+        others,
+    })
+}
+
+// One of the two workers.
+#[derive(Clone, Copy)]
+enum Worker {
+    Converter,
+    Merger,
+}
+
+// Runs a worker that stops at its first message. Returns its seat, and its message to the other one.
+fn works_over<D: Disk, N: DeskId, G: Gate, R: Wait>(
+    rt: &R,
+    alloc: Global,
+    shared: &Shared<D, Kept, N>,
+    seat: Seat<N>,
+    gate: &G,
+    worker: Worker,
+    channels: Channels,
+) -> (Seat<N>, Option<Wake>) {
+    let Channels {
+        wake,
+        wakes,
+        other,
+        others,
+    } = channels;
+    let _ = wake.send(rt, Wake::Stop);
+    let seat = match worker {
+        Worker::Converter => converter(rt, alloc, shared, seat, gate, wakes, other),
+        Worker::Merger => merger(rt, alloc, shared, seat, gate, wakes, other),
+    };
+    (seat, others.try_recv(rt).ok())
+}
+
+// Runs a worker with the last of these seats until there is nothing for it to do. Returns its
+// message to the other worker. None if there is no memory or no seat.
+fn works<D: Disk, N: DeskId, G: Gate, R: Wait>(
+    rt: &R,
+    alloc: Global,
+    shared: &Shared<D, Kept, N>,
+    seats: &mut Vec<Seat<N>>,
+    gate: &G,
+    worker: Worker,
+) -> Option<Option<Wake>> {
+    let channels = new_channels(alloc)?;
+    let seat = seats.pop()?;
+    let (seat, message) = works_over(rt, alloc, shared, seat, gate, worker, channels);
+    seats.push(seat).ok()?;
+    Some(message)
+}
+
+// Does each of these jobs at what is shared, each in a thread of its own. None if there is no
+// memory.
+fn each_over<S: Sync, J: Send + Drop, X: Send + Drop, F: Fn(&S, J) -> X + Sync, R: Threads + Sync>(
+    rt: &R,
+    shared: &S,
+    jobs: Vec<J>,
+    f: &F,
+) -> Option<Vec<X>>
+    requires f { F.IsAlwaysCallable f.now }
+{
+    let done = thread::map_vec(
+        rt,
+        jobs,
+        &|job: J| -> X
+            requires { F.IsAlwaysCallable f.now }
+        { f(shared, job) },
+    );
+    done.ok()
 }

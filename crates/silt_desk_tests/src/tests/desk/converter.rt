@@ -1,21 +1,23 @@
 // Commands get their replies between two steps of a worker.
 ghost use Rattle.std.specs.Prelude.{◌≡◌};
 
-use crate::tests::desk::{get, put, put_five, two_seats};
+use crate::tests::desk::{
+    Channels, convert_alone, flush_alone, get_alone, new_channels, pop_two, put_alone, put_five,
+    seated,
+};
+use crate::tests::same;
 use crossbeam_channel::{Receiver, Sender};
 use silt_desk::{DeskId, Gate, Kept, Seat, Shared, Spot, Wake, converter, join_over};
 use silt_device::Disk;
 use silt_event::Progress;
-use silt_fixtures::{formatted, key, opened_on, reaches};
+use silt_fixtures::{key, opened, reaches};
 use silt_store_set::Core;
 use std::alloc::Global;
 use std::marker::Brand;
-use std::process::Abort;
+use std::sync::Wait;
 use std::sync::atomic::{AtomicU64, Ordering};
 use std::sync::ledger::Blank;
-use std::sync::{RwLock, Wait};
 use std::test::Fail;
-use std::thread;
 use std::thread::Threads;
 use std::time::Clock;
 
@@ -28,6 +30,17 @@ struct Hold<'a, R: Clock> {
     missed: AtomicU64,
 }
 
+impl<'a, R: Clock> Hold<'a, R> {
+    fn new(rt: &'a R) -> Hold<'a, R> {
+        Hold {
+            rt,
+            passes: AtomicU64::new(0),
+            opened: AtomicU64::new(0),
+            missed: AtomicU64::new(0),
+        }
+    }
+}
+
 impl<R: Clock> Gate for Hold<'_, R> {
     fn pass(&self, _spot: Spot) {
         let before = self.passes.fetch_add(1, Ordering::SeqCst);
@@ -37,14 +50,32 @@ impl<R: Clock> Gate for Hold<'_, R> {
     }
 }
 
-/// The replies to another thread while the worker was held.
-#[derive(Clone, Copy, Debug, PartialEq, Eq)]
-struct Seen {
-    held: bool,
-    put: Option<u64>,
-    got: Option<bool>,
-    flushed: Option<u64>,
-    step: Option<Progress>,
+/// Whether the worker was held, and what a put, a get, a flush and a step of another thread return
+/// meanwhile.
+type Seen = (
+    bool,
+    Result<u64, u32>,
+    Result<Option<[u8; 2]>, u32>,
+    Result<u64, u32>,
+    Result<Progress, u32>,
+);
+
+const SEEN: Seen = (true, Ok(6), Ok(Some([0, 6])), Ok(6), Ok(Progress::Moved));
+
+/// Calls while the worker is held.
+fn call_held<D: Disk, N: DeskId, R: Wait + Clock>(
+    rt: &R,
+    alloc: Global,
+    shared: &Shared<D, Kept, N>,
+    seat: &mut Seat<N>,
+    gate: &Hold<'_, R>,
+) -> Seen {
+    let held = reaches(rt, &gate.passes, 2);
+    let put = put_alone(rt, alloc, shared, seat, &key(6), [0, 6]);
+    let got = get_alone(rt, alloc, shared, seat, &key(6));
+    let flushed = flush_alone(rt, alloc, shared, seat);
+    let step = convert_alone(rt, alloc, shared, seat);
+    (held, put, got, flushed, step)
 }
 
 /// Calls while the worker is held, then frees it and stops it.
@@ -54,23 +85,12 @@ fn call_beside<D: Disk, N: DeskId, R: Wait + Clock>(
     shared: &Shared<D, Kept, N>,
     mut seat: Seat<N>,
     gate: &Hold<'_, R>,
-    wakes: Sender<Wake>,
+    wake: Sender<Wake>,
 ) -> Seen {
-    let held = reaches(rt, &gate.passes, 2);
-    let mut out = [0; 2];
-    let put = put(&mut *shared.write(rt), alloc, &mut seat, &key(6), &[0, 6]);
-    let got = get(&mut *shared.write(rt), alloc, &mut seat, &key(6), &mut out);
-    let flushed = shared.write(rt).flush(alloc, &mut seat).ok();
-    let step = shared.write(rt).convert(alloc, &mut seat).ok();
+    let seen = call_held(rt, alloc, shared, &mut seat, gate);
     gate.opened.store(1, Ordering::SeqCst);
-    let _ = wakes.send(rt, Wake::Stop);
-    Seen {
-        held,
-        put: put.and_then(|answer| answer.ok()),
-        got: got.and_then(|answer| answer.ok()),
-        flushed,
-        step,
-    }
+    let _ = wake.send(rt, Wake::Stop);
+    seen
 }
 
 /// Runs the worker and another thread, until both are done.
@@ -78,12 +98,11 @@ fn run_both<D: Disk, N: DeskId + Send + Sync, R: Threads + Wait + Clock + Sync>(
     rt: &R,
     alloc: Global,
     shared: &Shared<D, Kept, N>,
-    theirs: Seat<N>,
-    mine: Seat<N>,
+    (mine, theirs): (Seat<N>, Seat<N>),
     gate: &Hold<'_, R>,
+    wake: Sender<Wake>,
     wakes: Receiver<Wake>,
     other: Sender<Wake>,
-    wake: Sender<Wake>,
 ) -> (Seat<N>, Seen) {
     join_over(
         rt,
@@ -94,57 +113,66 @@ fn run_both<D: Disk, N: DeskId + Send + Sync, R: Threads + Wait + Clock + Sync>(
 }
 
 /// The replies to another thread while the worker is held, whether the worker was freed in time,
-/// and whether it woke the other worker.
+/// and its message to the other worker.
+type Found = Option<(Seen, bool, Option<Wake>)>;
+
 fn beside_held<D: Disk, N: DeskId + Send + Sync, R: Threads + Wait + Clock + Sync>(
     rt: &R,
     alloc: Global,
     shared: &Shared<D, Kept, N>,
-    mine: Seat<N>,
-    theirs: Seat<N>,
-) -> Result<(Seen, bool, bool), Fail> {
-    let gate = Hold {
-        rt,
-        passes: AtomicU64::new(0),
-        opened: AtomicU64::new(0),
-        missed: AtomicU64::new(0),
-    };
-    let (wake, wakes) = crossbeam_channel::unbounded(alloc)?;
-    let (other, others) = crossbeam_channel::unbounded(alloc)?;
-    let (_theirs, seen) = run_both(rt, alloc, shared, theirs, mine, &gate, wakes, other, wake);
+    seats: (Seat<N>, Seat<N>),
+) -> Found {
+    let Channels {
+        wake,
+        wakes,
+        other,
+        others,
+    } = new_channels(alloc)?;
+    let gate = Hold::new(rt);
+    let (_seat, seen) = run_both(rt, alloc, shared, seats, &gate, wake, wakes, other);
     let in_time = gate.missed.load(Ordering::SeqCst) == 0;
-    Ok((seen, in_time, matches!(others.try_recv(rt), Ok(Wake::Go))))
+    Some((seen, in_time, others.try_recv(rt).ok()))
+}
+
+/// Puts five keys first.
+fn beside_conversion<D: Disk, N: DeskId + Send + Sync, R: Threads + Wait + Clock + Sync>(
+    rt: &R,
+    alloc: Global,
+    shared: &Shared<D, Kept, N>,
+    seats: &mut Vec<Seat<N>>,
+) -> Found {
+    put_five(rt, alloc, shared, seats.first_mut()?);
+    beside_held(rt, alloc, shared, pop_two(seats)?)
 }
 
 /// Another thread's calls get their replies while the worker is held before its second step.
-fn held_between_steps<D: Disk, N: DeskId + Send + Sync, R: Threads + Wait + Clock + Abort + Sync>(
+fn held_between_steps<D: Disk, N: DeskId + Send + Sync, R: Threads + Wait + Clock + Sync>(
     rt: &R,
     alloc: Global,
     core: Core<D>,
     calls: Blank,
     accepted: Blank,
-) -> Result<(), Fail>
+) -> Found
     requires calls { (calls.name ≡ N.calls_name) × (calls.parts ≡ N.seats) }
     requires accepted { (accepted.name ≡ N.accepted_name) × (accepted.parts ≡ N.seats) }
     requires seats { N.seats ≡ 2 }
 {
-    let (desk, mut mine, theirs) = two_seats::<D, N>(alloc, core, 100, calls, accepted)?;
-    let shared: Shared<D, Kept, N> = RwLock::new(desk);
-    put_five(rt, alloc, &shared, &mut mine);
-    let seen = beside_held(rt, alloc, &shared, mine, theirs)?;
-    let due = Seen {
-        held: true,
-        put: Some(6),
-        got: Some(true),
-        flushed: Some(6),
-        step: Some(Progress::Moved),
-    };
-    assert_eq!(rt; seen, (due, true, true));
-    Ok(())
+    let (shared, mut seats) = seated::<D, N>(alloc, core, 100, 2, calls, accepted)?;
+    let found = beside_conversion(rt, alloc, &shared, &mut seats);
+    drop(shared);
+    found
 }
 
 #[test]
 fn held_converter(rt: HostRuntime) -> Result<(), Fail> {
-    let alloc = rt.alloc();
-    let core = opened_on(alloc, formatted(alloc)?)?;
-    held_between_steps::<_, Brand, _>(&rt, alloc, core, Blank::new(2), Blank::new(2))
+    let core = opened(rt.alloc())?;
+    let found = held_between_steps::<_, Brand, _>(
+        &rt,
+        rt.alloc(),
+        core,
+        Blank::new(2),
+        Blank::new(2),
+    );
+    same(&rt, &found, &Some((SEEN, true, Some(Wake::Go))));
+    Ok(())
 }

@@ -1,15 +1,15 @@
 // Each call at a desk that is out of memory for its record.
 ghost use Rattle.std.specs.Prelude.{◌≡◌};
 
-use crate::tests::desk::{get, look, put, swap};
+use crate::tests::desk::{Look, NO_MEMORY, get, look, plain, put, swap};
+use crate::tests::same;
 use silt_desk::{Count, Desk, DeskId, Kept, NotPrepared, Note, Room, Seat, Trace};
 use silt_device::Disk;
 use silt_event::Refusal;
-use silt_fixtures::{formatted, key, opened_on};
+use silt_fixtures::{key, opened};
 use silt_store_set::Core;
 use std::alloc::Global;
 use std::marker::Brand;
-use std::process::Abort;
 use std::sync::ledger::Blank;
 use std::test::Fail;
 
@@ -50,8 +50,8 @@ impl<T: Trace> Trace for Lacking<T> {
 }
 
 // Whether a call is refused for lack of memory.
-fn lacks<A: Drop, F: Drop>(answer: Result<A, Refusal<F>>) -> bool {
-    matches!(answer, Err(Refusal::NoMemory))
+fn lacks<A: Drop>(answer: Result<A, u32>) -> bool {
+    matches!(answer, Err(NO_MEMORY))
 }
 
 // Which of the seven calls are out of memory.
@@ -60,45 +60,40 @@ fn seven_calls<D: Disk, T: Trace, N: DeskId>(
     alloc: Global,
     seat: &mut Seat<N>,
 ) -> [bool; 7] {
-    let mut out = [0; 2];
-    let put = put(desk, alloc, seat, &key(1), &[1, 2]);
-    let get = get(desk, alloc, seat, &key(1), &mut out);
-    let swap = swap(desk, alloc, seat, &key(1), &[1, 2], &[1, 3]);
     [
-        matches!(put, Some(Err(Refusal::NoMemory))),
-        matches!(swap, Some(Err(Refusal::NoMemory))),
-        matches!(get, Some(Err(Refusal::NoMemory))),
-        lacks(desk.delete(alloc, seat, &key(1))),
-        lacks(desk.flush(alloc, seat)),
-        lacks(desk.convert(alloc, seat)),
-        lacks(desk.merge(alloc, seat)),
+        lacks(put(desk, alloc, seat, &key(1), [1, 2])),
+        lacks(get(desk, alloc, seat, &key(1))),
+        lacks(swap(desk, alloc, seat, &key(1), [1, 2], [1, 3])),
+        lacks(plain(desk.delete(alloc, seat, &key(1)))),
+        lacks(plain(desk.flush(alloc, seat))),
+        lacks(plain(desk.convert(alloc, seat))),
+        lacks(plain(desk.merge(alloc, seat))),
     ]
 }
 
+// Which of the seven calls are out of memory, what a look finds then, and what the desk reports.
+type Found = Option<([bool; 7], Look, Option<(u64, u64)>)>;
+
 // All seven calls are refused. A look shows that none of them did anything.
-fn refuses_seven<D: Disk, N: DeskId, R: Abort>(
-    rt: &R,
+const REFUSED: Found = Some(([true; 7], Some((0, None)), Some((0, 0))));
+
+fn calls_and_settles<D: Disk, T: Trace, N: DeskId>(
     alloc: Global,
-    desk: &mut Desk<D, Lacking<Count>, N>,
+    desk: &mut Desk<D, T, N>,
     mut seats: Vec<Seat<N>>,
-) -> Result<(), Fail> {
-    let mut seat = seats.pop().ok_or("a seat")?;
-    assert_eq!(rt; seven_calls(desk, alloc, &mut seat), [true; 7]);
-    let mut out = [0; 2];
-    assert_eq!(rt; look(desk, &key(1), &mut out), Some((0, false)));
-    seats.push(seat)?;
-    assert_eq!(rt; desk.settle(seats).ok(), Some((0, 0)));
-    Ok(())
+) -> Found {
+    let lacking = seven_calls(desk, alloc, seats.first_mut()?);
+    let looked = look(desk, &key(1));
+    Some((lacking, looked, desk.settle(seats).ok()))
 }
 
 // Makes the calls at a desk whose trace never finds memory.
-fn refuses_all<D: Disk, N: DeskId, R: Abort>(
-    rt: &R,
+fn refuses_all<D: Disk, N: DeskId>(
     alloc: Global,
     core: Core<D>,
     calls: Blank,
     accepted: Blank,
-) -> Result<(), Fail>
+) -> Found
     requires calls { (calls.name ≡ N.calls_name) × (calls.parts ≡ N.seats) }
     requires accepted { (accepted.name ≡ N.accepted_name) × (accepted.parts ≡ N.seats) }
     requires seats { N.seats ≡ 1 }
@@ -107,46 +102,58 @@ fn refuses_all<D: Disk, N: DeskId, R: Abort>(
         trace: Count::new(),
     };
     let made = Desk::<D, Lacking<Count>, N>::new(alloc, core, trace, 1, calls, accepted);
-    let Ok((mut desk, seats)) = made else {
-        return Err("a desk".into());
-    };
-    refuses_seven(rt, alloc, &mut desk, seats)
+    let (mut desk, seats) = made.ok()?;
+    let found = calls_and_settles(alloc, &mut desk, seats);
+    drop(desk);
+    found
 }
 
 #[test]
 fn each_call_lacks_memory(rt: HostRuntime) -> Result<(), Fail> {
-    let alloc = rt.alloc();
-    let core = opened_on(alloc, formatted(alloc)?)?;
-    refuses_all::<_, Brand, _>(&rt, alloc, core, Blank::new(1), Blank::new(1))
+    let core = opened(rt.alloc())?;
+    let found = refuses_all::<_, Brand>(rt.alloc(), core, Blank::new(1), Blank::new(1));
+    same(&rt, &found, &REFUSED);
+    Ok(())
 }
 
-// Whether memory runs out for a trace with room for this many calls.
-fn lacks_room<D: Disk>(alloc: Global, core: &Core<D>, most: u64) -> bool {
-    matches!(Kept::new(alloc, core, most), Err(Refusal::NoMemory))
+// Whether memory runs out for a trace with room for this many calls, and how many commands the
+// store has accepted then.
+fn lacks_room<D: Disk>(alloc: Global, core: &Core<D>, most: u64) -> (bool, u64) {
+    let made = Kept::new(alloc, core, most);
+    (matches!(made, Err(Refusal::NoMemory)), core.count())
 }
 
 // How many commands and calls a new trace with room for three calls reports.
 fn new_trace<D: Disk>(alloc: Global, core: &Core<D>) -> Option<(u64, usize)> {
-    let trace = Kept::new(alloc, core, 3).ok()?;
-    Some((trace.count(), trace.calls().len()))
+    match Kept::new(alloc, core, 3) {
+        Ok(trace) => Some((trace.count(), trace.calls().len())),
+        Err(_) => None,
+    }
 }
+
+// What a delete returns, what lacks memory then, and what a trace with room for three calls reports.
+type Lacks = (Result<u64, u32>, [(bool, u64); 3], Option<(u64, usize)>);
 
 // If memory runs out for a trace, the trace is refused and the store does not change. Then a trace
 // with room for three calls is made.
-fn lacks_places<D: Disk, R: Abort>(rt: &R, alloc: Global, core: &mut Core<D>) {
-    assert_eq!(rt; core.delete(alloc, &key(1)).ok(), Some(1));
-    for most in [u64::MAX, 1 << 62, 1 << 58] {
-        assert!(rt; lacks_room(alloc, core, most), "{most}");
-        assert_eq!(rt; core.count(), 1, "{most}");
-    }
-    assert_eq!(rt; new_trace(alloc, core), Some((1, 0)));
+const LACKS: Lacks = (Ok(1), [(true, 1); 3], Some((1, 0)));
+
+fn lacks_places<D: Disk>(alloc: Global, core: &mut Core<D>) -> Lacks {
+    let deleted = plain(core.delete(alloc, &key(1)));
+    let lacking = [
+        lacks_room(alloc, core, u64::MAX),
+        lacks_room(alloc, core, 1 << 62),
+        lacks_room(alloc, core, 1 << 58),
+    ];
+    (deleted, lacking, new_trace(alloc, core))
 }
 
 // A trace that needs more memory than there can be is refused.
 #[test]
 fn a_trace_lacks_memory(rt: HostRuntime) -> Result<(), Fail> {
-    let alloc = rt.alloc();
-    let mut core = opened_on(alloc, formatted(alloc)?)?;
-    lacks_places(&rt, alloc, &mut core);
+    let mut core = opened(rt.alloc())?;
+    let lacks = lacks_places(rt.alloc(), &mut core);
+    drop(core);
+    same(&rt, &lacks, &LACKS);
     Ok(())
 }

@@ -1,17 +1,17 @@
 // Two looks are made at the same time. With a lock that lets in one at a time they are not, and the test sees it.
 ghost use Rattle.std.specs.Prelude.{◌≡◌};
 
-use crate::tests::desk::{look, put, two_seats};
-use silt_desk::{DeskId, Kept, Seat, Shared, join_over};
-use silt_device::Disk;
+use crate::tests::desk::{Look, each_over, look, look_beside, put_alone, seated};
+use crate::tests::same;
+use silt_desk::{DeskId, Kept, Seat, Shared};
+use silt_device::{Disk, MemDisk};
 use silt_fixtures::{formatted, key, opened_on};
 use silt_store_set::Core;
 use std::alloc::Global;
 use std::marker::Brand;
-use std::process::Abort;
+use std::sync::Wait;
 use std::sync::atomic::{AtomicU64, Ordering};
 use std::sync::ledger::Blank;
-use std::sync::{RwLock, Wait};
 use std::test::Fail;
 use std::thread;
 use std::thread::Threads;
@@ -94,48 +94,63 @@ fn look_once<D: Disk, N: DeskId, R: Wait>(
     rt: &R,
     shared: &Shared<D, Kept, N>,
     alone: bool,
-) -> Option<(u64, bool)> {
-    let mut out = [0; 2];
+) -> Look {
     if alone {
-        look(&*shared.write(rt), &key(1), &mut out)
+        look(&*shared.write(rt), &key(1))
     } else {
-        look(&*shared.read(rt), &key(1), &mut out)
+        look_beside(rt, shared, &key(1))
     }
 }
 
 /// Two looks by two threads.
 fn both_look<D: Disk, N: DeskId + Send + Sync, R: Threads + Wait + Sync>(
     rt: &R,
+    alloc: Global,
     shared: &Shared<D, Kept, N>,
     alone: bool,
-) -> (Option<(u64, bool)>, Option<(u64, bool)>) {
-    join_over(
+) -> Option<Vec<Look>> {
+    let jobs = [alone; 2].to_vec(alloc).ok()?;
+    each_over(
         rt,
         shared,
-        move |desk: &Shared<D, Kept, N>| look_once(rt, desk, alone),
-        move |desk: &Shared<D, Kept, N>| look_once(rt, desk, alone),
+        jobs,
+        &|desk: &Shared<D, Kept, N>, alone: bool| look_once(rt, desk, alone),
     )
 }
 
-/// A key is put, and two threads find it. Whether a read waited in vain for a second one.
-fn find_both<D: Disk, N: DeskId + Send + Sync, R: Threads + Wait + Abort + Sync>(
+/// Whether both looks find the key.
+fn both_find<D: Disk, N: DeskId + Send + Sync, R: Threads + Wait + Sync>(
     rt: &R,
     alloc: Global,
     shared: &Shared<D, Kept, N>,
-    seat: &mut Seat<N>,
+    alone: bool,
+) -> bool {
+    match both_look(rt, alloc, shared, alone) {
+        Some(looks) => looks.as_slice() == [Some((1, Some([1, 2]))); 2].as_slice(),
+        None => false,
+    }
+}
+
+/// What a put returns, whether two threads then find its key, and whether a read waited in vain for
+/// a second one.
+type Found = Option<(Result<u64, u32>, bool, bool)>;
+
+fn find_both<D: Disk, N: DeskId + Send + Sync, R: Threads + Wait + Sync>(
+    rt: &R,
+    alloc: Global,
+    shared: &Shared<D, Kept, N>,
+    seats: &mut Vec<Seat<N>>,
     reads: &Reads,
     alone: bool,
-) -> Result<bool, Fail> {
-    let put = put(&mut *shared.write(rt), alloc, seat, &key(1), &[1, 2]);
-    assert_eq!(rt; put.ok_or("two bytes")?.ok(), Some(1));
+) -> Found {
+    let put = put_alone(rt, alloc, shared, seats.first_mut()?, &key(1), [1, 2]);
     reads.armed.store(1, Ordering::SeqCst);
-    let looked = both_look(rt, shared, alone);
-    assert_eq!(rt; looked, (Some((1, true)), Some((1, true))));
-    Ok(reads.missed.load(Ordering::SeqCst) == 1)
+    let is_found = both_find(rt, alloc, shared, alone);
+    Some((put, is_found, reads.missed.load(Ordering::SeqCst) == 1))
 }
 
 /// The same at a desk of this store.
-fn misses<D: Disk, N: DeskId + Send + Sync, R: Threads + Wait + Abort + Sync>(
+fn found_at<D: Disk, N: DeskId + Send + Sync, R: Threads + Wait + Sync>(
     rt: &R,
     alloc: Global,
     core: Core<D>,
@@ -143,40 +158,49 @@ fn misses<D: Disk, N: DeskId + Send + Sync, R: Threads + Wait + Abort + Sync>(
     alone: bool,
     calls: Blank,
     accepted: Blank,
-) -> Result<bool, Fail>
+) -> Found
     requires calls { (calls.name ≡ N.calls_name) × (calls.parts ≡ N.seats) }
     requires accepted { (accepted.name ≡ N.accepted_name) × (accepted.parts ≡ N.seats) }
     requires seats { N.seats ≡ 2 }
 {
-    let (desk, mut first, _second) = two_seats::<D, N>(alloc, core, 3, calls, accepted)?;
-    let shared: Shared<D, Kept, N> = RwLock::new(desk);
-    find_both(rt, alloc, &shared, &mut first, reads, alone)
+    let (shared, mut seats) = seated::<D, N>(alloc, core, 3, 2, calls, accepted)?;
+    let found = find_both(rt, alloc, &shared, &mut seats, reads, alone);
+    drop(shared);
+    found
+}
+
+/// An empty store on a disk with these reads.
+fn opened_with_reads(alloc: Global, reads: &Reads) -> Result<Core<Meeting<'_, MemDisk>>, Fail> {
+    let disk = Meeting {
+        disk: formatted(alloc)?,
+        reads,
+    };
+    opened_on(alloc, disk)
 }
 
 /// The same of an empty store on a disk whose reads wait for this many turns.
-fn misses_after<R: Threads + Wait + Abort + Sync>(
+fn found_after<R: Threads + Wait + Sync>(
     rt: &R,
     alloc: Global,
     turns: u64,
     alone: bool,
-) -> Result<bool, Fail> {
+) -> Result<Found, Fail> {
     let reads = Reads::new(turns);
-    let disk = Meeting {
-        disk: formatted(alloc)?,
-        reads: &reads,
-    };
-    let core = opened_on(alloc, disk)?;
-    misses::<_, Brand, _>(rt, alloc, core, &reads, alone, Blank::new(2), Blank::new(2))
+    let core = opened_with_reads(alloc, &reads)?;
+    let (calls, accepted) = (Blank::new(2), Blank::new(2));
+    Ok(found_at::<_, Brand, _>(rt, alloc, core, &reads, alone, calls, accepted))
 }
 
 #[test]
 fn two_looks(rt: HostRuntime) -> Result<(), Fail> {
-    assert!(rt; !misses_after(&rt, rt.alloc(), 20_000_000, false)?);
+    let found = found_after(&rt, rt.alloc(), 20_000_000, false)?;
+    same(&rt, &found, &Some((Ok(1), true, false)));
     Ok(())
 }
 
 #[test]
 fn two_looks_behind_one_lock(rt: HostRuntime) -> Result<(), Fail> {
-    assert!(rt; misses_after(&rt, rt.alloc(), 100_000, true)?);
+    let found = found_after(&rt, rt.alloc(), 100_000, true)?;
+    same(&rt, &found, &Some((Ok(1), true, true)));
     Ok(())
 }

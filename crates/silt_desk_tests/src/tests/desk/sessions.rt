@@ -3,23 +3,22 @@ ghost use Rattle.std.specs.Prelude.{◌≡◌};
 
 mod swaps;
 
-use crate::tests::desk::{get, pop_two, put, seated};
+use crate::tests::desk::{delete_alone, each_over, get_alone, pop_two, put_alone, seated, settled};
 use crossbeam_channel::{Receiver, Sender};
 use silt_desk::{
-    Desk, DeskId, Kept, OpenGate, RecordedCall, Seat, Shared, Wake, converter, join_over, merger,
-    settle,
+    Desk, DeskId, Kept, OpenGate, RecordedCall, Seat, Shared, Wake, Wakes, converter, merger,
 };
-use silt_device::{Disk, Geometry};
+use silt_device::{Disk, Geometry, MemDisk};
 use silt_event::{Event, Reply};
-use silt_fixtures::{are_those, formatted_with, opened_on, two_bytes};
+use silt_fixtures::{are_those, opened_with, two_bytes};
 use silt_frame::{Key, Value};
 use silt_store_set::Core;
-use std::alloc::{AllocError, Global};
+use std::alloc::Global;
 use std::collections::BTreeMap;
 use std::marker::Brand;
-use std::process::Abort;
+use std::sync::Wait;
+use std::sync::atomic::{AtomicU64, Ordering};
 use std::sync::ledger::Blank;
-use std::sync::{RwLock, Wait};
 use std::test::Fail;
 use std::thread::Threads;
 
@@ -40,219 +39,155 @@ fn turn<D: Disk, N: DeskId, R: Wait>(
     thread: u8,
     number: u8,
 ) {
-    let mut out = [0; 2];
     let key = key_of(thread, number);
-    let _ = put(&mut *shared.write(rt), alloc, seat, &key, &[thread, number]);
-    let _ = get(&mut *shared.write(rt), alloc, seat, &key, &mut out);
-    let other = key_of(thread, number ^ 1);
-    let _ = shared.write(rt).delete(alloc, seat, &other);
+    let _ = put_alone(rt, alloc, shared, seat, &key, [thread, number]);
+    let _ = get_alone(rt, alloc, shared, seat, &key);
+    let _ = delete_alone(rt, alloc, shared, seat, &key_of(thread, number ^ 1));
 }
 
-/// Runs the turns of one thread, which wakes the workers now and then.
+/// How many turns each session has, the ways to wake the workers, and how many sessions have not
+/// ended.
+#[derive(Drop)]
+struct Busy {
+    turns: u32,
+    wakes: Wakes,
+    left: AtomicU64,
+}
+
+impl Busy {
+    /// Wakes the converter now and then.
+    fn wake<R: Wait>(&self, rt: &R, number: u32) {
+        if number % 32 == 0 {
+            let _ = self.wakes.converter.send(rt, Wake::Go);
+        }
+    }
+
+    /// Ends a session. The last one stops the workers.
+    fn end<R: Wait>(&self, rt: &R) {
+        if self.left.fetch_sub(1, Ordering::SeqCst) == 1 {
+            self.wakes.stop(rt);
+        }
+    }
+}
+
+/// Runs the turns of one thread, whose number is that of its seat.
 fn session<D: Disk, N: DeskId, R: Wait>(
     rt: &R,
     alloc: Global,
     shared: &Shared<D, Kept, N>,
+    busy: &Busy,
     mut seat: Seat<N>,
-    thread: u8,
-    turns: u32,
-    wakes: &Sender<Wake>,
 ) -> Seat<N> {
-    for number in 0..turns {
+    let thread = (seat.number() % 64) as u8;
+    for number in 0..busy.turns {
         turn(rt, alloc, shared, &mut seat, thread, (number % 64) as u8);
-        if number % 32 == 0 {
-            let _ = wakes.send(rt, Wake::Go);
-        }
+        busy.wake(rt, number);
     }
+    busy.end(rt);
     seat
 }
 
-/// Two sessions at once.
-fn two_sessions<D: Disk, N: DeskId + Send + Sync, R: Threads + Wait + Sync>(
-    rt: &R,
-    alloc: Global,
-    shared: &Shared<D, Kept, N>,
-    first: Seat<N>,
-    second: Seat<N>,
-    thread: u8,
-    turns: u32,
-    wakes: &Sender<Wake>,
-) -> (Seat<N>, Seat<N>) {
-    join_over(
-        rt,
-        shared,
-        move |desk: &Shared<D, Kept, N>| session(rt, alloc, desk, first, thread, turns, wakes),
-        move |desk: &Shared<D, Kept, N>| session(rt, alloc, desk, second, thread ^ 1, turns, wakes),
-    )
-}
-
-/// Four sessions at once, and then the workers are stopped.
-fn four_sessions<D: Disk, N: DeskId + Send + Sync, R: Threads + Wait + Sync>(
-    rt: &R,
-    alloc: Global,
-    shared: &Shared<D, Kept, N>,
-    seats: (Seat<N>, Seat<N>, Seat<N>, Seat<N>),
-    turns: u32,
-    wakes: &Sender<Wake>,
-    others: &Sender<Wake>,
-) -> ((Seat<N>, Seat<N>), (Seat<N>, Seat<N>)) {
-    let (a, b, c, d) = seats;
-    let seats = join_over(
-        rt,
-        shared,
-        move |desk: &Shared<D, Kept, N>| two_sessions(rt, alloc, desk, a, b, 0, turns, wakes),
-        move |desk: &Shared<D, Kept, N>| two_sessions(rt, alloc, desk, c, d, 2, turns, wakes),
-    );
-    let _ = wakes.send(rt, Wake::Stop);
-    let _ = others.send(rt, Wake::Stop);
-    seats
-}
-
-/// A worker's seat and its channels.
+/// The channel of a worker, and the way to the other one.
 #[derive(Drop)]
-struct SeatedWorker<N: DeskId> {
-    seat: Seat<N>,
+struct Ends {
     wakes: Receiver<Wake>,
     other: Sender<Wake>,
 }
 
-/// Runs both workers until they are stopped.
-fn both_workers<D: Disk, N: DeskId + Send + Sync, R: Threads + Wait + Sync>(
+/// What a thread does at the desk: it is a session, or a worker until it is stopped.
+#[derive(Drop)]
+enum Job<N: DeskId> {
+    Call(Seat<N>),
+    Convert(Seat<N>, Ends),
+    Merge(Seat<N>, Ends),
+}
+
+fn perform<D: Disk, N: DeskId, R: Wait>(
     rt: &R,
     alloc: Global,
     shared: &Shared<D, Kept, N>,
-    first: SeatedWorker<N>,
-    second: SeatedWorker<N>,
-) -> (Seat<N>, Seat<N>) {
-    join_over(
+    busy: &Busy,
+    job: Job<N>,
+) -> Seat<N> {
+    match job {
+        Job::Call(seat) => session(rt, alloc, shared, busy, seat),
+        Job::Convert(seat, ends) => {
+            converter(rt, alloc, shared, seat, &OpenGate, ends.wakes, ends.other)
+        }
+        Job::Merge(seat, ends) => {
+            merger(rt, alloc, shared, seat, &OpenGate, ends.wakes, ends.other)
+        }
+    }
+}
+
+/// Performs all jobs at once, and gives their seats back.
+fn perform_all<D: Disk, N: DeskId + Send + Sync, R: Threads + Wait + Sync>(
+    rt: &R,
+    alloc: Global,
+    shared: &Shared<D, Kept, N>,
+    busy: &Busy,
+    jobs: Vec<Job<N>>,
+) -> Option<Vec<Seat<N>>> {
+    each_over(
         rt,
         shared,
-        move |desk: &Shared<D, Kept, N>| {
-            converter(
-                rt,
-                alloc,
-                desk,
-                first.seat,
-                &OpenGate,
-                first.wakes,
-                first.other,
-            )
-        },
-        move |desk: &Shared<D, Kept, N>| {
-            merger(
-                rt,
-                alloc,
-                desk,
-                second.seat,
-                &OpenGate,
-                second.wakes,
-                second.other,
-            )
-        },
+        jobs,
+        &|desk: &Shared<D, Kept, N>, job: Job<N>| perform(rt, alloc, desk, busy, job),
     )
 }
 
-/// The entries after these calls, made one after the other on these entries. None if a get or a
-/// swap had another reply.
-fn replayed(
-    alloc: Global,
-    opening: &BTreeMap<Key, Value>,
-    calls: &[RecordedCall],
-) -> Result<Option<BTreeMap<Key, [u8; 2]>>, AllocError> {
-    let mut map = BTreeMap::new(alloc);
-    for (key, value) in opening.iter() {
-        map.insert(*key, two_bytes(value))?;
-    }
-    for call in calls {
-        if !done_again(&mut map, call)? {
-            return Ok(None);
-        }
-    }
-    Ok(Some(map))
-}
-
-/// Repeats an accepted swap. Returns false if the key has another value than the old one.
-fn swapped_again(
-    map: &mut BTreeMap<Key, [u8; 2]>,
-    key: &Key,
-    old: &Value,
-    new: &Value,
-) -> Result<bool, AllocError> {
-    if map.get(key) != Some(&two_bytes(old)) {
-        return Ok(false);
-    }
-    map.insert(*key, two_bytes(new))?;
-    Ok(true)
-}
-
-/// Repeats one call. Returns false for a get that finds another value, and for a swap with another
-/// reply.
-fn done_again(map: &mut BTreeMap<Key, [u8; 2]>, call: &RecordedCall) -> Result<bool, AllocError> {
-    match (&call.event, &call.reply) {
-        (Event::Put(key, value), Reply::Accepted(_)) => {
-            map.insert(*key, two_bytes(value))?;
-            Ok(true)
-        }
-        (Event::Delete(key), Reply::Accepted(_)) => {
-            map.remove(key);
-            Ok(true)
-        }
-        (Event::Swap(key, old, new), Reply::Accepted(_)) => swapped_again(map, key, old, new),
-        (Event::Swap(key, old, _), Reply::Differs) => Ok(map.get(key) != Some(&two_bytes(old))),
-        (Event::Get(key), Reply::Found(value)) => Ok(map.get(key) == Some(&two_bytes(value))),
-        (Event::Get(key), Reply::Absent) => Ok(map.get(key).is_none()),
-        _ => Ok(true),
-    }
-}
-
-/// Gives two seats back.
-fn push_two<N: DeskId>(
-    seats: &mut Vec<Seat<N>>,
-    two: (Seat<N>, Seat<N>),
-) -> Result<(), AllocError> {
-    seats.push(two.0)?;
-    seats.push(two.1)?;
-    Ok(())
-}
-
-/// The last four of these seats.
-fn pop_four<N: DeskId>(seats: &mut Vec<Seat<N>>) -> Option<(Seat<N>, Seat<N>, Seat<N>, Seat<N>)> {
-    let (a, b) = pop_two(seats)?;
-    let (c, d) = pop_two(seats)?;
-    Some((a, b, c, d))
-}
-
 /// A channel, with one sender for the sessions and one for the other worker.
-fn channel(alloc: Global) -> Result<(Receiver<Wake>, Sender<Wake>, Sender<Wake>), AllocError> {
-    let (wakes, from) = crossbeam_channel::unbounded(alloc)?;
-    let other = wakes.clone()?;
-    Ok((from, wakes, other))
+fn channel(alloc: Global) -> Option<(Receiver<Wake>, Sender<Wake>, Sender<Wake>)> {
+    let (wakes, from) = crossbeam_channel::unbounded(alloc).ok()?;
+    let other = wakes.clone().ok()?;
+    Some((from, wakes, other))
 }
 
-/// Runs the sessions and the workers at once, with these seats.
-fn run_seated<D: Disk, N: DeskId + Send + Sync, R: Threads + Wait + Sync>(
-    rt: &R,
+/// The ways to wake both workers, and the ends of the converter and of the merger.
+fn new_ends(alloc: Global) -> Option<(Wakes, Ends, Ends)> {
+    let (to_convert, converter, by_merger) = channel(alloc)?;
+    let (to_merge, merger, by_converter) = channel(alloc)?;
+    let first = Ends {
+        wakes: to_convert,
+        other: by_converter,
+    };
+    let second = Ends {
+        wakes: to_merge,
+        other: by_merger,
+    };
+    Some((Wakes { converter, merger }, first, second))
+}
+
+/// The jobs of the workers.
+fn of_workers<N: DeskId>(
     alloc: Global,
-    shared: &Shared<D, Kept, N>,
-    workers: (Seat<N>, Seat<N>),
-    four: (Seat<N>, Seat<N>, Seat<N>, Seat<N>),
-    turns: u32,
-) -> Result<((Seat<N>, Seat<N>), ((Seat<N>, Seat<N>), (Seat<N>, Seat<N>))), Fail> {
-    let (first_from, to_first, first_by_other) = channel(alloc)?;
-    let (second_from, to_second, second_by_other) = channel(alloc)?;
-    let first = SeatedWorker {
-        seat: workers.0,
-        wakes: first_from,
-        other: second_by_other,
-    };
-    let second = SeatedWorker {
-        seat: workers.1,
-        wakes: second_from,
-        other: first_by_other,
-    };
-    Ok(run_both(
-        rt, alloc, shared, first, second, four, turns, to_first, to_second,
-    ))
+    (first, second): (Seat<N>, Seat<N>),
+    (convert, merge): (Ends, Ends),
+) -> Option<Vec<Job<N>>> {
+    let mut jobs = Vec::new(alloc);
+    jobs.push(Job::Convert(first, convert)).ok()?;
+    jobs.push(Job::Merge(second, merge)).ok()?;
+    Some(jobs)
+}
+
+/// Adds the jobs of the sessions. Returns whether there is memory.
+fn add_sessions<N: DeskId>(jobs: &mut Vec<Job<N>>, seats: Vec<Seat<N>>) -> bool {
+    for seat in seats {
+        if jobs.push(Job::Call(seat)).is_err() {
+            return false;
+        }
+    }
+    true
+}
+
+/// The jobs of the workers, with the last two seats, and of the sessions.
+fn jobs<N: DeskId>(
+    alloc: Global,
+    mut seats: Vec<Seat<N>>,
+    ends: (Ends, Ends),
+) -> Option<Vec<Job<N>>> {
+    let mut jobs = of_workers(alloc, pop_two(&mut seats)?, ends)?;
+    add_sessions(&mut jobs, seats).then_some(jobs)
 }
 
 /// Runs the sessions and the workers at once, and gives all seats back.
@@ -260,102 +195,214 @@ fn run_all<D: Disk, N: DeskId + Send + Sync, R: Threads + Wait + Sync>(
     rt: &R,
     alloc: Global,
     shared: &Shared<D, Kept, N>,
-    mut seats: Vec<Seat<N>>,
+    seats: Vec<Seat<N>>,
     turns: u32,
-) -> Result<Vec<Seat<N>>, Fail> {
-    let workers = pop_two(&mut seats).ok_or("two seats")?;
-    let four = pop_four(&mut seats).ok_or("four seats")?;
-    let (workers, sessions) = run_seated(rt, alloc, shared, workers, four, turns)?;
-    push_two(&mut seats, workers)?;
-    push_two(&mut seats, sessions.0)?;
-    push_two(&mut seats, sessions.1)?;
-    Ok(seats)
+) -> Option<Vec<Seat<N>>> {
+    let (wakes, first, second) = new_ends(alloc)?;
+    let jobs = jobs(alloc, seats, (first, second))?;
+    let busy = Busy {
+        turns,
+        wakes,
+        left: AtomicU64::new(4),
+    };
+    perform_all(rt, alloc, shared, &busy, jobs)
 }
 
-/// Runs the workers in one thread, and the sessions in another.
-fn run_both<D: Disk, N: DeskId + Send + Sync, R: Threads + Wait + Sync>(
+/// Puts a value into the map. Returns whether there is memory.
+fn is_put(map: &mut BTreeMap<Key, [u8; 2]>, key: &Key, value: &Value) -> bool {
+    map.insert(*key, two_bytes(value)).is_ok()
+}
+
+/// Begins the map with these entries. Returns whether there is memory.
+fn begin(map: &mut BTreeMap<Key, [u8; 2]>, opening: &BTreeMap<Key, Value>) -> bool {
+    for (key, value) in opening.iter() {
+        if !is_put(map, key, value) {
+            return false;
+        }
+    }
+    true
+}
+
+fn is_accepted(reply: &Reply<()>) -> bool {
+    matches!(reply, Reply::Accepted(_))
+}
+
+/// Repeats a put.
+fn put_again(
+    map: &mut BTreeMap<Key, [u8; 2]>,
+    key: &Key,
+    value: &Value,
+    reply: &Reply<()>,
+) -> bool {
+    !is_accepted(reply) || is_put(map, key, value)
+}
+
+/// Repeats a delete.
+fn deleted_again(map: &mut BTreeMap<Key, [u8; 2]>, key: &Key, reply: &Reply<()>) -> bool {
+    if is_accepted(reply) {
+        map.remove(key);
+    }
+    true
+}
+
+/// Repeats a swap. Returns false if it has another reply.
+fn swapped_again(
+    map: &mut BTreeMap<Key, [u8; 2]>,
+    key: &Key,
+    (old, new): (&Value, &Value),
+    reply: &Reply<()>,
+) -> bool {
+    let has_old = map.get(key) == Some(&two_bytes(old));
+    match reply {
+        Reply::Accepted(_) => has_old && is_put(map, key, new),
+        Reply::Differs => !has_old,
+        _ => true,
+    }
+}
+
+/// Repeats a get. Returns false if it finds another value.
+fn got_again(map: &BTreeMap<Key, [u8; 2]>, key: &Key, reply: &Reply<()>) -> bool {
+    match reply {
+        Reply::Found(value) => map.get(key) == Some(&two_bytes(value)),
+        Reply::Absent => map.get(key).is_none(),
+        _ => true,
+    }
+}
+
+/// Repeats one call. Returns false for a get that finds another value, and for a swap with another
+/// reply.
+fn done_again(map: &mut BTreeMap<Key, [u8; 2]>, call: &RecordedCall) -> bool {
+    match &call.event {
+        Event::Put(key, value) => put_again(map, key, value, &call.reply),
+        Event::Delete(key) => deleted_again(map, key, &call.reply),
+        Event::Swap(key, old, new) => swapped_again(map, key, (old, new), &call.reply),
+        Event::Get(key) => got_again(map, key, &call.reply),
+        _ => true,
+    }
+}
+
+/// Repeats the calls, one after the other. Returns false if one of them does not get its reply.
+fn all_again(map: &mut BTreeMap<Key, [u8; 2]>, calls: &[RecordedCall]) -> bool {
+    for call in calls {
+        if !done_again(map, call) {
+            return false;
+        }
+    }
+    true
+}
+
+/// The entries that the recorded calls make of those at the opening. None if a get or a swap had
+/// another reply, or if there is no memory.
+fn replayed(alloc: Global, kept: &Kept) -> Option<BTreeMap<Key, [u8; 2]>> {
+    let mut map = BTreeMap::new(alloc);
+    let is_replayed = begin(&mut map, kept.opening()) && all_again(&mut map, kept.calls());
+    is_replayed.then_some(map)
+}
+
+/// Whether a store has these entries, and at least one.
+fn has_entries<D: Disk>(alloc: Global, core: &Core<D>, map: &BTreeMap<Key, [u8; 2]>) -> bool {
+    match core.entries(alloc) {
+        Ok(entries) => entries.len() > 0 && are_those(&entries, map),
+        Err(_) => false,
+    }
+}
+
+/// Whether the store of a desk has these entries. Takes the desk apart.
+fn ends_with<D: Disk, N: DeskId>(
+    alloc: Global,
+    desk: Desk<D, Kept, N>,
+    map: &BTreeMap<Key, [u8; 2]>,
+) -> bool {
+    let core = desk.into_core();
+    let is_so = has_entries(alloc, &core, map);
+    drop(core);
+    is_so
+}
+
+/// Whether the entries at the end are those of the replay.
+fn ends_as_replayed<D: Disk, N: DeskId>(alloc: Global, desk: Desk<D, Kept, N>) -> bool {
+    match replayed(alloc, desk.trace()) {
+        Some(map) => ends_with(alloc, desk, &map),
+        None => false,
+    }
+}
+
+/// How many calls a desk settles and recorded, and whether the recorded calls turn the entries at
+/// the opening into those at the end.
+type Ended = Option<(u64, usize, bool)>;
+
+/// That of a desk without its lock, which has settled so.
+fn ended<D: Disk, N: DeskId>(
+    alloc: Global,
+    desk: Desk<D, Kept, N>,
+    settled: Option<(u64, u64)>,
+) -> Ended {
+    let recorded = desk.trace().calls().len();
+    let is_replayed = ends_as_replayed(alloc, desk);
+    let (calls, _) = settled?;
+    Some((calls, recorded, is_replayed))
+}
+
+/// Runs the sessions and the workers at once, and settles.
+fn run_and_settle<D: Disk, N: DeskId + Send + Sync, R: Threads + Wait + Sync>(
     rt: &R,
     alloc: Global,
     shared: &Shared<D, Kept, N>,
-    first: SeatedWorker<N>,
-    second: SeatedWorker<N>,
-    four: (Seat<N>, Seat<N>, Seat<N>, Seat<N>),
+    seats: Vec<Seat<N>>,
     turns: u32,
-    wakes: Sender<Wake>,
-    others: Sender<Wake>,
-) -> ((Seat<N>, Seat<N>), ((Seat<N>, Seat<N>), (Seat<N>, Seat<N>))) {
-    join_over(
-        rt,
-        shared,
-        move |desk: &Shared<D, Kept, N>| both_workers(rt, alloc, desk, first, second),
-        move |desk: &Shared<D, Kept, N>| four_sessions(
-            rt, alloc, desk, four, turns, &wakes, &others,
-        ),
-    )
+) -> Option<(u64, u64)> {
+    match run_all(rt, alloc, shared, seats, turns) {
+        Some(seats) => settled(rt, shared, seats),
+        None => None,
+    }
 }
 
-/// The recorded calls turn the entries at the opening into those at the end. The desk settles as
-/// many calls as it recorded.
-fn many_calls<D: Disk, N: DeskId + Send + Sync, R: Threads + Wait + Abort + Sync>(
+fn many_calls<D: Disk, N: DeskId + Send + Sync, R: Threads + Wait + Sync>(
     rt: &R,
     alloc: Global,
     core: Core<D>,
     turns: u32,
     calls: Blank,
     accepted: Blank,
-) -> Result<(), Fail>
+) -> Ended
     requires calls { (calls.name ≡ N.calls_name) × (calls.parts ≡ N.seats) }
     requires accepted { (accepted.name ≡ N.accepted_name) × (accepted.parts ≡ N.seats) }
     requires seats { N.seats ≡ 6 }
 {
-    let (desk, seats) = seated::<D, N>(alloc, core, 1_000_000, 6, calls, accepted)?;
-    let shared: Shared<D, Kept, N> = RwLock::new(desk);
-    let seats = run_all(rt, alloc, &shared, seats, turns)?;
-    let (settled, _) = settle(rt, &shared, seats).ok().ok_or("all are here")?;
-    let desk = shared.into_inner();
-    assert_eq!(rt; settled, desk.trace().calls().len() as u64);
-    assert!(rt; settled >= 12 * u64::from(turns));
-    ends_as_replayed(rt, alloc, desk)
+    let (shared, seats) = seated::<D, N>(alloc, core, 1_000_000, 6, calls, accepted)?;
+    let settled = run_and_settle(rt, alloc, &shared, seats, turns);
+    ended(alloc, shared.into_inner(), settled)
 }
 
-/// The entries that the recorded calls of a desk make of those at its opening.
-fn replayed_by<D: Disk, N: DeskId>(
-    alloc: Global,
-    desk: &Desk<D, Kept, N>,
-) -> Result<BTreeMap<Key, [u8; 2]>, Fail> {
-    let kept = desk.trace();
-    Ok(replayed(alloc, kept.opening(), kept.calls())?.ok_or("each get is answered so")?)
+/// A store with room for the calls of all threads.
+fn roomy(alloc: Global) -> Result<Core<MemDisk>, Fail> {
+    let geometry = Geometry::new(2, 16, 64, 8, 16, 4000)
+        .ok()
+        .ok_or("in limits")?;
+    opened_with(alloc, geometry)
 }
 
-/// A store ends with these entries.
-fn ends_with<D: Disk, R: Abort>(
-    rt: &R,
-    alloc: Global,
-    core: &Core<D>,
-    map: &BTreeMap<Key, [u8; 2]>,
-) -> Result<(), Fail> {
-    let entries = core.entries(alloc).ok().ok_or("has entries")?;
-    assert!(rt; are_those(&entries, map));
-    assert!(rt; entries.len() > 0);
-    Ok(())
-}
-
-/// The entries at the end are those of the replay.
-fn ends_as_replayed<D: Disk, N: DeskId, R: Abort>(
-    rt: &R,
-    alloc: Global,
-    desk: Desk<D, Kept, N>,
-) -> Result<(), Fail> {
-    let map = replayed_by(alloc, &desk)?;
-    ends_with(rt, alloc, &desk.into_core(), &map)
+/// Whether a desk settles as many calls as it recorded, and at least this many.
+fn is_ended(ended: Ended, least: u64) -> bool {
+    match ended {
+        Some((calls, recorded, is_replayed)) => {
+            is_replayed && calls == recorded as u64 && calls >= least
+        }
+        None => false,
+    }
 }
 
 #[test]
 fn four_threads(rt: HostRuntime) -> Result<(), Fail> {
-    let alloc = rt.alloc();
-    let geometry = Geometry::new(2, 16, 64, 8, 16, 4000)
-        .ok()
-        .ok_or("in limits")?;
-    let core = opened_on(alloc, formatted_with(alloc, geometry)?)?;
-    many_calls::<_, Brand, _>(&rt, alloc, core, 10_000, Blank::new(6), Blank::new(6))
+    let core = roomy(rt.alloc())?;
+    let ended = many_calls::<_, Brand, _>(
+        &rt,
+        rt.alloc(),
+        core,
+        10_000,
+        Blank::new(6),
+        Blank::new(6),
+    );
+    assert!(rt; is_ended(ended, 120_000));
+    Ok(())
 }

@@ -1,10 +1,9 @@
 // Two workers work in shifts: one at a time, each has its shift, and nobody waits without need.
 
+use crate::tests::same;
 use silt_desk::{Gate, ShiftGate, Spot, join_over};
-use std::process::Abort;
 use std::sync::Wait;
 use std::sync::atomic::{AtomicU64, Ordering};
-use std::test::Fail;
 use std::thread;
 use std::thread::Threads;
 use std::time::{Clock, Duration};
@@ -51,8 +50,8 @@ fn do_steps<R: Wait + Clock>(rt: &R, work: &Work<'_, R>, worker: Spot) {
     work.gate.rest(worker);
 }
 
-// Two workers with as much work.
-fn work_beside<R: Threads + Wait + Clock + Abort + Sync>(rt: &R) {
+// Two workers with as much work. Returns how often one began a step while the other one did one.
+fn work_beside<R: Threads + Wait + Clock + Sync>(rt: &R) -> u64 {
     let shared = Work::new(rt);
     join_over(
         rt,
@@ -60,12 +59,12 @@ fn work_beside<R: Threads + Wait + Clock + Abort + Sync>(rt: &R) {
         move |shared: &Work<'_, R>| do_steps(rt, shared, Spot::Converter),
         move |shared: &Work<'_, R>| do_steps(rt, shared, Spot::Merger),
     );
-    assert_eq!(rt; shared.overlaps.load(Ordering::SeqCst), 0);
+    shared.overlaps.load(Ordering::SeqCst)
 }
 
 #[test]
 fn one_worker_at_a_time(rt: HostRuntime) {
-    work_beside(&rt);
+    same(&rt, &work_beside(&rt), &0);
 }
 
 // Does steps until the merger has had its shift, and returns whether it had.
@@ -87,8 +86,8 @@ fn merge_one<R: Wait>(work: &Work<'_, R>) {
     work.gate.rest(Spot::Merger);
 }
 
-// A converter that never rests, and a merger.
-fn merge_beside<R: Threads + Wait + Clock + Abort + Sync>(rt: &R) {
+// A converter that never rests, and a merger. Returns whether the merger had its shift.
+fn merge_beside<R: Threads + Wait + Clock + Sync>(rt: &R) -> bool {
     let shared = Work::new(rt);
     let ((), had_its_shift) = join_over(
         rt,
@@ -96,17 +95,16 @@ fn merge_beside<R: Threads + Wait + Clock + Abort + Sync>(rt: &R) {
         move |shared: &Work<'_, R>| merge_one(shared),
         move |shared: &Work<'_, R>| convert_until(rt, shared),
     );
-    assert!(rt; had_its_shift);
+    had_its_shift
 }
 
 #[test]
 fn a_worker_that_never_rests_leaves_shifts_to_the_other(rt: HostRuntime) {
-    merge_beside(&rt);
+    same(&rt, &merge_beside(&rt), &true);
 }
 
-#[test]
-fn nobody_waits_without_need(rt: HostRuntime) -> Result<(), Fail> {
-    let gate = ShiftGate::new(&rt);
+// A worker that works and a writer, and then each worker after the other one rests.
+fn work_alone<R: Wait>(gate: &ShiftGate<'_, R>) {
     for _ in 0..STEPS {
         gate.pass(Spot::Converter);
         gate.pass(Spot::Writer);
@@ -115,5 +113,9 @@ fn nobody_waits_without_need(rt: HostRuntime) -> Result<(), Fail> {
     gate.pass(Spot::Merger);
     gate.rest(Spot::Converter);
     gate.pass(Spot::Merger);
-    Ok(())
+}
+
+#[test]
+fn nobody_waits_without_need(rt: HostRuntime) {
+    work_alone(&ShiftGate::new(&rt));
 }

@@ -1,94 +1,77 @@
 // Workers take each step of the background work that there is, and record no other call.
 ghost use Rattle.std.specs.Prelude.{◌≡◌};
 
-use crate::tests::desk::{put_five, settle_two, two_seats};
-use silt_desk::{DeskId, Kept, Seat, Shared, ShiftGate, Wake, converter, merger};
+use crate::tests::desk::{Worker, put_five, seated, settled, works};
+use crate::tests::same;
+use silt_desk::{DeskId, Kept, Seat, Shared, ShiftGate, Wake};
 use silt_device::Disk;
-use silt_fixtures::{formatted, opened_on};
+use silt_fixtures::opened;
 use silt_store_set::Core;
 use std::alloc::Global;
 use std::marker::Brand;
-use std::process::Abort;
+use std::sync::Wait;
 use std::sync::ledger::Blank;
-use std::sync::{RwLock, Wait};
 use std::test::Fail;
 
-/// One of the two workers.
-#[derive(Clone, Copy, Debug, PartialEq, Eq)]
-enum Worker {
-    Converter,
-    Merger,
-}
+// The messages of the workers to each other.
+type Messages = Option<[Option<Wake>; 5]>;
 
-// Runs a worker until there is nothing for it to do. Returns whether it woke the other one. A worker
+// A worker that had something to do wakes the other one.
+const WAKES: Messages = Some([None, Some(Wake::Go), None, Some(Wake::Go), None]);
+
+// Runs the merger before there is work, and then each worker twice, the converter first. A worker
 // that rests has left its shift to the other one.
-fn works<D: Disk, N: DeskId, R: Wait>(
+fn work_in_turn<D: Disk, N: DeskId, R: Wait>(
     rt: &R,
     alloc: Global,
     shared: &Shared<D, Kept, N>,
-    seat: Seat<N>,
+    seats: &mut Vec<Seat<N>>,
     gate: &ShiftGate<'_, R>,
-    worker: Worker,
-) -> Result<(Seat<N>, bool), Fail> {
-    let (wake, wakes) = crossbeam_channel::unbounded(alloc)?;
-    let (other, others) = crossbeam_channel::unbounded(alloc)?;
-    let _ = wake.send(rt, Wake::Stop);
-    let seat = match worker {
-        Worker::Converter => converter(rt, alloc, shared, seat, gate, wakes, other),
-        Worker::Merger => merger(rt, alloc, shared, seat, gate, wakes, other),
-    };
-    Ok((seat, matches!(others.try_recv(rt), Ok(Wake::Go))))
+) -> Messages {
+    let before = works(rt, alloc, shared, seats, gate, Worker::Merger)?;
+    put_five(rt, alloc, shared, seats.first_mut()?);
+    Some([
+        before,
+        works(rt, alloc, shared, seats, gate, Worker::Converter)?,
+        works(rt, alloc, shared, seats, gate, Worker::Converter)?,
+        works(rt, alloc, shared, seats, gate, Worker::Merger)?,
+        works(rt, alloc, shared, seats, gate, Worker::Merger)?,
+    ])
 }
 
-// Runs each worker twice, the converter first. A worker that had something to do wakes the other
-// one.
-fn work_in_turn<D: Disk, N: DeskId, R: Wait + Abort>(
-    rt: &R,
-    alloc: Global,
-    shared: &Shared<D, Kept, N>,
-    mut seat: Seat<N>,
-    gate: &ShiftGate<'_, R>,
-) -> Result<Seat<N>, Fail> {
-    for (worker, due) in [
-        (Worker::Converter, true),
-        (Worker::Converter, false),
-        (Worker::Merger, true),
-        (Worker::Merger, false),
-    ] {
-        let (back, printed) = works(rt, alloc, shared, seat, gate, worker)?;
-        seat = back;
-        assert_eq!(rt; printed, due, "{worker:?}");
-    }
-    Ok(seat)
-}
+// That, and what the desk reports.
+type Found = Option<(Messages, Option<(u64, u64)>)>;
 
-// Five puts freeze a log of four rows. Its conversion has eight slots and an end, and the merge eight slots, four keys and an end.
-fn does_what_is_wanted<D: Disk, N: DeskId, R: Wait + Abort>(
+fn does_what_is_wanted<D: Disk, N: DeskId, R: Wait>(
     rt: &R,
     alloc: Global,
     core: Core<D>,
     calls: Blank,
     accepted: Blank,
-) -> Result<(), Fail>
+) -> Found
     requires calls { (calls.name ≡ N.calls_name) × (calls.parts ≡ N.seats) }
     requires accepted { (accepted.name ≡ N.accepted_name) × (accepted.parts ≡ N.seats) }
     requires seats { N.seats ≡ 2 }
 {
-    let (desk, mut mine, seat) = two_seats::<D, N>(alloc, core, 100, calls, accepted)?;
-    let shared: Shared<D, Kept, N> = RwLock::new(desk);
-    let gate = ShiftGate::new(rt);
-    let (seat, printed) = works(rt, alloc, &shared, seat, &gate, Worker::Merger)?;
-    assert!(rt; !printed);
-    put_five(rt, alloc, &shared, &mut mine);
-    let seat = work_in_turn(rt, alloc, &shared, seat, &gate)?;
-    let settled = settle_two(rt, alloc, &shared, mine, seat)?;
-    assert_eq!(rt; settled, Some((5 + 9 + 13, 5)));
-    Ok(())
+    let (shared, mut seats) = seated::<D, N>(alloc, core, 100, 2, calls, accepted)?;
+    let messages = work_in_turn(rt, alloc, &shared, &mut seats, &ShiftGate::new(rt));
+    let settled = settled(rt, &shared, seats);
+    drop(shared);
+    Some((messages, settled))
 }
 
+// Five puts freeze a log of four rows. Its conversion has eight slots and an end, and the merge
+// eight slots, four keys and an end.
 #[test]
 fn workers_do_what_is_wanted(rt: HostRuntime) -> Result<(), Fail> {
-    let alloc = rt.alloc();
-    let core = opened_on(alloc, formatted(alloc)?)?;
-    does_what_is_wanted::<_, Brand, _>(&rt, alloc, core, Blank::new(2), Blank::new(2))
+    let core = opened(rt.alloc())?;
+    let found = does_what_is_wanted::<_, Brand, _>(
+        &rt,
+        rt.alloc(),
+        core,
+        Blank::new(2),
+        Blank::new(2),
+    );
+    same(&rt, &found, &Some((WAKES, Some((5 + 9 + 13, 5)))));
+    Ok(())
 }

@@ -1,17 +1,17 @@
 // Four threads count up one value by compare and swap, and none of their steps is lost.
 ghost use Rattle.std.specs.Prelude.{◌≡◌};
 
-use crate::tests::desk::sessions::{ends_as_replayed, pop_four, push_two};
-use crate::tests::desk::{look, put, seated, swap};
-use silt_desk::{Desk, DeskId, Kept, Seat, Shared, join_over, settle};
-use silt_device::{Disk, Geometry};
-use silt_fixtures::{formatted_with, key, opened_on};
+use crate::tests::desk::sessions::{ends_as_replayed, roomy};
+use crate::tests::desk::{each_over, look_beside, put_alone, seated, settled, swap};
+use crate::tests::same;
+use silt_desk::{DeskId, Kept, Seat, Shared};
+use silt_device::Disk;
+use silt_fixtures::key;
 use silt_store_set::Core;
 use std::alloc::Global;
 use std::marker::Brand;
-use std::process::Abort;
+use std::sync::Wait;
 use std::sync::ledger::Blank;
-use std::sync::{RwLock, Wait};
 use std::test::Fail;
 use std::thread::Threads;
 
@@ -21,12 +21,9 @@ fn next(number: [u8; 2]) -> [u8; 2] {
 }
 
 // The value of the key.
-fn counted<D: Disk, N: DeskId>(desk: &Desk<D, Kept, N>) -> Option<[u8; 2]> {
-    let mut out = [0; 2];
-    match look(desk, &key(1), &mut out) {
-        Some((_, true)) => Some(out),
-        _ => None,
-    }
+fn counted<D: Disk, N: DeskId, R: Wait>(rt: &R, shared: &Shared<D, Kept, N>) -> Option<[u8; 2]> {
+    let (_, value) = look_beside(rt, shared, &key(1))?;
+    value
 }
 
 // Looks, and swaps in the next number, each under a guard of its own. Returns whether the swap is
@@ -37,12 +34,12 @@ fn step<D: Disk, N: DeskId, R: Wait>(
     shared: &Shared<D, Kept, N>,
     seat: &mut Seat<N>,
 ) -> bool {
-    let Some(old) = counted(&*shared.read(rt)) else {
+    let Some(old) = counted(rt, shared) else {
         return false;
     };
     let new = next(old);
-    let swapped = swap(&mut *shared.write(rt), alloc, seat, &key(1), &old, &new);
-    matches!(swapped, Some(Ok(Some(_))))
+    let swapped = swap(&mut *shared.write(rt), alloc, seat, &key(1), old, new);
+    matches!(swapped, Ok(Some(_)))
 }
 
 // Steps until a hundred of them are accepted, within a million turns.
@@ -64,81 +61,61 @@ fn count_up<D: Disk, N: DeskId, R: Wait>(
     seat
 }
 
-// Two threads count at once.
-fn two_count<D: Disk, N: DeskId + Send + Sync, R: Threads + Wait + Sync>(
+// All count at once, and their seats come back.
+fn all_count<D: Disk, N: DeskId + Send + Sync, R: Threads + Wait + Sync>(
     rt: &R,
     alloc: Global,
     shared: &Shared<D, Kept, N>,
-    first: Seat<N>,
-    second: Seat<N>,
-) -> (Seat<N>, Seat<N>) {
-    join_over(
+    seats: Vec<Seat<N>>,
+) -> Option<Vec<Seat<N>>> {
+    each_over(
         rt,
         shared,
-        move |desk: &Shared<D, Kept, N>| count_up(rt, alloc, desk, first),
-        move |desk: &Shared<D, Kept, N>| count_up(rt, alloc, desk, second),
+        seats,
+        &|desk: &Shared<D, Kept, N>, seat: Seat<N>| count_up(rt, alloc, desk, seat),
     )
 }
 
-// Four threads count at once.
-fn four_count<D: Disk, N: DeskId + Send + Sync, R: Threads + Wait + Sync>(
-    rt: &R,
-    alloc: Global,
-    shared: &Shared<D, Kept, N>,
-    seats: (Seat<N>, Seat<N>, Seat<N>, Seat<N>),
-) -> ((Seat<N>, Seat<N>), (Seat<N>, Seat<N>)) {
-    let (a, b, c, d) = seats;
-    join_over(
-        rt,
-        shared,
-        move |desk: &Shared<D, Kept, N>| two_count(rt, alloc, desk, a, b),
-        move |desk: &Shared<D, Kept, N>| two_count(rt, alloc, desk, c, d),
-    )
-}
-
-// Puts the first value of the key. Then four threads count, and all seats come back.
+// Puts the first value of the key. Then all count. Returns how many commands were accepted.
 fn count_all<D: Disk, N: DeskId + Send + Sync, R: Threads + Wait + Sync>(
     rt: &R,
     alloc: Global,
     shared: &Shared<D, Kept, N>,
     mut seats: Vec<Seat<N>>,
-) -> Result<Vec<Seat<N>>, Fail> {
-    let (mut a, b, c, d) = pop_four(&mut seats).ok_or("four seats")?;
-    let _ = put(&mut *shared.write(rt), alloc, &mut a, &key(1), &[0, 0]);
-    let (first, second) = four_count(rt, alloc, shared, (a, b, c, d));
-    push_two(&mut seats, first)?;
-    push_two(&mut seats, second)?;
-    Ok(seats)
+) -> Option<u64> {
+    let _ = put_alone(rt, alloc, shared, seats.first_mut()?, &key(1), [0, 0]);
+    let seats = all_count(rt, alloc, shared, seats)?;
+    let (_, accepted) = settled(rt, shared, seats)?;
+    Some(accepted)
 }
 
-// At the end the value is four hundred, after one put and four hundred swaps. A plain map has the
-// same entries after the recorded calls.
-fn counts_to_400<D: Disk, N: DeskId + Send + Sync, R: Threads + Wait + Abort + Sync>(
+// How many commands were accepted, the value at the end, and whether a plain map has the same
+// entries after the recorded calls.
+type Counted = Option<(Option<u64>, Option<[u8; 2]>, bool)>;
+
+fn counts<D: Disk, N: DeskId + Send + Sync, R: Threads + Wait + Sync>(
     rt: &R,
     alloc: Global,
     core: Core<D>,
     calls: Blank,
     accepted: Blank,
-) -> Result<(), Fail>
+) -> Counted
     requires calls { (calls.name ≡ N.calls_name) × (calls.parts ≡ N.seats) }
     requires accepted { (accepted.name ≡ N.accepted_name) × (accepted.parts ≡ N.seats) }
     requires seats { N.seats ≡ 4 }
 {
-    let (desk, seats) = seated::<D, N>(alloc, core, 1_000_000, 4, calls, accepted)?;
-    let shared: Shared<D, Kept, N> = RwLock::new(desk);
-    let seats = count_all(rt, alloc, &shared, seats)?;
-    let (_, accepted) = settle(rt, &shared, seats).ok().ok_or("all are here")?;
-    let desk = shared.into_inner();
-    assert_eq!(rt; (accepted, counted(&desk)), (401, Some([0x01, 0x90])));
-    ends_as_replayed(rt, alloc, desk)
+    let (shared, seats) = seated::<D, N>(alloc, core, 1_000_000, 4, calls, accepted)?;
+    let accepted = count_all(rt, alloc, &shared, seats);
+    let value = counted(rt, &shared);
+    let is_replayed = ends_as_replayed(alloc, shared.into_inner());
+    Some((accepted, value, is_replayed))
 }
 
+// At the end the value is four hundred, after one put and four hundred swaps.
 #[test]
 fn four_threads_count_up(rt: HostRuntime) -> Result<(), Fail> {
-    let alloc = rt.alloc();
-    let geometry = Geometry::new(2, 16, 64, 8, 16, 4000)
-        .ok()
-        .ok_or("in limits")?;
-    let core = opened_on(alloc, formatted_with(alloc, geometry)?)?;
-    counts_to_400::<_, Brand, _>(&rt, alloc, core, Blank::new(4), Blank::new(4))
+    let core = roomy(rt.alloc())?;
+    let counted = counts::<_, Brand, _>(&rt, rt.alloc(), core, Blank::new(4), Blank::new(4));
+    same(&rt, &counted, &Some((Some(401), Some([0x01, 0x90]), true)));
+    Ok(())
 }

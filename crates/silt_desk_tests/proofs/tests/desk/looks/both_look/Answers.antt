@@ -5,5 +5,5 @@ use Rattle.silt_desk.proofs.kept.Kept.TheSendSync.{the_send as kept_send, the_sy
 use Rattle.silt_desk.proofs.Shares.{desk_send, desk_sync}
 use Rattle.silt_desk_tests.proofs.tests.desk.looks.both_look.Goals as goal
 
-pub join_over-requires-sync-S : goal.join_over-requires-sync-S
-join_over-requires-sync-S g c κs within = search (sendable, crosses, lock_sync, desk_send, desk_sync, kept_send, kept_sync) depth 20
+pub each_over-requires-sync-S : goal.each_over-requires-sync-S
+each_over-requires-sync-S g c κs within = search (sendable, crosses, lock_sync, desk_send, desk_sync, kept_send, kept_sync) depth 20

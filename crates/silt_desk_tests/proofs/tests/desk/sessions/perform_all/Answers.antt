@@ -3,7 +3,7 @@ use Rattle.std.proofs.Crossing.{crosses}
 use Rattle.std.proofs.sync.RwLock.TheSendSync.{the_sync as lock_sync}
 use Rattle.silt_desk.proofs.kept.Kept.TheSendSync.{the_send as kept_send, the_sync as kept_sync}
 use Rattle.silt_desk.proofs.Shares.{desk_send, desk_sync}
-use Rattle.silt_desk_tests.proofs.tests.desk.sessions.swaps.four_count.Goals as goal
+use Rattle.silt_desk_tests.proofs.tests.desk.sessions.perform_all.Goals as goal
 
-pub join_over-requires-sync-S : goal.join_over-requires-sync-S
-join_over-requires-sync-S g c κs within = search (sendable, crosses, lock_sync, desk_send, desk_sync, kept_send, kept_sync) depth 20
+pub each_over-requires-sync-S : goal.each_over-requires-sync-S
+each_over-requires-sync-S g c κs within = search (sendable, crosses, lock_sync, desk_send, desk_sync, kept_send, kept_sync) depth 20
