@@ -30,7 +30,7 @@ use silt_jobs::{AfterProgress, NoteLines, Progress, WatchedFiles, WatchedReader,
 use silt_words::WordsError;
 use std::env::{self, Env};
 use std::fs::File;
-use std::io::{self, ErrorKind, IsTerminal, Stderr};
+use std::io::{self, ErrorKind, IsTerminal, Stderr, Write};
 use std::net::{Net, TcpListener, TcpStream};
 use std::process::ExitCode;
 use std::rt::{Files, Runtime};
@@ -39,11 +39,11 @@ use std::thread::Threads;
 use std::time::Clock;
 
 fn main(rt: HostRuntime) -> ExitCode {
-    done(&rt, rt.stderr())
+    done(&rt, rt.stderr(), rt.stderr())
 }
 
-// Does the job that the process's own words name, and returns the exit status. Notes go to `errors`, and, if it is a
-// terminal, so does the progress of an opening.
+// Does the job that the process's own words name, and returns the exit status. Notes go to `errors`. Notes that cannot wait
+// for the end of the job go to `at_once`, and, if it is a terminal, so does the progress of an opening.
 fn done<
     S: Runtime
         + AllocGlobal
@@ -53,14 +53,15 @@ fn done<
         + Threads
         + Wait
         + Sync,
->(rt: &S, errors: Stderr) -> ExitCode {
-    let progress = Progress::new(terminal(errors));
+    E: Write + Drop,
+>(rt: &S, errors: E, at_once: Stderr) -> ExitCode {
+    let progress = Progress::new(terminal(at_once));
     let mut writer = WatchedWriter::new(AfterProgress::new(io::writer(rt), &progress));
     let status = match own_words(rt) {
         Ok(words) => program(
             rt,
             rt.alloc(),
-            WatchedFiles::new(FileDisks::new(rt), NoteLines::new(errors), &progress),
+            WatchedFiles::new(FileDisks::new(rt), NoteLines::new(at_once), &progress),
             words.as_slice(),
             &mut WatchedReader::new(rt.alloc(), rt.reader()),
             &mut writer,
