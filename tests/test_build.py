@@ -132,7 +132,9 @@ class Build(Scripts):
         self.assertEqual(self.build().status, 0)
 
     def test_goes_on_where_it_was_interrupted(self):
-        slow = subprocess.Popen(["./build"], cwd=self.top, env=self.env | {"SLOW": "silt"}, stdout=subprocess.PIPE, stderr=subprocess.PIPE)
+        # A shell starts its background jobs with this signal ignored, and each child inherits that.
+        slow = subprocess.Popen(["./build"], cwd=self.top, env=self.env | {"SLOW": "silt"}, stdout=subprocess.PIPE, stderr=subprocess.PIPE,
+                                preexec_fn=lambda: signal.signal(signal.SIGINT, signal.SIG_DFL))
         self.wait_for(lambda: any(it.startswith("silt run") for it in self.noted()))
         slow.send_signal(signal.SIGINT)
         err = slow.communicate(timeout=TIME_LIMIT)[1]
