@@ -5,5 +5,4 @@ pub mod Buffered
 pub mod Lives
 pub mod Marks
 pub mod Memory
-pub mod Source
 pub mod System

@@ -105,7 +105,7 @@ impl<F: RandomAccessFile> RandomAccessDisk<F> {
         ensures resized { IfOk result (λ disk. IsResizedFile F.content F.resized F.synced self.file len disk.file) }
         ensures too_long { 2 ^ 63 ≤ len → IsErr result }
     {
-        let mut file = self.file.resize(len)?;
+        let mut file = self.into_file().resize(len)?;
         file.settle()?;
         Ok(RandomAccessDisk::of_len(file, len))
     }

@@ -2,8 +2,8 @@
 //!
 //! `MemDisk` is a disk in memory that stops (crashes) at a chosen write or sync. A restart then shows a possible crash image.
 //! On a `FaultDisk` one chosen call fails. A `BufferedDisk` buffers adjacent writes for another disk. `FileDisk` is a disk in a
-//! file of the system, and `RandomAccessDisk` one in any file. A `DiskSource` opens or makes the disk of a path: `FileDisks` does
-//! so for a file, and a `NamedDisk` has one disk.
+//! file of the system, and `RandomAccessDisk` one in any file. A `DiskSource` opens or makes the disk of a path, as `FileDisks`
+//! does for a file.
 //!
 //! `silt_disk` has the contract of a disk and the layout of a device. The stores depend on it alone. Its names are here too.
 //!
@@ -35,6 +35,6 @@ pub use silt_disk::{
     BadGeometry, Call, CallAt, Disk, Geometry, HEADER_LEN, REGIONS_AT, SECTOR, Stoppable,
     geometry_of, header_bytes, is_formatted, regions_law, slot_start, write_synced,
 };
-pub use source::{DiskSource, FileDisks, NamedDisk, NoSuchDisk};
+pub use source::{DiskSource, FileDisks};
 pub use system::{FileSystem, RandomAccessFile};
 pub use system_disk::FileDisk;

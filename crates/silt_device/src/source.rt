@@ -8,7 +8,6 @@ use silt_disk::Disk;
 use std::alloc::Global;
 use std::fs::File;
 use std::io;
-use thiserror::Error;
 
 /// A source of one disk. Taking the disk consumes the source.
 pub trait DiskSource: Drop {
@@ -121,75 +120,5 @@ where
 
     fn resize(alloc: Global, disk: FileDisk, len: u64) -> io::Result<FileDisk> {
         disk.resize(alloc, len)
-    }
-}
-
-/// There is no disk at this path, or it has another length.
-#[derive(Debug, Drop, Error)]
-#[error("no such disk, or it has another length")]
-pub struct NoSuchDisk;
-
-/// One disk at one path, like a folder with a single file.
-#[derive(Drop)]
-pub struct NamedDisk<D> {
-    path: String,
-    disk: D,
-}
-
-impl<D> NamedDisk<D> {
-    ghost use Rattle.std.specs.Prelude.{string_bytes};
-
-    /// This disk, at this path.
-    pub fn new(path: String, disk: D) -> Self
-        ensures path { string_bytes result.path ≡ string_bytes path }
-        ensures disk { result.disk ≡ disk }
-    {
-        NamedDisk { path, disk }
-    }
-}
-
-impl<D: Disk> DiskSource for NamedDisk<D> {
-    ghost use Rattle.silt_device.specs.Source.{NamedOpened, NotNamed, HasSize, NotSized};
-
-    type Disk = D;
-
-    type Error = NoSuchDisk;
-
-    ghost opened = { λ source path disk. NamedOpened source path disk };
-
-    ghost not_opened = { λ source path _. NotNamed source path };
-
-    ghost shared = { λ source path disk. NamedOpened source path disk };
-
-    ghost not_shared = { λ source path _. NotNamed source path };
-
-    ghost found = { λ source path disk. NamedOpened source path disk };
-
-    ghost not_found = { λ source path _. NotNamed source path };
-
-    ghost resized = { λ old len new. HasSize D.content old len new };
-
-    ghost not_resized = { λ old len _. NotSized D.content old len };
-
-    fn open(self, path: &str) -> Result<D, NoSuchDisk> {
-        if self.path.as_str() != path {
-            return Err(NoSuchDisk);
-        }
-        Ok(self.disk)
-    }
-
-    fn open_shared(self, path: &str) -> Result<D, NoSuchDisk> {
-        self.open(path)
-    }
-
-    fn find(self, path: &str) -> Result<D, NoSuchDisk> {
-        self.open(path)
-    }
-
-    fn resize(_alloc: Global, disk: D, len: u64) -> Result<D, NoSuchDisk> {
-        if disk.len() != len {
-            return Err(NoSuchDisk);
-        }
-        Ok(disk)
     }
 }

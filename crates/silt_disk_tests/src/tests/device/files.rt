@@ -1,9 +1,9 @@
 // Disks in files: the bytes of the file, and the errors of each call. Each test uses a folder or
 // file of its own in the current folder, and removes it at the end.
 use super::{FIRST, SECOND, Step, first_wrong, four_at};
-use silt_device::{Disk, DiskSource, FileDisk, FileDisks, MemDisk, NamedDisk, write_synced};
-use std::alloc::{AllocError, Global};
-use std::fs::{self, File};
+use silt_device::{Disk, DiskSource, FileDisk, FileDisks, write_synced};
+use std::alloc::Global;
+use std::fs;
 use std::io::{self, ErrorKind};
 use std::test::Fail;
 
@@ -372,11 +372,6 @@ fn len_from<S: DiskSource>(alloc: Global, source: S, path: &str, made: Option<u6
     Some(disk.ok()?.len())
 }
 
-// A disk of four bytes under the name `disk`.
-fn named_disk(alloc: Global) -> Result<NamedDisk<MemDisk>, AllocError> {
-    Ok(NamedDisk::new(String::from_str(alloc, "disk")?, MemDisk::new(alloc, 4)?))
-}
-
 // A path, the length to give its disk, and the length of the disk. A first none opens the disk, a
 // second none says that there is no disk.
 type Asked<'a> = (&'a str, Option<u64>, Option<u64>);
@@ -389,14 +384,6 @@ const OF_FILES: [Asked; 4] = [
     ("source/other", None, None),
 ];
 
-const OF_A_NAME: [Asked; 5] = [
-    ("disk", None, Some(4)),
-    ("disk", Some(4), Some(4)),
-    ("disk", Some(5), None),
-    ("dis", None, None),
-    ("disks", Some(4), None),
-];
-
 // The first of these paths for which a source of files returns another disk.
 fn files_differ<'a>(rt: &HostRuntime, asked: &[Asked<'a>]) -> Option<&'a str> {
     for (path, made, given) in asked {
@@ -407,15 +394,6 @@ fn files_differ<'a>(rt: &HostRuntime, asked: &[Asked<'a>]) -> Option<&'a str> {
     None
 }
 
-fn a_name_differs<'a>(alloc: Global, asked: &[Asked<'a>]) -> Result<Option<&'a str>, AllocError> {
-    for (path, made, given) in asked {
-        if len_from(alloc, named_disk(alloc)?, path, *made) != *given {
-            return Ok(Some(*path));
-        }
-    }
-    Ok(None)
-}
-
 fn files_in_a_folder_differ(rt: &HostRuntime) -> io::Result<Option<&'static str>> {
     make_folder(rt, "source")?;
     let path = files_differ(rt, &OF_FILES);
@@ -423,11 +401,9 @@ fn files_in_a_folder_differ(rt: &HostRuntime) -> io::Result<Option<&'static str>
     Ok(path)
 }
 
-// A source of files returns the disk of the path. A source of a named disk returns it only under
-// its name and with its length.
+// A source of files returns the disk of the path.
 #[test]
 fn a_source_gives_the_disk_of_its_path(rt: HostRuntime) -> Result<(), Fail> {
     assert!(rt; files_in_a_folder_differ(&rt)? == None);
-    assert!(rt; a_name_differs(rt.alloc(), &OF_A_NAME)? == None);
     Ok(())
 }
