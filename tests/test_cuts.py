@@ -6,6 +6,7 @@ beginning of the accepted commands, and to take new commands. All of this holds 
 versions of the layout.
 """
 import collections
+import itertools
 import socket
 import threading
 
@@ -19,6 +20,8 @@ from watch import WatchedCase, read_record, watching
 # How many cuts this part makes of runs, of servers and of formattings, and how many of one life.
 OF_RUNS, OF_SERVERS, OF_FORMATS = (scaled(it) for it in ((1600, 400, 100) if PROVED else (160, 40, 20)))
 OF_A_LIFE = 12
+# A build with checks tries every so many cuts of the worked lives.
+EVERY = 1 if PROVED else 9
 GEOMETRIES = ("2 2 4 3 3 64", "3 4 7 2 2 64", "1 2 1 3 3 64", "700 2 3 4 2 40")
 KEYS = names(8)
 # The parts of a file that have to be pending at some cuts: rows, a conversion, a merge, and a
@@ -217,6 +220,35 @@ class Runs(CutCase):
         self.assertEqual(life.owed(at.number)[0], 5)
         with self.assertRaises(AssertionError):
             self.judge(at, at.settled, Layout.of(GEOMETRIES[0]), {}, life.accepted, life.owed(at.number))
+
+
+# Lives with a swap behind them, each torn at each of its calls: a conversion, two merges of which the second drops a
+# delete, and a merge beside two conversions.
+CONVERT, MERGE = ["convert"] * 9, ["merge"]
+WORKED = {
+    "2 2 4 3 3 64": [f"put =a{it} 000{i}" for i, it in enumerate("abcde")]
+                    + ["flush", *CONVERT, "swap =ac 0002 0006"],
+    "2 2 1 3 2 64": ["put =aa 0102", "put =ab 0304", *CONVERT, *MERGE * 10, "delete =aa", *CONVERT, "put =ac 0506", *CONVERT,
+                     *MERGE * 19, "get =aa", "get =ab", "get =ac", "flush", "swap =ab 0304 0607"],
+    "2 2 1 3 3 64": ["put =aa 0001", "put =ab 0002", *CONVERT, "put =aa 0003", *MERGE * 3, *CONVERT, "put =ab 0004", *CONVERT,
+                     *MERGE * 7, "get =aa", "get =ab", "swap =aa 0003 0005"],
+}
+
+
+class Worked(CutCase):
+    """Each cut of the worked lives, on files of either version. All their lines are accepted."""
+
+    def test_each_cut(self):
+        for (geometry, lines), version in itertools.product(WORKED.items(), (1, 2)):
+            layout, self.version = Layout.of(geometry), version
+            self.path("store").unlink(missing_ok=True)
+            before = self.store(geometry).read_bytes()
+            life = self.lived(lines, before)
+            self.assertEqual([it for it in life.replies if it.startswith("refused")], [])
+            every = list(cuts(before, life.calls, "store"))
+            for cut in every[self.random.randrange(EVERY)::EVERY]:
+                content = image(self.random, cut)
+                self.judge(cut, content, layout, {}, life.accepted, life.owed(cut.number))
 
 
 # A flush, a freeze with none waiting, and a conversion. The numbers are of the syncs that no later

@@ -147,6 +147,10 @@ class WorkedDamage(DamageCase):
         """The bytes of put rows of the keys 01.., 02.. and so on."""
         return "".join("01" + f"0{i}".ljust(40, "0") + value for i in range(1, count + 1))
 
+    def assert_answers(self, lines, replies):
+        ran = self.silt("run", "store", text="".join(line + "\n" for line in lines))
+        self.assertEqual(ran.lines, ["opened", *replies])
+
     def test_one_byte_short(self):
         self.assert_refused(self.crafted()[:-1], "refused 3 Damaged length", "")
 
@@ -169,9 +173,15 @@ class WorkedDamage(DamageCase):
         image = self.crafted((8192, "a77fffffffffffffff" + "00" * 112))
         self.path("store").write_bytes(image)
         puts = [f"put 0{i}{'0' * 38} 000{i}" for i in range(1, 6)]
-        ran = self.silt("run", "store", text="".join(line + "\n" for line in [*puts, "flush"]))
         accepted = [f"accepted {i}" for i in range(1, 5)]
-        self.assertEqual(ran.lines, ["opened", *accepted, "refused 10 Spent", "acknowledged 4"])
+        self.assert_answers([*puts, "flush"], [*accepted, "refused 10 Spent", "acknowledged 4"])
+        gets = [f"get 0{i}{'0' * 38}" for i in range(1, 6)]
+        self.assert_answers(gets, [*(f"value 000{i}" for i in range(1, 5)), "absent"])
+        # A swap compares first.
+        self.path("store").write_bytes(image)
+        key = f"01{'0' * 38}"
+        swaps = [f"swap {key} 0001 0002", f"swap {key} 0009 0002"]
+        self.assert_answers([f"put {key} 0001"] * 4 + swaps, [*accepted, "refused 10 Spent", "differs"])
 
     def test_five_keys_of_one_bucket(self):
         geometry = "2 2 8 2 2 16"

@@ -279,7 +279,7 @@ class Servers(MemoryCase):
 # asked again.
 PROGRAMS = {
     "silt_tests": ["memory::each_call_lacks_memory", "memory::a_run_lacks_memory", "memory::a_life_lacks_memory"],
-    "silt_desk_tests": ["tests::desk::memory::each_call_is_asked_again", "tests::inbox::a_queue_keeps_the_order"],
+    "silt_desk_tests": ["desk::memory::each_call_is_asked_again", "inbox::a_queue_keeps_the_order"],
     "silt_line_tests": ["wire::sessions::ends_where_memory_is_refused"],
 }
 

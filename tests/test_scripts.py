@@ -44,7 +44,7 @@ def count_swaps(counts, text, printed):
         counts["swapped"] += sum(line.startswith(b"swap") and reply.startswith("accepted") for line, reply in pairs)
 
 
-class Scripts(Case):
+class ScriptCase(Case):
     def compare(self, count, lives, length, full_tables=False):
         """Runs so many scripts, and returns how often each reply came."""
         counts = collections.Counter()
@@ -58,6 +58,14 @@ class Scripts(Case):
             count_swaps(counts, text, expected)
         return counts
 
+    def assert_printed(self, geometry, text):
+        """Runs one script, and returns what it prints, which is what the model prints."""
+        expected = model.run_script(geometry, text)
+        ran = self.silt("script", *geometry.numbers, text=text)
+        if ran.lines != expected or ran.status or ran.err:
+            self.show_difference(0, geometry, text, expected, ran)
+        return expected
+
     def show_difference(self, number, geometry, text, expected, ran):
         pairs = zip([*expected, None], [*ran.lines, None])
         first = next((i for i, (one, other) in enumerate(pairs) if one != other), len(expected))
@@ -67,6 +75,8 @@ class Scripts(Case):
             f"the script: {text!r}"
         )
 
+
+class Scripts(ScriptCase):
     def test_short_scripts(self):
         counts = self.compare(COUNT // 4, [1, 2, 2, 3], 12)
         self.assertTrue(counts["stopped"] and counts["accepted"])
@@ -84,6 +94,44 @@ class Scripts(Case):
         counts = self.compare(3 * COUNT // 8, [2, 3, 4, 6], 60)
         wanted = SEEN + [f"refused {it}" for it in SEEN_REFUSALS]
         self.assertEqual([it for it in wanted if not counts[it]], [], "no script led to these")
+
+
+class LongScripts(ScriptCase):
+    """Many lines of few keys, and many lives. Of sixteen lines some three are puts, and most are steps in the background."""
+
+    KINDS = ["put", "delete", "get", "flush", "swap", "convert", "merge"]
+
+    def long_maker(self, numbers, count):
+        """A maker of lines for this geometry and so many keys."""
+        geometry = model.Geometry(*numbers)
+        maker = Maker(self.random, geometry)
+        maker.keys = [bytes([0, it, 0, it // 4]).ljust(20, b"\0").hex().encode() for it in range(count)]
+        return geometry, maker
+
+    def long_lines(self, maker, count, weights):
+        """So many lines, each step in the background by itself."""
+        kinds = self.random.choices(self.KINDS, weights, k=count)
+        return [kind.encode() if kind in ("convert", "merge", "flush") else getattr(maker, f"make_{kind}")()[0] for kind in kinds]
+
+    def test_two_thousand_lines_of_one_life(self):
+        """After each fifty all forty keys are asked for."""
+        geometry, maker = self.long_maker((2, 4, 8, 3, 3, 200), 40)
+        gets, lines = [b"get " + key for key in maker.keys], []
+        for _ in range(40):
+            lines += self.long_lines(maker, 50, [3, 1, 1, 1, 1, 4, 5]) + gets
+        printed = self.assert_printed(geometry, join_lines(lines))
+        self.assertGreater(printed.count("finished"), 20)
+
+    def test_a_hundred_lives(self):
+        """Each stops at one of its first calls, at its end, or past it."""
+        for numbers in 3 * ((2, 2, 3, 3, 2, 30), (2, 2, 1, 2, 2, 12), (2, 2, 8, 4, 1, 40)):
+            geometry, maker = self.long_maker(numbers, 10)
+            text = b""
+            for _ in range(100):
+                lines = self.long_lines(maker, 120, [5, 1, 1, 1, 1, 3, 4])
+                text += join_lines(lines) + b"stop %d %s\n" % (self.random.randrange(256), self.random.choice(model.FILLS).encode())
+            printed = self.assert_printed(geometry, text)
+            self.assertGreater(printed.count("finished"), 50, numbers)
 
 
 class Worked(Case):

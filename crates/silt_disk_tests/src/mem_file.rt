@@ -26,7 +26,7 @@ impl MemFile {
     }
 
     /// The bytes of the file after a crash, if the device wrote none of the pending ones.
-    pub fn after_stop(self) -> Result<Vec<u8>, AllocError> {
+    pub(crate) fn after_stop(self) -> Result<Vec<u8>, AllocError> {
         let disk = self.disk.restart();
         disk.shown().to_vec(self.alloc)
     }

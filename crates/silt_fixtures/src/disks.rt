@@ -2,7 +2,6 @@
 // and changed bytes.
 
 use silt_device::{Disk, Fill, Geometry, MemDisk, Stop};
-use silt_disk::Version;
 use silt_frame::is_open;
 use silt_recovery::format;
 use silt_store_set::Core;
@@ -52,9 +51,6 @@ pub fn of_values(alloc: Global, value_len: u32) -> Result<MemDisk, Fail> {
         .ok_or("in limits")?;
     formatted_with(alloc, geometry)
 }
-
-/// Both versions of a device.
-pub const VERSIONS: [Version; 2] = [Version::One, Version::Two];
 
 /// The store on this disk.
 pub fn opened_on<D: Disk>(alloc: Global, disk: D) -> Result<Core<D>, Fail> {
@@ -132,14 +128,6 @@ pub fn as_version_1(alloc: Global, bytes: &[u8]) -> Result<Vec<u8>, Fail> {
         drop_digests(&mut old, at)?;
     }
     Ok(old)
-}
-
-/// The bytes of this device changed into one of this version.
-pub fn as_version(alloc: Global, bytes: &[u8], version: Version) -> Result<Vec<u8>, Fail> {
-    match version {
-        Version::One => as_version_1(alloc, bytes),
-        Version::Two => Ok(bytes.to_vec(alloc)?),
-    }
 }
 
 /// The bytes of an empty store of this geometry on a device of version 1.

@@ -11,9 +11,8 @@ mod keys;
 mod waits;
 
 pub use disks::{
-    FILLS, SMALL_LEN, VERSIONS, as_version, as_version_1, blank, blank_of_version_1, change,
-    changed, formatted, formatted_with, of_regions, of_values, opened, opened_on, opened_with,
-    small, stopping,
+    FILLS, SMALL_LEN, as_version_1, blank, blank_of_version_1, change, changed, formatted,
+    formatted_with, of_regions, of_values, opened, opened_on, opened_with, small, stopping,
 };
 pub use entries::{are_those, two_bytes};
 pub use keys::key;

@@ -1,11 +1,8 @@
-// The store after a failed write of a row, and the refusals of puts and deletes.
+// The store after a failed write of a row, and the list of its entries.
 
-use crate::conversion::changed_disk;
 use crate::support::{same, same_in, values_of, values_on};
 use silt_device::{Call, FaultDisk, MemDisk, MemFault};
-use silt_fixtures::{
-    blank_of_version_1, formatted, key, of_regions, opened_on, opened_with, small,
-};
+use silt_fixtures::{formatted, key, of_regions, opened_on, opened_with};
 use silt_store_set::{Core, Refusal};
 use std::alloc::Global;
 use std::process::Abort;
@@ -139,129 +136,6 @@ fn a_write_that_fails_fails_the_store(rt: HostRuntime) -> Result<(), Fail> {
         same_in(&rt, &found, &[0, 5, 0, 0, 0, 0, 0, 0], &number);
     }
     Ok(())
-}
-
-// The store accepts two puts. It refuses a third put of any key, for it is full.
-fn takes_two_puts(rt: &impl Abort, alloc: Global, core: &mut Core<MemDisk>) {
-    same(rt, &put(rt, alloc, core, 1, 1), &Ok(1));
-    same(rt, &put(rt, alloc, core, 1, 2), &Ok(2));
-    same(rt, &put(rt, alloc, core, 1, 3), &Err(7));
-    same(rt, &put(rt, alloc, core, 2, 3), &Err(7));
-}
-
-// The store accepts a delete, which makes no room for a put.
-fn takes_a_delete(rt: &impl Abort, alloc: Global, core: &mut Core<MemDisk>) {
-    same(rt, &deleted(alloc, core, 1), &Ok(3));
-    same(rt, &put(rt, alloc, core, 2, 3), &Err(7));
-    same(rt, &answer(core.flush()), &Ok(3));
-}
-
-// Closes the store. Its disk has these values.
-fn is_left(
-    rt: &impl Abort,
-    alloc: Global,
-    core: Core<MemDisk>,
-    values: [u16; 8],
-) -> Result<(), Fail> {
-    let found = values_on(alloc, core.close())?;
-    same(rt, &found, &values);
-    Ok(())
-}
-
-// A store with as many put rows as it may have sorted entries refuses every further put. It accepts
-// a delete, which makes no room for a put.
-#[test]
-fn a_full_store_takes_no_put(rt: HostRuntime) -> Result<(), Fail> {
-    let alloc = rt.alloc();
-    let mut core = of_capacity(alloc, 2)?;
-    takes_two_and_a_delete(&rt, alloc, &mut core);
-    is_left(&rt, alloc, core, [0; 8])
-}
-
-fn takes_two_and_a_delete(rt: &impl Abort, alloc: Global, core: &mut Core<MemDisk>) {
-    takes_two_puts(rt, alloc, core);
-    lists(rt, alloc, core, 1, [0, 2, 0, 0, 0, 0, 0, 0]);
-    takes_a_delete(rt, alloc, core);
-}
-
-// The store accepts eight puts of these keys, with the values 1 to 8.
-fn takes_eight_puts(rt: &impl Abort, alloc: Global, core: &mut Core<MemDisk>, keys: [u8; 8]) {
-    let mut n = 0u8;
-    for first in keys {
-        n = n.saturating_add(1);
-        same(rt, &put(rt, alloc, core, first, n), &Ok(n as u64));
-    }
-}
-
-// The store refuses puts and deletes for lack of room, and acknowledges a flush.
-fn takes_no_row(rt: &impl Abort, alloc: Global, core: &mut Core<MemDisk>) {
-    same(rt, &put(rt, alloc, core, 5, 5), &Err(8));
-    same(rt, &put(rt, alloc, core, 1, 5), &Err(8));
-    same(rt, &deleted(alloc, core, 1), &Err(8));
-    same(rt, &answer(core.flush()), &Ok(8));
-}
-
-// If both logs are full, the store refuses puts and deletes, and its values stay.
-#[test]
-fn full_logs_take_no_row(rt: HostRuntime) -> Result<(), Fail> {
-    let alloc = rt.alloc();
-    let mut core = of_capacity(alloc, 9)?;
-    takes_eight_puts(&rt, alloc, &mut core, [1, 2, 3, 4, 5, 6, 7, 0]);
-    takes_no_row(&rt, alloc, &mut core);
-    is_left(&rt, alloc, core, [8, 1, 2, 3, 4, 5, 6, 7])
-}
-
-// If the store and all its logs are full, a put is refused StoreFull rather than NoRoom. A delete
-// is refused NoRoom.
-#[test]
-fn reports_a_full_store_before_full_logs(rt: HostRuntime) -> Result<(), Fail> {
-    let alloc = rt.alloc();
-    let mut core = of_capacity(alloc, 8)?;
-    takes_eight_puts(&rt, alloc, &mut core, [1; 8]);
-    takes_neither(&rt, alloc, &mut core);
-    drop(core);
-    Ok(())
-}
-
-fn takes_neither(rt: &impl Abort, alloc: Global, core: &mut Core<MemDisk>) {
-    same(rt, &put(rt, alloc, core, 5, 5), &Err(7));
-    same(rt, &deleted(alloc, core, 1), &Err(8));
-}
-
-// Slot 1 of the manifest is open and has the last generation. The rest of the slot is zeros.
-const LAST_GENERATION: [(usize, u8); 9] = [
-    (8192, 0xA7),
-    (8193, 0x7F),
-    (8194, 0xFF),
-    (8195, 0xFF),
-    (8196, 0xFF),
-    (8197, 0xFF),
-    (8198, 0xFF),
-    (8199, 0xFF),
-    (8200, 0xFF),
-];
-
-// The store accepts four puts. The fifth would have to freeze the log, and is refused Spent.
-fn takes_four_puts(rt: &impl Abort, alloc: Global, core: &mut Core<MemDisk>) {
-    for n in 1..5u8 {
-        same(rt, &put(rt, alloc, core, n, n), &Ok(n as u64));
-    }
-    same(rt, &put(rt, alloc, core, 5, 5), &Err(10));
-    same(rt, &answer(core.flush()), &Ok(4));
-}
-
-/// A small disk of version 1 whose manifest has the last generation.
-pub(crate) fn of_last_generation(alloc: Global) -> Result<MemDisk, Fail> {
-    let whole = blank_of_version_1(alloc, small()?)?;
-    changed_disk(alloc, &whole, &LAST_GENERATION)
-}
-
-// A store whose manifest has the last generation freezes no log.
-#[test]
-fn spends_its_generations(rt: HostRuntime) -> Result<(), Fail> {
-    let mut core = opened_on(rt.alloc(), of_last_generation(rt.alloc())?)?;
-    takes_four_puts(&rt, rt.alloc(), &mut core);
-    is_left(&rt, rt.alloc(), core, [0, 1, 2, 3, 4, 0, 0, 0])
 }
 
 // Puts the keys 3, 1 and 2, and deletes 2.

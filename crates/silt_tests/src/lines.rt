@@ -14,15 +14,6 @@ pub(crate) const FINISHED: Printed = Printed::Progress(Progress::Finished);
 
 pub(crate) const IDLE: Printed = Printed::Progress(Progress::Idle);
 
-/// Three puts and a flush, which make ten calls. The opening's sync is call 1, each put makes two
-/// writes, and call 9 writes the gates.
-pub(crate) const THREE_PUTS: [Line; 4] = [
-    Line::Put(1, 1),
-    Line::Put(2, 2),
-    Line::Put(3, 3),
-    Line::Flush,
-];
-
 /// Five puts and a flush, and then a conversion: forty calls. The last put freezes the full log. It
 /// makes the three calls of a flush, two for the gates of the next log, six for the manifest, and
 /// two for its row. Each of the eight slots takes one write. The last step makes a sync and the six
@@ -74,27 +65,6 @@ pub(crate) const MERGED_TWICE: [(Line, u8); 13] = [
     (Line::Flush, 1),
 ];
 
-pub(crate) const MERGED_TWICE_TOLD: [(Printed, u8); 18] = [
-    (Printed::Accepted(1), 1),
-    (Printed::Accepted(2), 1),
-    (MOVED, 8),
-    (FINISHED, 1),
-    (MOVED, 9),
-    (FINISHED, 1),
-    (Printed::Accepted(3), 1),
-    (MOVED, 8),
-    (FINISHED, 1),
-    (Printed::Accepted(4), 1),
-    (MOVED, 8),
-    (FINISHED, 1),
-    (MOVED, 18),
-    (FINISHED, 1),
-    (Printed::Absent, 1),
-    (Printed::Value(3, 4), 1),
-    (Printed::Value(5, 6), 1),
-    (Printed::Acknowledged(4), 1),
-];
-
 /// Two more hash stores are made while a merge is in progress, which leaves them alone: 95 calls.
 pub(crate) const CONVERTED_MEANWHILE: [(Line, u8); 11] = [
     (Line::Put(1, 1), 1),
@@ -131,11 +101,6 @@ pub(crate) const CONVERTED_MEANWHILE_TOLD: [(Printed, u8); 15] = [
 /// A swap after that conversion, of a value in the hash store. The active log takes its row, by two
 /// calls.
 pub(crate) const SWAP_CONVERTED: Line = Line::Swap(2, 2, 6);
-
-/// A swap after the two merges, of a value in the sorted store. The active log is full and no row
-/// waits. So the swap makes two calls for the gates of the next log, six for the manifest, and two
-/// for the row.
-pub(crate) const SWAP_MERGED: Line = Line::Swap(2, 0x0304, 0x0607);
 
 /// A swap after the merge beside conversions, of a value in a hash store. The active log is full
 /// and its row waits. So the swap makes three calls for the flush, two for the gates of the next

@@ -3,10 +3,8 @@
 // A comparison is a call. So its proof is made once, not at each place that compares.
 
 use silt_device::{Disk, MemDisk, Stop};
-use silt_event::Report;
 use silt_fixtures::{key, opened_on, stopping};
 use silt_frame::{Key, Value};
-use silt_recovery::check;
 use silt_store_set::Core;
 use std::alloc::{AllocError, Global};
 use std::collections::BTreeMap;
@@ -32,16 +30,6 @@ pub(crate) fn same_in<T: PartialEq + Debug, C: Debug>(
 /// The list that was found is the one that is expected.
 pub(crate) fn same_lists<T: PartialEq + Debug>(rt: &impl Abort, found: &[T], expected: &[T]) {
     assert_eq!(rt; found, expected);
-}
-
-/// The list that was found in this case is the one that is expected.
-pub(crate) fn same_lists_in<T: PartialEq + Debug, C: Debug>(
-    rt: &impl Abort,
-    found: &[T],
-    expected: &[T],
-    case: &C,
-) {
-    assert_eq!(rt; found, expected, "{case:?}");
 }
 
 /// The values of the keys 0 to 7 in these entries, 0 for none.
@@ -101,25 +89,6 @@ pub(crate) fn entries_of(alloc: Global, disk: MemDisk) -> Result<(MemDisk, [u16;
 pub(crate) fn values_on(alloc: Global, disk: MemDisk) -> Result<[u16; 8], Fail> {
     let (_, values) = entries_of(alloc, disk)?;
     Ok(values)
-}
-
-/// The digest of a sorted store with no entries.
-pub(crate) const OF_NO_ENTRIES: &[u8] =
-    b"\xda\x39\xa3\xee\x5e\x6b\x4b\x0d\x32\x55\xbf\xef\x95\x60\x18\x90\xaf\xd8\x07\x09";
-
-// Whether these bytes are at this place.
-fn are_at(shown: &[u8], at: usize, bytes: &[u8]) -> bool {
-    at <= shown.len() && shown[at..].starts_with(bytes)
-}
-
-/// The device has these bytes at this place.
-pub(crate) fn has_bytes(rt: &impl Abort, disk: &MemDisk, at: usize, bytes: &[u8]) {
-    assert!(rt; are_at(disk.shown(), at, bytes), "other bytes at {at}");
-}
-
-/// A check of this disk gives this report.
-pub(crate) fn is_reported(rt: &impl Abort, alloc: Global, disk: &MemDisk, report: Report) {
-    same(rt, &check(alloc, disk).ok(), &Some(report));
 }
 
 /// Whether all these bytes are zeros.

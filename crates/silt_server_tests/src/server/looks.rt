@@ -1,0 +1,129 @@
+// Gets of two sessions are looked up at the same time.
+
+use crate::server::{Clients, ask_lines, connected, is_served, read_lines};
+use silt_desk::OpenGate;
+use silt_device::Disk;
+use silt_fixtures::{formatted, reaches};
+use std::alloc::Global;
+use std::io::{self, Write};
+use std::net::{Net, SocketAddr, TcpListener, TcpStream};
+use std::sync::Wait;
+use std::sync::atomic::{AtomicU64, Ordering};
+use std::test::Fail;
+use std::thread::Threads;
+use std::time::Clock;
+
+/// How many reads have begun since they were armed, and whether one waited in vain.
+#[derive(Drop)]
+struct Reads {
+    armed: AtomicU64,
+    begun: AtomicU64,
+    missed: AtomicU64,
+}
+
+impl Reads {
+    // A read has begun. If they are armed it waits for a second one.
+    fn meet<R: Clock>(&self, rt: &R) {
+        if self.armed.load(Ordering::SeqCst) == 0 {
+            return;
+        }
+        self.begun.fetch_add(1, Ordering::SeqCst);
+        if !reaches(rt, &self.begun, 2) {
+            self.missed.store(1, Ordering::SeqCst);
+        }
+    }
+}
+
+/// A disk whose next read, once armed, waits until a second read has begun.
+#[derive(Drop)]
+struct Meeting<'a, D: Disk, R: Clock> {
+    disk: D,
+    rt: &'a R,
+    reads: &'a Reads,
+}
+
+impl<D: Disk, R: Clock + Send + Sync> Disk for Meeting<'_, D, R> {
+    type Fault = D::Fault;
+
+    ghost content = { λ m. D.content m.disk };
+
+    ghost failures = { λ m. D.failures m.disk };
+
+    ghost writes = { λ m. D.writes m.disk };
+
+    ghost syncs = { λ m. D.syncs m.disk };
+
+    ghost gave = { λ m fault call at count. D.gave m.disk fault call at count };
+
+    fn len(&self) -> u64 {
+        self.disk.len()
+    }
+
+    fn read(&self, at: u64, buf: &mut [u8]) -> Result<(), D::Fault> {
+        self.reads.meet(self.rt);
+        self.disk.read(at, buf)
+    }
+
+    fn write(&mut self, at: u64, buf: &[u8]) -> Result<(), D::Fault> {
+        self.disk.write(at, buf)
+    }
+
+    fn sync(&mut self) -> Result<(), D::Fault> {
+        self.disk.sync()
+    }
+}
+
+/// A client that puts a key. Then it and another one ask for the key at once.
+#[derive(Drop)]
+struct AskBoth<'a, R> {
+    rt: &'a R,
+    reads: &'a Reads,
+}
+
+impl<R: Net<Stream = TcpStream> + Sync> Clients for AskBoth<'_, R> {
+    fn ask(&self, addr: SocketAddr, got: &mut Vec<u8>) -> io::Result<()> {
+        let mut first = connected(self.rt, addr)?;
+        let mut second = connected(self.rt, addr)?;
+        ask_both(&mut first, &mut second, self.reads, got)
+    }
+}
+
+fn ask_both(
+    first: &mut TcpStream,
+    second: &mut TcpStream,
+    reads: &Reads,
+    got: &mut Vec<u8>,
+) -> io::Result<()> {
+    ask_lines(first, b"put =a 0102\n", got, 1)?;
+    reads.armed.store(1, Ordering::SeqCst);
+    first.write_all(b"get =a\n")?;
+    second.write_all(b"get =a\n")?;
+    read_lines(first, got, 1)?;
+    read_lines(second, got, 1)
+}
+
+// Whether both get the value. There is no background work, so no other thread reads.
+fn both_find<
+    R: Net<Listener = TcpListener, Stream = TcpStream> + Clock + Threads + Wait + Send + Sync,
+>(rt: &R, alloc: Global, reads: &Reads) -> Result<bool, Fail> {
+    let disk = Meeting {
+        disk: formatted(alloc)?,
+        rt,
+        reads,
+    };
+    let clients = AskBoth { rt, reads };
+    let due = b"accepted 1\nvalue 0102\nvalue 0102\n";
+    is_served(rt, alloc, disk, 2, &OpenGate, &clients, due)
+}
+
+#[test]
+fn two_looks(rt: HostRuntime) -> Result<(), Fail> {
+    let reads = Reads {
+        armed: AtomicU64::new(0),
+        begun: AtomicU64::new(0),
+        missed: AtomicU64::new(0),
+    };
+    assert!(rt; both_find(&rt, rt.alloc(), &reads)?);
+    assert!(rt; reads.missed.load(Ordering::SeqCst) == 0);
+    Ok(())
+}

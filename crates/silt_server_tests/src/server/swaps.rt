@@ -1,0 +1,241 @@
+// Swaps in a batch. A swap that differs is no command: no flush settles it, and no refused flush
+// makes it unsettled.
+ghost use Rattle.std.specs.Prelude.{◌≡◌};
+
+use silt_desk::{Count, Desk, DeskId, OpenGate, Seat, Shared};
+use silt_device::{Disk, Fill, MemDisk, Stop};
+use silt_event::Reply;
+use silt_fixtures::{formatted, key, opened_on};
+use silt_frame::Value;
+use silt_server::{Job, Request, Task, serve_batch};
+use silt_store_set::Core;
+use std::alloc::{AllocError, Global};
+use std::marker::Brand;
+use std::sync::ledger::Blank;
+use std::sync::{RwLock, Wait};
+use std::test::Fail;
+
+fn value_of(alloc: Global, bytes: &[u8]) -> Result<Value, AllocError> {
+    Ok(Value::new(bytes.to_vec(alloc)?))
+}
+
+// A put of the first key.
+fn put_of(alloc: Global, value: &[u8]) -> Result<Request, AllocError> {
+    Ok(Request::Put(key(1), value_of(alloc, value)?))
+}
+
+// A swap of the first key.
+fn swap_of(alloc: Global, old: &[u8], new: &[u8]) -> Result<Request, AllocError> {
+    let old = value_of(alloc, old)?;
+    let new = value_of(alloc, new)?;
+    Ok(Request::Swap(key(1), old, new))
+}
+
+/// How many requests there are.
+const REQUESTS: usize = 6;
+
+// A put, a swap that is accepted, one that differs, two with a value of another length, and a flush.
+fn request_of(alloc: Global, number: usize) -> Result<Request, AllocError> {
+    match number {
+        0 => put_of(alloc, b"\x00\x01"),
+        1 => swap_of(alloc, b"\x00\x01", b"\x00\x02"),
+        2 => swap_of(alloc, b"\x00\x01", b"\x00\x03"),
+        3 => swap_of(alloc, b"\x02", b"\x00\x04"),
+        4 => swap_of(alloc, b"\x00\x02", b"\x00\x04\x00"),
+        _ => Ok(Request::Flush),
+    }
+}
+
+// The tasks of the requests from one number to another.
+fn tasks_of(alloc: Global, first: usize, last: usize) -> Result<Vec<Task>, AllocError> {
+    let mut tasks = Vec::new(alloc);
+    for number in first..last {
+        tasks.push(Task::new(request_of(alloc, number)?))?;
+    }
+    Ok(tasks)
+}
+
+// A job of these requests. Nobody receives its replies.
+fn job_of(alloc: Global, first: usize, last: usize) -> Result<Job, AllocError> {
+    let (replies, _) = crossbeam_channel::bounded(alloc, 1)?;
+    let tasks = tasks_of(alloc, first, last)?;
+    Ok(Job { tasks, replies })
+}
+
+// The six requests in jobs of so many.
+fn six_in_jobs(alloc: Global, most: usize) -> Result<Vec<Job>, AllocError> {
+    let step = if most == 0 { 1 } else { most };
+    let mut jobs = Vec::new(alloc);
+    for first in (0..7usize).step_by(step) {
+        jobs.push(job_of(alloc, first, REQUESTS.min(first.saturating_add(step)))?)?;
+    }
+    Ok(jobs)
+}
+
+/// The reply to a task.
+#[derive(Clone, Copy, PartialEq)]
+enum Got {
+    Accepted(u64),
+    Unsettled(u64),
+    Acknowledged(u64),
+    Differs,
+    Refused(u32),
+    Nothing,
+    Other,
+}
+
+fn got_of(reply: Reply<()>) -> Got {
+    match reply {
+        Reply::Accepted(number) => Got::Accepted(number),
+        Reply::Unsettled(number) => Got::Unsettled(number),
+        Reply::Acknowledged(number) => Got::Acknowledged(number),
+        Reply::Differs => Got::Differs,
+        Reply::Refused(refusal) => Got::Refused(refusal.label().0),
+        _ => Got::Other,
+    }
+}
+
+// The reply to this task.
+fn got_by(task: Task) -> Got {
+    let Task {
+        request: _,
+        answer: _,
+        reply,
+    } = task;
+    match reply {
+        Some(answered) => got_of(answered.into_reply()),
+        None => Got::Nothing,
+    }
+}
+
+// Appends the reply to each task of a job, in order.
+fn push_got(all: &mut Vec<Got>, job: Job) -> Result<(), AllocError> {
+    let Job { tasks, replies: _ } = job;
+    for task in tasks {
+        all.push(got_by(task))?;
+    }
+    Ok(())
+}
+
+// Whether the replies to the tasks of all jobs are these, in order.
+fn are_got(alloc: Global, jobs: Vec<Job>, due: &[Got]) -> Result<bool, AllocError> {
+    let mut all = Vec::new(alloc);
+    for job in jobs {
+        push_got(&mut all, job)?;
+    }
+    Ok(all.as_slice() == due)
+}
+
+// Serves these jobs as one batch at this desk. Returns whether it has a seat.
+fn serve_jobs<D: Disk, N: DeskId, R: Wait>(
+    rt: &R,
+    alloc: Global,
+    desk: Desk<D, Count, N>,
+    mut seats: Vec<Seat<N>>,
+    jobs: &mut Vec<Job>,
+) -> bool {
+    let shared: Shared<D, Count, N> = RwLock::new(desk);
+    match seats.pop() {
+        Some(mut seat) => {
+            let _ = serve_batch(rt, alloc, &shared, &mut seat, &OpenGate, jobs);
+            true
+        }
+        None => false,
+    }
+}
+
+// Serves these jobs as one batch at a desk of this store. Returns whether there is memory for the
+// desk.
+fn serve_at_desk<D: Disk, N: DeskId, R: Wait>(
+    rt: &R,
+    alloc: Global,
+    core: Core<D>,
+    jobs: &mut Vec<Job>,
+    calls: Blank,
+    accepted: Blank,
+) -> bool
+    requires calls { (calls.name ≡ N.calls_name) × (calls.parts ≡ N.seats) }
+    requires accepted { (accepted.name ≡ N.accepted_name) × (accepted.parts ≡ N.seats) }
+    requires seats { N.seats ≡ 1 }
+{
+    match Desk::<D, Count, N>::new(alloc, core, Count::new(), 1, calls, accepted) {
+        Ok((desk, seats)) => serve_jobs(rt, alloc, desk, seats, jobs),
+        Err(_) => false,
+    }
+}
+
+// Serves these jobs as one batch at a desk of the store on this disk.
+fn serve_on_disk<R: Wait>(
+    rt: &R,
+    alloc: Global,
+    disk: MemDisk,
+    jobs: &mut Vec<Job>,
+) -> Result<bool, Fail> {
+    let core = opened_on(alloc, disk)?;
+    Ok(serve_at_desk::<_, Brand, _>(rt, alloc, core, jobs, Blank::new(1), Blank::new(1)))
+}
+
+// Whether these are the replies to the six requests in jobs of so many, served on this disk.
+fn gets_in_jobs<R: Wait>(
+    rt: &R,
+    alloc: Global,
+    disk: MemDisk,
+    most: usize,
+    due: &[Got],
+) -> Result<bool, Fail> {
+    let mut jobs = six_in_jobs(alloc, most)?;
+    let is_served = serve_on_disk(rt, alloc, disk, &mut jobs)?;
+    Ok(is_served && are_got(alloc, jobs, due)?)
+}
+
+// The replies, whether each request is a job or some or all are one.
+const DUE: [Got; 6] = [
+    Got::Accepted(1),
+    Got::Accepted(2),
+    Got::Differs,
+    Got::Nothing,
+    Got::Nothing,
+    Got::Acknowledged(2),
+];
+
+// Whether the replies to jobs of so many requests are those.
+fn settles_in_jobs<R: Wait>(rt: &R, alloc: Global, most: usize) -> Result<bool, Fail> {
+    gets_in_jobs(rt, alloc, formatted(alloc)?, most, DUE.as_slice())
+}
+
+#[test]
+fn settles_a_swap(rt: HostRuntime) -> Result<(), Fail> {
+    for most in [1, 4, 6, 7] {
+        assert!(rt; settles_in_jobs(&rt, rt.alloc(), most)?);
+    }
+    Ok(())
+}
+
+// A disk whose seventh write or sync fails, and all calls after it. The seventh writes the gates in
+// the first flush. Before it come the opening's sync, two writes for each of two rows, and the
+// flush's first sync.
+fn failing(alloc: Global) -> Result<MemDisk, Fail> {
+    let mut stops = Vec::new(alloc);
+    stops.push(Stop {
+        k: 7,
+        fill: Fill::Old,
+    })?;
+    Ok(formatted(alloc)?.arm(stops))
+}
+
+// The replies if the flush is refused.
+const UNSETTLED: [Got; 6] = [
+    Got::Unsettled(1),
+    Got::Unsettled(2),
+    Got::Differs,
+    Got::Nothing,
+    Got::Nothing,
+    Got::Refused(5),
+];
+
+#[test]
+fn differs_where_the_flush_is_refused(rt: HostRuntime) -> Result<(), Fail> {
+    let disk = failing(rt.alloc())?;
+    assert!(rt; gets_in_jobs(&rt, rt.alloc(), disk, 4, UNSETTLED.as_slice())?);
+    Ok(())
+}
