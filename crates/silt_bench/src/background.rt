@@ -2,7 +2,7 @@
 
 use crate::error::BenchError;
 use crate::turns::Turns;
-use silt_desk::{DeskId, Due, Seat, Shared, Trace, Wakes};
+use silt_desk::{Count, DeskId, Due, Seat, Shared, Wakes};
 use silt_device::Disk;
 use std::alloc::Global;
 use std::sync::Wait;
@@ -10,14 +10,14 @@ use std::thread;
 use std::time::{Clock, Duration};
 
 // Which background work the store has to do.
-fn work_due<D: Disk, T: Trace, N: DeskId, R: Wait>(rt: &R, shared: &Shared<D, T, N>) -> Due {
+fn work_due<D: Disk, N: DeskId, R: Wait>(rt: &R, shared: &Shared<D, Count, N>) -> Due {
     shared.read(rt).due()
 }
 
 // Waits until the workers have left no background work to do.
-fn finish_beside<D: Disk, T: Trace, N: DeskId, R: Wait + Clock>(
+fn finish_beside<D: Disk, N: DeskId, R: Wait + Clock>(
     rt: &R,
-    shared: &Shared<D, T, N>,
+    shared: &Shared<D, Count, N>,
     wakes: &Wakes,
 ) {
     for _ in rt.forever() {
@@ -79,11 +79,11 @@ pub enum Background {
 
 impl Background {
     /// The writer takes the steps that this many puts owe, or wakes the workers that have work.
-    pub fn go_on<D: Disk, T: Trace, N: DeskId, R: Wait>(
+    pub fn go_on<D: Disk, N: DeskId, R: Wait>(
         &mut self,
         rt: &R,
         alloc: Global,
-        shared: &Shared<D, T, N>,
+        shared: &Shared<D, Count, N>,
         seat: &mut Seat<N>,
         puts: u64,
     ) -> Result<(), BenchError> {
@@ -97,11 +97,11 @@ impl Background {
     }
 
     /// Waits until all background work is done.
-    pub fn finish<D: Disk, T: Trace, N: DeskId, R: Wait + Clock>(
+    pub fn finish<D: Disk, N: DeskId, R: Wait + Clock>(
         &mut self,
         rt: &R,
         alloc: Global,
-        shared: &Shared<D, T, N>,
+        shared: &Shared<D, Count, N>,
         seat: &mut Seat<N>,
     ) -> Result<(), BenchError> {
         match self {

@@ -10,7 +10,7 @@ use crate::read_counter::CountingDisk;
 use crate::store::{new_store, seated};
 use crate::turns::Turns;
 use crate::writer::{Writer, fill, fill_all};
-use silt_desk::{DeskId, Seat, Shared, Trace};
+use silt_desk::{Count, DeskId, Seat, Shared};
 use silt_device::{Disk, Geometry, MemDisk};
 use silt_store_set::Core;
 use std::alloc::Global;
@@ -40,12 +40,27 @@ pub fn grow<D: Disk, R: Threads + Wait + Clock + Print + Sync>(
     detail: Detail,
 ) -> Result<(), BenchError> {
     let reads = AtomicU64::new(0);
-    let core = new_store(alloc, CountingDisk::new(disk, &reads), plan.geometry)?;
+    let disk = CountingDisk::new(disk, &reads);
+    match new_store(alloc, disk, plan.geometry) {
+        Ok(core) => grow_new(rt, alloc, core, &reads, plan, detail),
+        Err(error) => Err(error),
+    }
+}
+
+// Grows a new store.
+fn grow_new<D: Disk, R: Threads + Wait + Clock + Print + Sync>(
+    rt: &R,
+    alloc: Global,
+    core: Core<D>,
+    reads: &AtomicU64,
+    plan: &Plan,
+    detail: Detail,
+) -> Result<(), BenchError> {
     grow_seated::<_, Brand, _>(
         rt,
         alloc,
         core,
-        &reads,
+        reads,
         plan,
         detail,
         Blank::new(3),
@@ -96,15 +111,10 @@ fn grow_seated<D: Disk, N: DeskId + Send + Sync, R: Threads + Wait + Clock + Pri
 }
 
 // Grows a store from a seat.
-fn grow_at<
-    D: Disk,
-    T: Trace + Send + Sync,
-    N: DeskId + Send + Sync,
-    R: Threads + Wait + Clock + Print + Sync,
->(
+fn grow_at<D: Disk, N: DeskId + Send + Sync, R: Threads + Wait + Clock + Print + Sync>(
     rt: &R,
     alloc: Global,
-    shared: &Shared<D, T, N>,
+    shared: &Shared<D, Count, N>,
     seat: Seat<N>,
     reads: &AtomicU64,
     plan: &Plan,
@@ -135,14 +145,9 @@ fn print_names<R: Print>(rt: &R, detail: Detail) -> Result<(), BenchError> {
 }
 
 // Prints what gets of this many keys cost for each number of hash stores.
-fn print_state<
-    D: Disk,
-    T: Trace + Send + Sync,
-    N: DeskId + Send + Sync,
-    R: Threads + Wait + Clock + Print + Sync,
->(
+fn print_state<D: Disk, N: DeskId + Send + Sync, R: Threads + Wait + Clock + Print + Sync>(
     rt: &R,
-    shared: &Shared<D, T, N>,
+    shared: &Shared<D, Count, N>,
     reads: &AtomicU64,
     keys: u64,
     gets: u64,

@@ -53,14 +53,43 @@ pub fn index_agrees<R: Print>(
     present: u64,
     absent: u64,
 ) -> Result<(), BenchError> {
-    let keys = rising_keys(alloc, present)?;
-    let index = index_of(alloc, keys.as_slice())?;
-    let found = count_found(&index, keys.as_slice(), 0, present)?;
-    let others = count_found(&index, keys.as_slice(), ABSENT, absent)?;
+    let (found, others) = found_in_index(alloc, present, absent)?;
     println!(rt;
         "index: {found} of {present} present keys and {others} of {absent} absent ones found"
     )?;
     Ok(())
+}
+
+// How many of so many present and absent keys an index finds.
+fn found_in_index(alloc: Global, present: u64, absent: u64) -> Result<(u64, u64), BenchError> {
+    let keys = rising_keys(alloc, present)?;
+    let found = found_among(alloc, keys.as_slice(), present, absent);
+    drop(keys);
+    found
+}
+
+// The same, for the index of these keys.
+fn found_among(
+    alloc: Global,
+    keys: &[Key],
+    present: u64,
+    absent: u64,
+) -> Result<(u64, u64), BenchError> {
+    let index = index_of(alloc, keys)?;
+    let found = count_both(&index, keys, present, absent);
+    drop(index);
+    found
+}
+
+fn count_both(
+    index: &MarkedTrie,
+    keys: &[Key],
+    present: u64,
+    absent: u64,
+) -> Result<(u64, u64), BenchError> {
+    let found = count_found(index, keys, 0, present)?;
+    let others = count_found(index, keys, ABSENT, absent)?;
+    Ok((found, others))
 }
 
 // How many of the keys of these numbers the index finds, if a search among the keys finds the same.
@@ -92,20 +121,54 @@ pub fn measure_index<R: Clock + Print>(
     keys: u64,
     gets: u64,
 ) -> Result<(), BenchError> {
-    let rising = rising_keys(alloc, keys)?;
-    let mut lap = Lap::new(rt)?;
-    let index = index_of(alloc, rising.as_slice())?;
-    let build = lap.turn(rt)?;
-    drop(rising);
-    let _ = lap.turn(rt)?;
-    let sum = locate_all(&index, keys, gets);
-    let nanos = lap.turn(rt)?;
+    let (index, build) = build_by_clock(rt, alloc, keys)?;
+    let looked = look_by_clock(rt, &index, keys, gets);
     let bytes = Thousandths::of(index.memory() as u64, keys);
+    drop(index);
+    let (sum, nanos) = looked?;
     let look = Thousandths::of(nanos, gets);
     let built = Thousandths::of(build, keys);
     println!(rt; "keys\tbytes a key\tns a look\tns a key of building\tsum of places")?;
     println!(rt; "{keys}\t{bytes}\t{look}\t{built}\t{sum}")?;
     Ok(())
+}
+
+// An index of so many keys, and how many nanoseconds its building takes.
+fn build_by_clock<R: Clock>(
+    rt: &R,
+    alloc: Global,
+    keys: u64,
+) -> Result<(MarkedTrie, u64), BenchError> {
+    let rising = rising_keys(alloc, keys)?;
+    let built = index_by_clock(rt, alloc, rising.as_slice());
+    drop(rising);
+    built
+}
+
+// The index of these keys, and how many nanoseconds its building takes.
+fn index_by_clock<R: Clock>(
+    rt: &R,
+    alloc: Global,
+    keys: &[Key],
+) -> Result<(MarkedTrie, u64), BenchError> {
+    let mut lap = Lap::new(rt)?;
+    let index = index_of(alloc, keys)?;
+    match lap.turn(rt) {
+        Ok(nanos) => Ok((index, nanos)),
+        Err(error) => Err(error.into()),
+    }
+}
+
+// The sum of the places of this many keys, and how many nanoseconds the looks take.
+fn look_by_clock<R: Clock>(
+    rt: &R,
+    index: &MarkedTrie,
+    keys: u64,
+    gets: u64,
+) -> Result<(u64, u64), BenchError> {
+    let mut lap = Lap::new(rt)?;
+    let sum = locate_all(index, keys, gets);
+    Ok((sum, lap.turn(rt)?))
 }
 
 // The sum of the places of this many keys.

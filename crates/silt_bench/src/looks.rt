@@ -4,7 +4,7 @@ use crate::error::BenchError;
 use crate::figures::a_second;
 use crate::keys::{byte_of, key_of, pick};
 use crate::pauses::Lap;
-use silt_desk::{Desk, DeskId, Shared, Trace, join_over};
+use silt_desk::{Count, Desk, DeskId, Shared, join_over};
 use silt_device::Disk;
 use std::sync::Wait;
 use std::sync::atomic::{AtomicU64, Ordering};
@@ -54,9 +54,9 @@ impl Looks {
 /// # Errors
 ///
 /// `Wrong` if a look found another value than was put.
-pub fn looks_by_one<D: Disk, T: Trace, N: DeskId, R: Wait + Clock>(
+pub fn looks_by_one<D: Disk, N: DeskId, R: Wait + Clock>(
     rt: &R,
-    shared: &Shared<D, T, N>,
+    shared: &Shared<D, Count, N>,
     looks: Looks,
 ) -> Result<u64, BenchError> {
     let mut lap = Lap::new(rt)?;
@@ -71,12 +71,11 @@ pub fn looks_by_one<D: Disk, T: Trace, N: DeskId, R: Wait + Clock>(
 /// # Errors
 ///
 /// `Wrong` if a look found another value than was put.
-pub fn looks_by_four<
-    D: Disk,
-    T: Trace + Send + Sync,
-    N: DeskId + Send + Sync,
-    R: Threads + Wait + Clock + Sync,
->(rt: &R, shared: &Shared<D, T, N>, looks: Looks) -> Result<u64, BenchError> {
+pub fn looks_by_four<D: Disk, N: DeskId + Send + Sync, R: Threads + Wait + Clock + Sync>(
+    rt: &R,
+    shared: &Shared<D, Count, N>,
+    looks: Looks,
+) -> Result<u64, BenchError> {
     let each = looks.count / 4;
     let mut lap = Lap::new(rt)?;
     if !four_look(rt, shared, looks, each) {
@@ -90,9 +89,9 @@ pub fn looks_by_four<
 /// # Errors
 ///
 /// `Wrong` if a look found another value than was put.
-pub fn count_reads<D: Disk, T: Trace, N: DeskId, R: Wait>(
+pub fn count_reads<D: Disk, N: DeskId, R: Wait>(
     rt: &R,
-    shared: &Shared<D, T, N>,
+    shared: &Shared<D, Count, N>,
     reads: &AtomicU64,
     looks: Looks,
 ) -> Result<u64, BenchError> {
@@ -104,25 +103,25 @@ pub fn count_reads<D: Disk, T: Trace, N: DeskId, R: Wait>(
 }
 
 // This many looks by each of four threads. Returns whether each one found what was put.
-fn four_look<D: Disk, T: Trace + Send + Sync, N: DeskId + Send + Sync, R: Threads + Wait + Sync>(
+fn four_look<D: Disk, N: DeskId + Send + Sync, R: Threads + Wait + Sync>(
     rt: &R,
-    shared: &Shared<D, T, N>,
+    shared: &Shared<D, Count, N>,
     looks: Looks,
     each: u64,
 ) -> bool {
     let (first, second) = join_over(
         rt,
         shared,
-        move |desk: &Shared<D, T, N>| two_look(rt, desk, looks, each, 0),
-        move |desk: &Shared<D, T, N>| two_look(rt, desk, looks, each, 2),
+        move |desk: &Shared<D, Count, N>| two_look(rt, desk, looks, each, 0),
+        move |desk: &Shared<D, Count, N>| two_look(rt, desk, looks, each, 2),
     );
     first && second
 }
 
 // This many looks by each of two threads. Returns whether each one found what was put.
-fn two_look<D: Disk, T: Trace + Send + Sync, N: DeskId + Send + Sync, R: Threads + Wait + Sync>(
+fn two_look<D: Disk, N: DeskId + Send + Sync, R: Threads + Wait + Sync>(
     rt: &R,
-    shared: &Shared<D, T, N>,
+    shared: &Shared<D, Count, N>,
     looks: Looks,
     each: u64,
     thread: u64,
@@ -130,16 +129,16 @@ fn two_look<D: Disk, T: Trace + Send + Sync, N: DeskId + Send + Sync, R: Threads
     let (first, second) = join_over(
         rt,
         shared,
-        move |desk: &Shared<D, T, N>| look_all(rt, desk, looks, each, thread),
-        move |desk: &Shared<D, T, N>| look_all(rt, desk, looks, each, thread ^ 1),
+        move |desk: &Shared<D, Count, N>| look_all(rt, desk, looks, each, thread),
+        move |desk: &Shared<D, Count, N>| look_all(rt, desk, looks, each, thread ^ 1),
     );
     first && second
 }
 
 // This many looks by one thread. Returns whether each one found what was put.
-fn look_all<D: Disk, T: Trace, N: DeskId, R: Wait>(
+fn look_all<D: Disk, N: DeskId, R: Wait>(
     rt: &R,
-    shared: &Shared<D, T, N>,
+    shared: &Shared<D, Count, N>,
     looks: Looks,
     count: u64,
     thread: u64,
@@ -158,8 +157,8 @@ fn look_all<D: Disk, T: Trace, N: DeskId, R: Wait>(
 }
 
 // Whether one look finds what was put, or nothing if the key is absent.
-fn is_right<D: Disk, T: Trace, N: DeskId>(
-    desk: &Desk<D, T, N>,
+fn is_right<D: Disk, N: DeskId>(
+    desk: &Desk<D, Count, N>,
     looks: Looks,
     number: u64,
     out: &mut [u8],

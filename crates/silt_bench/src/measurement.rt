@@ -12,7 +12,7 @@ use crate::store::{new_store, open_store, seated};
 use crate::turns::Turns;
 use crate::workers::fill_beside;
 use crate::writer::{Filled, Writer, fill_all};
-use silt_desk::{DeskId, Seat, Shared, Trace};
+use silt_desk::{Count, DeskId, Seat, Shared};
 use silt_device::Disk;
 use silt_store_set::Core;
 use std::alloc::Global;
@@ -101,15 +101,10 @@ fn see<D: Disk, N: DeskId + Send + Sync, R: Threads + Wait + Clock + Files + Syn
 }
 
 // Fills a store as planned, and measures looks at it.
-fn fill_and_look<
-    D: Disk,
-    T: Trace + Send + Sync,
-    N: DeskId + Send + Sync,
-    R: Threads + Wait + Clock + Files + Sync,
->(
+fn fill_and_look<D: Disk, N: DeskId + Send + Sync, R: Threads + Wait + Clock + Files + Sync>(
     rt: &R,
     alloc: Global,
-    shared: &Shared<D, T, N>,
+    shared: &Shared<D, Count, N>,
     seats: Vec<Seat<N>>,
     plan: &Plan,
     work: Work,
@@ -132,10 +127,10 @@ fn three_of<N: DeskId>(seats: Vec<Seat<N>>) -> Option<(Seat<N>, Seat<N>, Seat<N>
 }
 
 // Fills a store on this thread, which also does the background work, between the groups.
-fn fill_by_turns<D: Disk, T: Trace, N: DeskId, R: Wait + Clock>(
+fn fill_by_turns<D: Disk, N: DeskId, R: Wait + Clock>(
     rt: &R,
     alloc: Global,
-    shared: &Shared<D, T, N>,
+    shared: &Shared<D, Count, N>,
     seats: (Seat<N>, Seat<N>, Seat<N>),
     plan: &Plan,
 ) -> Result<Filled, BenchError> {
@@ -145,15 +140,10 @@ fn fill_by_turns<D: Disk, T: Trace, N: DeskId, R: Wait + Clock>(
 }
 
 // Measures looks at a store that is filled.
-fn look<
-    D: Disk,
-    T: Trace + Send + Sync,
-    N: DeskId + Send + Sync,
-    R: Threads + Wait + Clock + Files + Sync,
->(
+fn look<D: Disk, N: DeskId + Send + Sync, R: Threads + Wait + Clock + Files + Sync>(
     rt: &R,
     alloc: Global,
-    shared: &Shared<D, T, N>,
+    shared: &Shared<D, Count, N>,
     plan: &Plan,
     filled: Filled,
 ) -> Result<Seen, BenchError> {
@@ -216,9 +206,9 @@ fn count_seated<D: Disk, N: DeskId, R: Wait>(
 }
 
 // Counts the reads of looks for present and for absent keys.
-fn count_looks<D: Disk, T: Trace, N: DeskId, R: Wait>(
+fn count_looks<D: Disk, N: DeskId, R: Wait>(
     rt: &R,
-    shared: &Shared<D, T, N>,
+    shared: &Shared<D, Count, N>,
     reads: &AtomicU64,
     plan: &Plan,
     opening: u64,

@@ -3,7 +3,7 @@ ghost use Rattle.std.specs.Prelude.{◌≡◌, false, OnOk};
 ghost use Rattle.silt_store_set.specs.CoreState.{wants_convert, wants_merge};
 
 use crate::error::{BenchError, Call};
-use silt_desk::{Desk, DeskId, Seat, Trace};
+use silt_desk::{Count, Desk, DeskId, Seat};
 use silt_device::{Disk, Geometry};
 use silt_event::Progress;
 use std::alloc::Global;
@@ -42,10 +42,10 @@ impl Turns {
     }
 
     /// Takes the steps that this many puts owe.
-    pub fn take<D: Disk, T: Trace, N: DeskId>(
+    pub fn take<D: Disk, N: DeskId>(
         &mut self,
         alloc: Global,
-        desk: &mut Desk<D, T, N>,
+        desk: &mut Desk<D, Count, N>,
         seat: &mut Seat<N>,
         puts: u64,
     ) -> Result<(), BenchError> {
@@ -65,10 +65,10 @@ impl Turns {
     }
 
     /// Does all background work that is due, to its end.
-    pub fn finish<D: Disk, T: Trace, N: DeskId>(
+    pub fn finish<D: Disk, N: DeskId>(
         &mut self,
         alloc: Global,
-        desk: &mut Desk<D, T, N>,
+        desk: &mut Desk<D, Count, N>,
         seat: &mut Seat<N>,
     ) -> Result<(), BenchError>
         ensures { OnOk result ((wants_convert desk.new.core ≡ false) × (wants_merge desk.new.core ≡ false)) }
@@ -84,10 +84,10 @@ impl Turns {
     }
 
     // Takes this many steps of conversion, or fewer if there is no more to convert.
-    fn convert<D: Disk, T: Trace, N: DeskId>(
+    fn convert<D: Disk, N: DeskId>(
         &mut self,
         alloc: Global,
-        desk: &mut Desk<D, T, N>,
+        desk: &mut Desk<D, Count, N>,
         seat: &mut Seat<N>,
         steps: u64,
     ) -> Result<(), BenchError> {
@@ -104,10 +104,10 @@ impl Turns {
 
     // Takes this many steps of merging, or fewer if a merge ends. A merge takes all hash stores that are there when it
     // begins.
-    fn merge<D: Disk, T: Trace, N: DeskId>(
+    fn merge<D: Disk, N: DeskId>(
         &mut self,
         alloc: Global,
-        desk: &mut Desk<D, T, N>,
+        desk: &mut Desk<D, Count, N>,
         seat: &mut Seat<N>,
         steps: u64,
     ) -> Result<(), BenchError> {

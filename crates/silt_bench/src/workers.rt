@@ -7,7 +7,7 @@ use crate::turns::rows_before_freeze;
 use crate::writer::{Filled, Writer, fill_all};
 use crossbeam_channel::{Receiver, Sender};
 use silt_desk::{
-    DeskId, Gate, Seat, Shared, ShiftGate, Spot, Trace, Turn, Wake, Wakes, converter, join_over,
+    Count, DeskId, Gate, Seat, Shared, ShiftGate, Spot, Turn, Wake, Wakes, converter, join_over,
     merge_once,
 };
 use silt_device::Disk;
@@ -33,15 +33,10 @@ struct FillThreads<N: DeskId> {
 }
 
 /// Puts the plan's keys beside a converter and a merger, and ends when no work is left.
-pub fn fill_beside<
-    D: Disk,
-    T: Trace + Send + Sync,
-    N: DeskId + Send + Sync,
-    R: Threads + Wait + Clock + Sync,
->(
+pub fn fill_beside<D: Disk, N: DeskId + Send + Sync, R: Threads + Wait + Clock + Sync>(
     rt: &R,
     alloc: Global,
-    shared: &Shared<D, T, N>,
+    shared: &Shared<D, Count, N>,
     seats: (Seat<N>, Seat<N>, Seat<N>),
     plan: &Plan,
 ) -> Result<Filled, BenchError> {
@@ -86,15 +81,10 @@ fn threads_of<N: DeskId>(
 }
 
 // The two workers in threads of their own, and the writer in this one.
-fn run_threads<
-    D: Disk,
-    T: Trace + Send + Sync,
-    N: DeskId + Send + Sync,
-    R: Threads + Wait + Clock + Sync,
->(
+fn run_threads<D: Disk, N: DeskId + Send + Sync, R: Threads + Wait + Clock + Sync>(
     rt: &R,
     alloc: Global,
-    shared: &Shared<D, T, N>,
+    shared: &Shared<D, Count, N>,
     threads: FillThreads<N>,
     plan: &Plan,
 ) -> Result<Filled, BenchError> {
@@ -106,17 +96,17 @@ fn run_threads<
     let (_seats, filled) = join_over(
         rt,
         shared,
-        move |desk: &Shared<D, T, N>| both_workers(rt, alloc, desk, converter, merger),
-        move |desk: &Shared<D, T, N>| write(rt, alloc, desk, writer, plan),
+        move |desk: &Shared<D, Count, N>| both_workers(rt, alloc, desk, converter, merger),
+        move |desk: &Shared<D, Count, N>| write(rt, alloc, desk, writer, plan),
     );
     filled
 }
 
 // Runs the two workers, each until it is stopped.
-fn both_workers<D: Disk, T: Trace + Send + Sync, N: DeskId + Send + Sync, R: Threads + Wait + Sync>(
+fn both_workers<D: Disk, N: DeskId + Send + Sync, R: Threads + Wait + Sync>(
     rt: &R,
     alloc: Global,
-    shared: &Shared<D, T, N>,
+    shared: &Shared<D, Count, N>,
     first: Worker<N>,
     second: Worker<N>,
 ) -> (Seat<N>, Seat<N>) {
@@ -124,10 +114,10 @@ fn both_workers<D: Disk, T: Trace + Send + Sync, N: DeskId + Send + Sync, R: Thr
     join_over(
         rt,
         shared,
-        move |desk: &Shared<D, T, N>| {
+        move |desk: &Shared<D, Count, N>| {
             converter(rt, alloc, desk, first.seat, gate, first.wakes, first.other)
         },
-        move |desk: &Shared<D, T, N>| {
+        move |desk: &Shared<D, Count, N>| {
             merge_when_woken(
                 rt,
                 alloc,
@@ -143,10 +133,10 @@ fn both_workers<D: Disk, T: Trace + Send + Sync, N: DeskId + Send + Sync, R: Thr
 
 // Does one merge for each message, until it is stopped, and wakes the converter after each. The desk's own merger begins
 // the next merge as soon as there is a hash store. Gives its seat back.
-fn merge_when_woken<D: Disk, T: Trace, N: DeskId, G: Gate, R: Wait>(
+fn merge_when_woken<D: Disk, N: DeskId, G: Gate, R: Wait>(
     rt: &R,
     alloc: Global,
-    shared: &Shared<D, T, N>,
+    shared: &Shared<D, Count, N>,
     mut seat: Seat<N>,
     gate: &G,
     wakes: Receiver<Wake>,
@@ -163,10 +153,10 @@ fn merge_when_woken<D: Disk, T: Trace, N: DeskId, G: Gate, R: Wait>(
 }
 
 // Does the steps of one merge, each under a guard of its own.
-fn merge_to_end<D: Disk, T: Trace, N: DeskId, G: Gate, R: Wait>(
+fn merge_to_end<D: Disk, N: DeskId, G: Gate, R: Wait>(
     rt: &R,
     alloc: Global,
-    shared: &Shared<D, T, N>,
+    shared: &Shared<D, Count, N>,
     seat: &mut Seat<N>,
     gate: &G,
 ) {
@@ -180,10 +170,10 @@ fn merge_to_end<D: Disk, T: Trace, N: DeskId, G: Gate, R: Wait>(
 }
 
 // Puts all keys, waits until no work is left, and stops the workers.
-fn write<D: Disk, T: Trace, N: DeskId, R: Wait + Clock>(
+fn write<D: Disk, N: DeskId, R: Wait + Clock>(
     rt: &R,
     alloc: Global,
-    shared: &Shared<D, T, N>,
+    shared: &Shared<D, Count, N>,
     mut writer: Writer<N>,
     plan: &Plan,
 ) -> Result<Filled, BenchError> {

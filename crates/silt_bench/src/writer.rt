@@ -6,7 +6,7 @@ use crate::error::{BenchError, Call};
 use crate::job::Plan;
 use crate::keys::{byte_of, key_of};
 use crate::pauses::{Lap, Pauses};
-use silt_desk::{Desk, DeskId, Seat, Shared, Trace};
+use silt_desk::{Count, Desk, DeskId, Seat, Shared};
 use silt_device::Disk;
 use silt_event::Refusal;
 use silt_frame::Key;
@@ -64,10 +64,10 @@ impl<N: DeskId> Writer<N> {
 }
 
 /// Puts the plan's keys, and finishes all background work.
-pub fn fill_all<D: Disk, T: Trace, N: DeskId, R: Wait + Clock>(
+pub fn fill_all<D: Disk, N: DeskId, R: Wait + Clock>(
     rt: &R,
     alloc: Global,
-    shared: &Shared<D, T, N>,
+    shared: &Shared<D, Count, N>,
     writer: &mut Writer<N>,
     plan: &Plan,
 ) -> Result<Filled, BenchError> {
@@ -82,20 +82,44 @@ pub fn fill_all<D: Disk, T: Trace, N: DeskId, R: Wait + Clock>(
 /// Puts the keys of the numbers from `first` up to `end`, in groups, with a flush and some
 /// background work after each. If this thread does that work, its time counts in the pause of the
 /// next put.
-pub fn fill<D: Disk, T: Trace, N: DeskId, R: Wait + Clock>(
+pub fn fill<D: Disk, N: DeskId, R: Wait + Clock>(
     rt: &R,
     alloc: Global,
-    shared: &Shared<D, T, N>,
+    shared: &Shared<D, Count, N>,
     writer: &mut Writer<N>,
     plan: &Plan,
     first: u64,
     end: u64,
 ) -> Result<(), BenchError> {
     let mut value = vec![in alloc; 0u8; plan.geometry.value_len() as usize]?;
+    let filled = fill_groups(
+        rt,
+        alloc,
+        shared,
+        writer,
+        plan,
+        first,
+        end,
+        value.as_mut_slice(),
+    );
+    drop(value);
+    filled
+}
+
+// The same, with room for a value.
+fn fill_groups<D: Disk, N: DeskId, R: Wait + Clock>(
+    rt: &R,
+    alloc: Global,
+    shared: &Shared<D, Count, N>,
+    writer: &mut Writer<N>,
+    plan: &Plan,
+    first: u64,
+    end: u64,
+    value: &mut [u8],
+) -> Result<(), BenchError> {
     let mut lap = Lap::new(rt)?;
     for at in (first..end).step_by((plan.group as usize).max(1)) {
         let next = at.saturating_add(plan.group.max(1)).min(end);
-        let value = value.as_mut_slice();
         put_group(rt, alloc, shared, writer, at, next, value, &mut lap)?;
         flush_once(&mut *shared.write(rt), alloc, &mut writer.seat)?;
         writer.flushes.note(lap.turn(rt)?);
@@ -105,10 +129,10 @@ pub fn fill<D: Disk, T: Trace, N: DeskId, R: Wait + Clock>(
 }
 
 // Puts the keys of the numbers from `first` up to `end`.
-fn put_group<D: Disk, T: Trace, N: DeskId, R: Wait + Clock>(
+fn put_group<D: Disk, N: DeskId, R: Wait + Clock>(
     rt: &R,
     alloc: Global,
-    shared: &Shared<D, T, N>,
+    shared: &Shared<D, Count, N>,
     writer: &mut Writer<N>,
     first: u64,
     end: u64,
@@ -124,10 +148,10 @@ fn put_group<D: Disk, T: Trace, N: DeskId, R: Wait + Clock>(
 }
 
 // Puts a value. While the store has no room for it, waits for the background work.
-fn put_patiently<D: Disk, T: Trace, N: DeskId, R: Wait + Clock>(
+fn put_patiently<D: Disk, N: DeskId, R: Wait + Clock>(
     rt: &R,
     alloc: Global,
-    shared: &Shared<D, T, N>,
+    shared: &Shared<D, Count, N>,
     writer: &mut Writer<N>,
     key: &Key,
     value: &[u8],
@@ -145,8 +169,8 @@ fn put_patiently<D: Disk, T: Trace, N: DeskId, R: Wait + Clock>(
 }
 
 // Puts a value. False if the store has no room for it.
-fn put_once<D: Disk, T: Trace, N: DeskId>(
-    desk: &mut Desk<D, T, N>,
+fn put_once<D: Disk, N: DeskId>(
+    desk: &mut Desk<D, Count, N>,
     alloc: Global,
     seat: &mut Seat<N>,
     key: &Key,
@@ -163,8 +187,8 @@ fn put_once<D: Disk, T: Trace, N: DeskId>(
 }
 
 // Acknowledges all puts.
-fn flush_once<D: Disk, T: Trace, N: DeskId>(
-    desk: &mut Desk<D, T, N>,
+fn flush_once<D: Disk, N: DeskId>(
+    desk: &mut Desk<D, Count, N>,
     alloc: Global,
     seat: &mut Seat<N>,
 ) -> Result<(), BenchError> {
