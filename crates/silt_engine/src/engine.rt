@@ -1,6 +1,7 @@
 // The stores of a device in memory, and their calls.
-ghost use Rattle.std.specs.Prelude.{vec_capacity, ◌≡◌, ◌<◌, ◌≤◌, [], nat_lt, None, IfOk, IfErr, OnOk};
+ghost use Rattle.std.specs.Prelude.{vec_capacity, ◌≡◌, ◌*◌, ◌<◌, ◌≤◌, [], None, IfOk, IfErr, OnOk};
 ghost use Rattle.silt_disk.specs.Disk.{Costs};
+ghost use Rattle.silt_engine.specs.Costs.{row_waits};
 
 use silt_conversion::Conversion;
 use silt_disk::{Disk, Geometry};
@@ -137,19 +138,29 @@ impl Engine {
         self.charge
     }
 
-    /// Whether a row waits for a flush.
-    pub fn has_waiting(&self) -> bool
-        ensures { result ≡ nat_lt self.now.active.log.settled self.now.active.log.used }
-    {
-        self.active.has_waiting()
-    }
-
-    /// Settles the rows that wait: a sync, one write over their gates, a sync.
+    /// Settles the rows that wait: a sync, one write over their gates, a sync. If none waits it makes no device call.
     ///
     /// # Errors
     ///
     /// The fault of a sync or of the write.
     pub fn flush<D: Disk>(&mut self, disk: &mut D) -> Result<(), D::Fault>
+        requires { Stands (D.content disk.old) self.old }
+        ensures works { Works D.Disk [] disk.old disk.new self.old self.new result }
+        ensures quiet { OnOk result (IsQuiet (D.content disk.new) self.new) }
+        ensures behind { StaysBehind self.old self.new }
+        ensures charge { self.new.charge ≡ self.old.charge }
+        ensures idle { self.old.active.log.settled ≡ self.old.active.log.used → (disk.new ≡ disk.old) × (self.new ≡ self.old) }
+        ensures made { Costs D.writes D.syncs (row_waits self.old) (2 * row_waits self.old) disk.old disk.new result }
+        ensures err { IfErr result (BreaksOff D.Disk disk.old disk.new self.old self.new) }
+    {
+        if !self.active.has_waiting() {
+            return Ok(());
+        }
+        self.open_gates(disk)
+    }
+
+    // Opens the gates of the rows that wait.
+    fn open_gates<D: Disk>(&mut self, disk: &mut D) -> Result<(), D::Fault>
         requires waiting { self.old.active.log.settled < self.old.active.log.used }
         requires stands { Stands (D.content disk.old) self.old }
         ensures works { Works D.Disk [] disk.old disk.new self.old self.new result }

@@ -165,22 +165,6 @@ impl Engine {
         }
     }
 
-    // Settles the rows that wait, if any do.
-    fn settle<D: Disk>(&mut self, disk: &mut D) -> Result<(), D::Fault>
-        requires { Stands (D.content disk.old) self.old }
-        ensures works { Works D.Disk [] disk.old disk.new self.old self.new result }
-        ensures quiet { OnOk result (IsQuiet (D.content disk.new) self.new) }
-        ensures behind { StaysBehind self.old self.new }
-        ensures charge { self.new.charge ≡ self.old.charge }
-        ensures made { Costs D.writes D.syncs (row_waits self.old) (2 * row_waits self.old) disk.old disk.new result }
-        ensures err { IfErr result (BreaksOff D.Disk disk.old disk.new self.old self.new) }
-    {
-        if !self.has_waiting() {
-            return Ok(());
-        }
-        self.flush(disk)
-    }
-
     // Closes all gates of the new log's region, which no log has.
     fn clear_region<D: Disk>(&self, disk: &mut D, next: &mut NextLog) -> Result<(), D::Fault>
         requires stands { Stands (D.content disk.old) self.now }
@@ -219,7 +203,7 @@ impl Engine {
         ensures made { Costs D.writes D.syncs (row_waits self.old + 4) (2 * row_waits self.old + 4) disk.old disk.new result }
         ensures err { IfErr result (BreaksOff D.Disk disk.old disk.new self.old self.new) }
     {
-        self.settle(disk)?;
+        self.flush(disk)?;
         self.clear_region(disk, &mut next)?;
         let digests = self.own_digests();
         let manifest = self.change_manifest(disk, &next.body, &digests)?;

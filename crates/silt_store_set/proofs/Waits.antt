@@ -1,11 +1,9 @@
 -- Whether a command waits, by the numbers of the active log.
-use Rattle.std.proofs.Common.{◌≡◌, ◌<◌, ◌-◌, ◌*◌, Bool, false, true, List, [], ◌∷◌, length, map, nat_lt, cond, refl, ap, sym, arith}
+use Rattle.std.proofs.Common.{◌≡◌, ◌<◌, ◌-◌, Bool, false, true, List, [], ◌∷◌, length, map, nat_lt, cond, refl, ap, sym, arith}
 use Rattle.std.proofs.lemmas.List.{length-map}
 use Rattle.std.proofs.lemmas.List.FromFn.{length-map-range_with_len}
 use Rattle.std.proofs.lemmas.Bool.Decides.{nat_tests}
-use Rattle.silt_disk.specs.Disk.{Content, Makes}
-use Rattle.silt_disk.specs.declared.disk.Disk.{Ghosts}
-use Rattle.silt_disk.proofs.Costs.{none_made}
+use Rattle.silt_disk.specs.Disk.{Content}
 use Rattle.silt_event.specs.Commands.{Command}
 use Rattle.silt_event.specs.Rows.{command_of}
 use Rattle.silt_log.specs.Rows.{row_at, rows_from}
@@ -16,28 +14,25 @@ use Rattle.silt_engine.specs.Costs as engine
 use Rattle.silt_store_set.specs.CoreState.{some_wait}
 use Rattle.silt_store_set.proofs.Openings.{none_wait}
 
--- if a row is not settled, a command waits
-pub some_waits : (content : Content) (log : LogState) → nat_lt log.settled log.used ≡ true → map command_of (waiting_rows content log) ≡ [] → ⊥
+-- if no command waits, all rows are settled
+pub all_settled : (content : Content) (log : LogState) → InBounds log → map command_of (waiting_rows content log) ≡ [] → log.settled ≡ log.used
 unfolding rows_from
-some_waits content log some none =
-    let waits : log.settled < log.used = grind (arith, nat_tests, some) in
+all_settled content log bounds none =
     let len : length (waiting_rows content log) ≡ log.used - log.settled = length-map-range_with_len (row_at log.shape log.region content.shown) log.settled (log.used - log.settled) in
-    omega (arith, waits, len, length-map (waiting_rows content log) command_of, ap length none)
+    omega (arith, bounds.order, len, length-map (waiting_rows content log) command_of, ap length none)
 
--- then some_wait is 1
+-- if a command waits, some_wait is 1
 pub one_waits : (commands : List Command) → (commands ≡ [] → ⊥) → some_wait commands ≡ 1
 one_waits [] some = absurd (some refl)
 one_waits (command ∷ commands) some = refl
-
--- and if none waits a flush makes no call
-pub none_waits : {D F : Type 0} (facts : Ghosts D F) (disk : D) (commands : List Command) → commands ≡ [] → Makes facts.writes facts.syncs (some_wait commands) (2 * some_wait commands) disk disk
-none_waits facts disk commands none = rw none none_made
 
 -- the numbers of the log say the same
 pub waits_same : (content : Content) (s : EngineState) → InBounds s.active.log → engine.row_waits s ≡ some_wait (waiting_commands content s)
 waits_same content s bounds =
     let go : (b : Bool) → nat_lt s.active.log.settled s.active.log.used ≡ b → cond b 1 0 ≡ some_wait (waiting_commands content s) = elim [
-      | true ↦ λ some. sym (one_waits (waiting_commands content s) (some_waits content s.active.log some))
+      | true ↦ λ some.
+          let waits : s.active.log.settled < s.active.log.used = grind (arith, nat_tests, some) in
+          sym (one_waits (waiting_commands content s) (λ none. omega (arith, waits, all_settled content s.active.log bounds none)))
       | false ↦ λ none.
           let settled : s.active.log.settled ≡ s.active.log.used = grind (arith, nat_tests, none, bounds.order) in
           sym (ap some_wait (ap (map command_of) (none_wait content s.active.log settled)))

@@ -274,9 +274,6 @@ impl<D: Disk> Core<D> {
         if self.failed {
             return Err(Refusal::Failed);
         }
-        if !self.engine.has_waiting() {
-            return Ok(self.count);
-        }
         let basis = Basis::of(&self.disk, &self.engine);
         match self.engine.flush(&mut self.disk) {
             Ok(()) => Ok(self.count),

@@ -1,28 +1,18 @@
-use Rattle.std.proofs.Common.{[], sym, subst}
+use Rattle.std.proofs.Common.{sym, subst, refl, arith, ◌∙◌}
+use Rattle.std.proofs.lemmas.Bool.Decides.{nat_tests}
 use Rattle.silt_standing.specs.State.{EngineState}
 use Rattle.silt_standing.specs.Standing.{Stands}
-use Rattle.silt_engine.proofs.Flushes.{flush_breaks, flush_failed_map, flushed, flushed_quiet}
-use Rattle.silt_engine.proofs.Exits.{on_error}
+use Rattle.silt_engine.proofs.Flushes.{quiet_when}
 use Rattle.silt_engine.proofs.Viewing.{state_of}
-use Rattle.silt_engine.proofs.Works.{went}
+use Rattle.silt_engine.proofs.Works.{nothing_done}
 use Rattle.silt_engine.proofs.engine.Engine.flush.Goals as goal
 
-pub returns-in_err-open_gates-clause-err : goal.returns-in_err-open_gates-clause-err
-returns-in_err-open_gates-clause-err g c =
-    let stands = subst (λ (v : EngineState). Stands (g.D.Disk.content c.args.disk.now) v) (sym c.self.view_is) c.requires.stands in
-    on_error c.from_residual.result c.in_err-open_gates.field-0.0 _ c.from_residual.ensures.1 (rw (← c.self.view_is) (record {
-      counted = c.in_err-open_gates.ensures.failures;
-      breaks = flush_breaks _ _ _ c.open_gates.new.self stands c.open_gates.ensures.size c.open_gates.ensures.changes c.in_err-open_gates.ensures.err;
-      map = flush_failed_map _ _ _ c.open_gates.new.self stands c.open_gates.ensures.size c.open_gates.ensures.changes c.in_err-open_gates.ensures.err;
-    }))
+pub returns-then-not-has_waiting-clause-works : goal.returns-then-not-has_waiting-clause-works
+returns-then-not-has_waiting-clause-works g c =
+    let stands = subst (λ (v : EngineState). Stands (g.D.Disk.content c.args.disk.now) v) (sym c.self.view_is) c.requires in
+    rw (← c.self.view_is) (nothing_done g.D.Disk c.args.disk.now (state_of c.self.inside) _ stands)
 
-pub returns-clause-works : goal.returns-clause-works
-returns-clause-works g c =
-    let stands = subst (λ (v : EngineState). Stands (g.D.Disk.content c.args.disk.now) v) (sym c.self.view_is) c.requires.stands in
-    rw (← c.self.view_is) (went g.D.Disk [] c.args.disk.now c.open_gates.new.disk (state_of c.self.inside) _ _ (record { size = c.open_gates.ensures.size; honest = c.open_gates.ensures.changes.honest }) stands c.in_ok-open_gates.ensures.failures
-    (flushed _ _ _ c.open_gates.new.self stands c.open_gates.ensures.size c.open_gates.ensures.changes c.in_ok-open_gates.ensures.ok))
-
-pub returns-clause-quiet : goal.returns-clause-quiet
-returns-clause-quiet g c =
-    let stands = subst (λ (v : EngineState). Stands (g.D.Disk.content c.args.disk.now) v) (sym c.self.view_is) c.requires.stands in
-    flushed_quiet (g.D.Disk.content c.args.disk.now) _ _ c.open_gates.new.self stands c.open_gates.ensures.size c.open_gates.ensures.changes c.in_ok-open_gates.ensures.ok
+pub returns-then-not-has_waiting-clause-quiet : goal.returns-then-not-has_waiting-clause-quiet
+returns-then-not-has_waiting-clause-quiet g c =
+    let stands = subst (λ (v : EngineState). Stands (g.D.Disk.content c.args.disk.now) v) (sym c.self.view_is) c.requires in
+    rw (← c.self.view_is) (quiet_when (g.D.Disk.content c.args.disk.now) (state_of c.self.inside) stands (sym c.has_waiting.ensures.value ∙ c.if-not-has_waiting.true))

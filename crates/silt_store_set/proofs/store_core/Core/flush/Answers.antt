@@ -1,6 +1,6 @@
-use Rattle.std.proofs.Common.{[], ap, sym, ◌∙◌, arith}
+use Rattle.std.proofs.Common.{[], ap, arith}
 use Rattle.silt_store_set.proofs.Calls.{core_broke, core_went, refused_failed, seen_core}
-use Rattle.silt_store_set.proofs.Flushes.{flushed_none, flushed, flush_broke}
+use Rattle.silt_store_set.proofs.Flushes.{flushed, flush_broke}
 use Rattle.silt_event.specs.declared.event.Event.TheVariants.{Flush}
 use Rattle.silt_store_set.proofs.store_core.Core.flush.Goals as goal
 
@@ -8,18 +8,14 @@ pub returns-then-self : goal.returns-then-self
 returns-then-self g c = rw (← c.self.view_is) (refused_failed g.D.Disk
     (seen_core g.D.Disk c.self.inside.disk c.self.inside.engine c.self.inside.count c.self.inside.failed c.self.inside.basis) Flush c.if-self.true c.if-self.true)
 
-pub returns-then-not-has_waiting : goal.returns-then-not-has_waiting
-returns-then-not-has_waiting g c = rw (← c.self.view_is, c.if-self.false) (flushed_none g.D.Disk c.self.inside.disk c.self.inside.engine c.self.inside.count
-    (c.self.invariant.stands c.if-self.false) (sym c.has_waiting.ensures ∙ c.if-not-has_waiting.true))
-
 pub returns-in-Ok : goal.returns-in-Ok
 returns-in-Ok g c = rw (← c.self.view_is, c.if-self.false) (flushed g.D.Disk c.self.inside.disk c.self.inside.engine c.self.inside.count
-    (c.self.invariant.stands c.if-self.false) c.flush.new.disk c.flush.new.self (sym c.has_waiting.ensures ∙ c.if-not-has_waiting.false) c.flush.ensures.works.same c.in-Ok.ensures.works.advances c.in-Ok.ensures.quiet c.flush.ensures.behind.manifest c.flush.ensures.behind.converting c.flush.ensures.behind.merging c.in-Ok.ensures.works.failures c.in-Ok.ensures.made)
+    (c.self.invariant.stands c.if-self.false) c.flush.new.disk c.flush.new.self c.flush.ensures.works.same c.in-Ok.ensures.works.advances c.in-Ok.ensures.quiet c.flush.ensures.behind.manifest c.flush.ensures.behind.converting c.flush.ensures.behind.merging c.in-Ok.ensures.works.failures c.flush.ensures.idle c.in-Ok.ensures.made)
 
 pub returns-in-Err : goal.returns-in-Err
 returns-in-Err g c = rw (← c.self.view_is, c.if-self.false, c.of-basis.ensures) (flush_broke g.D.Disk c.self.inside.disk c.self.inside.engine c.self.inside.count
     (c.self.invariant.stands c.if-self.false) c.flush.new.disk c.flush.new.self c.in-Err.fault c.flush.ensures.works.same c.in-Err.ensures.err.breaks c.in-Err.ensures.err.map c.flush.ensures.behind.manifest c.in-Err.ensures.err.counted.1 c.in-Err.ensures.err.counted.0
-    (sym c.has_waiting.ensures ∙ c.if-not-has_waiting.false) c.in-Err.ensures.made)
+    c.in-Err.ensures.made)
 
 pub invariant_of-self-in-Err : goal.invariant_of-self-in-Err
 invariant_of-self-in-Err g c =
