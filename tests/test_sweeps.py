@@ -30,6 +30,11 @@ CONVERTED_MEANWHILE = ["put 01 0001", "put 02 0002", *CONVERT, "put 01 0003", *M
                        *CONVERT, *MERGE * 7, "get 01", "get 02"]
 # There is one hash region. So a second conversion waits until the first hash store is merged.
 MERGED_FOR_ROOM = ["put 01 0001", "put 02 0002", "put 03 0003", *CONVERT, "convert", *MERGE * 10, "convert"]
+# A life, how many device calls it makes, a swap behind it, and how many calls that makes: the two of its row; also two for
+# the gates of the next log and six for the manifest; and the three of a flush too, since the row of the full log waits.
+SWAPPED_CONVERSION = CONVERTED, 40, "swap 02 0002 0006", 2
+SWAPPED_MERGES = MERGED_TWICE, 106, "swap 02 0304 0607", 10
+SWAPPED_MEANWHILE = CONVERTED_MEANWHILE, 95, "swap 01 0003 0005", 13
 KEYS = [f"0{it}".ljust(40, "0") for it in range(8)]
 
 
@@ -100,13 +105,49 @@ class Sweeps(ScriptCase):
         self.sweep(SMALL, SWAPS, 12)
 
     def test_a_conversion(self):
-        self.sweep_swapped(SMALL, CONVERTED, 40, "swap 02 0002 0006", 2)
+        self.sweep_swapped(SMALL, *SWAPPED_CONVERSION)
 
     def test_two_merges(self):
-        self.sweep_swapped("2 2 1 2 2 4", MERGED_TWICE, 106, "swap 02 0304 0607", 10)
+        self.sweep_swapped("2 2 1 2 2 4", *SWAPPED_MERGES)
 
     def test_a_merge_beside_conversions(self):
-        self.sweep_swapped("2 2 1 3 3 8", CONVERTED_MEANWHILE, 95, "swap 01 0003 0005", 13)
+        self.sweep_swapped("2 2 1 3 3 8", *SWAPPED_MEANWHILE)
+
+
+class Calls(ScriptCase):
+    """The model counts device calls as the rules do: a stop at the last one fails it, and one past it does not."""
+
+    def assert_calls(self, numbers, lines, calls):
+        geometry, lines = model.Geometry(*map(int, numbers.split())), spelled(lines)
+        _, device, _ = model.run_life(model.formatted_image(geometry), list(model.split_lines(joined(lines))))
+        self.assertEqual(len(device.calls), calls)
+        for stop_at, failed in ((calls, 1), (calls + 1, 0)):
+            printed = self.assert_printed(geometry, joined([*lines, f"stop {stop_at} mix", "get =a"]))
+            self.assertEqual(printed.count("refused 5 Device"), failed, stop_at)
+
+    def assert_calls_with_swap(self, numbers, lines, calls, swap, more):
+        """The calls of the lines alone, with a swap behind them that differs, and with one that is accepted and makes so
+        many calls more."""
+        key, old, new = swap.split()[1:]
+        self.assert_calls(numbers, lines, calls)
+        self.assert_calls(numbers, [*lines, f"swap {key} ffff {new}"], calls)
+        self.assert_calls(numbers, [*lines, f"swap {key} {old} {new}"], calls + more)
+
+    def test_swaps(self):
+        """A sync, a put's two, a swap's two, a flush's three, a swap's two, a delete's two."""
+        self.assert_calls(SMALL, SWAPS, 12)
+
+    def test_gets_make_no_calls(self):
+        self.assert_calls(SMALL, [*FIVE_PUTS, "get 01", "get 05", *CONVERT], 40)
+
+    def test_a_conversion(self):
+        self.assert_calls_with_swap(SMALL, *SWAPPED_CONVERSION)
+
+    def test_two_merges(self):
+        self.assert_calls_with_swap("2 2 1 2 2 4", *SWAPPED_MERGES)
+
+    def test_a_merge_beside_conversions(self):
+        self.assert_calls_with_swap("2 2 1 3 3 8", *SWAPPED_MEANWHILE)
 
 
 class Asked(ScriptCase):
