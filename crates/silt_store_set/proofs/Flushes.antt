@@ -28,8 +28,8 @@ module _ {D F : Type 0} (facts : Ghosts D F) (disk : D) (stores : EngineState) (
       → Makes facts.writes facts.syncs (row_waits stores) (2 * row_waits stores) disk new → Does facts (seen facts disk stores count) (seen facts new after count) Flush (Acknowledged count)
   flushed new after same goes quiet manifest converting merging counted idle made =
       let stays : waiting_commands (facts.content disk) stores ≡ [] → seen facts new after count ≡ seen facts disk stores count
-          = λ none. let both = idle (all_settled (facts.content disk) stores.active.log stands.active.bounds none) in
-              ap (λ (d : D). seen facts d after count) both.0 ∙ ap (λ (s : EngineState). seen facts disk s count) both.1 in
+      = λ none. let both = idle (all_settled (facts.content disk) stores.active.log stands.active.bounds none) in
+      ap (λ (d : D). seen facts d after count) both.0 ∙ ap (λ (s : EngineState). seen facts disk s count) both.1 in
       advanced facts disk new stores after same stands [] count count Flush (Acknowledged count) goes (refl, refl) refl refl refl
       (refl, counted, stays) (λ m to e. e)
       (λ _ _. ap (λ m. m.current) manifest) (λ _. converting) (λ _. merging) (λ _. quiet.none_wait) counted
