@@ -101,6 +101,18 @@ TEARS = (lambda random, pending: [], lambda random, pending: pending, some_write
          first_bytes, last_bytes, filled, garbage)
 
 
+def fills(cut):
+    """The files that the crash leaves with each fill of a stop: at the pending places are the old bytes, the new ones,
+    zeros, ones, or the new ones at even places."""
+    whole = [part for it in cut.pending for part in parts_of(it, 1)]
+    torn = {"old": [], "new": whole, "zero": [(at, b"\0") for at, _ in whole], "ones": [(at, b"\xff") for at, _ in whole],
+            "mix": [(at, byte) for at, byte in whole if at % 2 == 0]}
+    for name, parts in torn.items():
+        made = bytearray(cut.settled)
+        settle(made, parts)
+        yield name, bytes(made)
+
+
 def image(random, cut):
     """A file that the crash may leave."""
     made = bytearray(cut.settled)

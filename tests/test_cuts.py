@@ -6,12 +6,11 @@ beginning of the accepted commands, and to take new commands. All of this holds 
 versions of the layout.
 """
 import collections
-import itertools
 import socket
 import threading
 
 from commands import Commands, answer, differs, done, is_command, maps_after, names
-from crashes import cuts, image
+from crashes import cuts, fills, image
 from harness import PROVED, scaled
 from layout import Layout, as_version_1
 from notes import notes_of_lines
@@ -222,33 +221,49 @@ class Runs(CutCase):
             self.judge(at, at.settled, Layout.of(GEOMETRIES[0]), {}, life.accepted, life.owed(at.number))
 
 
-# Lives with a swap behind them, each torn at each of its calls: a conversion, two merges of which the second drops a
-# delete, and a merge beside two conversions.
+# The worked lives of test_sweeps.py, on files with room for more: three puts; a put and a delete; puts without a flush; five
+# puts, which freeze a log; swaps; and with a swap behind them a conversion, two merges of which the second drops a delete,
+# and a merge beside two conversions.
 CONVERT, MERGE = ["convert"] * 9, ["merge"]
-WORKED = {
-    "2 2 4 3 3 64": [f"put =a{it} 000{i}" for i, it in enumerate("abcde")]
-                    + ["flush", *CONVERT, "swap =ac 0002 0006"],
-    "2 2 1 3 2 64": ["put =aa 0102", "put =ab 0304", *CONVERT, *MERGE * 10, "delete =aa", *CONVERT, "put =ac 0506", *CONVERT,
-                     *MERGE * 19, "get =aa", "get =ab", "get =ac", "flush", "swap =ab 0304 0607"],
-    "2 2 1 3 3 64": ["put =aa 0001", "put =ab 0002", *CONVERT, "put =aa 0003", *MERGE * 3, *CONVERT, "put =ab 0004", *CONVERT,
-                     *MERGE * 7, "get =aa", "get =ab", "swap =aa 0003 0005"],
-}
+FIVE_PUTS = [f"put =a{it} 000{i}" for i, it in enumerate("abcde")] + ["flush"]
+WORKED = (
+    ("2 2 4 3 3 64", ["put =aa 0001", "put =ab 0002", "put =ac 0003", "flush"]),
+    ("2 2 4 3 3 64", ["put =aa 0001", "flush", "delete =aa", "flush"]),
+    ("2 2 4 3 3 64", ["put =aa 0001", "flush", "put =aa 0002", "get =aa", "put =ab 0003"]),
+    ("2 2 4 3 3 64", FIVE_PUTS),
+    ("2 2 4 3 3 64", ["put =aa 0001", "swap =aa 0001 0002", "flush", "swap =aa 0001 0003", "swap =aa 0002 0004", "delete =aa",
+                      "swap =aa 0004 0005"]),
+    ("2 2 4 3 3 64", [*FIVE_PUTS, *CONVERT, "swap =ac 0002 0006"]),
+    ("2 2 1 3 2 64", ["put =aa 0102", "put =ab 0304", *CONVERT, *MERGE * 10, "delete =aa", *CONVERT, "put =ac 0506", *CONVERT,
+                      *MERGE * 19, "get =aa", "get =ab", "get =ac", "flush", "swap =ab 0304 0607"]),
+    ("2 2 1 3 3 64", ["put =aa 0001", "put =ab 0002", *CONVERT, "put =aa 0003", *MERGE * 3, *CONVERT, "put =ab 0004", *CONVERT,
+                      *MERGE * 7, "get =aa", "get =ab", "swap =aa 0003 0005"]),
+)
 
 
 class Worked(CutCase):
-    """Each cut of the worked lives, on files of either version. All their lines are accepted."""
+    """Each cut of the worked lives with each fill, and torn at random. No line of them is refused."""
+
+    def try_each_cut(self, geometry, lines):
+        layout = Layout.of(geometry)
+        self.path("store").unlink(missing_ok=True)
+        before = self.store(geometry).read_bytes()
+        life = self.lived(lines, before)
+        self.assertEqual([it for it in life.replies if it.startswith("refused")], [])
+        every = list(cuts(before, life.calls, "store"))
+        for cut in every[self.random.randrange(EVERY)::EVERY]:
+            contents = {content: name for name, content in fills(cut)} | {image(self.random, cut): "torn"}
+            for content, name in contents.items():
+                with self.subTest(call=cut.number, fill=name, version=self.version):
+                    self.judge(cut, content, layout, {}, life.accepted, life.owed(cut.number))
 
     def test_each_cut(self):
-        for (geometry, lines), version in itertools.product(WORKED.items(), (1, 2)):
-            layout, self.version = Layout.of(geometry), version
-            self.path("store").unlink(missing_ok=True)
-            before = self.store(geometry).read_bytes()
-            life = self.lived(lines, before)
-            self.assertEqual([it for it in life.replies if it.startswith("refused")], [])
-            every = list(cuts(before, life.calls, "store"))
-            for cut in every[self.random.randrange(EVERY)::EVERY]:
-                content = image(self.random, cut)
-                self.judge(cut, content, layout, {}, life.accepted, life.owed(cut.number))
+        for geometry, lines in WORKED:
+            self.try_each_cut(geometry, lines)
+
+
+class WorkedOfVersion1(Worked):
+    version = 1
 
 
 # A flush, a freeze with none waiting, and a conversion. The numbers are of the syncs that no later
