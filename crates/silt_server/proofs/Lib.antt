@@ -1,5 +1,1 @@
-mod Answering
-mod Batches
-mod Clients
-mod Lists
-mod Pipelines
+mod Serving

@@ -1,16 +1,12 @@
 // Connections, each served in a thread of its own.
 ghost use Rattle.std.specs.Prelude.{◌≡◌, ◌+◌, ◌^◌, ◌<◌, ◌≤◌, length, IfOk, IfSome, IsNone};
 
-use crate::client::{AskBy, Asking, Client};
 use crate::counting_listener::{CountingListener, Listens};
-use crate::job::Job;
 use crate::limits::{Limits, limit_silence};
-use crate::outlet::Outlet;
-use crate::session_slots::{SessionSlot, free_slot};
-use crate::unanswered::Unanswered;
 use crate::written::turn_away;
 use silt_event::{Event, Reply};
 use silt_inbox::{Inbox, InboxId};
+use silt_session::{AskBy, Asking, Client, Job, Outlet, SessionSlot, Unanswered, free_slot};
 use silt_wire::{SessionEnd, client_session};
 use std::alloc::Global;
 use std::io::{self, ErrorKind};

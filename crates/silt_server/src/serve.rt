@@ -10,19 +10,16 @@ ghost use Rattle.silt_server.specs.Serving.{BreaksServing, ServesAt, ServesKept,
 ghost use Rattle.silt_server.specs.Serving.{PrintsServed, WritesHead, head_text, network_text, no_memory_text};
 
 use crate::admission::serve_sessions;
-use crate::answers::answer_all;
 use crate::counting_listener::Listens;
-use crate::job::Job;
 use crate::limits::Limits;
-use crate::session_slots::{SessionSlot, slots_of};
 use crate::threads::run_beside;
-use crate::unanswered::Unanswered;
 use crate::workers::{Workers, write};
 use crate::written::{refuse, write_calls, write_listening, write_network_fault, write_opened};
 use silt_desk::{Count, Desk, DeskId, Gate, Kept, Seat, Shared, Trace};
 use silt_disk::Disk;
 use silt_event::{Event, Refusal, Reply};
 use silt_inbox::{Inbox, InboxId, Taker};
+use silt_session::{Job, SessionSlot, Unanswered, answer_all, slots_of};
 use silt_store_set::Core;
 use std::alloc::{AllocError, Global};
 use std::io::{self, Write};

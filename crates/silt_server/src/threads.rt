@@ -1,10 +1,9 @@
 // The threads of a server.
 ghost use Rattle.std.specs.Prelude.{◌≡◌};
 
-use crate::job::Job;
-use crate::replier::send_batches;
 use crossbeam_channel::{Receiver, Sender};
 use silt_desk::{Wake, Wakes, join_over};
+use silt_session::{Job, send_batches};
 use std::sync::Wait;
 use std::thread::Threads;
 use std::{io, thread};

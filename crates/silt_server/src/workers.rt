@@ -2,13 +2,11 @@
 ghost use Rattle.std.specs.Prelude.{◌≡◌, ◌++◌, ◌∷◌, [], List, IfOk, IfSome};
 ghost use Rattle.silt_desk.specs.Seats.{SeatState};
 
-use crate::job::Job;
-use crate::replier::replier_channel;
-use crate::work::writer;
 use crossbeam_channel::{Receiver, Sender};
 use silt_desk::{DeskId, Gate, Seat, Shared, Trace, Wake, Wakes, converter, merger};
 use silt_disk::Disk;
 use silt_inbox::{Inbox, InboxId, Taker};
+use silt_session::{Job, replier_channel, writer};
 use std::alloc::{AllocError, Global};
 use std::sync::Wait;
 

@@ -2,7 +2,7 @@
 // may have been done.
 
 use silt_event::{Event, Reply};
-use silt_server::{AskBy, Asking, Client, Outlet, Unanswered};
+use silt_session::{AskBy, Asking, Client, Outlet, Unanswered};
 use silt_wire::{SessionEnd, session};
 use std::alloc::Global;
 use std::io::{self, Read};

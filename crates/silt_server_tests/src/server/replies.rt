@@ -4,7 +4,7 @@ use crate::server::{Clients, connected, is_served, read_lines, roomy};
 use crossbeam_channel::{Receiver, Sender};
 use silt_desk::{Gate, Spot};
 use silt_fixtures::reaches;
-use silt_server::{Job, Request, Task, send_replies};
+use silt_session::{Job, Request, Task, send_replies};
 use std::alloc::{AllocError, Global};
 use std::io::{self, Write};
 use std::net::{Net, SocketAddr, TcpListener, TcpStream};

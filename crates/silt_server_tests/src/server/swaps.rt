@@ -7,7 +7,7 @@ use silt_device::{Disk, Fill, MemDisk, Stop};
 use silt_event::Reply;
 use silt_fixtures::{formatted, key, opened_on};
 use silt_frame::Value;
-use silt_server::{Job, Request, Task, serve_batch};
+use silt_session::{Job, Request, Task, serve_batch};
 use silt_store_set::Core;
 use std::alloc::{AllocError, Global};
 use std::marker::Brand;

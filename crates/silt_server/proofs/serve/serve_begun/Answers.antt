@@ -1,5 +1,5 @@
 use Rattle.std.proofs.Common.{ap}
-use Rattle.silt_server.proofs.Answering.{calls_of_same}
+use Rattle.silt_server.proofs.Serving.{calls_of_same}
 use Rattle.silt_server.proofs.serve.serve_begun.Goals as goal
 
 pub returns-clause-calls : goal.returns-clause-calls

@@ -1,5 +1,5 @@
 use Rattle.silt_wire.proofs.Statuses.{told_weaker}
-use Rattle.silt_server.proofs.Answering.{breaks_behind, served_written}
+use Rattle.silt_server.proofs.Serving.{breaks_behind, served_written}
 use Rattle.silt_server.proofs.serve.serve_desk.Goals as goal
 
 pub returns-in-Ok-clause-served : goal.returns-in-Ok-clause-served

@@ -1,4 +1,4 @@
-use Rattle.silt_server.proofs.Answering.{head_written}
+use Rattle.silt_server.proofs.Serving.{head_written}
 use Rattle.silt_server.proofs.serve.write_head.Goals as goal
 
 pub returns : goal.returns

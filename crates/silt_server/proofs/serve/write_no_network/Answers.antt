@@ -1,4 +1,4 @@
-use Rattle.silt_server.proofs.Answering.{no_network_written}
+use Rattle.silt_server.proofs.Serving.{no_network_written}
 use Rattle.silt_server.proofs.serve.write_no_network.Goals as goal
 
 pub returns : goal.returns

@@ -1,5 +1,5 @@
 use Rattle.silt_server.specs.Texts.{busy_text}
-use Rattle.silt_server.proofs.Answering.{wrote_some}
+use Rattle.silt_server.proofs.Serving.{wrote_some}
 use Rattle.silt_server.proofs.written.turn_away.Goals as goal
 
 pub returns : goal.returns

@@ -1,4 +1,4 @@
-use Rattle.silt_server.proofs.Answering.{reports_no_memory}
+use Rattle.silt_server.proofs.Serving.{reports_no_memory}
 use Rattle.silt_server.proofs.written.write_refused.Goals as goal
 
 pub returns-in_ok-write_all-in-NoMemory : goal.returns-in_ok-write_all-in-NoMemory

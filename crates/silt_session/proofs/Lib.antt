@@ -1,0 +1,5 @@
+mod Answering
+mod Batches
+mod Clients
+mod Lists
+mod Pipelines

@@ -1,0 +1,23 @@
+use Rattle.std.proofs.Common.{refl, sym, ◌∙◌}
+use Rattle.std.proofs.lemmas.List.{length-set}
+use Rattle.silt_session.specs.Batches.{PerformsAll, PerformsJob}
+use Rattle.silt_session.proofs.Lists.{changed_all, steps_next, rest_next}
+use Rattle.silt_session.proofs.batch.perform_all.Goals as goal
+
+pub loop-job-init : goal.loop-job-init
+loop-job-init g c = record { done = refl; rest = refl; same_length = refl }
+
+pub loop-job-preserved : goal.loop-job-preserved
+loop-job-preserved g c =
+    let before = c.loop-job.invariant in
+    record {
+      done = steps_next (PerformsJob g.D.Disk g.T.Trace) c.args.seat.now _ _ c.deref_mut-job-items.result.now c.loop-job.job-items c.loop-job.job-index c.job-item.result _ c.loop-job-test.true before.same_length before.rest before.done (c.perform_tasks.ensures, refl);
+      rest = rest_next c.deref_mut-job-items.result.now c.loop-job.job-items c.loop-job.job-index _ before.rest;
+      same_length = length-set c.loop-job.job-items c.loop-job.job-index _ ∙ before.same_length;
+    }
+
+pub returns : goal.returns
+returns g c =
+    let done = c.loop-job.invariant in
+    changed_all (λ xs ys. PerformsAll g.D.Disk g.T.Trace c.args.seat.now xs ys c.loop-job.seat)
+    c.deref_mut-job-items.result.now c.loop-job.job-items c.args.jobs.now.items c.loop-job.job-index c.args.jobs.now.len c.loop-job-test.false done.same_length c.deref_mut-job-items.ensures.value (sym c.deref_mut-job-items.ensures.len) done.done

@@ -1,0 +1,11 @@
+use Rattle.std.proofs.Common.{◌≡◌, length, take, drop}
+use Rattle.silt_session.specs.Batches.{RepliesToAll}
+use Rattle.silt_session.proofs.batch.reply_to_all.Given as goal
+
+-- the tasks of the jobs so far have their replies, and the others are as they were
+abbrev pub invariant-loop-job : goal.invariant-loop-job
+invariant-loop-job l = record {
+  done : RepliesToAll l.flushed (take l.job-index l.initial.job-items) (take l.job-index l.job-items);
+  rest : drop l.job-index l.job-items ≡ drop l.job-index l.initial.job-items;
+  same_length : length l.job-items ≡ length l.initial.job-items;
+}

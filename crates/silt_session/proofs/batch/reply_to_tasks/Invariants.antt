@@ -1,0 +1,12 @@
+use Rattle.std.proofs.Common.{◌≡◌, length, take, drop}
+use Rattle.std.specs.List.{AllZip}
+use Rattle.silt_session.specs.Batches.{RepliesTo}
+use Rattle.silt_session.proofs.batch.reply_to_tasks.Given as goal
+
+-- the tasks so far have their replies, and the others are as they were
+abbrev pub invariant-loop-task : goal.invariant-loop-task
+invariant-loop-task l = record {
+  done : AllZip (RepliesTo l.flushed) (take l.task-index l.initial.task-items) (take l.task-index l.task-items);
+  rest : drop l.task-index l.task-items ≡ drop l.task-index l.initial.task-items;
+  same_length : length l.task-items ≡ length l.initial.task-items;
+}

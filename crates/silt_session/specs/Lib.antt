@@ -1,0 +1,5 @@
+pub mod Requests
+pub mod Batches
+pub mod Pipelines
+pub mod Sessions
+pub mod Unanswered

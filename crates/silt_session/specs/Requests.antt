@@ -1,0 +1,70 @@
+-- Requests to the writer, and their replies.
+use Rattle.std.specs.Prelude.{◌≡◌, ℕ, Option, Some, None, Result, Ok, Err}
+use Rattle.silt_event.specs.Events.{PlainReply}
+use Rattle.silt_event.specs.declared.event.Event.{Event}
+use Rattle.silt_event.specs.declared.event.Event.TheVariants as event
+use Rattle.silt_event.specs.declared.refusal.Refusal.{Refusal}
+use Rattle.silt_event.specs.declared.reply.Reply.TheVariants.{Accepted, Acknowledged, Differs, Refused, Unsettled}
+use Rattle.silt_inbox.specs.declared.answered.Answered.{Answered}
+use Rattle.silt_session.specs.declared.job.Request.{Request}
+use Rattle.silt_session.specs.declared.job.Request.TheVariants.{Put, Delete, Swap, Flush}
+use Rattle.silt_session.specs.declared.job.Task.{Task}
+
+-- the result of a flush at the desk, without its fault
+abbrev pub Flushed : Type 0
+Flushed = Result ℕ (Refusal (Unit {0}))
+
+-- the result of a command at the desk, without its fault: the number of an accepted one, or none if a swap's old value differs
+abbrev pub Answer : Type 0
+Answer = Result (Option ℕ) (Refusal (Unit {0}))
+
+-- a put and a delete compare nothing
+abbrev pub compared : Flushed → Answer
+compared (Ok n) = Ok (Some n)
+compared (Err refusal) = Err refusal
+
+-- the event of a request
+abbrev pub asked_event : Request → Event
+asked_event (Put key value) = event.Put key value
+asked_event (Delete key) = event.Delete key
+asked_event (Swap key old new) = event.Swap key old new
+asked_event Flush = event.Flush
+
+-- an event that is not for the writer: a look-up or a step
+abbrev pub IsNoRequest : Event → Type 0
+IsNoRequest (event.Get key) = Unit {0}
+IsNoRequest event.Convert = Unit {0}
+IsNoRequest event.Merge = Unit {0}
+IsNoRequest event = ⊥
+
+-- the reply to a flush with this result
+abbrev pub acknowledged : Flushed → PlainReply
+acknowledged (Ok n) = Acknowledged n
+acknowledged (Err refusal) = Refused refusal
+
+-- the reply to a command with this result, after a flush with that one: an accepted command that was not flushed is unsettled, and a
+-- swap that differs has that reply whether or not the flush is refused
+abbrev pub changed : Answer → Flushed → PlainReply
+changed (Err refusal) flushed = Refused refusal
+changed (Ok None) flushed = Differs
+changed (Ok (Some n)) (Ok m) = Accepted n
+changed (Ok (Some n)) (Err refusal) = Unsettled n
+
+-- the reply to a request, by its own result and that of its batch's flush: no reply to a command that was not done
+abbrev pub reply_due : Request → Option Answer → Flushed → Option PlainReply
+reply_due Flush answer flushed = Some (acknowledged flushed)
+reply_due (Put key value) (Some (Ok None)) flushed = None
+reply_due (Put key value) (Some answer) flushed = Some (changed answer flushed)
+reply_due (Delete key) (Some (Ok None)) flushed = None
+reply_due (Delete key) (Some answer) flushed = Some (changed answer flushed)
+reply_due (Swap key old new) (Some answer) flushed = Some (changed answer flushed)
+reply_due request None flushed = None
+
+-- a request for which nothing is done yet
+abbrev pub IsNew : Request → Task → Type 0
+IsNew request task = (task.request ≡ request) × (task.answer ≡ None) × (task.reply ≡ None)
+
+-- the reply in a message
+abbrev pub reply_in : Option Answered → Option PlainReply
+reply_in None = None
+reply_in (Some answered) = Some answered.reply

@@ -1,0 +1,61 @@
+// The writer, a worker that does the requests of the sessions.
+ghost use Rattle.std.specs.Prelude.{◌≡◌, ◌+◌, List, MatchOption, vec_len};
+ghost use Rattle.silt_session.specs.Batches.{ServesBatches};
+ghost use Rattle.silt_session.specs.declared.job.Job.{Job as JobOf};
+
+use crate::batch::serve_batch;
+use crate::job::Job;
+use crate::replier::send_replies;
+use crossbeam_channel::Sender;
+use silt_desk::{DeskId, Gate, Seat, Shared, Trace, Wakes};
+use silt_disk::Disk;
+use silt_inbox::{Inbox, InboxId, Taker};
+use std::alloc::Global;
+use std::sync::Wait;
+
+/// The source of the writer's jobs.
+pub trait Jobs<P: InboxId> {
+    /// There are no more jobs.
+    ghost has_ended: { Self → Type 0 };
+
+    /// Waits for jobs and takes all of them, in order. None if there are no more.
+    fn take_all<R: Wait>(&self, rt: &R, taker: &mut Taker<P>) -> Option<Vec<Job>>
+        ensures { MatchOption result (has_ended self.now × (taker.new ≡ taker.old)) (λ jobs. taker.new ≡ taker.old + vec_len jobs) };
+}
+
+impl<P: InboxId> Jobs<P> for Inbox<Job, P> {
+    ghost has_ended = { λ inbox. Unit {0} };
+
+    fn take_all<R: Wait>(&self, rt: &R, taker: &mut Taker<P>) -> Option<Vec<Job>> {
+        self.take_all(rt, taker)
+    }
+}
+
+/// Takes all jobs that wait, does their tasks, each under a guard of its own, flushes once and then replies, until there
+/// are no more. It hands the replies of many jobs to the replier, so that it can go on with the next batch. After each
+/// batch it wakes the converter and the merger if they have work. Gives its seat and its taker back.
+pub fn writer<D: Disk, T: Trace, N: DeskId, P: InboxId, I: Jobs<P>, G: Gate, R: Wait>(
+    rt: &R,
+    alloc: Global,
+    shared: &Shared<D, T, N>,
+    mut seat: Seat<N>,
+    gate: &G,
+    inbox: &I,
+    mut taker: Taker<P>,
+    wakes: Wakes,
+    replier: Sender<Vec<Job>>,
+) -> (Seat<N>, Taker<P>)
+    ensures number { result.0.number ≡ seat.number }
+    ensures ended { I.has_ended inbox.now }
+    ensures batches { (batches : List (List JobOf)) × ServesBatches D.Disk T.Trace seat taker batches result.0 result.1 }
+{
+    for _ in rt.forever() {
+        let Some(mut jobs) = inbox.take_all(rt, &mut taker) else {
+            return (seat, taker);
+        };
+        let due = serve_batch(rt, alloc, shared, &mut seat, gate, &mut jobs);
+        send_replies(rt, &replier, jobs);
+        wakes.go(rt, due);
+    }
+    unreachable!()
+}
