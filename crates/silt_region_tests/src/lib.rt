@@ -4,4 +4,4 @@
 #![tactic(auto)]
 
 #[cfg(test)]
-mod tests;
+mod regions;

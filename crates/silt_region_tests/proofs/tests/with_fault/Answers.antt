@@ -1,6 +1,0 @@
-use Rattle.std.proofs.Common.{◌≡◌, ap}
-use Rattle.silt_disk.specs.Disk.{size}
-use Rattle.silt_region_tests.proofs.tests.with_fault.Goals as goal
-
-pub returns : goal.returns
-returns c = ap size c.new.ensures.content
