@@ -205,31 +205,30 @@ fn serve_session<
 {
     let stream = slot.lock(rt).connection();
     if let Some(stream) = stream {
-        answer_lines(alloc, shared, number, reply, value_len, limits, &stream);
+        let asking = AskBy {
+            ask: reply,
+            shared,
+            number,
+        };
+        answer_lines(alloc, asking, value_len, limits, &stream);
     }
     slot.lock(rt).leave();
 }
 
-// Replies to the lines of a connection.
-fn answer_lines<S, C: Fn(&S, usize, Vec<Event>) -> Result<Vec<Reply<()>>, Unanswered>>(
+// Replies to the lines of a connection, with events asked this way.
+fn answer_lines<A: Asking>(
     alloc: Global,
-    shared: &S,
-    number: usize,
-    reply: &C,
+    asking: A,
     value_len: usize,
     limits: Limits,
     stream: &TcpStream,
 )
-    requires { C.IsAlwaysCallable reply.now }
+    requires { A.can_ask asking }
 {
     let _ = stream.set_nodelay(true); // without it replies come later
     if limit_silence(stream, limits.idle).is_err() {
         return;
     }
-    let ask = |events: Vec<Event>| -> Result<Vec<Reply<()>>, Unanswered>
-        requires { C.IsAlwaysCallable reply.now }
-    { reply(shared, number, events) };
-    let asking = AskBy { ask };
     if limits.pipeline {
         let _ = answer_pipelined(alloc, value_len, stream, asking);
     } else {

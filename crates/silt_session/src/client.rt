@@ -28,23 +28,27 @@ pub trait Asking: Drop {
         ensures { IfOk result (λ replies. AllZip (gives self.now) events.items replies.items) };
 }
 
-/// Asks by a closure. If it gives another number of replies than it is asked for, these do not count.
+/// Asks by a closure, which gets what the sessions share and the number of this one. If it gives another number of replies
+/// than it is asked for, these do not count.
 #[derive(Drop)]
-pub struct AskBy<F> {
-    pub ask: F,
+pub struct AskBy<'a, S, F> {
+    pub ask: &'a F,
+    pub shared: &'a S,
+    pub number: usize,
 }
 
-impl<F: Fn(Vec<Event>) -> Result<Vec<Reply<()>>, Unanswered> + Drop> Asking for AskBy<F> {
+impl<S, F: Fn(&S, usize, Vec<Event>) -> Result<Vec<Reply<()>>, Unanswered>> Asking
+    for AskBy<'_, S, F> {
     ghost use Rattle.std.specs.Prelude.{Ok};
     ghost use Rattle.silt_session.specs.Sessions.{ArePaired};
 
-    ghost can_ask = { λ by. F.IsAlwaysCallable by.ask };
+    ghost can_ask = { λ by. F.IsAlwaysCallable by.ask.now };
 
-    ghost gives = { λ by event reply. (events : _) × (replies : _) × F.post by.ask events (Ok replies) × ArePaired events.items replies.items event reply };
+    ghost gives = { λ by event reply. (events : _) × (replies : _) × F.post by.ask.now by.shared by.number events (Ok replies) × ArePaired events.items replies.items event reply };
 
     fn ask(&self, events: Vec<Event>) -> Result<Vec<Reply<()>>, Unanswered> {
         let count = events.len();
-        let replies = (self.ask)(events)?;
+        let replies = (self.ask)(self.shared, self.number, events)?;
         if replies.len() != count {
             return Err(Unanswered::Lost);
         }

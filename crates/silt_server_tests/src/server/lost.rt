@@ -60,10 +60,16 @@ fn end_of<A: Asking>(alloc: Global, stream: &TcpStream, asking: A, lines: &[u8])
 
 // How a session ends at this end of a connection, which is then closed, if this comes back.
 fn end_with(alloc: Global, stream: TcpStream, back: Back, lines: &[u8]) -> SessionEnd {
-    let ask = |_events: Vec<Event>| -> Result<Vec<Reply<()>>, Unanswered> {
-        replies_of(alloc, back)
+    let ask = |_shared: &(), _number: usize, _events: Vec<Event>| -> Result<
+        Vec<Reply<()>>,
+        Unanswered,
+    > { replies_of(alloc, back) };
+    let asking = AskBy {
+        ask: &ask,
+        shared: &(),
+        number: 0,
     };
-    end_of(alloc, &stream, AskBy { ask }, lines)
+    end_of(alloc, &stream, asking, lines)
 }
 
 // How the session ends if this comes back. Appends the bytes that the other end of the connection
