@@ -13,13 +13,13 @@ use crate::admission::serve_sessions;
 use crate::counting_listener::Listens;
 use crate::limits::Limits;
 use crate::threads::run_beside;
-use crate::workers::{Workers, write};
+use crate::workers::Workers;
 use crate::written::{refuse, write_calls, write_listening, write_network_fault, write_opened};
-use silt_desk::{Count, Desk, DeskId, Gate, Kept, Seat, Shared, Trace};
+use silt_desk::{Count, Desk, DeskId, Gate, Kept, Seat, Shared, Trace, converter, merger};
 use silt_disk::Disk;
 use silt_event::{Event, Refusal, Reply};
 use silt_inbox::{Inbox, InboxId, Taker};
-use silt_session::{Job, SessionSlot, Unanswered, answer_all, slots_of};
+use silt_session::{Job, SessionSlot, Unanswered, answer_all, slots_of, writer};
 use silt_store_set::Core;
 use std::alloc::{AllocError, Global};
 use std::io::{self, Write};
@@ -61,7 +61,12 @@ pub fn serve_on<L: Listens, D: Disk, G: Gate + Sync, R: Threads + Wait + Sync, W
 {
     match limits.audit {
         Some(most) => serve_kept(rt, alloc, listener, core, most, limits, gate, out),
-        None => serve_counted(rt, alloc, listener, core, limits, gate, out),
+        None => {
+            let (trace, blanks) = (Count::new(), Blanks::new());
+            serve_traced::<L, D, Count, Brand, Brand, G, R, W>(
+                rt, alloc, listener, core, trace, blanks, limits, gate, out,
+            )
+        }
     }
 }
 
@@ -83,27 +88,6 @@ fn write_no_network<W: Write>(out: &mut W) -> io::Result<u8>
 {
     write_opened(out)?;
     write_network_fault(out)
-}
-
-// Serves a store whose calls are counted.
-fn serve_counted<L: Listens, D: Disk, G: Gate + Sync, R: Threads + Wait + Sync, W: Write>(
-    rt: &R,
-    alloc: Global,
-    listener: &L,
-    core: Core<D>,
-    limits: Limits,
-    gate: &G,
-    out: &mut W,
-) -> (D, io::Result<u8>)
-    ensures served { result.1 ≡ Ok 0 → ServesAt (L.has_port listener.now) (D.content result.0) (W.contents out.old) (W.contents out.new) }
-    ensures printed { IfOk result.1 (IsStatus (BreaksServing (L.has_port listener.now) (W.contents out.old) (W.contents out.new))) }
-    ensures left { (shape : Shape) × LeavesBegun (D.content result.0) shape }
-{
-    let trace = Count::new();
-    let blanks = Blanks::new();
-    serve_traced::<L, D, Count, Brand, Brand, G, R, W>(
-        rt, alloc, listener, core, trace, blanks, limits, gate, out,
-    )
 }
 
 // Serves a store, and records at most this many calls.
@@ -213,11 +197,14 @@ fn serve_traced<
     }
 }
 
-/// The state between the connections and the desk: the writer and the workers, and the sessions.
+/// The state between the connections and the desk: the writer and the workers, the inbox of the sessions' jobs, a slot for
+/// each session, and the writer's end of the inbox.
 #[derive(Drop)]
 pub struct ServerState<N: DeskId, P: InboxId> {
     workers: Workers<N>,
-    sessions: SessionState<P>,
+    inbox: Inbox<Job, P>,
+    slots: Vec<Mutex<SessionSlot<P>>>,
+    taker: Taker<P>,
 }
 
 impl<N: DeskId, P: InboxId> ServerState<N, P> {
@@ -231,29 +218,11 @@ impl<N: DeskId, P: InboxId> ServerState<N, P> {
         requires put { (put.name ≡ P.put_name) × (put.parts ≡ P.feeders) × (P.feeders ≡ 64) }
         requires taken { (taken.name ≡ P.taken_name) × (taken.parts ≡ 1) }
     {
-        let workers = Workers::new(alloc, seats)?;
-        let sessions = SessionState::new(alloc, put, taken)?;
-        Some(ServerState { workers, sessions })
-    }
-}
-
-// The state of the sessions: the inbox of their jobs, a slot for each, and the writer's end of the inbox.
-#[derive(Drop)]
-struct SessionState<P: InboxId> {
-    inbox: Inbox<Job, P>,
-    slots: Vec<Mutex<SessionSlot<P>>>,
-    taker: Taker<P>,
-}
-
-impl<P: InboxId> SessionState<P> {
-    // The inbox with ledgers of these blanks, and its slots. None if out of memory.
-    fn new(alloc: Global, put: Blank, taken: Blank) -> Option<SessionState<P>>
-        requires put { (put.name ≡ P.put_name) × (put.parts ≡ P.feeders) × (P.feeders ≡ 64) }
-        requires taken { (taken.name ≡ P.taken_name) × (taken.parts ≡ 1) }
-    {
         let (inbox, feeders, taker) = Inbox::new(alloc, MOST_SESSIONS, put, taken).ok()?;
         let slots = slots_of(alloc, feeders).ok()?;
-        Some(SessionState {
+        let workers = Workers::new(alloc, seats)?;
+        Some(ServerState {
+            workers,
             inbox,
             slots,
             taker,
@@ -425,12 +394,12 @@ fn run_threads<
     limits: Limits,
     gate: &G,
 ) -> Option<Served<N>> {
-    let ServerState { workers, sessions } = state;
-    let SessionState {
+    let ServerState {
+        workers,
         inbox,
         slots,
         taker,
-    } = sessions;
+    } = state;
     let slots = slots.as_slice();
     run_workers(
         rt, alloc, listener, shared, workers, &inbox, slots, taker, value_len, limits, gate,
@@ -479,9 +448,34 @@ fn run_workers<
     gather_served(run_beside(
         rt,
         shared,
-        move |desk: &Shared<D, T, N>| third.merge(rt, alloc, desk, gate),
-        move |desk: &Shared<D, T, N>| second.convert(rt, alloc, desk, gate),
-        move |desk: &Shared<D, T, N>| write(rt, alloc, desk, first, gate, inbox, taker),
+        move |desk: &Shared<D, T, N>| {
+            merger(rt, alloc, desk, third.seat, gate, third.wakes, third.other)
+        },
+        move |desk: &Shared<D, T, N>| {
+            converter(
+                rt,
+                alloc,
+                desk,
+                second.seat,
+                gate,
+                second.wakes,
+                second.other,
+            )
+        },
+        move |desk: &Shared<D, T, N>| {
+            let (seat, _) = writer(
+                rt,
+                alloc,
+                desk,
+                first.seat,
+                gate,
+                inbox,
+                taker,
+                first.wakes,
+                first.replier,
+            );
+            seat
+        },
         move |desk: &Shared<D, T, N>| {
             serve_sessions(
                 rt, alloc, listener, desk, inbox, slots, reply, value_len, limits,

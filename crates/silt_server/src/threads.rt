@@ -8,32 +8,6 @@ use std::sync::Wait;
 use std::thread::Threads;
 use std::{io, thread};
 
-// Runs a worker beside other work, until that is done. Then the worker is stopped, and its seat comes back too.
-fn beside<
-    S: Sync,
-    X: Send,
-    Y,
-    A: FnOnce(&S) -> X + Send,
-    B: FnOnce(&S) -> Y,
-    R: Threads + Wait + Sync,
->(rt: &R, shared: &S, worker: A, work: B, stop: Sender<Wake>) -> (X, Y)
-    requires worker { A.IsAlwaysCallable worker }
-    requires work { B.IsAlwaysCallable work }
-{
-    join_over(
-        rt,
-        shared,
-        worker,
-        move |shared: &S| -> Y
-            requires { B.IsAlwaysCallable work }
-        {
-            let done = work(shared);
-            let _ = stop.send(rt, Wake::Stop); // the worker may have ended
-            done
-        },
-    )
-}
-
 // Runs the writer and the replier in threads of their own beside the sessions, until these have ended. They close the
 // inbox: the writer ends when it is empty, and then the replier. None if the writer's thread cannot be started; then
 // there are no sessions. If that of the replier cannot be started, the writer finds its channel disconnected.
@@ -95,14 +69,17 @@ fn convert_beside<
     requires writer { C.IsAlwaysCallable writer }
     requires sessions { F.IsAlwaysCallable sessions }
 {
-    beside(
+    join_over(
         rt,
         shared,
         converter,
         move |shared: &S| -> Option<(X, io::Result<()>)>
             requires { C.IsAlwaysCallable writer × F.IsAlwaysCallable sessions }
-        { write_beside(rt, shared, writer, sessions, batches) },
-        stop,
+        {
+            let done = write_beside(rt, shared, writer, sessions, batches);
+            let _ = stop.send(rt, Wake::Stop); // the converter may have ended
+            done
+        },
     )
 }
 
@@ -136,14 +113,14 @@ pub fn run_beside<
         converter: stop_converter,
         merger: stop_merger,
     } = stops;
-    let (merged, (converted, written)) = beside(
+    let (merged, (converted, written)) = join_over(
         rt,
         shared,
         merger,
         move |shared: &S| -> (X, Option<(X, io::Result<()>)>)
             requires { B.IsAlwaysCallable converter × C.IsAlwaysCallable writer × F.IsAlwaysCallable sessions }
         {
-            convert_beside(
+            let done = convert_beside(
                 rt,
                 shared,
                 converter,
@@ -151,9 +128,10 @@ pub fn run_beside<
                 sessions,
                 stop_converter,
                 batches,
-            )
+            );
+            let _ = stop_merger.send(rt, Wake::Stop); // the merger may have ended
+            done
         },
-        stop_merger,
     );
     (merged, converted, written)
 }

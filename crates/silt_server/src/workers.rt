@@ -3,12 +3,9 @@ ghost use Rattle.std.specs.Prelude.{◌≡◌, ◌++◌, ◌∷◌, [], List, If
 ghost use Rattle.silt_desk.specs.Seats.{SeatState};
 
 use crossbeam_channel::{Receiver, Sender};
-use silt_desk::{DeskId, Gate, Seat, Shared, Trace, Wake, Wakes, converter, merger};
-use silt_disk::Disk;
-use silt_inbox::{Inbox, InboxId, Taker};
-use silt_session::{Job, replier_channel, writer};
+use silt_desk::{DeskId, Seat, Wake, Wakes};
+use silt_session::{Job, replier_channel};
 use std::alloc::{AllocError, Global};
-use std::sync::Wait;
 
 // How many messages a worker's channel holds. The writer, the other worker and the thread that stops it each send one
 // at a time, so a send never waits for room. The channel allocates its memory when it is made, so a send is never out
@@ -23,63 +20,12 @@ pub struct Worker<N: DeskId> {
     pub other: Sender<Wake>,
 }
 
-impl<N: DeskId> Worker<N> {
-    /// Merges until it hears that it is to end. Gives its seat back.
-    pub fn merge<D: Disk, T: Trace, G: Gate, R: Wait>(
-        self,
-        rt: &R,
-        alloc: Global,
-        shared: &Shared<D, T, N>,
-        gate: &G,
-    ) -> Seat<N>
-        ensures { result.number ≡ self.seat.number }
-    {
-        let Worker { seat, wakes, other } = self;
-        merger(rt, alloc, shared, seat, gate, wakes, other)
-    }
-
-    /// Converts until it hears that it is to end. Gives its seat back.
-    pub fn convert<D: Disk, T: Trace, G: Gate, R: Wait>(
-        self,
-        rt: &R,
-        alloc: Global,
-        shared: &Shared<D, T, N>,
-        gate: &G,
-    ) -> Seat<N>
-        ensures { result.number ≡ self.seat.number }
-    {
-        let Worker { seat, wakes, other } = self;
-        converter(rt, alloc, shared, seat, gate, wakes, other)
-    }
-}
-
 /// What the writer needs: its seat, how it wakes the workers, and its end of the channel to the replier.
 #[derive(Drop)]
 pub struct WriterParts<N: DeskId> {
     pub seat: Seat<N>,
     pub wakes: Wakes,
     pub replier: Sender<Vec<Job>>,
-}
-
-/// Runs the writer on an inbox, until it is closed and empty. Gives its seat back.
-pub fn write<D: Disk, T: Trace, N: DeskId, P: InboxId, G: Gate, R: Wait>(
-    rt: &R,
-    alloc: Global,
-    shared: &Shared<D, T, N>,
-    parts: WriterParts<N>,
-    gate: &G,
-    inbox: &Inbox<Job, P>,
-    taker: Taker<P>,
-) -> Seat<N>
-    ensures { result.number ≡ parts.seat.number }
-{
-    let WriterParts {
-        seat,
-        wakes,
-        replier,
-    } = parts;
-    let (seat, _) = writer(rt, alloc, shared, seat, gate, inbox, taker, wakes, replier);
-    seat
 }
 
 /// What the writer and the workers need, the ways to stop the converter and the merger, and the replier's end of its

@@ -10,12 +10,19 @@ use silt_wire::write_refusal;
 use std::alloc::Global;
 use std::io::{self, Write};
 
+// Writes a line, and sends it off.
+fn write_line<W: Write>(line: &[u8], out: &mut W) -> io::Result<()>
+    ensures { OnOk result (Appends (W.contents out.old) (W.contents out.new) line.now) }
+{
+    out.write_all(line)?;
+    out.flush()
+}
+
 /// Writes that the store is opened.
 pub fn write_opened<W: Write>(out: &mut W) -> io::Result<()>
     ensures { OnOk result (Appends (W.contents out.old) (W.contents out.new) (codes "opened\n")) }
 {
-    out.write_all(b"opened\n")?;
-    out.flush()
+    write_line(b"opened\n", out)
 }
 
 /// Writes on which port the server listens.
@@ -23,8 +30,7 @@ pub fn write_listening<W: Write>(alloc: Global, port: u16, out: &mut W) -> io::R
     ensures { OnOk result (Appends (W.contents out.old) (W.contents out.new) (listening_text port)) }
 {
     let line = format!(in alloc; "listening {port}\n")?;
-    out.write_all(line.as_bytes())?;
-    out.flush()
+    write_line(line.as_bytes(), out)
 }
 
 /// Writes how many calls are recorded, and returns the status.
@@ -32,8 +38,7 @@ pub fn write_calls<W: Write>(alloc: Global, calls: u64, out: &mut W) -> io::Resu
     ensures { IfOk result (λ status. (status ≡ 0) × Appends (W.contents out.old) (W.contents out.new) (calls_text calls)) }
 {
     let line = format!(in alloc; "calls {calls}\n")?;
-    out.write_all(line.as_bytes())?;
-    out.flush()?;
+    write_line(line.as_bytes(), out)?;
     Ok(0)
 }
 
@@ -48,8 +53,7 @@ pub fn turn_away<W: Write>(out: &mut W)
 pub fn write_network_fault<W: Write>(out: &mut W) -> io::Result<u8>
     ensures { IfOk result (λ status. (status ≡ 1) × Appends (W.contents out.old) (W.contents out.new) network_text) }
 {
-    out.write_all(b"network fault\n")?;
-    out.flush()?;
+    write_line(b"network fault\n", out)?;
     Ok(1)
 }
 

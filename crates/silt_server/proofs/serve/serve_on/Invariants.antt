@@ -1,4 +1,4 @@
-use Rattle.silt_server.proofs.serve.serve_counted.Given as goal
+use Rattle.silt_server.proofs.serve.serve_on.Given as goal
 
 abbrev pub ghosts-serve_traced-N-DeskId : goal.ghosts-serve_traced-N-DeskId
 ghosts-serve_traced-N-DeskId g a = record { calls_name = a.blanks.calls.name; accepted_name = a.blanks.accepted.name; seats = a.blanks.calls.parts }
