@@ -99,7 +99,7 @@ class Jobs(MemoryCase):
         if not onwards:
             self.judge_lines(job, whole, ended)
         if ended.status and ended.out.startswith("opened\n"):
-            self.assertTrue(ended.err.startswith("silt: memory was wanted\n"), ended)
+            self.assertTrue(ended.err.startswith("silt: out of memory\n"), ended)
             self.broken_off += 1
         accepted = [line for line, reply in zip(job.lines, replies) if reply.startswith("accepted")]
         lost = [line for line, reply in zip(job.lines, whole.lines[1:]) if reply.startswith("accepted")]

@@ -24,7 +24,7 @@ pub enum Refusal<F> {
     #[error("{0}")]
     Device(F),
     /// Out of memory. Nothing was changed.
-    #[error("memory was wanted")]
+    #[error("out of memory")]
     NoMemory,
     /// The store is at its limit of put rows. Nothing was changed.
     #[error("the store holds as many put rows as it may")]

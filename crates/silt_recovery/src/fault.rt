@@ -19,7 +19,7 @@ pub enum FormatError<F> {
     #[error("{0}")]
     Device(F),
     /// Out of memory for the gates of a log.
-    #[error("memory was wanted")]
+    #[error("out of memory")]
     NoMemory,
 }
 
@@ -48,7 +48,7 @@ pub enum OpenError<F> {
     #[error("{0}")]
     Device(F),
     /// Out of memory for a log, a hash store or the sorted store.
-    #[error("memory was wanted")]
+    #[error("out of memory")]
     NoMemory,
 }
 

@@ -34,7 +34,7 @@ pub enum SessionEnd {
     #[error("a write failed")]
     WriteFault,
     /// Out of memory. The bytes written are a first part of the replies.
-    #[error("memory was wanted")]
+    #[error("out of memory")]
     NoMemory,
 }
 
