@@ -45,6 +45,7 @@ class Scripts(Case):
         (self.top / "crates.txt").write_text(CRATES)
         for name in ("build", "silt", "HANDLES"):
             shutil.copy2(TOP / name, self.top)
+        shutil.copytree(TOP / "tools", self.top / "tools")
         self.path("bin").mkdir()
         self.path("bin/rt").write_text(TOOLCHAIN)
         self.path("bin/rt").chmod(0o755)
@@ -214,14 +215,14 @@ class Wrapper(Scripts):
     def test_answers_a_script_where_nothing_is_built(self):
         ended = self.run_in("./silt", *"script 2 2 4 2 2 8".split(), text="flush\n")
         self.assertEqual((ended.status, ended.out), (0, "flush\n"))
-        self.assertRegex(ended.err, r"^silt: not built yet\. \./build proves and builds it, in .*\nsilt: .* unproved build.*\n$")
+        self.assertRegex(ended.err, r"^silt: not built yet\. \./build proves and builds it; README\.md says how long that takes\nsilt: .* unproved build.*\n$")
         self.assertEqual(self.noted(), ["silt try --seconds 100 -- script 2 2 4 2 2 8"])
 
     def test_says_what_to_do_for_other_jobs(self):
         for words in ((), ("run", "store"), ("format", "store", *"2 2 4 2 2 8".split()), ("serve", "store", "0")):
             ended = self.run_in("./silt", *words)
             self.assertEqual((ended.status, ended.out), (1, ""))
-            self.assertRegex(ended.err, r"^silt: not built yet\. \./build proves and builds it, in .*\n$")
+            self.assertRegex(ended.err, r"^silt: not built yet\. \./build proves and builds it; README\.md says how long that takes\n$")
         self.assertEqual(self.noted(), [])
 
     def test_refuses_a_script_without_the_toolchain(self):

@@ -12,7 +12,7 @@ The commands are in the fenced blocks that name no language, or a shell's:
   of a block whose first line begins with `./silt `.
 
 All commands of a document run in one shell. Its folder is like the top of the repository: `./silt`
-is the program, and examples/, docs/tools/ and tests/ are there. If a document uses a store that it
+is the program, and examples/, tools/ and tests/ are there. If a document uses a store that it
 does not make, the test makes one. Ports are replaced by free ones.
 """
 import itertools
@@ -166,7 +166,7 @@ class Shell(Case):
         self.path("silt").symlink_to(PROGRAM)
         self.path("crates/silt/out").mkdir(parents=True)
         self.path("crates/silt/out/silt").symlink_to(PROGRAM)
-        for folder in ("examples", "docs/tools", "tests"):
+        for folder in ("examples", "tools", "tests"):
             shutil.copytree(TOP / folder, self.path(folder))
         self.path("bin").mkdir()
         self.path("bin/nc").write_text(NETCAT.format(python=sys.executable))

@@ -449,7 +449,7 @@ class Pictures(VersionCase):
 
     def drawn(self, image):
         self.path("store").write_bytes(image)
-        words = [sys.executable, str(TOP / "docs/tools/draw_store.py"), "store", "picture.svg"]
+        words = [sys.executable, str(TOP / "tools/draw_store.py"), "store", "picture.svg"]
         ran = subprocess.run(words, cwd=self.folder, capture_output=True, text=True, timeout=60)
         return ran.stderr or self.path("picture.svg").read_text()
 

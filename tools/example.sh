@@ -1,9 +1,9 @@
 #!/usr/bin/env bash
-# Prints the lines after which a store of the numbers `8 16 48 4 4 400` looks as example.svg shows it:
+# Prints the lines after which a store of the numbers `8 16 48 4 4 400` looks as docs/plots/example.svg shows it:
 #
 #     ./silt format example.silt 8 16 48 4 4 400
-#     docs/tools/example.sh | ./silt run example.silt > example.replies
-#     python3 docs/tools/draw_store.py example.silt docs/tools/example.svg
+#     tools/example.sh | ./silt run example.silt > example.replies
+#     python3 tools/draw_store.py example.silt docs/plots/example.svg
 set -euo pipefail
 
 puts() { for i in $(seq "$1" "$2"); do printf 'put =key%d %016x\n' "$i" "$i"; done; }

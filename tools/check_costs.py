@@ -1,6 +1,6 @@
 """What was dear in the last `rt check` of a crate, by what it keeps.
 
-usage: python3 docs/tools/check_costs.py CRATE [LEAST]
+usage: python3 tools/check_costs.py CRATE [LEAST]
 
 Two lists, the dearest first: the goals that a search closed in at least so many million steps (1, if nothing is given; a million takes about
 a second), and the modules that took at least so many seconds. A goal leaves the first list by an answer in `proofs/FUNCTION/Answers.antt`; a module

@@ -2,14 +2,14 @@
 # Measures a server of a store in a file, and redis beside it if that is installed. Prints the table of
 # docs/performance.md.
 #
-#     sh docs/tools/measure_server.sh [PROGRAM [SECONDS]]
+#     sh bench/measure_server.sh [PROGRAM [SECONDS]]
 #
 # PROGRAM is silt, built (else ./silt at the top), SECONDS how long each run lasts at most (else 3). It needs cc, and
 # 500 MB in the folder that TMPDIR names (else /tmp): all files are made there, so that folder's disk is what is
 # measured. Redis needs redis-server, redis-benchmark and redis-cli on the path. Leave the machine alone while it runs.
 set -eu
 
-top=$(cd "$(dirname "$0")/../.." && pwd)
+top=$(cd "$(dirname "$0")/.." && pwd)
 silt=${1:-$top/silt}
 seconds=${2:-3}
 value_len=100
@@ -22,7 +22,7 @@ server=
 beside=
 trap 'kill $server $beside 2>/dev/null || true; rm -rf "$dir"' EXIT
 
-cc -O2 -pthread -o "$dir/clients" "$top/docs/tools/clients.c"
+cc -O2 -pthread -o "$dir/clients" "$top/bench/clients.c"
 
 # A number with separators.
 commas() {

@@ -1,7 +1,7 @@
 // Clients of a silt server, for measuring: each keeps one connection, sends lines, waits for their replies, and sends
 // the next. Two threads share them, as those of redis-benchmark do, so that the other processors are left to the server.
 //
-//     cc -O2 -pthread -o clients docs/tools/clients.c
+//     cc -O2 -pthread -o clients bench/clients.c
 //     ./clients PORT WRITERS READERS SECONDS V BURST MOST
 //
 // WRITERS connections, one at least, put values of V bytes under keys of their own, BURST lines in one write. READERS
