@@ -12,7 +12,7 @@ import threading
 from commands import Commands, answer, differs, done, is_command, maps_after, names
 from crashes import cuts, fills, image
 from harness import PROVED, scaled
-from layout import Layout, as_version_1
+from layout import Layout, as_version_1, key_bytes
 from notes import notes_of_lines
 from watch import WatchedCase, read_record, watching
 
@@ -81,18 +81,25 @@ class CutCase(WatchedCase):
         path.write_bytes(content)
         checked = self.silt("check", "cut")
         self.assert_checked(checked, "cut")
-        self.assertEqual(path.read_bytes(), content, "a check wrote")
+        held = self.dumped(keys)
+        self.assertEqual(path.read_bytes(), content, "a check or a dump wrote")
         lines = lines_after(layout, keys, value or "ee" * layout.values)
         text = "".join(line + "\n" for line in lines)
         ran = self.silt("run", "cut", text=text)
         notes = notes_of_lines(text.encode(), ran.out)
         self.assertEqual((ran.status, ran.err, len(ran.lines)), (0, notes, len(lines) + 1), ran)
         self.assertEqual(path.read_bytes()[:37], content[:37], "a run wrote the header")
-        held = {key: it.split()[1] for key, it in zip(keys, ran.lines[1:]) if it != "absent"}
         self.follow(lines, ran.lines, held)
         accepted = [it.startswith("accepted") for it in ran.lines[-len(keys) - 4:-len(keys):2]]
         self.assertEqual(accepted, [True, True], "the work in the background made no room")
         return held
+
+    def dumped(self, keys):
+        """The whole map of the file. A key that none of these words means is there in its digits."""
+        ended = self.silt("dump", "cut")
+        self.assertEqual((ended.status, ended.err), (0, ""), ended)
+        words = {key_bytes(it).hex(): it for it in keys}
+        return {words.get(key, key): value for _, key, value in (line.split() for line in ended.lines)}
 
     def follow(self, lines, replies, values):
         """Judges the replies to these lines of a store of this map."""

@@ -12,7 +12,7 @@ import unittest
 
 from commands import answer, differs, is_command, tried
 from failing import DEVICE, GEOMETRY, KEYS, LINES, LIVES, NO_STORE, Job, JobCase
-from harness import PROVED, TOP, Ended
+from harness import PROVED, TIME_LIMIT, TOP, Ended
 from watch import read_counts, watching
 
 NO_MEMORY = "refused 6 NoMemory\n"
@@ -45,7 +45,7 @@ class MemoryCase(JobCase):
     def ended(self, job, **plans):
         """How the job ends. It reads its lines byte by byte, and so answers each by itself."""
         self.put_back(job.before)
-        return self.silt(*job.words, text=job.text, env=watching(self, short="read:1+", **plans), limit=20)
+        return self.silt(*job.words, text=job.text, env=watching(self, short="read:1+", **plans))
 
     def try_all(self, job, judge):
         """Runs the job with each request refused in turn, and with some and all later ones."""
@@ -195,7 +195,7 @@ class Servers(MemoryCase):
         replies = []
         for _ in range(4):
             try:
-                with socket.create_connection(("127.0.0.1", port), timeout=20) as link, link.makefile("rb") as answers:
+                with socket.create_connection(("127.0.0.1", port), timeout=TIME_LIMIT) as link, link.makefile("rb") as answers:
                     while len(replies) < len(SESSION):
                         link.sendall(SESSION[len(replies)].encode() + b"\n")
                         replies.append(self.reply(answers))
@@ -218,10 +218,10 @@ class Servers(MemoryCase):
             first, second = (running.stdout.readline().decode() for _ in range(2))
             replies = self.talk(int(second.split()[1])) if second.startswith("listening") else []
             try:
-                rest, err = running.communicate(timeout=1 if None in replies else 20)
+                rest, err = running.communicate(timeout=1 if None in replies else TIME_LIMIT)
             except subprocess.TimeoutExpired:
                 running.send_signal(signal.SIGTERM)
-                rest, err = running.communicate(timeout=20)
+                rest, err = running.communicate(timeout=TIME_LIMIT)
         return running.returncode, first + second + rest.decode(), err.decode(), replies
 
     def judge_session(self, replies):

@@ -20,7 +20,7 @@ class FailedStores(ServedCase):
         client = self.client(server)
         self.assertEqual(client.ask("put =a 0102"), ["unsettled 1"])
         note = f"silt: {WRITE}; the store takes nothing more until it is opened again\n"
-        self.wait_until(lambda: server.errors(), "a note of the failure", limit=10)
+        self.wait_until(lambda: server.errors(), "a note of the failure")
         self.assertEqual(client.ask("put =b 0102", "flush"), ["refused 9 Failed"] * 2)
         self.assertEqual(server.errors(), note)
         client.close()

@@ -303,7 +303,7 @@ class Signals(ServedCase):
         accepted = client.ask(*(f"put {digits(it)} {it:04}" for it in range(1, 6)))
         self.assertEqual(accepted, [f"accepted {it}" for it in range(1, 6)])
         server.send_signal(number)
-        ended = server.ended(limit=20)
+        ended = server.ended()
         self.assertEqual((ended.status, ended.err), (-number, ""), ended)
         self.assertEqual(client.rest() + waiting.rest(), [])
         self.check_whole()

@@ -37,7 +37,7 @@ class Flushes(ServedCase):
         client = self.client(server)
         self.assertEqual(client.ask("put =abc 0102"), ["unsettled 1"])
         note = f"silt: {words}; the store takes nothing more until it is opened again\n"
-        self.wait_until(lambda: server.errors(), "a note of the failure", limit=10)
+        self.wait_until(lambda: server.errors(), "a note of the failure")
         self.assertEqual((server.errors(), server.is_running()), (note, True))
         self.assertEqual(client.ask("put =pear 0304", "flush", "get =abc", "delete =abc"), ["refused 9 Failed"] * 4)
         client.close()
@@ -186,7 +186,7 @@ class Limits(ServedCase):
         late.socket.settimeout(TIME_LIMIT)
         self.assertEqual(late.reply(), "absent")
         for _ in range(8):
-            self.served_client(server, limit=10, patience=1)
+            self.served_client(server)
 
 
 class Accepting(ServedCase):

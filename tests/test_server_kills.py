@@ -5,7 +5,7 @@ import threading
 import time
 import unittest
 
-from harness import PROVED, scaled
+from harness import PROVED, TIME_LIMIT, scaled
 from served import ServedCase
 
 # Logs of eight rows and few regions, so that freezes, conversions and merges go on all the time.
@@ -70,19 +70,21 @@ class Writer:
                     reply = client.reply()
                     if reply is None:
                         return
-                    self.take(reply)
-                    counted()
+                    if self.take(reply):
+                        counted()
         except OSError:
             pass
 
     def take(self, reply):
-        """Notes the reply to the first pending command. It may be refused only if no later one was
-        sent, since that relies on it."""
+        """Notes the reply to the first pending command, and returns whether it was done. It may be
+        refused only if no later one was sent, since that relies on it."""
         due, key, value = self.pending.pop(0)
         if reply.split()[0] == due:
             self.values[key] = value
-        elif self.ahead or reply not in ("refused 7 StoreFull", "refused 8 NoRoom"):
+            return True
+        if self.ahead or reply not in ("refused 7 StoreFull", "refused 8 NoRoom"):
             self.wrong.append(reply)
+        return False
 
     def find(self, found):
         """Takes over the values that a run found. Returns what they differ from: they are those
@@ -92,7 +94,8 @@ class Writer:
 
 
 class Load:
-    """Clients that write to a server in threads, until the server ends."""
+    """Clients that write to a server in threads, until the server ends. Commands that are refused do not count:
+    so whoever waits for many has waited for the background work that makes room for them."""
 
     def __init__(self, case, server, writers):
         self.lock, self.count, self.least, self.reached = threading.Lock(), 0, 0, threading.Event()
@@ -101,14 +104,14 @@ class Load:
             thread.start()
 
     def note(self):
-        """One more reply came."""
+        """One more command was done."""
         with self.lock:
             self.count += 1
             if self.count >= self.least:
                 self.reached.set()
 
     def wait(self, count, limit):
-        """Waits until so many replies came."""
+        """Waits until so many commands were done."""
         with self.lock:
             self.least = count
             if self.count < count:
@@ -133,13 +136,13 @@ class KillCase(ServedCase):
         self.writers = [Writer(it, self.random, self.burst, self.ahead) for it in range(CLIENTS)]
 
     def load_and_end(self, most, number):
-        """Loads a server, and sends it this signal after a random number of replies."""
+        """Loads a server, and sends it this signal after a random number of commands."""
         server = self.serve()
         load = Load(self, server, self.writers)
         count = self.random.randrange(1, most)
-        self.assertTrue(load.wait(count, limit=60), (count, server.errors()))
+        self.assertTrue(load.wait(count, limit=2 * TIME_LIMIT), (count, server.errors()))
         server.send_signal(number)
-        ended = server.ended(limit=20)
+        ended = server.ended()
         load.join()
         self.assertEqual((ended.status, ended.err), (-number, ""), ended)
         self.assertEqual([it.wrong for it in self.writers], [[]] * CLIENTS)

@@ -2,7 +2,9 @@
 
 Behind a stop the next life finds a beginning of the accepted commands that holds the acknowledged
 ones. Two more lives put a key, and do all work in the background. The program prints what the model
-prints. test_cuts.py tears real files of both versions of the layout.
+prints, also how many keys a merge decides. A script has no line that lists all keys: `stops` of
+silt_tests compares the list of the entries on devices of both versions, and test_cuts.py the dumps of
+real files.
 """
 import model
 from commands import answer, differs, done, is_command, maps_after
@@ -35,7 +37,8 @@ MERGED_FOR_ROOM = ["put 01 0001", "put 02 0002", "put 03 0003", *CONVERT, "conve
 SWAPPED_CONVERSION = CONVERTED, 40, "swap 02 0002 0006", 2
 SWAPPED_MERGES = MERGED_TWICE, 106, "swap 02 0304 0607", 10
 SWAPPED_MEANWHILE = CONVERTED_MEANWHILE, 95, "swap 01 0003 0005", 13
-KEYS = [f"0{it}".ljust(40, "0") for it in range(8)]
+# The keys of the lives, one of zeros, one that nobody puts, and one of ones, as torn rows may have.
+KEYS = [f"0{it}".ljust(40, "0") for it in range(8)] + ["f" * 40]
 
 
 def spelled(lines):
@@ -75,7 +78,8 @@ class Sweeps(ScriptCase):
         self.assertEqual("refused 5 Device" in first, within, note)
         self.assert_kept(lines, first[1:], second, note)
         # All work is done, and what was found then is found after one more crash.
-        self.assertEqual((fourth[-10:-8], last), (["idle", "idle"], ["opened", *fourth[-8:]]), note)
+        work, found = fourth[-len(KEYS) - 2:-len(KEYS)], fourth[-len(KEYS):]
+        self.assertEqual((work, last), (["idle", "idle"], ["opened", *found]), note)
 
     def assert_kept(self, lines, replies, next_life, note):
         """The next life finds the map of a beginning of the accepted commands that holds the acknowledged ones."""
