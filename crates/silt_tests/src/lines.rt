@@ -102,6 +102,11 @@ pub(crate) const CONVERTED_MEANWHILE_TOLD: [(Printed, u8); 15] = [
 /// calls.
 pub(crate) const SWAP_CONVERTED: Line = Line::Swap(2, 2, 6);
 
+/// A swap after the two merges, of a value in the sorted store. The active log is full and no row
+/// waits. So the swap makes two calls for the gates of the next log, six for the manifest, and two
+/// for the row.
+pub(crate) const SWAP_MERGED: Line = Line::Swap(2, 0x0304, 0x0607);
+
 /// A swap after the merge beside conversions, of a value in a hash store. The active log is full
 /// and its row waits. So the swap makes three calls for the flush, two for the gates of the next
 /// log, six for the manifest, and two for the row.

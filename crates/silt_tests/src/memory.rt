@@ -1,6 +1,6 @@
 // Calls that are refused a request for memory. Each returns NoMemory and changes nothing, and a
 // second try succeeds. These tests pass whichever one of their requests is refused, and also if
-// none is. docs/contributing.md says how to refuse each in turn.
+// none is. docs/testing.md says how to refuse each in turn.
 ghost use Rattle.std.specs.Prelude.{All, IfOk};
 ghost use Rattle.silt_event.specs.Events.{HasValueOf};
 
