@@ -41,7 +41,7 @@ pub use silt_inbox::{
 };
 pub use threads::join_over;
 pub use trace::{NotPrepared, Room, Trace};
-pub use wakes::Wakes;
+pub use wakes::{Wakes, wake};
 pub use worker::{
     Due, Gate, Hears, OpenGate, Spot, Turn, Wake, convert_once, converter, merge_once, merger,
 };

@@ -30,10 +30,10 @@ impl Wakes {
     }
 }
 
-/// Tells a worker that there may be work, unless a message to it already waits. So a channel never fills up if it has
-/// room for one message of each thread that wakes the worker, and for one that stops it.
-pub(crate) fn wake<R: Wait>(rt: &R, worker: &Sender<Wake>) {
-    if worker.is_empty() {
-        let _ = worker.send(rt, Wake::Go); // the worker may have ended
+/// Tells a thread that there may be work for it, unless a message to it already waits. So a channel never fills up if it
+/// has room for one message of each thread that sends by this, and for one that stops the thread.
+pub fn wake<R: Wait>(rt: &R, to: &Sender<Wake>) {
+    if to.is_empty() {
+        let _ = to.send(rt, Wake::Go); // the thread may have ended
     }
 }

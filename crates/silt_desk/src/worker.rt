@@ -53,6 +53,11 @@ pub trait Gate {
     fn rest(&self, spot: Spot) {
         let _ = spot;
     }
+
+    /// The worker has finished a conversion or a merge, and goes on.
+    fn finished(&self, spot: Spot) {
+        let _ = spot;
+    }
 }
 
 /// A gate that is always open: a worker that passes it waits only for the store.
@@ -151,6 +156,7 @@ fn rest<G: Gate, W: Hears, R: Wait>(
         Turn::GoOn => true,
         Turn::WakeOther => {
             wake(rt, other);
+            gate.finished(spot);
             true
         }
         Turn::Wait => {
