@@ -42,7 +42,6 @@ PrintsServed has_port counts trace before after =
 
 -- the head with the listener's port and a number of calls are written, and each possible crash image of the disk represents one map after
 -- some first part of one list of commands
--- after a beginning of one list of commands
 abbrev pub ServesAt : (ℕ → Type 0) → Content → Option (List ℕ) → Option (List ℕ) → Type 0
 ServesAt has_port content before after =
     (port : ℕ) × has_port port × (calls : ℕ) × Appends before after (head_text port ++ calls_text calls) × ((shape : Shape) × LeavesBegun content shape)

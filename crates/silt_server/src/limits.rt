@@ -16,6 +16,8 @@ pub struct Limits {
     pub audit: Option<u64>,
     /// After how many seconds a silent connection is closed. If None or 0, never.
     pub idle: Option<u32>,
+    /// How many seconds a command waits for room at most. 0: not at all.
+    pub wait: u32,
     /// Whether all commands of one read are flushed together. If not, each line that comes alone has a flush.
     pub pipeline: bool,
 }

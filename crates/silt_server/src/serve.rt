@@ -13,13 +13,13 @@ use crate::admission::serve_sessions;
 use crate::counting_listener::Listens;
 use crate::limits::Limits;
 use crate::threads::run_beside;
-use crate::workers::Workers;
+use crate::workers::{Workers, run_converter, run_merger, run_writer};
 use crate::written::{refuse, write_calls, write_listening, write_network_fault, write_opened};
-use silt_desk::{Count, Desk, DeskId, Gate, Kept, Seat, Shared, Trace, converter, merger};
+use silt_desk::{Count, Desk, DeskId, Gate, Kept, Seat, Shared, Trace};
 use silt_disk::Disk;
 use silt_event::{Event, Refusal, Reply};
 use silt_inbox::{Inbox, InboxId, Taker};
-use silt_session::{Job, SessionSlot, Unanswered, answer_all, slots_of, writer};
+use silt_session::{Job, SessionSlot, Unanswered, answer_all, slots_of};
 use silt_store_set::Core;
 use std::alloc::{AllocError, Global};
 use std::io::{self, Write};
@@ -27,6 +27,7 @@ use std::marker::Brand;
 use std::sync::ledger::Blank;
 use std::sync::{Mutex, RwLock, Wait};
 use std::thread::Threads;
+use std::time::Clock;
 
 /// The most sessions at once.
 const MOST_SESSIONS: u64 = 64;
@@ -45,7 +46,7 @@ const WORKERS: u64 = 3;
 /// # Errors
 ///
 /// The writer's, and out of memory for the text of a line.
-pub fn serve_on<L: Listens, D: Disk, G: Gate + Sync, R: Threads + Wait + Sync, W: Write>(
+pub fn serve_on<L: Listens, D: Disk, G: Gate + Sync, R: Threads + Wait + Clock + Sync, W: Write>(
     rt: &R,
     alloc: Global,
     listener: &L,
@@ -91,7 +92,7 @@ fn write_no_network<W: Write>(out: &mut W) -> io::Result<u8>
 }
 
 // Serves a store, and records at most this many calls.
-fn serve_kept<L: Listens, D: Disk, G: Gate + Sync, R: Threads + Wait + Sync, W: Write>(
+fn serve_kept<L: Listens, D: Disk, G: Gate + Sync, R: Threads + Wait + Clock + Sync, W: Write>(
     rt: &R,
     alloc: Global,
     listener: &L,
@@ -151,7 +152,7 @@ fn serve_traced<
     N: DeskId + Send + Sync,
     P: InboxId + Send + Sync,
     G: Gate + Sync,
-    R: Threads + Wait + Sync,
+    R: Threads + Wait + Clock + Sync,
     W: Write,
 >(
     rt: &R,
@@ -239,7 +240,7 @@ pub fn serve_desk<
     N: DeskId + Send + Sync,
     P: InboxId + Send + Sync,
     G: Gate + Sync,
-    R: Threads + Wait + Sync,
+    R: Threads + Wait + Clock + Sync,
     W: Write,
 >(
     rt: &R,
@@ -289,7 +290,7 @@ fn serve_begun<
     N: DeskId + Send + Sync,
     P: InboxId + Send + Sync,
     G: Gate + Sync,
-    R: Threads + Wait + Sync,
+    R: Threads + Wait + Clock + Sync,
     W: Write,
 >(
     rt: &R,
@@ -383,7 +384,7 @@ fn run_threads<
     N: DeskId + Send + Sync,
     P: InboxId + Send + Sync,
     G: Gate + Sync,
-    R: Threads + Wait + Sync,
+    R: Threads + Wait + Clock + Sync,
 >(
     rt: &R,
     alloc: Global,
@@ -414,7 +415,7 @@ fn run_workers<
     N: DeskId + Send + Sync,
     P: InboxId + Send + Sync,
     G: Gate + Sync,
-    R: Threads + Wait + Sync,
+    R: Threads + Wait + Clock + Sync,
 >(
     rt: &R,
     alloc: Global,
@@ -445,36 +446,14 @@ fn run_workers<
         }
     };
     let reply = &reply;
+    let seconds = limits.wait;
     gather_served(run_beside(
         rt,
         shared,
+        move |desk: &Shared<D, T, N>| run_merger(rt, alloc, desk, third, gate),
+        move |desk: &Shared<D, T, N>| run_converter(rt, alloc, desk, second, gate),
         move |desk: &Shared<D, T, N>| {
-            merger(rt, alloc, desk, third.seat, gate, third.wakes, third.other)
-        },
-        move |desk: &Shared<D, T, N>| {
-            converter(
-                rt,
-                alloc,
-                desk,
-                second.seat,
-                gate,
-                second.wakes,
-                second.other,
-            )
-        },
-        move |desk: &Shared<D, T, N>| {
-            let (seat, _) = writer(
-                rt,
-                alloc,
-                desk,
-                first.seat,
-                gate,
-                inbox,
-                taker,
-                first.wakes,
-                first.replier,
-            );
-            seat
+            run_writer(rt, alloc, desk, first, gate, inbox, taker, seconds)
         },
         move |desk: &Shared<D, T, N>| {
             serve_sessions(

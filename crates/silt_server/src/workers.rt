@@ -3,28 +3,36 @@ ghost use Rattle.std.specs.Prelude.{◌≡◌, ◌++◌, ◌∷◌, [], List, If
 ghost use Rattle.silt_desk.specs.Seats.{SeatState};
 
 use crossbeam_channel::{Receiver, Sender};
-use silt_desk::{DeskId, Seat, Wake, Wakes};
-use silt_session::{Job, replier_channel};
+use silt_desk::{DeskId, Gate, Seat, Shared, Trace, Wake, Wakes, converter, merger};
+use silt_disk::Disk;
+use silt_inbox::{Inbox, InboxId, Taker};
+use silt_session::{Job, RoomGate, RoomWait, replier_channel, room_channel, writer};
 use std::alloc::{AllocError, Global};
+use std::sync::Wait;
+use std::time::Clock;
 
 // How many messages a worker's channel holds. The writer, the other worker and the thread that stops it each send one
 // at a time, so a send never waits for room. The channel allocates its memory when it is made, so a send is never out
 // of memory.
 const MESSAGES: usize = 4;
 
-/// What a worker needs: its seat, where it is woken, and how it wakes the other one.
+/// What a worker needs: its seat, where it is woken, how it wakes the other one, and how it tells the writer that there
+/// may be room.
 #[derive(Drop)]
 pub struct Worker<N: DeskId> {
     pub seat: Seat<N>,
     pub wakes: Receiver<Wake>,
     pub other: Sender<Wake>,
+    pub room: Sender<Wake>,
 }
 
-/// What the writer needs: its seat, how it wakes the workers, and its end of the channel to the replier.
+/// What the writer needs: its seat, how it wakes the workers, where it hears that there may be room, and its end of the
+/// channel to the replier.
 #[derive(Drop)]
 pub struct WriterParts<N: DeskId> {
     pub seat: Seat<N>,
     pub wakes: Wakes,
+    pub heard: Receiver<Wake>,
     pub replier: Sender<Vec<Job>>,
 }
 
@@ -52,7 +60,7 @@ impl<N: DeskId> Workers<N> {
         Workers::seated(alloc, writer, converter, merger).ok()
     }
 
-    // With a channel to the converter, one to the merger and one to the replier.
+    // With a channel to the converter, one to the merger, one to the writer and one to the replier.
     fn seated(
         alloc: Global,
         writer: Seat<N>,
@@ -62,6 +70,8 @@ impl<N: DeskId> Workers<N> {
         ensures { IfOk result (λ workers. (workers.writer.seat ≡ writer) × (workers.converter.seat ≡ converter) × (workers.merger.seat ≡ merger)) }
     {
         let (first, second) = two_ways(alloc)?;
+        let (room, heard) = room_channel(alloc)?;
+        let by_merger = room.clone()?;
         let (replier, batches) = replier_channel(alloc)?;
         Ok(Workers {
             writer: WriterParts {
@@ -70,17 +80,20 @@ impl<N: DeskId> Workers<N> {
                     converter: first.by_writer,
                     merger: second.by_writer,
                 },
+                heard,
                 replier,
             },
             converter: Worker {
                 seat: converter,
                 wakes: first.wakes,
                 other: second.by_other,
+                room,
             },
             merger: Worker {
                 seat: merger,
                 wakes: second.wakes,
                 other: first.by_other,
+                room: by_merger,
             },
             stops: Wakes {
                 converter: first.by_stop,
@@ -118,4 +131,74 @@ fn two_ways(alloc: Global) -> Result<(Way, Way), AllocError> {
     let first = make_way(alloc)?;
     let second = make_way(alloc)?;
     Ok((first, second))
+}
+
+/// Does steps of conversion until the converter is told to end, and gives its seat back. The writer hears when there may be
+/// room.
+pub fn run_converter<D: Disk, T: Trace, N: DeskId, G: Gate, R: Wait>(
+    rt: &R,
+    alloc: Global,
+    shared: &Shared<D, T, N>,
+    worker: Worker<N>,
+    gate: &G,
+) -> Seat<N>
+    ensures { result.number ≡ worker.seat.number }
+{
+    let Worker {
+        seat,
+        wakes,
+        other,
+        room,
+    } = worker;
+    let gate = RoomGate { rt, gate, room };
+    converter(rt, alloc, shared, seat, &gate, wakes, other)
+}
+
+/// Does steps of merging until the merger is told to end, and gives its seat back. The writer hears when there may be room.
+pub fn run_merger<D: Disk, T: Trace, N: DeskId, G: Gate, R: Wait>(
+    rt: &R,
+    alloc: Global,
+    shared: &Shared<D, T, N>,
+    worker: Worker<N>,
+    gate: &G,
+) -> Seat<N>
+    ensures { result.number ≡ worker.seat.number }
+{
+    let Worker {
+        seat,
+        wakes,
+        other,
+        room,
+    } = worker;
+    let gate = RoomGate { rt, gate, room };
+    merger(rt, alloc, shared, seat, &gate, wakes, other)
+}
+
+/// Does the requests of the sessions until there are no more, and gives the writer's seat back. A command waits for room
+/// for at most so many seconds.
+pub fn run_writer<D: Disk, T: Trace, N: DeskId, P: InboxId, G: Gate, R: Wait + Clock>(
+    rt: &R,
+    alloc: Global,
+    shared: &Shared<D, T, N>,
+    parts: WriterParts<N>,
+    gate: &G,
+    inbox: &Inbox<Job, P>,
+    taker: Taker<P>,
+    seconds: u32,
+) -> Seat<N>
+    ensures { result.number ≡ parts.seat.number }
+{
+    let WriterParts {
+        seat,
+        wakes,
+        heard,
+        replier,
+    } = parts;
+    let room = RoomWait {
+        wakes,
+        heard,
+        seconds,
+    };
+    let (seat, _) = writer(rt, alloc, shared, seat, gate, inbox, taker, room, replier);
+    seat
 }

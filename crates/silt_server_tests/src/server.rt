@@ -8,6 +8,7 @@ mod lost;
 mod network;
 mod record;
 mod replies;
+mod room;
 mod swaps;
 mod work;
 
@@ -22,7 +23,7 @@ use std::net::{Net, SocketAddr, TcpListener, TcpStream};
 use std::sync::Wait;
 use std::test::Fail;
 use std::thread::{self, Threads};
-use std::time::Duration;
+use std::time::{Clock, Duration};
 
 /// The clients of a server.
 trait Clients: Sync {
@@ -36,6 +37,7 @@ fn limits_of(sessions: u32, audit: Option<u64>) -> Limits {
         sessions,
         audit,
         idle: None,
+        wait: 10,
         pipeline: false,
     }
 }
@@ -57,7 +59,7 @@ fn ask_at<C: Clients>(listener: &TcpListener, clients: &C, got: &mut Vec<u8>) {
 
 // Serves a store within these limits in one thread, and lets clients ask in another, until both are
 // done. Returns the store's disk and the status.
-fn serve_beside<D: Disk, G: Gate + Sync, C: Clients, R: Threads + Wait + Sync>(
+fn serve_beside<D: Disk, G: Gate + Sync, C: Clients, R: Threads + Wait + Clock + Sync>(
     rt: &R,
     alloc: Global,
     listener: &TcpListener,
@@ -82,7 +84,7 @@ fn is_served<
     D: Disk,
     G: Gate + Sync,
     C: Clients,
-    R: Net<Listener = TcpListener, Stream = TcpStream> + Threads + Wait + Sync,
+    R: Net<Listener = TcpListener, Stream = TcpStream> + Threads + Wait + Clock + Sync,
 >(
     rt: &R,
     alloc: Global,

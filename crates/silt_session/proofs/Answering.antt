@@ -1,5 +1,5 @@
 -- Replies to gets.
-use Rattle.std.proofs.Common.{◌⊎◌, Option, Some, None, inr}
+use Rattle.std.proofs.Common.{Option, Some, None, inr}
 use Rattle.std.specs.Prelude.{IfSome}
 use Rattle.silt_disk.specs.declared.disk.Disk.{Ghosts}
 use Rattle.silt_frame.specs.declared.key.Key.{Key}

@@ -1,22 +1,29 @@
 -- What a batch does to the writer's seat, and one batch more.
-use Rattle.std.proofs.Common.{◌≡◌, ℕ, ◌+◌, Bool, true, false, Option, Some, None, List, [], ◌∷◌, ◌++◌, length, refl, ◌∙◌, ap, subst}
+use Rattle.std.proofs.Common.{◌≡◌, ◌⊎◌, inl, inr, ℕ, zero, suc, ◌+◌, ◌-◌, ◌<◌, ◌≤◌, ◌&&◌, ◌||◌, Bool, true, false, Option, Some, None, Result, Ok, Err, List, [], ◌∷◌, ◌++◌, append_assoc, drop, drop_of_length-le, get_or, length, take, refl, sym, ◌∙◌, ap, subst, arith}
 use Rattle.std.specs.Prelude.{MatchBool}
+use Rattle.std.proofs.lemmas.List.{append-nil, drop-append-le, take-append-le, take_all}
 use Rattle.silt_disk.specs.declared.disk.Disk.{Ghosts}
 use Rattle.silt_event.specs.declared.event.Event.{Event}
 use Rattle.silt_event.specs.declared.event.Event.TheVariants as event
+use Rattle.silt_event.specs.declared.refusal.Refusal.{Refusal}
+use Rattle.silt_event.specs.declared.refusal.Refusal.TheVariants.{NotFormatted, BadGeometry, Damaged, Crowded, Device, NoMemory, StoreFull, NoRoom, Failed, Spent, HistoryFull}
 use Rattle.silt_event.specs.declared.reply.Reply.{Reply}
+use Rattle.silt_event.specs.declared.reply.Reply.TheVariants.{Refused}
+use Rattle.silt_store_set.specs.CoreState.{CoreState, Does, wants_convert, wants_merge}
 use Rattle.silt_store_set.specs.Replies.{change_reply, flush_reply, swap_reply}
 use Rattle.silt_desk.specs.DeskState.{DeskState, Records, Refuses, Serves}
 use Rattle.silt_desk.specs.History.{is_recorded}
+use Rattle.silt_desk.specs.Notes.{plain_answer}
 use Rattle.silt_desk.specs.Seats.{SeatState}
 use Rattle.silt_desk.specs.declared.trace.Trace.{Ghosts as TraceOf}
 use Rattle.silt_desk.specs.declared.worker.Due.{Due}
-use Rattle.silt_session.specs.Requests.{Answer, Flushed}
-use Rattle.silt_session.specs.Batches.{Flushes, Performs, PerformsAll, PerformsJob, PerformsTask, ServesBatch, ServesBatches}
+use Rattle.silt_session.specs.Requests.{Answer, Flushed, compared}
+use Rattle.silt_session.specs.Batches.{FindsNoRoom, FindsNoRoomTimes, Flushes, IsBatch, IsDueAt, KeepsLeft, MayMakeRoom, Performs, PerformsAll, PerformsAtOnce, PerformsJob, PerformsLast, PerformsLater, PerformsRequest, PerformsTask, RepliesToAll, ServesBatch, ServesBatches, StepsThrough, TriesAgain, TriesOnce, WriterState, done_in, lacks_room, left_in, may_get_room, writer_at}
+use Rattle.silt_session.specs.declared.held.Batch.{Batch}
 use Rattle.silt_session.specs.declared.job.Job.{Job}
 use Rattle.silt_session.specs.declared.job.Request.{Request}
 use Rattle.silt_session.specs.declared.job.Request.TheVariants.{Put, Delete, Swap, Flush}
-use Rattle.silt_session.proofs.Lists.{steps_keep}
+use Rattle.silt_session.proofs.Lists.{steps_keep, steps_more}
 
 -- ---- a batch is done from one seat
 
@@ -42,33 +49,239 @@ module _ {D F T : Type 0} (facts : Ghosts D F) (trace : TraceOf T) where
   performs_number old new seat after (Swap key expected value) None does = ap (λ (s : SeatState). s.number) does.2
   performs_number old new seat after Flush None does = ap (λ (s : SeatState). s.number) does.1
 
-  -- the number stays
-  abbrev Numbered : SeatState → SeatState → Type 0
-  Numbered seat after = after.number ≡ seat.number
+  last_number : (seat after : SeatState) (request : Request) (answer : Option Answer) → PerformsLast facts trace seat request answer after → after.number ≡ seat.number
+  last_number seat after request answer does = performs_number does.0 does.1 seat after request answer does.2
 
-  numbered_both : (a b c : SeatState) → Numbered a b → Numbered b c → Numbered a c
-  numbered_both a b c first second = second ∙ first
+  none_number : (seat after : SeatState) (request : Request) → FindsNoRoom facts trace seat request after → after.number ≡ seat.number
+  none_number seat after request does = performs_number does.0 does.1 seat after request (Some (Err NoRoom)) does.2
 
-  job_number : (seat after : SeatState) (x y : Job) → PerformsJob facts trace seat x y after → Numbered seat after
-  job_number seat after x y does =
-      steps_keep (PerformsTask facts trace) Numbered (λ s. refl) numbered_both
-      (λ a b old new one. performs_number one.0 one.1 a b old.request new.answer one.2) seat after x.tasks.items y.tasks.items does.0
+  times_number : (times : ℕ) (seat after : SeatState) (request : Request) → FindsNoRoomTimes facts trace times seat request after → after.number ≡ seat.number
+  times_number zero seat after request all = ap (λ (s : SeatState). s.number) all
+  times_number (suc times) seat after request all = none_number all.0 after request all.2 ∙ times_number times seat all.0 request all.1
 
-  pub all_number : (seat after : SeatState) (xs ys : List Job) → PerformsAll facts trace seat xs ys after → after.number ≡ seat.number
-  all_number seat after xs ys all = steps_keep (PerformsJob facts trace) Numbered (λ s. refl) numbered_both job_number seat after xs ys all
+  again_number : (is_over : Type 0) (seat after : SeatState) (request : Request) (answer : Option Answer) → TriesAgain facts trace is_over seat request answer after
+      → after.number ≡ seat.number
+  again_number is_over seat after request answer all =
+      let go : PerformsLast facts trace all.1 request answer after ⊎ ((answer ≡ Some (Err NoRoom)) × FindsNoRoom facts trace all.1 request after × ((all.0 ≡ 6) ⊎ is_over))
+      → after.number ≡ (all.1).number = elim [
+        | inl does ↦ last_number all.1 after request answer does
+        | inr none ↦ none_number all.1 after request none.1
+      ] in
+      go all.4 ∙ times_number all.0 seat all.1 request all.3
 
   pub flush_number : (old new : DeskState D T) (seat after : SeatState) (answer : Flushed) → Flushes facts trace old new seat after answer → after.number ≡ seat.number
   flush_number old new seat after answer does = serves_number old new seat after event.Flush (flush_reply does.0) does.2
 
+  -- the number stays
+  abbrev Numbered : WriterState → WriterState → Type 0
+  Numbered before after = after.seat.number ≡ before.seat.number
+
+  numbered_both : (a b c : WriterState) → Numbered a b → Numbered b c → Numbered a c
+  numbered_both a b c first second = second ∙ first
+
+  module _ (seconds : ℕ) (is_over : Type 0) where
+    at_once_number : (before after : WriterState) (request : Request) (answer : Option Answer) → PerformsAtOnce facts trace seconds is_over before request answer after → Numbered before after
+    at_once_number before after request answer does =
+        let go : PerformsLast facts trace before.seat request answer after.seat
+        ⊎ ((answer ≡ Some (Err NoRoom)) × FindsNoRoom facts trace before.seat request after.seat × (seconds ≡ 0)) → Numbered before after = elim [
+          | inl last ↦ last_number before.seat after.seat request answer last
+          | inr none ↦ none_number before.seat after.seat request none.1
+        ] in
+        go does.1
+
+    later_number : (before after : WriterState) (request : Request) (answer : Option Answer) → PerformsLater facts trace seconds is_over before request answer after → Numbered before after
+    later_number before after request answer does =
+        let (sure, first, second, none, round, empty, again) = does in
+        again_number is_over second after.seat request answer again
+        ∙ (flush_number round.1 round.2 first second round.0 round.3 ∙ none_number before.seat first request none)
+
+    request_number : (before after : WriterState) (request : Request) (answer : Option Answer) → PerformsRequest facts trace seconds is_over before request answer after → Numbered before after
+    request_number before after request answer = elim [
+      | inl does ↦ at_once_number before after request answer does
+      | inr does ↦ later_number before after request answer does
+    ]
+
+    job_number : (before after : WriterState) (x y : Job) → PerformsJob facts trace seconds is_over before x y after → Numbered before after
+    job_number before after x y does =
+        steps_keep (PerformsTask facts trace seconds is_over) Numbered (λ s. refl) numbered_both
+        (λ a b old new one. request_number a b old.request new.answer one.0) before (record { seat = after.seat; done = does.0 }) x.tasks.items y.tasks.items does.1
+
+    pub all_number : (before after : WriterState) (xs ys : List Job) → PerformsAll facts trace seconds is_over before xs ys after → after.seat.number ≡ before.seat.number
+    all_number before after xs ys all = steps_keep (PerformsJob facts trace seconds is_over) Numbered (λ s. refl) numbered_both job_number before after xs ys all
+
+-- ---- a request that is refused for want of room
+
+module _ {D F : Type 0} (facts : Ghosts D F) where
+  -- the store is as it was
+  refused_stays : (old new : CoreState D) (e : Event) → Does facts old new e (Refused NoRoom) → new ≡ old
+  refused_stays old new e does =
+      let go : (b : Bool) → old.failed ≡ b → (d : Bool) → new.failed ≡ d → new ≡ old = elim [
+        | true ↦ λ failed d is. (does.failed failed).0
+        | false ↦ λ working. elim [
+          | false ↦ λ still. does.stays refl (still ∙ sym working)
+          | true ↦ λ fails. absurd (let no : false ≡ true = does.faulted working fails in cc)
+        ]
+      ] in
+      go old.failed refl new.failed refl
+
+  abbrev no_room : Answer
+  no_room = Err NoRoom
+
+  changes_none : (reported : Result ℕ (Refusal F)) → no_room ≡ compared (plain_answer reported) → change_reply reported ≡ Refused NoRoom
+  changes_none (Ok n) is = absurd (cc)
+  changes_none (Err NoRoom) is = refl
+  changes_none (Err NotFormatted) is = absurd (cc)
+  changes_none (Err BadGeometry) is = absurd (cc)
+  changes_none (Err (Damaged place)) is = absurd (cc)
+  changes_none (Err Crowded) is = absurd (cc)
+  changes_none (Err (Device fault)) is = absurd (cc)
+  changes_none (Err NoMemory) is = absurd (cc)
+  changes_none (Err StoreFull) is = absurd (cc)
+  changes_none (Err Failed) is = absurd (cc)
+  changes_none (Err Spent) is = absurd (cc)
+  changes_none (Err HistoryFull) is = absurd (cc)
+
+  swaps_none : (reported : Result (Option ℕ) (Refusal F)) → no_room ≡ plain_answer reported → swap_reply reported ≡ Refused NoRoom
+  swaps_none (Ok n) is = absurd (cc)
+  swaps_none (Err NoRoom) is = refl
+  swaps_none (Err NotFormatted) is = absurd (cc)
+  swaps_none (Err BadGeometry) is = absurd (cc)
+  swaps_none (Err (Damaged place)) is = absurd (cc)
+  swaps_none (Err Crowded) is = absurd (cc)
+  swaps_none (Err (Device fault)) is = absurd (cc)
+  swaps_none (Err NoMemory) is = absurd (cc)
+  swaps_none (Err StoreFull) is = absurd (cc)
+  swaps_none (Err Failed) is = absurd (cc)
+  swaps_none (Err Spent) is = absurd (cc)
+  swaps_none (Err HistoryFull) is = absurd (cc)
+
+  module _ {T : Type 0} (trace : TraceOf T) where
+    serves_none : (old new : DeskState D T) (seat after : SeatState) (e : Event) (reply : Reply F) → reply ≡ Refused NoRoom
+        → Serves facts trace old new seat after e reply → new.core ≡ old.core
+    serves_none old new seat after e reply is serves =
+        let refused : Serves facts trace old new seat after e (Refused NoRoom) = subst (λ (r : Reply F). Serves facts trace old new seat after e r) is serves in
+        refused_stays old.core new.core e refused.done
+
+    performs_none : (old new : DeskState D T) (seat after : SeatState) (request : Request) → Performs facts trace old new seat after request (Some (Err NoRoom)) → new.core ≡ old.core
+    performs_none old new seat after (Put key value) does = serves_none old new seat after (event.Put key value) (change_reply does.0) (changes_none does.0 does.1) does.2
+    performs_none old new seat after (Delete key) does = serves_none old new seat after (event.Delete key) (change_reply does.0) (changes_none does.0 does.1) does.2
+    performs_none old new seat after (Swap key expected value) does =
+        serves_none old new seat after (event.Swap key expected value) (swap_reply does.0) (swaps_none does.0 does.1) does.2
+    performs_none old new seat after Flush does = absurd does
+
+    -- a result that may be got again is that refusal
+    lacks_is : (answer : Option Answer) → lacks_room answer ≡ true → answer ≡ Some (Err NoRoom)
+    lacks_is None is = absurd (cc)
+    lacks_is (Some (Ok n)) is = absurd (cc)
+    lacks_is (Some (Err NoRoom)) is = refl
+    lacks_is (Some (Err NotFormatted)) is = absurd (cc)
+    lacks_is (Some (Err BadGeometry)) is = absurd (cc)
+    lacks_is (Some (Err (Damaged place))) is = absurd (cc)
+    lacks_is (Some (Err Crowded)) is = absurd (cc)
+    lacks_is (Some (Err (Device fault))) is = absurd (cc)
+    lacks_is (Some (Err NoMemory)) is = absurd (cc)
+    lacks_is (Some (Err StoreFull)) is = absurd (cc)
+    lacks_is (Some (Err Failed)) is = absurd (cc)
+    lacks_is (Some (Err Spent)) is = absurd (cc)
+    lacks_is (Some (Err HistoryFull)) is = absurd (cc)
+
+    and_left : (a b : Bool) → (a && b) ≡ true → a ≡ true
+    and_left true b is = refl
+    and_left false b is = absurd (cc)
+
+    -- one call and what was found of the work behind it
+    pub tried_once : (old new : DeskState D T) (seat after : SeatState) (request : Request) (answer : Option Answer) (due : Option Due)
+        → Performs facts trace old new seat after request answer → MayMakeRoom new answer due → TriesOnce facts trace seat request answer due after
+    tried_once old new seat after request answer None does none = (old, new, does, none)
+    tried_once old new seat after request answer (Some work) does may =
+        let is = lacks_is answer (and_left (lacks_room answer) (wants_convert new.core || wants_merge new.core) may.0) in
+        let refused = subst (λ (a : Option Answer). Performs facts trace old new seat after request a) is does in
+        (is, (old, new, refused, performs_none old new seat after request refused, subst (λ (a : Option Answer). may_get_room new a ≡ true) is may.0))
+
+-- the work that there is to do decides whether a request that is refused for want of room may get it
+pub work_decides : {D T : Type 0} (desk : DeskState D T) (due : Due) → IsDueAt desk due → may_get_room desk (Some (Err NoRoom)) ≡ (due.converts || due.merges)
+work_decides desk due is = ap (λ (b : Bool). b || wants_merge desk.core) (sym is.0) ∙ ap (λ (b : Bool). due.converts || b) (sym is.1)
+
+-- ---- the jobs of a batch
+
+module _ {X : Type 0} where
+  pub take_first : (n : ℕ) (xs : List X) (d : X) → 0 < n → n ≤ length xs → take n xs ≡ get_or xs 0 d ∷ take (n - 1) (drop 1 xs)
+  take_first zero xs d some within = absurd (omega arith)
+  take_first (suc n) [] d some within = absurd (omega arith)
+  take_first (suc n) (x ∷ xs) d some within = ap (λ (m : ℕ). x ∷ take m xs) (omega arith)
+
+  pub drop_first : (n : ℕ) (xs : List X) → 0 < n → drop n xs ≡ drop (n - 1) (drop 1 xs)
+  drop_first zero xs some = absurd (omega arith)
+  drop_first (suc n) [] some = sym (drop_of_length-le [] (omega arith))
+  drop_first (suc n) (x ∷ xs) some = ap (λ (m : ℕ). drop m xs) (omega arith)
+
+  -- an item more at the end
+  pub take_behind : (n : ℕ) (xs : List X) (x : X) → n ≤ length xs → take n (xs ++ x ∷ []) ≡ take n xs
+  take_behind n xs x within = take-append-le n xs (x ∷ []) within
+
+  -- what was taken from the end, and what is left
+  pub taken_behind : (n : ℕ) (xs back all : List X) → xs ++ back ≡ all → length xs ≡ n → drop n all ≡ back
+  taken_behind n xs back all is len =
+      ap (drop n) (sym is) ∙ drop-append-le n xs back (omega (arith, len)) ∙ ap (λ (l : List X). l ++ back) (drop_of_length-le xs (omega (arith, len)))
+
+  pub left_before : (n : ℕ) (xs back all : List X) → xs ++ back ≡ all → n ≤ length xs → take n xs ≡ take n all
+  left_before n xs back all is within = sym (take-append-le n xs back within) ∙ ap (take n) is
+
+pub keeps_none : (batch : Batch) → IsBatch batch → KeepsLeft batch batch
+keeps_none batch within = record { left = refl; count = refl; within = within; fewer = omega arith; room = refl }
+
+pub keeps_both : (a b c : Batch) → KeepsLeft a b → KeepsLeft b c → KeepsLeft a c
+keeps_both a b c first second =
+    record { left = second.left ∙ first.left; count = second.count ∙ first.count; within = second.within; fewer = omega (arith, first.fewer, second.fewer); room = second.room ∙ first.room }
+
+module _ {D F T : Type 0} (facts : Ghosts D F) (trace : TraceOf T) (seconds : ℕ) (is_over : Type 0) where
+  -- one job more is done, and waits behind the others
+  pub jobs_more : (start : WriterState) (seat after : SeatState) (batch next worked held : Batch) (all old done : List Job) (job new : Job)
+      → old ++ left_in batch ≡ all → PerformsAll facts trace seconds is_over start old done (writer_at seat batch)
+      → left_in batch ≡ job ∷ left_in next → done_in next ≡ done_in batch
+      → StepsThrough (PerformsTask facts trace seconds is_over) (writer_at seat next) job.tasks.items new.tasks.items (writer_at after worked)
+      → new.replies ≡ job.replies → left_in held ≡ left_in next → done_in held ≡ done_in worked ++ new ∷ []
+      → (olds : List Job) × (dones : List Job) × (olds ++ left_in held ≡ all) × PerformsAll facts trace seconds is_over start olds dones (writer_at after held)
+  jobs_more start seat after batch next worked held all old done job new is so_far first same steps replies left behind =
+      let from = subst (λ (l : List Job). StepsThrough (PerformsTask facts trace seconds is_over) (record { seat = seat; done = l }) job.tasks.items new.tasks.items (writer_at after worked)) same steps in (
+        old ++ job ∷ [],
+        done ++ new ∷ [],
+        append_assoc old (job ∷ []) (left_in held) ∙ ap (λ (l : List Job). old ++ job ∷ l) left ∙ ap (λ (l : List Job). old ++ l) (sym first) ∙ is,
+        steps_more (PerformsJob facts trace seconds is_over) start (writer_at seat batch) (writer_at after held) old done job new so_far (done_in worked, from, replies, behind),
+      )
+
+  -- no job is left
+  pub jobs_all : (start : WriterState) (seat : SeatState) (batch : Batch) (all old done : List Job) → old ++ left_in batch ≡ all → batch.left ≡ 0
+      → PerformsAll facts trace seconds is_over start old done (writer_at seat batch) → PerformsAll facts trace seconds is_over start all done (writer_at seat batch)
+  jobs_all start seat batch all old done is none so_far =
+      let none_left : left_in batch ≡ [] = ap (λ (n : ℕ). take n batch.jobs.items) none in
+      let whole : old ≡ all = sym (append-nil old) ∙ ap (λ (l : List Job). old ++ l) (sym none_left) ∙ is in
+      subst (λ (l : List Job). PerformsAll facts trace seconds is_over start l done (writer_at seat batch)) whole so_far
+
+  -- a batch from its first job to its last flush
+  pub batch_served : (batch after : Batch) (jobs done new : List Job) (seat mid end : SeatState) (flushed : Flushed) (before then : DeskState D T) (due : Due)
+      → batch.jobs.items ≡ jobs → length jobs ≤ batch.left
+      → PerformsAll facts trace seconds is_over (writer_at seat batch) (left_in batch) done (writer_at mid after) → after.left ≡ 0
+      → Flushes facts trace before then mid end flushed → IsDueAt then due → RepliesToAll flushed after.jobs.items new
+      → ServesBatch facts trace seconds is_over seat jobs new end due
+  batch_served batch after jobs done new seat mid end flushed before then due is over all none flushes work replies =
+      let long : length batch.jobs.items ≤ batch.left = omega (arith, over, ap length is) in
+      let no_done : done_in batch ≡ [] = drop_of_length-le batch.jobs.items long in
+      let whole : left_in batch ≡ jobs = take_all batch.left batch.jobs.items long ∙ is in
+      let from = subst (λ (l : List Job). PerformsAll facts trace seconds is_over (record { seat = seat; done = l }) (left_in batch) done (writer_at mid after)) no_done all in
+      let does = subst (λ (l : List Job). PerformsAll facts trace seconds is_over (record { seat = seat; done = [] }) l done (writer_at mid after)) whole from in
+      let last : after.jobs.items ≡ done_in after = ap (λ (n : ℕ). drop n after.jobs.items) (sym none) in
+      (done, writer_at mid after, flushed, before, then, does, flushes, work, subst (λ (l : List Job). RepliesToAll flushed l new) last replies)
+
 -- ---- batch after batch
 
-module _ {D F T : Type 0} (facts : Ghosts D F) (trace : TraceOf T) where
+module _ {D F T : Type 0} (facts : Ghosts D F) (trace : TraceOf T) (seconds : ℕ) (is_over : Type 0) where
   -- a batch more is done behind the others
   pub batches_more : (seat mid after : SeatState) (taken then end : ℕ) (batches : List (List Job)) (jobs done : List Job) (due : Due)
-      → ServesBatches facts trace seat taken batches mid then
-      → ServesBatch facts trace mid jobs done after due → end ≡ then + length jobs
-      → ServesBatches facts trace seat taken (batches ++ jobs ∷ []) after end
+      → ServesBatches facts trace seconds is_over seat taken batches mid then
+      → ServesBatch facts trace seconds is_over mid jobs done after due → end ≡ then + length jobs
+      → ServesBatches facts trace seconds is_over seat taken (batches ++ jobs ∷ []) after end
   batches_more seat mid after taken then end [] jobs done due all one is =
-      (done, after, due, subst (λ (s : SeatState). ServesBatch facts trace s jobs done after due) all.0 one, (refl, is ∙ ap (λ (n : ℕ). n + length jobs) all.1))
+      (done, after, due, subst (λ (s : SeatState). ServesBatch facts trace seconds is_over s jobs done after due) all.0 one, (refl, is ∙ ap (λ (n : ℕ). n + length jobs) all.1))
   batches_more seat mid after taken then end (x ∷ batches) jobs done due all one is =
       (all.0, all.1, all.2, all.3, batches_more all.1 mid after (taken + length x) then end batches jobs done due all.4 one is)

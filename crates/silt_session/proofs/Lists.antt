@@ -46,7 +46,7 @@ module _ {X : Type 0} where
 
 module _ {S X : Type 0} (Steps : S → X → X → S → Type 0) where
   -- one step more
-  steps_more : (before mid after : S) (xs ys : List X) (x y : X) → StepsThrough Steps before xs ys mid → Steps mid x y after
+  pub steps_more : (before mid after : S) (xs ys : List X) (x y : X) → StepsThrough Steps before xs ys mid → Steps mid x y after
       → StepsThrough Steps before (xs ++ x ∷ []) (ys ++ y ∷ []) after
   steps_more before mid after [] [] x y all one = (after, subst (λ (s : S). Steps s x y after) all one, refl)
   steps_more before mid after (a ∷ xs) (b ∷ ys) x y all one = (all.0, all.1, steps_more all.0 mid after xs ys x y all.2 one)

@@ -1,15 +1,31 @@
 // A batch of jobs: the tasks of each are done, then all is flushed once, and then each task has its reply.
-ghost use Rattle.std.specs.Prelude.{◌≡◌};
-ghost use Rattle.std.specs.List.{AllZip};
-ghost use Rattle.silt_session.specs.Batches.{Flushes, IsDueAt, Performs, PerformsAll, PerformsTask, RepliesTo, RepliesToAll, ServesBatch, StepsThrough};
+ghost use Rattle.std.specs.Prelude.{◌≡◌, ◌≤◌, [], List, vec_capacity, vec_len};
+ghost use Rattle.silt_session.specs.Batches.{EndsRound, Flushes, IsBatch, IsDueAt, KeepsLeft, MayMakeRoom, Performs, PerformsAll, PerformsRequest, PerformsTask, ServesBatch, StepsThrough, TriesAgain, TriesOnce, done_in, left_in, writer_at};
 ghost use Rattle.silt_session.specs.Requests.{compared};
+ghost use Rattle.silt_session.specs.declared.job.Job.{Job as JobOf};
 
-use crate::job::{Answer, Job, Request, Task, reply_after};
+use crate::held::{Batch, reply_to_all};
+use crate::job::{Answer, Job, Request, Task};
+use crate::room::{HearsRoom, RoomWait};
 use silt_desk::{Desk, DeskId, Due, Gate, Seat, Shared, Spot, Trace, plain};
 use silt_disk::Disk;
 use silt_event::Refusal;
 use std::alloc::Global;
 use std::sync::Wait;
+use std::time::Clock;
+
+/// The most tries of a request that is refused for want of room, between its first and its last one. Each message to the
+/// writer follows work that was finished or refused, so one or two do. With this limit a worker whose step is refused again
+/// and again does not fill the record.
+const TRIES_BETWEEN: u32 = 6;
+
+/// Where the writer works: the desk, the gate before each call, and how it waits for room.
+#[derive(Drop)]
+pub struct Workplace<'a, D: Disk, T: Trace, N: DeskId, G: Gate, H: HearsRoom> {
+    pub shared: &'a Shared<D, T, N>,
+    pub gate: &'a G,
+    pub room: &'a RoomWait<H>,
+}
 
 // The result of a command that compares nothing.
 fn compared(answer: Result<u64, Refusal<()>>) -> Answer
@@ -65,76 +81,188 @@ fn flush<D: Disk, T: Trace, N: DeskId>(
     (flushed, desk.due())
 }
 
-// Does each task's request at the desk, in order, each under a guard of its own.
-fn perform_tasks<D: Disk, T: Trace, N: DeskId, G: Gate, R: Wait>(
+// The background work that may make room for a request with this result. None if the request is not refused for want of
+// room, and if no worker has a step to do.
+fn work_for_room<D: Disk, T: Trace, N: DeskId>(
+    desk: &Desk<D, T, N>,
+    answer: &Option<Answer>,
+) -> Option<Due>
+    ensures { MayMakeRoom desk.now answer.now result }
+{
+    match answer {
+        Some(Err(Refusal::NoRoom)) => {
+            let due = desk.due();
+            if due.converts || due.merges {
+                Some(due)
+            } else {
+                None
+            }
+        }
+        _ => None,
+    }
+}
+
+// Does a request at the desk. Returns the result, and the work that may make room if it is refused for want of it.
+fn try_at<D: Disk, T: Trace, N: DeskId>(
+    desk: &mut Desk<D, T, N>,
+    alloc: Global,
+    seat: &mut Seat<N>,
+    request: &Request,
+) -> (Option<Answer>, Option<Due>)
+    ensures { TriesOnce D.Disk T.Trace seat.old request.now result.0 result.1 seat.new }
+{
+    let answer = perform(desk, alloc, seat, request);
+    let due = work_for_room(desk, &answer);
+    (answer, due)
+}
+
+// Does a request under a guard of its own. Returns the result, and the work that may make room if it is refused for want
+// of it.
+fn try_request<D: Disk, T: Trace, N: DeskId, G: Gate, H: HearsRoom, R: Wait>(
     rt: &R,
     alloc: Global,
-    shared: &Shared<D, T, N>,
+    at: &Workplace<'_, D, T, N, G, H>,
     seat: &mut Seat<N>,
-    gate: &G,
+    request: &Request,
+) -> (Option<Answer>, Option<Due>)
+    ensures { TriesOnce D.Disk T.Trace seat.old request.now result.0 result.1 seat.new }
+{
+    at.gate.pass(Spot::Writer);
+    try_at(&mut *at.shared.write(rt), alloc, seat, request)
+}
+
+// Does a request that was refused for want of room once more, as soon as a worker may have made room, and again if it is
+// still refused for that. Returns the last result.
+fn try_again<D: Disk, T: Trace, N: DeskId, G: Gate, H: HearsRoom, R: Wait + Clock>(
+    rt: &R,
+    alloc: Global,
+    at: &Workplace<'_, D, T, N, G, H>,
+    seat: &mut Seat<N>,
+    request: &Request,
+) -> Option<Answer>
+    ensures { TriesAgain D.Disk T.Trace (H.has_ended at.now.room.now.heard) seat.old request.now result seat.new }
+{
+    let until = at.room.deadline(rt);
+    for _tried in 0..TRIES_BETWEEN {
+        at.gate.rest(Spot::Writer);
+        let came = at.room.heard.comes(rt, until);
+        let (answer, due) = try_request(rt, alloc, at, seat, request);
+        let Some(due) = due else {
+            return answer;
+        };
+        if !came {
+            return answer;
+        }
+        at.room.wakes.go(rt, due);
+    }
+    let _ = at.room.heard.comes(rt, until);
+    let (answer, _) = try_request(rt, alloc, at, seat, request);
+    answer
+}
+
+// Flushes, and sends the replies to the jobs that are done.
+fn end_round<D: Disk, T: Trace, N: DeskId, G: Gate, H: HearsRoom, R: Wait>(
+    rt: &R,
+    alloc: Global,
+    at: &Workplace<'_, D, T, N, G, H>,
+    seat: &mut Seat<N>,
+    batch: &mut Batch,
+)
+    requires { IsBatch batch.old }
+    ensures round { EndsRound D.Disk T.Trace (writer_at seat.old batch.old) seat.new }
+    ensures none { done_in batch.new ≡ [] }
+    ensures left { KeepsLeft batch.old batch.new }
+{
+    at.gate.pass(Spot::Writer);
+    let (flushed, _) = flush(&mut *at.shared.write(rt), alloc, seat);
+    batch.send_done(rt, &flushed);
+}
+
+// Does a request. If it is refused for want of room that a worker may make, it waits for room, and so that the jobs that
+// are done need not wait too, they get their replies first. Returns the last result.
+fn perform_request<D: Disk, T: Trace, N: DeskId, G: Gate, H: HearsRoom, R: Wait + Clock>(
+    rt: &R,
+    alloc: Global,
+    at: &Workplace<'_, D, T, N, G, H>,
+    seat: &mut Seat<N>,
+    batch: &mut Batch,
+    request: &Request,
+) -> Option<Answer>
+    requires { IsBatch batch.old }
+    ensures does { PerformsRequest D.Disk T.Trace at.now.room.now.seconds (H.has_ended at.now.room.now.heard) (writer_at seat.old batch.old) request.now result (writer_at seat.new batch.new) }
+    ensures left { KeepsLeft batch.old batch.new }
+{
+    let (answer, due) = try_request(rt, alloc, at, seat, request);
+    let Some(due) = due else {
+        return answer;
+    };
+    if at.room.seconds == 0 {
+        return answer;
+    }
+    at.room.wakes.go(rt, due);
+    end_round(rt, alloc, at, seat, batch);
+    try_again(rt, alloc, at, seat, request)
+}
+
+// Does each task's request, in order.
+fn perform_tasks<D: Disk, T: Trace, N: DeskId, G: Gate, H: HearsRoom, R: Wait + Clock>(
+    rt: &R,
+    alloc: Global,
+    at: &Workplace<'_, D, T, N, G, H>,
+    seat: &mut Seat<N>,
+    batch: &mut Batch,
     tasks: &mut Vec<Task>,
 )
-    ensures { StepsThrough (PerformsTask D.Disk T.Trace) seat.old tasks.old.items tasks.new.items seat.new }
+    requires { IsBatch batch.old }
+    ensures steps { StepsThrough (PerformsTask D.Disk T.Trace at.now.room.now.seconds (H.has_ended at.now.room.now.heard)) (writer_at seat.old batch.old) tasks.old.items tasks.new.items (writer_at seat.new batch.new) }
+    ensures left { KeepsLeft batch.old batch.new }
 {
     for task in tasks.iter_mut() {
-        gate.pass(Spot::Writer);
-        let answer = perform(&mut *shared.write(rt), alloc, seat, &task.request);
+        let answer = perform_request(rt, alloc, at, seat, batch, &task.request);
         task.answer = answer;
     }
 }
 
 // Does the tasks of each job, in order.
-fn perform_all<D: Disk, T: Trace, N: DeskId, G: Gate, R: Wait>(
+fn perform_all<D: Disk, T: Trace, N: DeskId, G: Gate, H: HearsRoom, R: Wait + Clock>(
     rt: &R,
     alloc: Global,
-    shared: &Shared<D, T, N>,
+    at: &Workplace<'_, D, T, N, G, H>,
     seat: &mut Seat<N>,
-    gate: &G,
-    jobs: &mut Vec<Job>,
+    batch: &mut Batch,
 )
-    ensures { PerformsAll D.Disk T.Trace seat.old jobs.old.items jobs.new.items seat.new }
+    requires within { IsBatch batch.old }
+    requires room { vec_len batch.old.jobs ≤ vec_capacity batch.old.jobs }
+    ensures steps { (done : List JobOf) × PerformsAll D.Disk T.Trace at.now.room.now.seconds (H.has_ended at.now.room.now.heard) (writer_at seat.old batch.old) (left_in batch.old) done (writer_at seat.new batch.new) }
+    ensures none { batch.new.left ≡ 0 }
 {
-    for job in jobs.iter_mut() {
-        perform_tasks(rt, alloc, shared, seat, gate, &mut job.tasks);
+    while let Some(mut job) = batch.next() {
+        perform_tasks(rt, alloc, at, seat, batch, &mut job.tasks);
+        batch.hold(job);
     }
 }
 
-// Gives each task its reply, by its own result and that of the flush.
-fn reply_to_tasks(tasks: &mut Vec<Task>, flushed: &Result<u64, Refusal<()>>)
-    ensures { AllZip (RepliesTo flushed.now) tasks.old.items tasks.new.items }
-{
-    for task in tasks.iter_mut() {
-        let reply = reply_after(&task.request, &task.answer, flushed);
-        task.reply = reply;
-    }
-}
-
-// Gives the tasks of each job their replies.
-fn reply_to_all(jobs: &mut Vec<Job>, flushed: &Result<u64, Refusal<()>>)
-    ensures { RepliesToAll flushed.now jobs.old.items jobs.new.items }
-{
-    for job in jobs.iter_mut() {
-        reply_to_tasks(&mut job.tasks, flushed);
-    }
-}
-
-/// Does the tasks of each job at the desk, in order, each under a guard of its own. Then it flushes once and gives each
-/// task its reply; that of an accepted command depends on the flush. No reply is sent yet. It allocates no memory of
-/// its own. Returns which background work there is to do after the flush.
-pub fn serve_batch<D: Disk, T: Trace, N: DeskId, G: Gate, R: Wait>(
+/// Does the tasks of each job at the desk, in order, each call under a guard of its own. Then it flushes once and gives
+/// each task its reply; that of an accepted command depends on the flush. It allocates no memory of its own. Returns the
+/// jobs whose replies are not sent yet, and which background work there is to do after the flush.
+///
+/// If a command is refused for want of room that a worker may make, it waits for room. Before that it flushes, and sends
+/// the replies to the jobs that are done.
+pub fn serve_batch<D: Disk, T: Trace, N: DeskId, G: Gate, H: HearsRoom, R: Wait + Clock>(
     rt: &R,
     alloc: Global,
-    shared: &Shared<D, T, N>,
+    at: &Workplace<'_, D, T, N, G, H>,
     seat: &mut Seat<N>,
-    gate: &G,
-    jobs: &mut Vec<Job>,
-) -> Due
+    jobs: Vec<Job>,
+) -> (Vec<Job>, Due)
     ensures number { seat.new.number ≡ seat.old.number }
-    ensures batch { ServesBatch D.Disk T.Trace seat.old jobs.old.items jobs.new.items seat.new result }
+    ensures batch { ServesBatch D.Disk T.Trace at.now.room.now.seconds (H.has_ended at.now.room.now.heard) seat.old jobs.items result.0.items seat.new result.1 }
 {
-    perform_all(rt, alloc, shared, seat, gate, jobs);
-    gate.pass(Spot::Writer);
-    let (flushed, due) = flush(&mut *shared.write(rt), alloc, seat);
-    reply_to_all(jobs, &flushed);
-    due
+    let mut batch = Batch::new(jobs);
+    perform_all(rt, alloc, at, seat, &mut batch);
+    at.gate.pass(Spot::Writer);
+    let (flushed, due) = flush(&mut *at.shared.write(rt), alloc, seat);
+    let mut jobs = batch.into_jobs();
+    reply_to_all(&mut jobs, &flushed);
+    (jobs, due)
 }

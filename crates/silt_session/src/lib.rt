@@ -14,20 +14,23 @@
 mod answers;
 mod batch;
 mod client;
+mod held;
 mod job;
 mod outlet;
 mod pipeline;
 mod replier;
+mod room;
 mod session_slots;
 mod unanswered;
 mod work;
 
 pub use answers::answer_all;
-pub use batch::serve_batch;
+pub use batch::{Workplace, serve_batch};
 pub use client::{AskBy, Asking, Client};
 pub use job::{Job, Request, Task};
 pub use outlet::Outlet;
 pub use replier::{replier_channel, send_batches, send_replies};
+pub use room::{HearsRoom, RoomGate, RoomWait, room_channel};
 pub use session_slots::{SessionSlot, free_slot, slots_of};
 pub use unanswered::Unanswered;
 pub use work::{Jobs, writer};

@@ -3,15 +3,17 @@ ghost use Rattle.std.specs.Prelude.{◌≡◌, ◌+◌, List, MatchOption, vec_l
 ghost use Rattle.silt_session.specs.Batches.{ServesBatches};
 ghost use Rattle.silt_session.specs.declared.job.Job.{Job as JobOf};
 
-use crate::batch::serve_batch;
+use crate::batch::{Workplace, serve_batch};
 use crate::job::Job;
 use crate::replier::send_replies;
+use crate::room::{HearsRoom, RoomWait};
 use crossbeam_channel::Sender;
-use silt_desk::{DeskId, Gate, Seat, Shared, Trace, Wakes};
+use silt_desk::{DeskId, Gate, Seat, Shared, Trace};
 use silt_disk::Disk;
 use silt_inbox::{Inbox, InboxId, Taker};
 use std::alloc::Global;
 use std::sync::Wait;
+use std::time::Clock;
 
 /// The source of the writer's jobs.
 pub trait Jobs<P: InboxId> {
@@ -31,10 +33,20 @@ impl<P: InboxId> Jobs<P> for Inbox<Job, P> {
     }
 }
 
-/// Takes all jobs that wait, does their tasks, each under a guard of its own, flushes once and then replies, until there
-/// are no more. It hands the replies of many jobs to the replier, so that it can go on with the next batch. After each
-/// batch it wakes the converter and the merger if they have work. Gives its seat and its taker back.
-pub fn writer<D: Disk, T: Trace, N: DeskId, P: InboxId, I: Jobs<P>, G: Gate, R: Wait>(
+/// Takes all jobs that wait, does their tasks, each call under a guard of its own, flushes once and then replies, until
+/// there are no more. It hands the replies of many jobs to the replier, so that it can go on with the next batch. After
+/// each batch it wakes the converter and the merger if they have work. A command that is refused for want of room waits
+/// for it, behind a flush and the replies of the jobs that are done. Gives its seat and its taker back.
+pub fn writer<
+    D: Disk,
+    T: Trace,
+    N: DeskId,
+    P: InboxId,
+    I: Jobs<P>,
+    G: Gate,
+    H: HearsRoom,
+    R: Wait + Clock,
+>(
     rt: &R,
     alloc: Global,
     shared: &Shared<D, T, N>,
@@ -42,20 +54,22 @@ pub fn writer<D: Disk, T: Trace, N: DeskId, P: InboxId, I: Jobs<P>, G: Gate, R: 
     gate: &G,
     inbox: &I,
     mut taker: Taker<P>,
-    wakes: Wakes,
+    room: RoomWait<H>,
     replier: Sender<Vec<Job>>,
 ) -> (Seat<N>, Taker<P>)
     ensures number { result.0.number ≡ seat.number }
     ensures ended { I.has_ended inbox.now }
-    ensures batches { (batches : List (List JobOf)) × ServesBatches D.Disk T.Trace seat taker batches result.0 result.1 }
+    ensures batches { (batches : List (List JobOf)) × ServesBatches D.Disk T.Trace room.seconds (H.has_ended room.heard) seat taker batches result.0 result.1 }
 {
+    let room = &room;
+    let at = Workplace { shared, gate, room };
     for _ in rt.forever() {
-        let Some(mut jobs) = inbox.take_all(rt, &mut taker) else {
+        let Some(jobs) = inbox.take_all(rt, &mut taker) else {
             return (seat, taker);
         };
-        let due = serve_batch(rt, alloc, shared, &mut seat, gate, &mut jobs);
-        send_replies(rt, &replier, jobs);
-        wakes.go(rt, due);
+        let (left, due) = serve_batch(rt, alloc, &at, &mut seat, jobs);
+        send_replies(rt, &replier, left);
+        room.wakes.go(rt, due);
     }
     unreachable!()
 }

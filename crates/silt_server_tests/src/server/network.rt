@@ -12,6 +12,7 @@ use std::net::TcpStream;
 use std::sync::Wait;
 use std::test::Fail;
 use std::thread::Threads;
+use std::time::Clock;
 
 /// A listener without a port, to which nobody can connect.
 #[derive(Drop)]
@@ -38,7 +39,7 @@ fn is_empty<D: Disk>(alloc: Global, disk: &D) -> bool {
 }
 
 // Serves an empty store without a port. Returns the status, and whether the store is still empty.
-fn serve_portless<R: Threads + Wait + Sync>(
+fn serve_portless<R: Threads + Wait + Clock + Sync>(
     rt: &R,
     alloc: Global,
     written: &mut Vec<u8>,

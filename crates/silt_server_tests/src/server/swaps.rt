@@ -2,18 +2,20 @@
 // makes it unsettled.
 ghost use Rattle.std.specs.Prelude.{◌≡◌};
 
-use silt_desk::{Count, Desk, DeskId, OpenGate, Seat, Shared};
+use crossbeam_channel::Receiver;
+use silt_desk::{Count, Desk, DeskId, OpenGate, Seat, Shared, Wake, Wakes};
 use silt_device::{Disk, Fill, MemDisk, Stop};
 use silt_event::Reply;
 use silt_fixtures::{formatted, key, opened_on};
 use silt_frame::Value;
-use silt_session::{Job, Request, Task, serve_batch};
+use silt_session::{Job, Request, RoomWait, Task, Workplace, room_channel, serve_batch};
 use silt_store_set::Core;
 use std::alloc::{AllocError, Global};
 use std::marker::Brand;
 use std::sync::ledger::Blank;
 use std::sync::{RwLock, Wait};
 use std::test::Fail;
+use std::time::Clock;
 
 fn value_of(alloc: Global, bytes: &[u8]) -> Result<Value, AllocError> {
     Ok(Value::new(bytes.to_vec(alloc)?))
@@ -126,66 +128,79 @@ fn are_got(alloc: Global, jobs: Vec<Job>, due: &[Got]) -> Result<bool, AllocErro
     Ok(all.as_slice() == due)
 }
 
-// Serves these jobs as one batch at this desk. Returns whether it has a seat.
-fn serve_jobs<D: Disk, N: DeskId, R: Wait>(
+// A wait for room that ends at once.
+fn no_wait(alloc: Global) -> Option<RoomWait<Receiver<Wake>>> {
+    let (converter, heard) = room_channel(alloc).ok()?;
+    let merger = converter.clone().ok()?;
+    let wakes = Wakes { converter, merger };
+    Some(RoomWait {
+        wakes,
+        heard,
+        seconds: 0,
+    })
+}
+
+// Serves these jobs as one batch at this desk, from its seat. Returns them with their replies.
+fn serve_jobs<D: Disk, N: DeskId, R: Wait + Clock>(
     rt: &R,
     alloc: Global,
     desk: Desk<D, Count, N>,
     mut seats: Vec<Seat<N>>,
-    jobs: &mut Vec<Job>,
-) -> bool {
+    jobs: Vec<Job>,
+) -> Option<Vec<Job>> {
+    let mut seat = seats.pop()?;
+    let room = no_wait(alloc)?;
     let shared: Shared<D, Count, N> = RwLock::new(desk);
-    match seats.pop() {
-        Some(mut seat) => {
-            let _ = serve_batch(rt, alloc, &shared, &mut seat, &OpenGate, jobs);
-            true
-        }
-        None => false,
-    }
+    let at = Workplace {
+        shared: &shared,
+        gate: &OpenGate,
+        room: &room,
+    };
+    let (jobs, _) = serve_batch(rt, alloc, &at, &mut seat, jobs);
+    Some(jobs)
 }
 
-// Serves these jobs as one batch at a desk of this store. Returns whether there is memory for the
-// desk.
-fn serve_at_desk<D: Disk, N: DeskId, R: Wait>(
+// Serves these jobs as one batch at a desk of this store. None if out of memory for the desk.
+fn serve_at_desk<D: Disk, N: DeskId, R: Wait + Clock>(
     rt: &R,
     alloc: Global,
     core: Core<D>,
-    jobs: &mut Vec<Job>,
+    jobs: Vec<Job>,
     calls: Blank,
     accepted: Blank,
-) -> bool
+) -> Option<Vec<Job>>
     requires calls { (calls.name ≡ N.calls_name) × (calls.parts ≡ N.seats) }
     requires accepted { (accepted.name ≡ N.accepted_name) × (accepted.parts ≡ N.seats) }
     requires seats { N.seats ≡ 1 }
 {
     match Desk::<D, Count, N>::new(alloc, core, Count::new(), 1, calls, accepted) {
         Ok((desk, seats)) => serve_jobs(rt, alloc, desk, seats, jobs),
-        Err(_) => false,
+        Err(_) => None,
     }
 }
 
 // Serves these jobs as one batch at a desk of the store on this disk.
-fn serve_on_disk<R: Wait>(
+fn serve_on_disk<R: Wait + Clock>(
     rt: &R,
     alloc: Global,
     disk: MemDisk,
-    jobs: &mut Vec<Job>,
-) -> Result<bool, Fail> {
+    jobs: Vec<Job>,
+) -> Result<Vec<Job>, Fail> {
     let core = opened_on(alloc, disk)?;
-    Ok(serve_at_desk::<_, Brand, _>(rt, alloc, core, jobs, Blank::new(1), Blank::new(1)))
+    let served = serve_at_desk::<_, Brand, _>(rt, alloc, core, jobs, Blank::new(1), Blank::new(1));
+    Ok(served.ok_or("a desk")?)
 }
 
 // Whether these are the replies to the six requests in jobs of so many, served on this disk.
-fn gets_in_jobs<R: Wait>(
+fn gets_in_jobs<R: Wait + Clock>(
     rt: &R,
     alloc: Global,
     disk: MemDisk,
     most: usize,
     due: &[Got],
 ) -> Result<bool, Fail> {
-    let mut jobs = six_in_jobs(alloc, most)?;
-    let is_served = serve_on_disk(rt, alloc, disk, &mut jobs)?;
-    Ok(is_served && are_got(alloc, jobs, due)?)
+    let jobs = serve_on_disk(rt, alloc, disk, six_in_jobs(alloc, most)?)?;
+    Ok(are_got(alloc, jobs, due)?)
 }
 
 // The replies, whether each request is a job or some or all are one.
@@ -199,7 +214,7 @@ const DUE: [Got; 6] = [
 ];
 
 // Whether the replies to jobs of so many requests are those.
-fn settles_in_jobs<R: Wait>(rt: &R, alloc: Global, most: usize) -> Result<bool, Fail> {
+fn settles_in_jobs<R: Wait + Clock>(rt: &R, alloc: Global, most: usize) -> Result<bool, Fail> {
     gets_in_jobs(rt, alloc, formatted(alloc)?, most, DUE.as_slice())
 }
 

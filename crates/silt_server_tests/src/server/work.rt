@@ -11,6 +11,7 @@ use std::net::{Net, SocketAddr, TcpListener, TcpStream};
 use std::sync::Wait;
 use std::test::Fail;
 use std::thread::Threads;
+use std::time::Clock;
 
 const FIVE_PUTS: &[u8] = b"put 0100000000000000000000000000000000000000 0001\n\
     put 0200000000000000000000000000000000000000 0002\n\
@@ -34,7 +35,7 @@ impl<R: Net<Stream = TcpStream> + Sync> Clients for PutsFive<'_, R> {
 }
 
 // Serves the five puts. Returns the status and the report of the store on the disk that comes back.
-fn put_five<R: Net<Listener = TcpListener, Stream = TcpStream> + Threads + Wait + Sync>(
+fn put_five<R: Net<Listener = TcpListener, Stream = TcpStream> + Threads + Wait + Clock + Sync>(
     rt: &R,
     alloc: Global,
     written: &mut Vec<u8>,

@@ -19,6 +19,7 @@ use std::sync::Wait;
 use std::sync::ledger::Blank;
 use std::test::Fail;
 use std::thread::{self, Threads};
+use std::time::Clock;
 
 const SESSIONS: u32 = 64;
 
@@ -66,7 +67,7 @@ fn serve_seated<
     D: Disk,
     N: DeskId + Send + Sync,
     P: InboxId + Send + Sync,
-    R: Threads + Wait + Sync,
+    R: Threads + Wait + Clock + Sync,
 >(
     rt: &R,
     alloc: Global,
@@ -101,7 +102,7 @@ fn serve_recorded<
     D: Disk,
     N: DeskId + Send + Sync,
     P: InboxId + Send + Sync,
-    R: Threads + Wait + Sync,
+    R: Threads + Wait + Clock + Sync,
 >(
     rt: &R,
     alloc: Global,
@@ -128,7 +129,7 @@ fn serve_recorded<
 }
 
 // Serves and records in the same way.
-fn serve_kept<R: Threads + Wait + Sync>(
+fn serve_kept<R: Threads + Wait + Clock + Sync>(
     rt: &R,
     alloc: Global,
     listener: &TcpListener,
@@ -150,7 +151,7 @@ fn serve_kept<R: Threads + Wait + Sync>(
 
 // Runs a server of this store beside sixty-four sessions. Returns what its record shows, and how
 // many commands got a wrong reply.
-fn serve_all<R: Net<Listener = TcpListener, Stream = TcpStream> + Threads + Wait + Sync>(
+fn serve_all<R: Net<Listener = TcpListener, Stream = TcpStream> + Threads + Wait + Clock + Sync>(
     rt: &R,
     alloc: Global,
     listener: &TcpListener,
@@ -164,10 +165,9 @@ fn serve_all<R: Net<Listener = TcpListener, Stream = TcpStream> + Threads + Wait
 }
 
 // The same on an empty store.
-fn served_and_asked<R: Net<Listener = TcpListener, Stream = TcpStream> + Threads + Wait + Sync>(
-    rt: &R,
-    alloc: Global,
-) -> Result<(Printed, u8, u32), Fail> {
+fn served_and_asked<
+    R: Net<Listener = TcpListener, Stream = TcpStream> + Threads + Wait + Clock + Sync,
+>(rt: &R, alloc: Global) -> Result<(Printed, u8, u32), Fail> {
     let geometry = Geometry::new(2, 16, 64, 8, 16, 4000)
         .ok()
         .ok_or("in limits")?;

@@ -1,23 +1,17 @@
-use Rattle.std.proofs.Common.{refl, sym, ◌∙◌}
-use Rattle.std.proofs.lemmas.List.{length-set}
-use Rattle.silt_session.specs.Batches.{PerformsAll, PerformsJob}
-use Rattle.silt_session.proofs.Lists.{changed_all, steps_next, rest_next}
+use Rattle.std.proofs.Common.{refl, ◌∙◌, arith, []}
+use Rattle.silt_session.proofs.Batches.{jobs_more}
 use Rattle.silt_session.proofs.batch.perform_all.Goals as goal
 
 pub loop-job-init : goal.loop-job-init
-loop-job-init g c = record { done = refl; rest = refl; same_length = refl }
+loop-job-init g c = record { within = c.requires.within; room = c.requires.room; so_far = ([], [], refl, refl) }
 
 pub loop-job-preserved : goal.loop-job-preserved
 loop-job-preserved g c =
     let before = c.loop-job.invariant in
+    let (old, done, is, so_far) = before.so_far in
+    let next = c.in-Some.ensures in
     record {
-      done = steps_next (PerformsJob g.D.Disk g.T.Trace) c.args.seat.now _ _ c.deref_mut-job-items.result.now c.loop-job.job-items c.loop-job.job-index c.job-item.result _ c.loop-job-test.true before.same_length before.rest before.done (c.perform_tasks.ensures, refl);
-      rest = rest_next c.deref_mut-job-items.result.now c.loop-job.job-items c.loop-job.job-index _ before.rest;
-      same_length = length-set c.loop-job.job-items c.loop-job.job-index _ ∙ before.same_length;
+      within = c.hold.ensures.within;
+      room = omega (arith, before.room, next.count.1, next.room, c.perform_tasks.ensures.left.fewer, c.perform_tasks.ensures.left.room, c.hold.ensures.count, c.hold.ensures.room);
+      so_far = jobs_more g.D.Disk g.T.Trace _ _ _ _ _ c.loop-job.batch c.next.new.self c.perform_tasks.new.batch c.hold.new.self _ old done c.in-Some.job (record { tasks = c.perform_tasks.new.tasks; replies = c.in-Some.job.replies }) is so_far next.jobs next.done c.perform_tasks.ensures.steps refl (c.hold.ensures.left.0 ∙ c.perform_tasks.ensures.left.left) c.hold.ensures.done;
     }
-
-pub returns : goal.returns
-returns g c =
-    let done = c.loop-job.invariant in
-    changed_all (λ xs ys. PerformsAll g.D.Disk g.T.Trace c.args.seat.now xs ys c.loop-job.seat)
-    c.deref_mut-job-items.result.now c.loop-job.job-items c.args.jobs.now.items c.loop-job.job-index c.args.jobs.now.len c.loop-job-test.false done.same_length c.deref_mut-job-items.ensures.value (sym c.deref_mut-job-items.ensures.len) done.done

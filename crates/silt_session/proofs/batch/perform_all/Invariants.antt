@@ -1,11 +1,17 @@
-use Rattle.std.proofs.Common.{◌≡◌, length, take, drop}
-use Rattle.silt_session.specs.Batches.{PerformsAll}
+use Rattle.std.proofs.Common.{◌≡◌, ◌≤◌, ◌++◌, List, vec_len}
+use Rattle.std.specs.Prelude.{vec_capacity}
+use Rattle.silt_session.specs.Batches.{IsBatch, PerformsAll, left_in, writer_at}
+use Rattle.silt_session.specs.declared.job.Job.{Job}
 use Rattle.silt_session.proofs.batch.perform_all.Given as goal
 
--- the jobs so far are done in order, and the others are as they were
+-- the jobs so far are done in order, and the others are left to do
 abbrev pub invariant-loop-job : goal.invariant-loop-job
 invariant-loop-job g l = record {
-  done : PerformsAll g.D.Disk g.T.Trace l.initial.seat (take l.job-index l.initial.job-items) (take l.job-index l.job-items) l.seat;
-  rest : drop l.job-index l.job-items ≡ drop l.job-index l.initial.job-items;
-  same_length : length l.job-items ≡ length l.initial.job-items;
+  within : IsBatch l.batch;
+  room : vec_len l.batch.jobs ≤ vec_capacity l.batch.jobs;
+  so_far : (old : List Job) × (done : List Job) × (old ++ left_in l.batch ≡ left_in l.initial.batch)
+      × PerformsAll g.D.Disk g.T.Trace l.at.room.now.seconds (g.H.HearsRoom.has_ended l.at.room.now.heard) (writer_at l.initial.seat l.initial.batch) old done (writer_at l.seat l.batch);
 }
+
+abbrev pub decreases-loop-job : goal.decreases-loop-job
+decreases-loop-job g l = l.batch.left

@@ -7,9 +7,9 @@ loop-preserved g c =
     let before = c.loop.invariant in
     let jobs = c.in-Some-take_all.jobs in
     record {
-      number = c.serve_batch-due.ensures.number ∙ before.number;
+      number = c.serve_batch-left.ensures.number ∙ before.number;
       batches = (
         before.batches.0 ++ jobs.items ∷ [],
-        batches_more g.D.Disk g.T.Trace _ _ _ _ _ _ before.batches.0 _ _ _ before.batches.1 c.serve_batch-due.ensures.batch (omega (arith, c.in-Some-take_all.ensures, jobs.ok.0)),
+        batches_more g.D.Disk g.T.Trace _ _ _ _ _ _ _ _ before.batches.0 _ _ _ before.batches.1 c.serve_batch-left.ensures.batch (omega (arith, c.in-Some-take_all.ensures, jobs.ok.0)),
       );
     }

@@ -7,5 +7,5 @@ use Rattle.silt_session.proofs.work.writer.Given as goal
 abbrev pub invariant-loop : goal.invariant-loop
 invariant-loop g l = record {
   number : l.seat.number ≡ l.fn.seat.number;
-  batches : (batches : List (List Job)) × ServesBatches g.D.Disk g.T.Trace l.fn.seat l.fn.taker batches l.seat l.taker;
+  batches : (batches : List (List Job)) × ServesBatches g.D.Disk g.T.Trace l.fn.room.seconds (g.H.HearsRoom.has_ended l.fn.room.heard) l.fn.seat l.fn.taker batches l.seat l.taker;
 }

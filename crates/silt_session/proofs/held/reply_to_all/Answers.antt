@@ -2,7 +2,7 @@ use Rattle.std.proofs.Common.{refl, sym, ◌∙◌}
 use Rattle.std.proofs.lemmas.List.{length-set}
 use Rattle.silt_session.specs.Batches.{RepliesToAll, RepliesToJob}
 use Rattle.silt_session.proofs.Lists.{changed_all, zip_next, rest_next}
-use Rattle.silt_session.proofs.batch.reply_to_all.Goals as goal
+use Rattle.silt_session.proofs.held.reply_to_all.Goals as goal
 
 pub loop-job-init : goal.loop-job-init
 loop-job-init c = record { done = tt; rest = refl; same_length = refl }

@@ -1,6 +1,6 @@
 use Rattle.std.proofs.Common.{◌≡◌, length, take, drop}
 use Rattle.silt_session.specs.Batches.{RepliesToAll}
-use Rattle.silt_session.proofs.batch.reply_to_all.Given as goal
+use Rattle.silt_session.proofs.held.reply_to_all.Given as goal
 
 -- the tasks of the jobs so far have their replies, and the others are as they were
 abbrev pub invariant-loop-job : goal.invariant-loop-job

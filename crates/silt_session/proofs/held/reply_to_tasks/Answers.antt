@@ -3,7 +3,7 @@ use Rattle.std.specs.List.{AllZip}
 use Rattle.std.proofs.lemmas.List.{length-set}
 use Rattle.silt_session.specs.Batches.{RepliesTo}
 use Rattle.silt_session.proofs.Lists.{changed_all, zip_next, rest_next}
-use Rattle.silt_session.proofs.batch.reply_to_tasks.Goals as goal
+use Rattle.silt_session.proofs.held.reply_to_tasks.Goals as goal
 
 pub loop-task-init : goal.loop-task-init
 loop-task-init c = record { done = tt; rest = refl; same_length = refl }

@@ -1,7 +1,7 @@
 use Rattle.std.proofs.Common.{◌≡◌, length, take, drop}
 use Rattle.std.specs.List.{AllZip}
 use Rattle.silt_session.specs.Batches.{RepliesTo}
-use Rattle.silt_session.proofs.batch.reply_to_tasks.Given as goal
+use Rattle.silt_session.proofs.held.reply_to_tasks.Given as goal
 
 -- the tasks so far have their replies, and the others are as they were
 abbrev pub invariant-loop-task : goal.invariant-loop-task

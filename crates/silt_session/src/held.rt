@@ -1,0 +1,99 @@
+// The jobs of a batch, and their replies after a flush.
+ghost use Rattle.std.specs.Prelude.{◌≡◌, ◌+◌, ◌<◌, ◌++◌, ◌∷◌, [], List, MatchOption, vec_capacity, vec_len};
+ghost use Rattle.std.specs.List.{AllZip};
+ghost use Rattle.silt_session.specs.Batches.{IsBatch, KeepsLeft, RepliesTo, RepliesToAll, done_in, left_in};
+ghost use Rattle.silt_session.specs.declared.job.Job.{Job as JobOf};
+
+use crate::job::{Job, Task, reply_after};
+use silt_event::Refusal;
+use std::sync::Wait;
+
+/// The jobs of a batch: first those that are left to do, and behind them those that are done and wait for a flush.
+#[derive(Drop)]
+pub(crate) struct Batch {
+    jobs: Vec<Job>,
+    left: usize,
+}
+
+impl Batch {
+    /// A batch of jobs that are all left to do.
+    pub(crate) fn new(jobs: Vec<Job>) -> Batch
+        ensures jobs { result.jobs ≡ jobs }
+        ensures left { result.left ≡ vec_len jobs }
+    {
+        let left = jobs.len();
+        Batch { jobs, left }
+    }
+
+    /// Takes the next job that is left to do.
+    pub(crate) fn next(&mut self) -> Option<Job>
+        requires { IsBatch self.old }
+        ensures jobs { MatchOption result ((self.new ≡ self.old) × (self.old.left ≡ 0)) (λ job. left_in self.old ≡ job ∷ left_in self.new) }
+        ensures count { MatchOption result (self.old.left ≡ 0) (λ job. (self.new.left + 1 ≡ self.old.left) × (vec_len self.new.jobs + 1 ≡ vec_len self.old.jobs)) }
+        ensures done { done_in self.new ≡ done_in self.old }
+        ensures within { IsBatch self.new }
+        ensures room { vec_capacity self.new.jobs ≡ vec_capacity self.old.jobs }
+    {
+        if self.left == 0 {
+            return None;
+        }
+        self.left -= 1;
+        Some(self.jobs.remove(0))
+    }
+
+    /// Takes a job back that is done. It needs no memory.
+    pub(crate) fn hold(&mut self, job: Job)
+        requires within { IsBatch self.old }
+        requires room { vec_len self.old.jobs < vec_capacity self.old.jobs }
+        ensures done { done_in self.new ≡ done_in self.old ++ job ∷ [] }
+        ensures left { (left_in self.new ≡ left_in self.old) × (self.new.left ≡ self.old.left) }
+        ensures within { IsBatch self.new }
+        ensures count { vec_len self.new.jobs ≡ vec_len self.old.jobs + 1 }
+        ensures room { vec_capacity self.new.jobs ≡ vec_capacity self.old.jobs }
+    {
+        self.jobs.push_reserved(job);
+    }
+
+    /// Sends the replies to the jobs that are done, by the result of the flush after them.
+    pub(crate) fn send_done<R: Wait>(&mut self, rt: &R, flushed: &Result<u64, Refusal<()>>)
+        requires { IsBatch self.old }
+        ensures replies { (replied : List JobOf) × RepliesToAll flushed.now (done_in self.old) replied }
+        ensures none { done_in self.new ≡ [] }
+        ensures left { KeepsLeft self.old self.new }
+    {
+        while self.jobs.len() > self.left {
+            let Some(mut done) = self.jobs.pop() else {
+                return;
+            };
+            reply_to_tasks(&mut done.tasks, flushed);
+            done.send(rt);
+        }
+    }
+
+    /// The jobs that are done, once none is left to do.
+    pub(crate) fn into_jobs(self) -> Vec<Job>
+        ensures { result ≡ self.jobs }
+    {
+        let Batch { jobs, left: _ } = self;
+        jobs
+    }
+}
+
+// Gives each task its reply, by its own result and that of the flush.
+fn reply_to_tasks(tasks: &mut Vec<Task>, flushed: &Result<u64, Refusal<()>>)
+    ensures { AllZip (RepliesTo flushed.now) tasks.old.items tasks.new.items }
+{
+    for task in tasks.iter_mut() {
+        let reply = reply_after(&task.request, &task.answer, flushed);
+        task.reply = reply;
+    }
+}
+
+/// Gives the tasks of each job their replies.
+pub(crate) fn reply_to_all(jobs: &mut Vec<Job>, flushed: &Result<u64, Refusal<()>>)
+    ensures { RepliesToAll flushed.now jobs.old.items jobs.new.items }
+{
+    for job in jobs.iter_mut() {
+        reply_to_tasks(&mut job.tasks, flushed);
+    }
+}
