@@ -1,7 +1,7 @@
 // Which command lines name which job with which options, and which name none. The contract cites clap's own definitions,
 // so these calls are tried.
 
-use silt_words::{Job, PlanRequest, Service, WordsError, read_words};
+use silt_words::{Job, PlanRequest, RunOptions, Service, WordsError, read_words};
 use std::process::Abort;
 use std::test::Fail;
 
@@ -86,6 +86,27 @@ fn reads_how_long_a_connection_may_be_silent(rt: HostRuntime) -> Result<(), Fail
     is_idle_after(&rt, "silt serve disk --sessions 2 0 --idle 60", Some(60))
 }
 
+// Whether a command line names a service in which a command waits so long for room.
+fn waits_for<S: AllocGlobal + Abort>(rt: &S, call: &str, wait: Option<u32>) -> Result<(), Fail> {
+    let words = words(rt, call)?;
+    let service = service_named(read_words(rt.alloc(), words.as_slice()));
+    assert_eq!(rt; service.map(|service| service.wait), Some(wait));
+    Ok(())
+}
+
+#[test]
+fn reads_how_long_a_command_may_wait(rt: HostRuntime) -> Result<(), Fail> {
+    waits_for(&rt, "silt serve disk 0", None)?;
+    waits_for(&rt, "silt serve disk 0 --idle 5", None)?;
+    waits_for(&rt, "silt serve disk 0 --wait 0", Some(0))?;
+    waits_for(&rt, "silt serve --wait=1 disk 0", Some(1))?;
+    waits_for(
+        &rt,
+        "silt serve disk --idle 5 0 --wait 4294967295",
+        Some(4_294_967_295),
+    )
+}
+
 // Whether a command line names a service with batches.
 fn is_pipelined<S: AllocGlobal + Abort>(rt: &S, call: &str, pipeline: bool) -> Result<(), Fail> {
     let words = words(rt, call)?;
@@ -124,7 +145,7 @@ struct OnFile<'a> {
 fn on_file(job: Result<Job<'_>, WordsError>) -> Option<OnFile<'_>> {
     let (letter, file, is_given) = match job {
         Ok(Job::Format { file, force, .. }) => ('f', file, force),
-        Ok(Job::Run { file, tend }) => ('r', file, tend),
+        Ok(Job::Run { file, options }) => ('r', file, options.tend),
         Ok(Job::Tend { file }) => ('t', file, false),
         Ok(Job::Check { file }) => ('c', file, false),
         _ => return None,
@@ -162,6 +183,30 @@ fn reads_the_options_without_a_number(rt: HostRuntime) -> Result<(), Fail> {
     has_flag(&rt, "silt run --tend disk", 'r', true)?;
     has_flag(&rt, "silt tend disk", 't', false)?;
     has_flag(&rt, "silt check disk", 'c', false)
+}
+
+fn runs_with<S: AllocGlobal + Abort>(
+    rt: &S,
+    call: &str,
+    tend: bool,
+    strict: bool,
+) -> Result<(), Fail> {
+    let words = words(rt, call)?;
+    let options = match read_words(rt.alloc(), words.as_slice()) {
+        Ok(Job::Run { options, .. }) => Some(options),
+        _ => None,
+    };
+    assert_eq!(rt; options, Some(RunOptions { tend, strict }));
+    Ok(())
+}
+
+#[test]
+fn reads_the_options_of_a_run(rt: HostRuntime) -> Result<(), Fail> {
+    runs_with(&rt, "silt run disk", false, false)?;
+    runs_with(&rt, "silt run disk --strict", false, true)?;
+    runs_with(&rt, "silt run --tend disk", true, false)?;
+    runs_with(&rt, "silt run --strict disk --tend", true, true)?;
+    runs_with(&rt, "silt run --tend --strict -- disk", true, true)
 }
 
 fn plans<S: AllocGlobal + Abort>(rt: &S, call: &str, expected: PlanRequest) -> Result<(), Fail> {
@@ -259,6 +304,12 @@ fn refuses_options_that_are_not_the_jobs(rt: HostRuntime) -> Result<(), Fail> {
         "silt run disk --force",
         "silt run disk --tend --tend",
         "silt run disk -t",
+        "silt run disk --strict --strict",
+        "silt run disk --strict=true",
+        "silt run disk --wait 1",
+        "silt tend disk --strict",
+        "silt check disk --strict",
+        "silt script 2 2 4 2 2 8 --strict",
         "silt run --tend",
         "silt tend",
         "silt tend disk --tend",
@@ -271,10 +322,26 @@ fn refuses_options_that_are_not_the_jobs(rt: HostRuntime) -> Result<(), Fail> {
         "silt plan 1000 100 --memory 4294967296",
         "silt plan 1_000 100",
         "silt plan 1,000 100",
+        "silt run disk --idle 1",
+        "silt run disk --pipeline",
+    ] {
+        names_no_job(&rt, call)?;
+    }
+    Ok(())
+}
+
+#[test]
+fn refuses_options_that_no_service_has(rt: HostRuntime) -> Result<(), Fail> {
+    for call in [
         "silt serve disk 0 --idle",
         "silt serve disk 0 --idle x",
         "silt serve disk 0 --idle 1 --idle 2",
-        "silt run disk --idle 1",
+        "silt serve disk 0 --strict",
+        "silt serve disk 0 --wait",
+        "silt serve disk 0 --wait x",
+        "silt serve disk 0 --wait -1",
+        "silt serve disk 0 --wait 4294967296",
+        "silt serve disk 0 --wait 1 --wait=1",
         "silt serve disk 0 --pipeline --pipeline",
         "silt serve disk 0 --pipeline=true",
         "silt serve disk 0 --pipeline=",
@@ -282,7 +349,6 @@ fn refuses_options_that_are_not_the_jobs(rt: HostRuntime) -> Result<(), Fail> {
         "silt serve disk --pipeline",
         "silt serve disk 0 --pipe",
         "silt --pipeline serve disk 0",
-        "silt run disk --pipeline",
     ] {
         names_no_job(&rt, call)?;
     }

@@ -9,6 +9,7 @@ use Rattle.silt_wire.specs.Numbers.{number_of}
 use Rattle.silt_words.specs.Jobs.{Named, NamedService, format, script, run, tend, check, dump, plan, serve}
 use Rattle.silt_words.specs.declared.job.Numbers.{Numbers}
 use Rattle.silt_words.specs.declared.job.PlanRequest.{PlanRequest}
+use Rattle.silt_words.specs.declared.job.RunOptions.{RunOptions}
 
 -- a value that has to be given
 abbrev pub value_rule : Text → Rule
@@ -47,7 +48,7 @@ abbrev pub script_app : App
 script_app = with_numbers (new_app (codes "script"))
 
 abbrev pub run_app : App
-run_app = with_flag (with_file (new_app (codes "run"))) (codes "tend")
+run_app = with_flag (with_flag (with_file (new_app (codes "run"))) (codes "tend")) (codes "strict")
 
 abbrev pub tend_app : App
 tend_app = with_file (new_app (codes "tend"))
@@ -63,8 +64,8 @@ plan_app = with_option (with_value (with_value (new_app (codes "plan")) (codes "
 
 abbrev pub serve_app : App
 serve_app =
-    with_flag (with_option (with_option (with_option (with_value (with_file (new_app (codes "serve"))) (codes "PORT"))
-    (codes "audit")) (codes "sessions")) (codes "idle")) (codes "pipeline")
+    with_flag (with_option (with_option (with_option (with_option (with_value (with_file (new_app (codes "serve"))) (codes "PORT"))
+    (codes "audit")) (codes "sessions")) (codes "idle")) (codes "wait")) (codes "pipeline")
 
 -- the program
 abbrev pub silt : App
@@ -113,12 +114,16 @@ limit_in rows name = option_map (option_and_then (λ limit. if limit == 0 then N
 abbrev pub flag_in : List Row → Text → Bool
 flag_in rows name = option_map_or (λ text. bytes_eq text (codes "true")) (first_of name rows) false
 
+-- how the lines of a run are to be answered
+abbrev pub run_options_in : List Row → RunOptions
+run_options_in rows = record { tend = flag_in rows (codes "tend"); strict = flag_in rows (codes "strict") }
+
 -- how a file is to be served
 abbrev pub service_in : List Row → Option NamedService
 service_in rows =
-    option_and_then (λ file. option_and_then (λ port. option_and_then (λ audit. option_and_then (λ sessions. option_map (λ idle.
-    record { file = file; port = port; audit = audit; sessions = sessions; idle = idle; pipeline = flag_in rows (codes "pipeline") })
-    (limit_in rows (codes "idle"))) (limit_in rows (codes "sessions"))) (option_in rows (codes "audit"))) (port_in rows)) (file_in rows)
+    option_and_then (λ file. option_and_then (λ port. option_and_then (λ audit. option_and_then (λ sessions. option_and_then (λ idle. option_map (λ wait.
+    record { file = file; port = port; audit = audit; sessions = sessions; idle = idle; wait = wait; pipeline = flag_in rows (codes "pipeline") })
+    (option_in rows (codes "wait"))) (limit_in rows (codes "idle"))) (limit_in rows (codes "sessions"))) (option_in rows (codes "audit"))) (port_in rows)) (file_in rows)
 
 -- what a store is to be planned for
 abbrev pub request_in : List Row → Option PlanRequest
@@ -132,7 +137,7 @@ abbrev pub job_in : Text → List Row → Option Named
 job_in name rows =
     if bytes_eq name (codes "format") then option_and_then (λ file. option_map (λ numbers. format file numbers (flag_in rows (codes "force"))) (numbers_in rows)) (file_in rows)
     else if bytes_eq name (codes "script") then option_map script (numbers_in rows)
-    else if bytes_eq name (codes "run") then option_map (λ file. run file (flag_in rows (codes "tend"))) (file_in rows)
+    else if bytes_eq name (codes "run") then option_map (λ file. run file (run_options_in rows)) (file_in rows)
     else if bytes_eq name (codes "tend") then option_map tend (file_in rows)
     else if bytes_eq name (codes "check") then option_map check (file_in rows)
     else if bytes_eq name (codes "dump") then option_map dump (file_in rows)

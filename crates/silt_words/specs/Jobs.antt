@@ -1,9 +1,10 @@
 -- The jobs that the words of a command line may name.
-use Rattle.std.specs.Prelude.{ℕ, Bool, List, Option}
+use Rattle.std.specs.Prelude.{ℕ, Bool, List, Option, Some, None}
 use Rattle.silt_words.specs.declared.job.Job.{Job}
 use Rattle.silt_words.specs.declared.job.Job.TheVariants.{Format, Script, Run, Tend, Check, Dump, Plan, Serve}
 use Rattle.silt_words.specs.declared.job.Numbers.{Numbers}
 use Rattle.silt_words.specs.declared.job.PlanRequest.{PlanRequest}
+use Rattle.silt_words.specs.declared.job.RunOptions.{RunOptions}
 use Rattle.silt_words.specs.declared.job.Service.{Service}
 
 -- how a file is to be served, by the text of its name
@@ -13,17 +14,18 @@ pub record NamedService : Type 0 where
   pub audit : Option ℕ
   pub sessions : Option ℕ
   pub idle : Option ℕ
+  pub wait : Option ℕ
   pub pipeline : Bool
 
 -- what a service is by that text
 abbrev pub named_service : Service → NamedService
-named_service service = record { file = service.file.now; port = service.port; audit = service.audit; sessions = service.sessions; idle = service.idle; pipeline = service.pipeline }
+named_service service = record { file = service.file.now; port = service.port; audit = service.audit; sessions = service.sessions; idle = service.idle; wait = service.wait; pipeline = service.pipeline }
 
 -- a job, by the text of its file's name
 pub data Named : Type 0 where
   format : List ℕ → Numbers → Bool → Named
   script : Numbers → Named
-  run : List ℕ → Bool → Named
+  run : List ℕ → RunOptions → Named
   tend : List ℕ → Named
   check : List ℕ → Named
   dump : List ℕ → Named
@@ -34,9 +36,20 @@ pub data Named : Type 0 where
 abbrev pub named : Job → Named
 named (Format file numbers force) = format file.now numbers force
 named (Script numbers) = script numbers
-named (Run file tending) = run file.now tending
+named (Run file options) = run file.now options
 named (Tend file) = tend file.now
 named (Check file) = check file.now
 named (Dump file) = dump file.now
 named (Plan request) = plan request
 named (Serve service) = serve (named_service service)
+
+-- the name of the file that a job works on, if it works on one
+abbrev pub job_file : Job → Option (List ℕ)
+job_file (Format file numbers force) = Some file.now
+job_file (Script numbers) = None
+job_file (Run file options) = Some file.now
+job_file (Tend file) = Some file.now
+job_file (Check file) = Some file.now
+job_file (Dump file) = Some file.now
+job_file (Plan request) = None
+job_file (Serve service) = Some service.file.now

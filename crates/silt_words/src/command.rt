@@ -88,7 +88,8 @@ fn run<'a>(alloc: Global) -> Result<Command<'a>, AllocError>
     ensures { IfOk result (JoinsAs run_app) }
 {
     let with_file = add_value(Ok(Command::new(alloc, "run")), alloc, "FILE");
-    add_flag(with_file, alloc, "tend")
+    let with_tend = add_flag(with_file, alloc, "tend");
+    add_flag(with_tend, alloc, "strict")
 }
 
 fn plan<'a>(alloc: Global) -> Result<Command<'a>, AllocError>
@@ -107,7 +108,8 @@ fn serve<'a>(alloc: Global) -> Result<Command<'a>, AllocError>
     let with_audit = add_option(with_port, alloc, "audit");
     let with_sessions = add_option(with_audit, alloc, "sessions");
     let with_idle = add_option(with_sessions, alloc, "idle");
-    add_flag(with_idle, alloc, "pipeline")
+    let with_wait = add_option(with_idle, alloc, "wait");
+    add_flag(with_wait, alloc, "pipeline")
 }
 
 // The command with one more below it, if that one was made.

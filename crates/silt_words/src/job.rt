@@ -12,6 +12,15 @@ pub struct Numbers {
     pub sorted_capacity: u32,
 }
 
+/// How the lines of a run are to be answered.
+#[derive(Clone, Copy, Debug, PartialEq, Eq)]
+pub struct RunOptions {
+    /// Whether the background work that is due is done between the lines.
+    pub tend: bool,
+    /// Whether the status says that a line was refused.
+    pub strict: bool,
+}
+
 /// How the store in a file is to be served.
 #[derive(Clone, Copy, Debug)]
 pub struct Service<'a> {
@@ -24,6 +33,8 @@ pub struct Service<'a> {
     pub sessions: Option<u32>,
     /// After how many seconds, at least one, a silent connection is closed. None if it never is.
     pub idle: Option<u32>,
+    /// How many seconds a command waits for room at most. None if the option is left out.
+    pub wait: Option<u32>,
     /// Whether the commands that a connection sent together are done as one batch, with one flush.
     pub pipeline: bool,
 }
@@ -50,10 +61,10 @@ pub enum Job<'a> {
     },
     /// Replies to lines with a new store in memory.
     Script(Numbers),
-    /// Replies to lines with the store in a file. With `tend` it does background work between them.
+    /// Replies to lines with the store in a file.
     Run {
         file: &'a str,
-        tend: bool,
+        options: RunOptions,
     },
     /// Does all background work of the store in a file.
     Tend {
@@ -71,6 +82,27 @@ pub enum Job<'a> {
     Plan(PlanRequest),
     /// Serves the sessions of a port with the store in a file.
     Serve(Service<'a>),
+}
+
+impl<'a> Job<'a> {
+    ghost use Rattle.std.specs.Prelude.{◌≡◌, option_map};
+    ghost use Rattle.silt_words.specs.Jobs.{job_file};
+
+    /// The name of the file that it works on, if it works on one.
+    pub fn file(&self) -> Option<&'a str>
+        ensures { option_map (λ file. file.now) result ≡ job_file self.now }
+    {
+        match *self {
+            Job::Format { file, .. } => Some(file),
+            Job::Run { file, .. } => Some(file),
+            Job::Tend { file } => Some(file),
+            Job::Check { file } => Some(file),
+            Job::Dump { file } => Some(file),
+            Job::Serve(service) => Some(service.file),
+            Job::Script(_) => None,
+            Job::Plan(_) => None,
+        }
+    }
 }
 
 /// Why the words name no job.

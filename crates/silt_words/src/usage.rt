@@ -1,38 +1,11 @@
-// Which words name a job, and what is wrong with words that name none.
+// What is wrong with words that name no job, and what people are shown then.
 
+use crate::forms::{Form, Forms, form_of};
 use silt_wire::number_of;
 use std::fmt;
 
 /// The version of the program.
 pub const VERSION: &str = "0.1.0";
-
-/// The forms of all jobs, with what each value may be.
-pub const FORMS: &str = "silt format FILE V B CAP NL NH S [--force]  makes an empty store in a file
-silt run FILE [--tend]                      replies to the lines of the standard input
-silt tend FILE                              does all background work that is due
-silt check FILE                             prints what the store in a file consists of
-silt dump FILE                              prints a line for each key that puts its value
-silt plan KEYS V [--memory BYTES]           prints the six numbers of a store for so many keys
-silt script V B CAP NL NH S                 runs the lives of the standard input in memory
-silt serve FILE PORT [OPTION]...            replies to the lines of a port's connections
-
-V     bytes of a value, 1 to 4096
-B     buckets of a log's table, a power of two, 2 to 32768
-CAP   rows of a log, 1 to 4 times B
-NL    log regions, 2 to 8
-NH    hash regions, 1 to 16
-S     put rows of the store, and entries of a sorted region, 1 to 16777216
-KEYS  keys that have values at one time
-PORT  a port of this machine, at most 65535; 0 lets the system choose
-
---force           formats a file that holds other data; they are lost
---tend            converts and merges between the lines, as long as work is due
---memory BYTES    what the store may take of memory, merge included
---audit N         records up to N calls in memory and refuses all later ones; the record is not printed
---sessions M      ends after M sessions; 0 has no end
---idle SECONDS    closes a connection that sends nothing for so long; 0 never does
---pipeline        does the commands that a connection sent together with one flush
-";
 
 /// What is wrong with words that name no job.
 #[derive(Clone, Copy, Debug)]
@@ -101,6 +74,19 @@ pub fn asks_version(words: &[String]) -> bool {
     matches!(word, Some("--version" | "-V"))
 }
 
+/// The forms to show for words that name no job: those of the job that they name, if they name one, and else all. The
+/// first word is the program's own.
+pub fn forms_for(words: &[String]) -> Forms {
+    let Some(form) = words.get(1).and_then(|job| form_of(job)) else {
+        return Forms::All;
+    };
+    if asks_help(words) {
+        Forms::Help(form)
+    } else {
+        Forms::Of(form)
+    }
+}
+
 /// The first fault of the words. The first word is the program's own. There is no fault if they ask for help or for the
 /// version.
 pub fn complaint_of(words: &[String]) -> Option<Complaint<'_>> {
@@ -128,69 +114,6 @@ fn asks_help(words: &[String]) -> bool {
     false
 }
 
-/// An option of a job.
-#[derive(Clone, Copy, Debug)]
-struct Choice {
-    name: &'static str,
-    has_number: bool,
-}
-
-/// What may follow the word for a job: its values in order, and its options, at most four.
-#[derive(Clone, Copy, Debug)]
-struct Form {
-    values: &'static [&'static str],
-    options: &'static [Choice],
-}
-
-const FORCE: Choice = Choice {
-    name: "--force",
-    has_number: false,
-};
-
-const TEND: Choice = Choice {
-    name: "--tend",
-    has_number: false,
-};
-
-const MEMORY: Choice = Choice {
-    name: "--memory",
-    has_number: true,
-};
-
-const AUDIT: Choice = Choice {
-    name: "--audit",
-    has_number: true,
-};
-
-const SESSIONS: Choice = Choice {
-    name: "--sessions",
-    has_number: true,
-};
-
-const IDLE: Choice = Choice {
-    name: "--idle",
-    has_number: true,
-};
-
-const PIPELINE: Choice = Choice {
-    name: "--pipeline",
-    has_number: false,
-};
-
-// What may follow this word for a job.
-fn form_of(job: &str) -> Option<Form> {
-    let (values, options): (&'static [&'static str], &'static [Choice]) = match job {
-        "format" => (&["FILE", "V", "B", "CAP", "NL", "NH", "S"], &[FORCE]),
-        "script" => (&["V", "B", "CAP", "NL", "NH", "S"], &[]),
-        "run" => (&["FILE"], &[TEND]),
-        "tend" | "check" | "dump" => (&["FILE"], &[]),
-        "plan" => (&["KEYS", "V"], &[MEMORY]),
-        "serve" => (&["FILE", "PORT"], &[AUDIT, SESSIONS, IDLE, PIPELINE]),
-        _ => return None,
-    };
-    Some(Form { values, options })
-}
-
 // What is wrong with the words after the job's, which must have this form.
 fn form_complaint(form: Form, words: &[String]) -> Option<Complaint<'_>> {
     let mut walk = Walk::new(form);
@@ -211,7 +134,7 @@ struct Walk {
     /// The option whose number is the next word.
     awaited: Option<&'static str>,
     /// Which options of the form were met.
-    met: [bool; 4],
+    met: [bool; 5],
     /// Whether the word `--` was met. After it every word is a value.
     is_past_options: bool,
 }
@@ -222,7 +145,7 @@ impl Walk {
             form,
             place: 0,
             awaited: None,
-            met: [false; 4],
+            met: [false; 5],
             is_past_options: false,
         }
     }

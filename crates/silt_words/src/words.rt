@@ -1,12 +1,12 @@
 // The words of the command line.
 ghost use Rattle.std.specs.Prelude.{◌≡◌, Some, None, MatchResult, map, option_map, string_bytes};
 ghost use Rattle.clap.specs.Words.{found_of, rows_of, subcommand_rows_of};
-ghost use Rattle.silt_words.specs.Commands.{file_in, flag_in, job_in, job_met, job_named, limit_in, number_in, numbers_in, option_in, port_in, request_in, service_in};
+ghost use Rattle.silt_words.specs.Commands.{file_in, flag_in, job_in, job_met, job_named, limit_in, number_in, numbers_in, option_in, port_in, request_in, run_options_in, service_in};
 ghost use Rattle.silt_words.specs.Jobs.{named, named_service};
 ghost use Rattle.silt_words.specs.declared.job.WordsError.TheVariants.{Usage};
 
 use crate::command::command;
-use crate::job::{Job, Numbers, PlanRequest, Service, WordsError};
+use crate::job::{Job, Numbers, PlanRequest, RunOptions, Service, WordsError};
 use clap::ArgMatches;
 use clap::error::ErrorKind;
 use silt_wire::number_of;
@@ -73,6 +73,15 @@ fn is_given(matches: &ArgMatches<'_>, name: &str) -> bool
     }
 }
 
+fn run_options_of(matches: &ArgMatches<'_>) -> RunOptions
+    ensures { result ≡ run_options_in (rows_of (found_of matches.now)) }
+{
+    RunOptions {
+        tend: is_given(matches, "tend"),
+        strict: is_given(matches, "strict"),
+    }
+}
+
 fn service_of<'a>(matches: &ArgMatches<'a>) -> Option<Service<'a>>
     ensures { option_map named_service result ≡ service_in (rows_of (found_of matches.now)) }
 {
@@ -82,6 +91,7 @@ fn service_of<'a>(matches: &ArgMatches<'a>) -> Option<Service<'a>>
         audit: option_at(matches, "audit")?,
         sessions: limit_at(matches, "sessions")?,
         idle: limit_at(matches, "idle")?,
+        wait: option_at(matches, "wait")?,
         pipeline: is_given(matches, "pipeline"),
     })
 }
@@ -108,7 +118,7 @@ fn job_of<'a>(name: &str, matches: &ArgMatches<'a>) -> Option<Job<'a>>
         "script" => Some(Job::Script(numbers_of(matches)?)),
         "run" => Some(Job::Run {
             file: file_of(matches)?,
-            tend: is_given(matches, "tend"),
+            options: run_options_of(matches),
         }),
         "tend" => Some(Job::Tend {
             file: file_of(matches)?,

@@ -1,0 +1,290 @@
+// How each job is called, as people are shown it.
+
+use std::fmt;
+
+/// An option of a job.
+#[derive(Clone, Copy, Debug)]
+pub struct Choice {
+    pub name: &'static str,
+    pub has_number: bool,
+    /// How it is written, and what it does.
+    line: &'static str,
+}
+
+/// How a job is called: what may follow its word.
+#[derive(Clone, Copy, Debug)]
+pub struct Form {
+    job: &'static str,
+    /// How the call is written, and what the job does.
+    line: &'static str,
+    /// The names of its values, in order.
+    pub values: &'static [&'static str],
+    /// Its options, at most five.
+    pub options: &'static [Choice],
+    /// The lines that it replies to, in parts.
+    input: &'static [&'static str],
+}
+
+const FORCE: Choice = Choice {
+    name: "--force",
+    has_number: false,
+    line: "--force           formats a file that holds keys or other data; they are lost",
+};
+
+const TEND: Choice = Choice {
+    name: "--tend",
+    has_number: false,
+    line: "--tend            converts and merges between the lines, as long as work is due",
+};
+
+const STRICT: Choice = Choice {
+    name: "--strict",
+    has_number: false,
+    line: "--strict          ends with status 3 if a line was refused",
+};
+
+const MEMORY: Choice = Choice {
+    name: "--memory",
+    has_number: true,
+    line: "--memory BYTES    what the store may take of memory, merge included",
+};
+
+const AUDIT: Choice = Choice {
+    name: "--audit",
+    has_number: true,
+    line: "--audit N         refuses every call after the first N, which it records in memory; the record is not printed",
+};
+
+const SESSIONS: Choice = Choice {
+    name: "--sessions",
+    has_number: true,
+    line: "--sessions M      ends after M sessions; 0 has no end",
+};
+
+const IDLE: Choice = Choice {
+    name: "--idle",
+    has_number: true,
+    line: "--idle SECONDS    closes a connection that sends nothing for so long; 0 never does",
+};
+
+const WAIT: Choice = Choice {
+    name: "--wait",
+    has_number: true,
+    line: "--wait SECONDS    how long a command waits for room; 10 if left out, 0 refuses at once",
+};
+
+const PIPELINE: Choice = Choice {
+    name: "--pipeline",
+    has_number: false,
+    line: "--pipeline        does the commands that a connection sent together with one flush",
+};
+
+/// The lines that every job with an input replies to.
+const EVENTS: &str = "put KEY VALUE     sets the value of a key
+delete KEY        deletes the value of a key
+swap KEY OLD NEW  sets the value of a key to NEW if it is OLD
+get KEY           prints the value of a key
+flush             makes all accepted commands safe from crashes
+";
+
+/// The lines for background work.
+const STEPS: &str = "convert, merge    does one step of background work
+";
+
+/// The lines that divide a script into lives.
+const STOPS: &str = "stop K FILL       crashes the life before it at its K-th write or sync
+";
+
+/// The forms of all jobs.
+const FORMS: [Form; 8] = [
+    Form {
+        job: "format",
+        line: "silt format FILE V B CAP NL NH S [--force]  makes an empty store in a file",
+        values: &["FILE", "V", "B", "CAP", "NL", "NH", "S"],
+        options: &[FORCE],
+        input: &[],
+    },
+    Form {
+        job: "run",
+        line: "silt run FILE [--tend] [--strict]           replies to the lines of the standard input",
+        values: &["FILE"],
+        options: &[TEND, STRICT],
+        input: &[EVENTS, STEPS],
+    },
+    Form {
+        job: "tend",
+        line: "silt tend FILE                              does all background work that is due",
+        values: &["FILE"],
+        options: &[],
+        input: &[],
+    },
+    Form {
+        job: "check",
+        line: "silt check FILE                             prints what the store in a file consists of",
+        values: &["FILE"],
+        options: &[],
+        input: &[],
+    },
+    Form {
+        job: "dump",
+        line: "silt dump FILE                              prints a line for each key that puts its value",
+        values: &["FILE"],
+        options: &[],
+        input: &[],
+    },
+    Form {
+        job: "plan",
+        line: "silt plan KEYS V [--memory BYTES]           prints the six numbers of a store for so many keys",
+        values: &["KEYS", "V"],
+        options: &[MEMORY],
+        input: &[],
+    },
+    Form {
+        job: "script",
+        line: "silt script V B CAP NL NH S                 runs the lives of the standard input in memory",
+        values: &["V", "B", "CAP", "NL", "NH", "S"],
+        options: &[],
+        input: &[EVENTS, STEPS, STOPS],
+    },
+    Form {
+        job: "serve",
+        line: "silt serve FILE PORT [OPTION]...            replies to the lines of a port's connections",
+        values: &["FILE", "PORT"],
+        options: &[AUDIT, SESSIONS, IDLE, WAIT, PIPELINE],
+        input: &[EVENTS],
+    },
+];
+
+/// What a value may be.
+#[derive(Clone, Copy, Debug)]
+struct Value {
+    name: &'static str,
+    line: &'static str,
+}
+
+/// What each value may be.
+const VALUES: [Value; 9] = [
+    Value {
+        name: "FILE",
+        line: "FILE  the file of the store",
+    },
+    Value {
+        name: "V",
+        line: "V     bytes of a value, 1 to 4096",
+    },
+    Value {
+        name: "B",
+        line: "B     buckets of a log's table, a power of two, 2 to 32768",
+    },
+    Value {
+        name: "CAP",
+        line: "CAP   rows of a log, 1 to 4 times B",
+    },
+    Value {
+        name: "NL",
+        line: "NL    log regions, 2 to 8",
+    },
+    Value {
+        name: "NH",
+        line: "NH    hash regions, 1 to 16",
+    },
+    Value {
+        name: "S",
+        line: "S     put rows of the store, and entries of a sorted region, 1 to 16777216",
+    },
+    Value {
+        name: "KEYS",
+        line: "KEYS  keys that have values at one time",
+    },
+    Value {
+        name: "PORT",
+        line: "PORT  a port of this machine, at most 65535; 0 lets the system choose",
+    },
+];
+
+/// The form of the job of this word.
+pub fn form_of(job: &str) -> Option<Form> {
+    for form in FORMS {
+        if form.job == job {
+            return Some(form);
+        }
+    }
+    None
+}
+
+/// Which forms people are shown.
+#[derive(Clone, Copy, Debug)]
+pub enum Forms {
+    /// Those of all jobs.
+    All,
+    /// That of one job.
+    Of(Form),
+    /// That of one job, and the lines that it replies to.
+    Help(Form),
+}
+
+impl fmt::Display for Forms {
+    fn fmt<W: fmt::Write>(&self, f: &mut fmt::Formatter<W>) -> fmt::Result {
+        match self {
+            Forms::All => write_all_forms(f),
+            Forms::Of(form) => write_form(form, f),
+            Forms::Help(form) => {
+                write_form(form, f)?;
+                write_input(form, f)
+            }
+        }
+    }
+}
+
+fn write_all_forms<W: fmt::Write>(f: &mut fmt::Formatter<W>) -> fmt::Result {
+    for form in FORMS {
+        writeln!(f, "{}", form.line)?;
+    }
+    f.write_str("\n")?;
+    for value in VALUES {
+        writeln!(f, "{}", value.line)?;
+    }
+    f.write_str("\n")?;
+    for form in FORMS {
+        write_options(form.options, f)?;
+    }
+    Ok(())
+}
+
+fn write_options<W: fmt::Write>(options: &[Choice], f: &mut fmt::Formatter<W>) -> fmt::Result {
+    for option in options {
+        writeln!(f, "{}", option.line)?;
+    }
+    Ok(())
+}
+
+// Writes the form of one job, with what its values and options may be.
+fn write_form<W: fmt::Write>(form: &Form, f: &mut fmt::Formatter<W>) -> fmt::Result {
+    writeln!(f, "{}\n", form.line)?;
+    for value in VALUES {
+        if form.values.contains(&value.name) {
+            writeln!(f, "{}", value.line)?;
+        }
+    }
+    if !form.options.is_empty() {
+        f.write_str("\n")?;
+    }
+    write_options(form.options, f)
+}
+
+// Writes the lines that the job of this form replies to.
+fn write_input<W: fmt::Write>(form: &Form, f: &mut fmt::Formatter<W>) -> fmt::Result {
+    if form.input.is_empty() {
+        return Ok(());
+    }
+    f.write_str("\n")?;
+    for part in form.input {
+        f.write_str(part)?;
+    }
+    f.write_str(
+        "
+KEY is 40 hexadecimal digits, or = and a name. VALUE, OLD and NEW have two hexadecimal digits a byte.
+docs/program.md has these lines, and the replies to them.
+",
+    )
+}
