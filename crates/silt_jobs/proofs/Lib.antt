@@ -4,6 +4,7 @@ pub mod Fits
 pub mod Lives
 pub mod NewStores
 pub mod Outcomes
+pub mod PlanCosts
 pub mod Plans
 pub mod Readings
 pub mod Refusals

@@ -1,5 +1,5 @@
 -- How scripts and lives may end.
-use Rattle.std.proofs.Common.{◌≡◌, ◌≢◌, ◌⊎◌, ◌∙◌, ℕ, Bool, List, Option, Result, Ok, Err, inl, inr, refl, sym, subst, codes}
+use Rattle.std.proofs.Common.{◌≡◌, ◌⊎◌, ◌&&◌, ℕ, Bool, true, false, cond, List, Option, Result, Ok, Err, inl, inr, refl, sym, subst, codes}
 use Rattle.std.specs.Prelude.{IfOk}
 use Rattle.std.specs.Io.KnownBytes.{Appends}
 use Rattle.silt_disk.specs.Layout.{Shape}
@@ -13,9 +13,12 @@ use Rattle.silt_store_set.specs.Opening.{OpeningCause}
 use Rattle.silt_wire.specs.declared.sessions.SessionEnd.{SessionEnd}
 use Rattle.silt_wire.specs.declared.sessions.SessionEnd.TheVariants.{End, ReadFault, WriteFault, NoMemory as WantsMemory}
 use Rattle.silt_wire.specs.Statuses.{IsStatus}
-use Rattle.silt_jobs.specs.Jobs.{AnswersReader, EndsRun, EndsTend, EndsTending, Prints, PrintsRun, PrintsTend, status_of}
+use Rattle.silt_words.specs.declared.job.RunOptions.{RunOptions}
+use Rattle.silt_jobs.specs.Jobs.{AnswersReader, EndsRun, EndsTend, EndsTending, IsRunStatus, Prints, PrintsRun, PrintsTend, run_status}
 use Rattle.silt_jobs.specs.NewStores.{NewStoreCause}
 use Rattle.silt_jobs.specs.Scripts.{ScriptCause, PrintsRefusal, reply_line}
+use Rattle.silt_jobs.specs.Tally.{has_refusals}
+use Rattle.silt_jobs.specs.declared.tally.Tally.{Tally}
 
 -- a script is refused as a new store is
 pub refused_as_new : (shape : Shape) (refusal : Refusal MemFault) → NewStoreCause shape refusal → ScriptCause shape refusal
@@ -31,59 +34,70 @@ reported_refused shape (Err error) before after refusal cause h = h
 
 -- ---- lives
 
--- the status of a session that was not at the end of the lines
-status_broken : (end : SessionEnd) → status_of end ≡ 1 → end ≢ End
-status_broken End is e = absurd (cc)
-status_broken ReadFault is e = absurd (cc)
-status_broken WriteFault is e = absurd (cc)
-status_broken WantsMemory is e = absurd (cc)
+-- a strict run has two statuses at the end of its lines
+abbrev end_status : Bool → ℕ
+end_status refused = cond refused 3 0
 
-status_done : (end : SessionEnd) → status_of end ≡ 0 → end ≡ End
-status_done End is = refl
-status_done ReadFault is = absurd (cc)
-status_done WriteFault is = absurd (cc)
-status_done WantsMemory is = absurd (cc)
+end_cases : (refused : Bool) → (end_status refused ≡ 0) ⊎ (end_status refused ≡ 3)
+end_cases true = inr refl
+end_cases false = inl refl
 
-status_cases : (end : SessionEnd) → (status_of end ≡ 0) ⊎ (status_of end ≡ 1)
-status_cases End = inl refl
-status_cases ReadFault = inr refl
-status_cases WriteFault = inr refl
-status_cases WantsMemory = inr refl
+run_cases : (options : RunOptions) (tally : Tally) (end : SessionEnd) → (run_status options tally end ≡ 0) ⊎ ((run_status options tally end ≡ 1) ⊎ (run_status options tally end ≡ 3))
+run_cases options tally End = elim (end_cases (options.strict && has_refusals tally)) [
+  | inl is ↦ inl is
+  | inr is ↦ inr (inr is)
+]
+run_cases options tally ReadFault = inr (inl refl)
+run_cases options tally WriteFault = inr (inl refl)
+run_cases options tally WantsMemory = inr (inl refl)
 
-module _ {D F : Type 0} (facts : Ghosts D F) (tend : Bool) (reported_refusal : Refusal F → Type 0) (reported_session : SessionEnd → D → Type 0) where
-  -- what the status says of the session
-  broken_by_status : (end : SessionEnd) (status : ℕ) (old new : D) (remaining left before after : Option (List ℕ)) → status ≡ status_of end
-      → EndsRun facts tend reported_session end old new remaining left before after
-      → (status_of end ≡ 0) ⊎ (status_of end ≡ 1) → IsStatus (PrintsRun facts tend reported_refusal reported_session old new remaining left before after) status
-  broken_by_status end status old new remaining left before after is h (inl e) = inl (is ∙ e)
-  broken_by_status end status old new remaining left before after is h (inr e) = inr (is ∙ e, inr (end, status_broken end e, h))
+-- what holds with a status, by cases of the status
+by_status : (Broken : Type 0) (Lives : ℕ → Type 0) (status : ℕ) → (Lives 1 → Broken) → Lives status → (status ≡ 0) ⊎ ((status ≡ 1) ⊎ (status ≡ 3)) → IsRunStatus Broken (Lives 3) status
+by_status Broken Lives status step h (inl is) = inl (inl is)
+by_status Broken Lives status step h (inr (inl is)) = inl (inr (is, step (subst Lives is h)))
+by_status Broken Lives status step h (inr (inr is)) = inr (is, subst Lives is h)
 
+-- weaker statements than those with the statuses 1 and 3
+pub run_weaker : {E Broken Strict P Q : Type 0} (result : Result ℕ E) → (Broken → P) → (Strict → Q) → IfOk result (IsRunStatus Broken Strict) → IfOk result (IsRunStatus P Q)
+run_weaker (Ok status) broken strict (inl (inl done)) = inl (inl done)
+run_weaker (Ok status) broken strict (inl (inr h)) = inl (inr (h.0, broken h.1))
+run_weaker (Ok status) broken strict (inr h) = inr (h.0, strict h.1)
+run_weaker (Err error) broken strict h = h
+
+-- only status 1, with what was reported
+pub run_broken : {E : Type 0} (P Q : Type 0) (result : Result ℕ E) → IfOk result (IsStatus P) → IfOk result (IsRunStatus P Q)
+run_broken P Q (Ok status) h = inl h
+run_broken P Q (Err error) h = h
+
+module _ {D F : Type 0} (facts : Ghosts D F) (options : RunOptions) (tally : Tally) (reported_refusal : Refusal F → Type 0) (reported_session : ℕ → SessionEnd → D → Type 0) where
   -- the store was opened, and its session ended in some way, which the notes say
   pub ran_reported : {E : Type 0} (Heard : SessionEnd → Type 0) (result : Result ℕ E) (old new : D) (first last : CoreState D) (remaining left before after : Option (List ℕ))
-      → Opens facts (facts.content old) first → new ≡ last.disk → ((end : SessionEnd) → Heard end → reported_session end new)
-      → IfOk result (λ status. (end : SessionEnd) × (status ≡ status_of end) × AnswersReader facts tend end first last remaining left before after × Heard end)
-      → IfOk result (IsStatus (PrintsRun facts tend reported_refusal reported_session old new remaining left before after))
+      → Opens facts (facts.content old) first → new ≡ last.disk → ((end : SessionEnd) → Heard end → reported_session first.shape.value_len end new)
+      → IfOk result (λ status. (end : SessionEnd) × (status ≡ run_status options tally end) × AnswersReader facts options.tend end first last remaining left before after × Heard end)
+      → IfOk result (IsRunStatus (PrintsRun facts options tally reported_refusal reported_session old new remaining left before after)
+      (EndsRun facts options tally reported_session 3 old new remaining left before after))
   ran_reported Heard (Ok status) old new first last remaining left before after opens closed reports h =
-      broken_by_status h.0 status old new remaining left before after h.1 (first, last, opens, h.2, closed, reports h.0 h.3) (status_cases h.0)
+      by_status _ (λ (s : ℕ). EndsRun facts options tally reported_session s old new remaining left before after) status (λ life. inr life)
+      (h.0, h.1, first, last, opens, h.2, closed, reports h.0 h.3)
+      (subst (λ (s : ℕ). (s ≡ 0) ⊎ ((s ≡ 1) ⊎ (s ≡ 3))) (sym h.1) (run_cases options tally h.0))
   ran_reported Heard (Err error) old new first last remaining left before after opens closed reports h = h
 
   -- with status 0 the session was at the end of the lines
   pub ran_done : {E : Type 0} (Heard : SessionEnd → Type 0) (result : Result ℕ E) (old new : D) (first last : CoreState D) (remaining left before after : Option (List ℕ))
-      → Opens facts (facts.content old) first → new ≡ last.disk → ((end : SessionEnd) → Heard end → reported_session end new)
-      → IfOk result (λ status. (end : SessionEnd) × (status ≡ status_of end) × AnswersReader facts tend end first last remaining left before after × Heard end)
-      → result ≡ Ok 0 → EndsRun facts tend reported_session End old new remaining left before after
+      → Opens facts (facts.content old) first → new ≡ last.disk → ((end : SessionEnd) → Heard end → reported_session first.shape.value_len end new)
+      → IfOk result (λ status. (end : SessionEnd) × (status ≡ run_status options tally end) × AnswersReader facts options.tend end first last remaining left before after × Heard end)
+      → result ≡ Ok 0 → EndsRun facts options tally reported_session 0 old new remaining left before after
   ran_done Heard result old new first last remaining left before after opens closed reports h is =
-      let reported : (end : SessionEnd) × (0 ≡ status_of end) × AnswersReader facts tend end first last remaining left before after × Heard end =
-      subst (λ r. IfOk r (λ status. (end : SessionEnd) × (status ≡ status_of end) × AnswersReader facts tend end first last remaining left before after × Heard end)) is h in
-      subst (λ e. EndsRun facts tend reported_session e old new remaining left before after) (status_done reported.0 (sym reported.1))
-      (first, last, opens, reported.2, closed, reports reported.0 reported.3)
+      let reported : (end : SessionEnd) × (0 ≡ run_status options tally end) × AnswersReader facts options.tend end first last remaining left before after × Heard end =
+      subst (λ r. IfOk r (λ status. (end : SessionEnd) × (status ≡ run_status options tally end) × AnswersReader facts options.tend end first last remaining left before after × Heard end)) is h in
+      (reported.0, reported.1, first, last, opens, reported.2, closed, reports reported.0 reported.3)
 
   -- the store was not opened
-  pub unopened_reported : {E : Type 0} (result : Result ℕ E) (old new : D) (refusal : Refusal F) (remaining left before after : Option (List ℕ)) → OpeningCause facts (facts.content old) new refusal
+  pub unopened_reported : {E : Type 0} (Q : Type 0) (result : Result ℕ E) (old new : D) (refusal : Refusal F) (remaining left before after : Option (List ℕ)) → OpeningCause facts (facts.content old) new refusal
       → IfOk result (λ status. (status ≡ 1) × (Prints refusal before after × reported_refusal refusal))
-      → IfOk result (IsStatus (PrintsRun facts tend reported_refusal reported_session old new remaining left before after))
-  unopened_reported (Ok status) old new refusal remaining left before after cause h = inr (h.0, inl (refusal, cause, h.1.0, h.1.1))
-  unopened_reported (Err error) old new refusal remaining left before after cause h = h
+      → IfOk result (IsRunStatus (PrintsRun facts options tally reported_refusal reported_session old new remaining left before after) Q)
+  unopened_reported Q (Ok status) old new refusal remaining left before after cause h = inl (inr (h.0, inl (refusal, cause, h.1.0, h.1.1)))
+  unopened_reported Q (Err error) old new refusal remaining left before after cause h = h
 
 -- ---- background work
 

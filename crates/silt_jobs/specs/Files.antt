@@ -7,31 +7,34 @@ use Rattle.silt_disk.specs.declared.disk.Disk.{Ghosts}
 use Rattle.silt_event.specs.declared.refusal.Refusal.{Refusal}
 use Rattle.silt_event.specs.declared.refusal.Refusal.TheVariants.{BadGeometry, Device}
 use Rattle.silt_wire.specs.declared.sessions.SessionEnd.{SessionEnd}
-use Rattle.silt_wire.specs.declared.sessions.SessionEnd.TheVariants.{End}
 use Rattle.silt_words.specs.declared.job.Numbers.{Numbers}
+use Rattle.silt_words.specs.declared.job.RunOptions.{RunOptions}
 use Rattle.silt_jobs.specs.Jobs.{EndsCheck, EndsFormat, EndsRun, EndsTend, Prints, PrintsCheck, PrintsFormat, PrintsRun, PrintsTend}
 use Rattle.silt_jobs.specs.Numbers.{shape_asked}
 use Rattle.silt_jobs.specs.HeldData.{Looks, MayOverwrite, MustStay}
 use Rattle.silt_jobs.specs.declared.notes.Notes.{Ghosts as NotesOf}
 use Rattle.silt_jobs.specs.declared.held_data.Holding.{Holding}
+use Rattle.silt_jobs.specs.declared.tally.Tally.{Tally}
 
 -- the line says that the source gave no disk, and there is a cause
 abbrev pub PrintsNoDisk : {E : Type 0} → (E → Type 0) → Option (List ℕ) → Option (List ℕ) → Type 0
 PrintsNoDisk {E} IsCause before after = (error : E) × IsCause error × Prints (Device (tt {0})) before after
 
-module _ {D F : Type 0} (facts : Ghosts D F) where
-  -- One life on a disk that the source opened. The disk is returned as the store left it, and notes say which of its calls failed.
-  abbrev pub RunsFile : Bool → (SessionEnd → D → Type 0) → (D → Type 0) → Option D → Option (List ℕ) → Option (List ℕ) → Option (List ℕ) → Option (List ℕ) → Type 0
-  RunsFile tend reported_session Opened given remaining left before after =
-      (old : D) × Opened old × IsSomeAnd given (λ new. EndsRun facts tend reported_session End old new remaining left before after)
+module _ {D F : Type 0} (facts : Ghosts D F) (options : RunOptions) (tally : Tally) where
+  -- One life with this status, on a disk that the source opened. The disk is returned as the store left it, and notes say which of its calls
+  -- failed.
+  abbrev pub RunsFile : ℕ → (ℕ → SessionEnd → D → Type 0) → (D → Type 0) → Option D → Option (List ℕ) → Option (List ℕ) → Option (List ℕ) → Option (List ℕ) → Type 0
+  RunsFile status reported_session Opened given remaining left before after =
+      (old : D) × Opened old × IsSomeAnd given (λ new. EndsRun facts options tally reported_session status old new remaining left before after)
 
   -- the line says that the source opened no disk, or why its store was not opened, or the session on it broke off
-  abbrev pub PrintsRunFile : {E : Type 0} → Bool → (Refusal F → Type 0) → (SessionEnd → D → Type 0) → (D → Type 0) → (E → Type 0)
+  abbrev pub PrintsRunFile : {E : Type 0} → (Refusal F → Type 0) → (ℕ → SessionEnd → D → Type 0) → (D → Type 0) → (E → Type 0)
       → Option D → Option (List ℕ) → Option (List ℕ) → Option (List ℕ) → Option (List ℕ) → Type 0
-  PrintsRunFile tend reported_refusal reported_session Opened NotOpened given remaining left before after =
+  PrintsRunFile reported_refusal reported_session Opened NotOpened given remaining left before after =
       PrintsNoDisk NotOpened before after ⊎ ((old : D) × Opened old
-      × IsSomeAnd given (λ new. PrintsRun facts tend reported_refusal reported_session old new remaining left before after))
+      × IsSomeAnd given (λ new. PrintsRun facts options tally reported_refusal reported_session old new remaining left before after))
 
+module _ {D F : Type 0} (facts : Ghosts D F) where
   -- All background work was done on a disk that the source opened. The disk is returned as the store left it, and notes report failed
   -- calls.
   abbrev pub TendsFile : (D → Type 0) → (D → Type 0) → Option D → Option (List ℕ) → Option (List ℕ) → Type 0

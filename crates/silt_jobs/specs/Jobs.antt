@@ -1,5 +1,5 @@
 -- What the jobs on a disk do, and what they write.
-use Rattle.std.specs.Prelude.{◌≡◌, ◌≢◌, ◌⊎◌, ℕ, Bool, true, false, IsTrue, List, ◌++◌, Option, codes}
+use Rattle.std.specs.Prelude.{◌≡◌, ◌⊎◌, ◌&&◌, ℕ, Bool, true, false, cond, IsTrue, List, ◌++◌, Option, codes}
 use Rattle.std.specs.FinMap.{empty}
 use Rattle.std.specs.Fmt.{decimal}
 use Rattle.std.specs.Io.KnownBytes.{Appends}
@@ -20,12 +20,16 @@ use Rattle.silt_event.specs.declared.refusal.Refusal.{Refusal}
 use Rattle.silt_event.specs.declared.reply.Reply.TheVariants.{Refused}
 use Rattle.silt_wire.specs.Reports.{report_text}
 use Rattle.silt_wire.specs.Sessions.{Ends}
+use Rattle.silt_wire.specs.Statuses.{IsStatus}
 use Rattle.silt_wire.specs.declared.sessions.SessionEnd.{SessionEnd}
 use Rattle.silt_wire.specs.declared.sessions.SessionEnd.TheVariants.{End}
 use Rattle.silt_jobs.specs.Damage.{HasShape, LacksShape}
 use Rattle.silt_jobs.specs.Scripts.{reply_line}
 use Rattle.silt_jobs.specs.BackgroundWork.{TakesSteps, TendsAll, TendsThenDoes}
+use Rattle.silt_jobs.specs.Tally.{has_refusals}
 use Rattle.silt_jobs.specs.declared.background_work.Steps.{Steps}
+use Rattle.silt_jobs.specs.declared.tally.Tally.{Tally}
+use Rattle.silt_words.specs.declared.job.RunOptions.{RunOptions}
 
 -- the length of a device that was formatted, in bytes
 abbrev pub formatted_line : ℕ → List ℕ
@@ -35,10 +39,15 @@ formatted_line bytes = codes "formatted " ++ (decimal bytes ++ codes "\n")
 abbrev pub Prints : {F : Type 0} → Refusal F → Option (List ℕ) → Option (List ℕ) → Type 0
 Prints refusal before after = Appends before after (reply_line (Refused refusal))
 
--- the status by the end of a session
-abbrev pub status_of : SessionEnd → ℕ
-status_of End = 0
-status_of end = 1
+-- The status of a run whose session had this end: 1 if it broke off. At the end of the lines it is 3 if the run is strict and a reply was
+-- a refusal, and else 0.
+abbrev pub run_status : RunOptions → Tally → SessionEnd → ℕ
+run_status options tally End = cond (options.strict && has_refusals tally) 3 0
+run_status options tally end = 1
+
+-- the status is 0, or 1 and this is so, or 3 and that is so
+abbrev pub IsRunStatus : Type 0 → Type 0 → ℕ → Type 0
+IsRunStatus Broken Strict status = IsStatus Broken status ⊎ ((status ≡ 3) × Strict)
 
 -- how many steps were taken, on the line of a store whose background work was done
 abbrev pub tended_line : Steps → List ℕ
@@ -61,16 +70,15 @@ module _ {D F : Type 0} (facts : Ghosts D F) where
   AnswersReader tend end old new remaining left before after =
       (opened : Option (List ℕ)) × Appends before opened (codes "opened\n") × AnswersLines tend end old new remaining left opened after
 
-module _ {D F : Type 0} (facts : Ghosts D F) (tend : Bool) (reported_session : SessionEnd → D → Type 0) where
-  -- one life on a disk: the store was opened, its session had this end, the disk is as the store left it, and the notes say so
-  abbrev pub EndsRun : SessionEnd → D → D → Option (List ℕ) → Option (List ℕ) → Option (List ℕ) → Option (List ℕ) → Type 0
-  EndsRun end old new remaining left before after =
-      (first : CoreState D) × (last : CoreState D) × Opens facts (facts.content old) first
-      × AnswersReader facts tend end first last remaining left before after × (new ≡ last.disk) × reported_session end new
-
-  -- one life whose session did not reach the end of the lines
-  abbrev pub BreaksRun : D → D → Option (List ℕ) → Option (List ℕ) → Option (List ℕ) → Option (List ℕ) → Type 0
-  BreaksRun old new remaining left before after = (end : SessionEnd) × (end ≢ End) × EndsRun end old new remaining left before after
+module _ {D F : Type 0} (facts : Ghosts D F) (options : RunOptions) (tally : Tally) (reported_session : ℕ → SessionEnd → D → Type 0) where
+  -- One life on a disk: the store was opened, its session had an end that makes this status with these replies, the disk is as the store
+  -- left it, and the notes say so, with the length of its values.
+  abbrev pub EndsRun : ℕ → D → D → Option (List ℕ) → Option (List ℕ) → Option (List ℕ) → Option (List ℕ) → Type 0
+  EndsRun status old new remaining left before after =
+      (end : SessionEnd) × (status ≡ run_status options tally end)
+      × (first : CoreState D) × (last : CoreState D) × Opens facts (facts.content old) first
+      × AnswersReader facts options.tend end first last remaining left before after × (new ≡ last.disk)
+      × reported_session first.shape.value_len end new
 
 module _ {D F : Type 0} (facts : Ghosts D F) where
   -- All background work of a store was done, and the number of steps was written; or a step was refused, and that was written.
@@ -125,10 +133,10 @@ module _ {D F : Type 0} (facts : Ghosts D F) (reported : Refusal F → Type 0) w
       × reported (refusal_of_formatting error)
 
 -- the line says that the store was not opened on the disk, or the session on it broke off; notes say why
-abbrev pub PrintsRun : {D F : Type 0} → Ghosts D F → Bool → (Refusal F → Type 0) → (SessionEnd → D → Type 0)
+abbrev pub PrintsRun : {D F : Type 0} → Ghosts D F → RunOptions → Tally → (Refusal F → Type 0) → (ℕ → SessionEnd → D → Type 0)
     → D → D → Option (List ℕ) → Option (List ℕ) → Option (List ℕ) → Option (List ℕ) → Type 0
-PrintsRun facts tend reported_refusal reported_session old new remaining left before after =
-    PrintsOpening facts reported_refusal old new before after ⊎ BreaksRun facts tend reported_session old new remaining left before after
+PrintsRun facts options tally reported_refusal reported_session old new remaining left before after =
+    PrintsOpening facts reported_refusal old new before after ⊎ EndsRun facts options tally reported_session 1 old new remaining left before after
 
 -- the line says that the store was not opened on the disk, or that a step of its background work was refused; notes say why
 abbrev pub PrintsTend : {D F : Type 0} → Ghosts D F → (Refusal F → Type 0) → (D → Type 0) → D → D → Option (List ℕ) → Option (List ℕ) → Type 0

@@ -6,6 +6,7 @@ pub mod NewStores
 pub mod Notes
 pub mod Numbers
 pub mod HeldData
+pub mod PlanCosts
 pub mod Plans
 pub mod Scripts
 pub mod Stops

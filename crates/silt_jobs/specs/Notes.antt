@@ -40,10 +40,11 @@ ReportedEnd reported reading writing ReadFault old new = reported old new ReadFa
 ReportedEnd reported reading writing WriteFault old new = reported old new WriteFault writing
 ReportedEnd reported reading writing NoMemory old new = reported old new NoMemory None
 
--- notes say why a session broke off, if it did, and then which lines were refused
-abbrev pub ReportedLines : {N : Type 0} → (N → N → SessionEnd → Option StreamError → Type 0) → (N → N → InputLines → Tally → Type 0)
-    → Option StreamError → Option StreamError → InputLines → Tally → SessionEnd → N → N → Type 0
-ReportedLines {N} reported_end reported_tally reading writing lines tally end old new = (mid : N) × ReportedEnd reported_end reading writing end old mid × reported_tally mid new lines tally
+-- notes say why a session broke off, if it did, and then which lines were refused, and how long a value is
+abbrev pub ReportedLines : {N : Type 0} → (N → N → SessionEnd → Option StreamError → Type 0) → (N → N → InputLines → Tally → ℕ → Type 0)
+    → Option StreamError → Option StreamError → InputLines → Tally → ℕ → SessionEnd → N → N → Type 0
+ReportedLines {N} reported_end reported_tally reading writing lines tally value_len end old new =
+    (mid : N) × ReportedEnd reported_end reading writing end old mid × reported_tally mid new lines tally value_len
 
 module _ {N D : Type 0} (reported_failure : N → N → List ℕ → Failure → Type 0) (kept_read : D → Option Failure → Type 0) (last_failure : D → Option Failure) where
   -- notes say which read failed first on the disk of this file, and then which write or sync failed last
@@ -53,7 +54,7 @@ module _ {N D : Type 0} (reported_failure : N → N → List ℕ → Failure →
       × ReportedCall (λ from to. reported_failure from to file) (last_failure disk) mid new
 
   -- notes say how a session on the disk of this file ended, then which lines were refused, and then which calls of the disk failed
-  abbrev pub ReportedSession : (N → N → SessionEnd → Option StreamError → Type 0) → (N → N → InputLines → Tally → Type 0) → N → N
-      → Option StreamError → Option StreamError → InputLines → Tally → List ℕ → SessionEnd → D → Type 0
-  ReportedSession reported_end reported_tally old new reading writing lines tally file end disk =
-      (mid : N) × ReportedLines reported_end reported_tally reading writing lines tally end old mid × ReportedFailures mid new file disk
+  abbrev pub ReportedSession : (N → N → SessionEnd → Option StreamError → Type 0) → (N → N → InputLines → Tally → ℕ → Type 0) → N → N
+      → Option StreamError → Option StreamError → InputLines → Tally → List ℕ → ℕ → SessionEnd → D → Type 0
+  ReportedSession reported_end reported_tally old new reading writing lines tally file value_len end disk =
+      (mid : N) × ReportedLines reported_end reported_tally reading writing lines tally value_len end old mid × ReportedFailures mid new file disk

@@ -1,5 +1,6 @@
 -- Which lines of an output are refusals.
-use Rattle.std.specs.Prelude.{ℕ, ◌+◌, ◌-◌, ◌*◌, ◌%◌, ◌^◌, ◌==◌, nat_lt, if◌then◌else◌, cond, List, [], ◌∷◌, ◌++◌, codes, get_or, length, replicate, slice_index, slice_set, take}
+use Rattle.std.specs.Prelude.{ℕ, ◌+◌, ◌-◌, ◌*◌, ◌%◌, ◌^◌, ◌==◌, nat_lt, Bool, if◌then◌else◌, cond, List, [], ◌∷◌, ◌++◌, codes, get_or, length, min, replicate, slice_index, slice_range, slice_set, take}
+use Rattle.std.specs.List.{list_any}
 use Rattle.std.specs.Str.{bytes_eq}
 use Rattle.silt_jobs.specs.declared.tally.Refusals.{Refusals}
 use Rattle.silt_jobs.specs.declared.tally.Tally.{Tally}
@@ -16,7 +17,7 @@ refusal_in begun =
 
 -- with one more refusal, on this line
 abbrev pub counted : Refusals → ℕ → Refusals
-counted refusals line = record { count = (refusals.count + 1) % 2 ^ 64; first = cond (refusals.count == 0) line refusals.first }
+counted refusals line = record { count = min (refusals.count + 1) (2 ^ 64 - 1); first = cond (refusals.count == 0) line refusals.first }
 
 -- no refusal
 abbrev pub none_refused : Refusals
@@ -44,3 +45,11 @@ tally_after t byte = cond (byte == 10) (line_ended t) (record t { begun = cond (
 abbrev pub tally_of : Tally → List ℕ → Tally
 tally_of t [] = t
 tally_of t (byte ∷ bytes) = tally_of (tally_after t byte) bytes
+
+-- there are such lines
+abbrev pub has_any : Refusals → Bool
+has_any refusals = nat_lt 0 refusals.count
+
+-- Some line is a refusal. The first count is that of the lines that are none.
+abbrev pub has_refusals : Tally → Bool
+has_refusals t = list_any has_any (slice_range t.refused 1 24)

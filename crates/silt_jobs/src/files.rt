@@ -7,6 +7,7 @@ ghost use Rattle.silt_jobs.specs.Files.{ChecksFile, FormatsFile, FormatsFound, R
 ghost use Rattle.silt_jobs.specs.Notes.{NotOpenedReported, ReportedFailures, ReportedRefusal, ReportedSession};
 ghost use Rattle.silt_jobs.specs.Numbers.{shape_asked};
 ghost use Rattle.silt_jobs.specs.HeldData.{Looks};
+ghost use Rattle.silt_jobs.specs.Jobs.{IsRunStatus};
 ghost use Rattle.silt_jobs.specs.declared.held_data.Holding.{Holding as HoldingOf};
 
 use crate::failure::Watched;
@@ -19,15 +20,15 @@ use crate::streams::{KeepsError, KeepsLines, KeepsTally};
 use silt_device::DiskSource;
 use silt_disk::{Disk, Geometry};
 use silt_store_set::{Refusal, Served};
-use silt_words::Numbers;
+use silt_words::{Numbers, RunOptions};
 use std::alloc::Global;
 use std::io::{self, Read, Write};
 
 /// Opens or makes the disk of a path, sets its length to that of the geometry of these numbers, and formats it. Returns
 /// the disk and the status: 0 after the length was written, 1 if it is refused. Numbers out of their limits are refused
-/// before the source opens a disk. The data on the disk is read before its length changes. Without `force` only a store
-/// of this program or an empty disk is overwritten. A disk with other data is refused and returned as it was found. A
-/// note reports a store before it is overwritten.
+/// before the source opens a disk. The data on the disk is read before its length changes. Without `force` only an empty
+/// disk or a store without keys is overwritten. A disk with a store that may have keys, or with other data, is refused
+/// and returned as it was found. A note reports a store before it is overwritten.
 ///
 /// # Errors
 ///
@@ -104,7 +105,8 @@ fn format_found<
 
 /// One life of the store on the disk of a path, from the reader's lines. Returns the disk and the status: 0 at the end
 /// of the lines, 1 if the disk or the store is not opened, or the session ends before that. With `tend` it does the
-/// background work that is due before each line.
+/// background work that is due before each line. With `strict` the status is 3 at the end of the lines if a reply was
+/// a refusal.
 ///
 /// # Errors
 ///
@@ -118,27 +120,32 @@ pub fn run_file<
     alloc: Global,
     source: S,
     path: &str,
-    tend: bool,
+    options: RunOptions,
     reader: &mut R,
     writer: &mut W,
     notes: &mut N,
 ) -> (Option<S::Disk>, io::Result<u8>)
 where
     S::Disk: Served + Watched,
-    ensures printed { IfOk result.1 (IsStatus (PrintsRunFile S.Disk.Disk tend
+    ensures printed { IfOk result.1 (IsRunStatus
+        (PrintsRunFile S.Disk.Disk options (W.kept_tally writer.new)
         (ReportedRefusal N.reported_fault N.reported_damage N.reported_no_store notes.old notes.new path.now)
         (ReportedSession N.reported_failure S.Disk.Watched.kept_read S.Disk.Watched.last_failure N.reported_end N.reported_tally notes.old notes.new
         (R.kept_error reader.new) (W.kept_error writer.new) (R.kept_lines reader.new) (W.kept_tally writer.new) path.now)
         (S.opened source path.now) (NotOpenedReported (S.not_opened source) (N.reported_error notes.old notes.new) path.now)
-        result.0 (R.remaining reader.old) (R.remaining reader.new) (W.contents writer.old) (W.contents writer.new))) }
-    ensures answered { result.1 ≡ Ok 0 → RunsFile S.Disk.Disk tend
+        result.0 (R.remaining reader.old) (R.remaining reader.new) (W.contents writer.old) (W.contents writer.new))
+        (RunsFile S.Disk.Disk options (W.kept_tally writer.new) 3
+        (ReportedSession N.reported_failure S.Disk.Watched.kept_read S.Disk.Watched.last_failure N.reported_end N.reported_tally notes.old notes.new
+        (R.kept_error reader.new) (W.kept_error writer.new) (R.kept_lines reader.new) (W.kept_tally writer.new) path.now)
+        (S.opened source path.now) result.0 (R.remaining reader.old) (R.remaining reader.new) (W.contents writer.old) (W.contents writer.new))) }
+    ensures answered { result.1 ≡ Ok 0 → RunsFile S.Disk.Disk options (W.kept_tally writer.new) 0
         (ReportedSession N.reported_failure S.Disk.Watched.kept_read S.Disk.Watched.last_failure N.reported_end N.reported_tally notes.old notes.new
         (R.kept_error reader.new) (W.kept_error writer.new) (R.kept_lines reader.new) (W.kept_tally writer.new) path.now)
         (S.opened source path.now) result.0 (R.remaining reader.old) (R.remaining reader.new) (W.contents writer.old) (W.contents writer.new) }
 {
     match source.open(path) {
         Ok(disk) => {
-            let (disk, status) = run_on(alloc, disk, path, tend, reader, writer, notes);
+            let (disk, status) = run_on(alloc, disk, path, options, reader, writer, notes);
             (Some(disk), status)
         }
         Err(error) => {

@@ -1,9 +1,7 @@
 // The data on a disk before a format, and whether it may be overwritten.
-ghost use Rattle.std.specs.Prelude.{◌≡◌, IsTrue, IfSome, MatchBool, Result as ResultOf};
-ghost use Rattle.silt_event.specs.declared.report.Report.{Report as ReportOf};
-ghost use Rattle.silt_recovery.specs.Opening.{IsReported};
+ghost use Rattle.std.specs.Prelude.{◌≡◌, ◌||◌, false, true, IsTrue, MatchBool, Result as ResultOf};
 ghost use Rattle.silt_jobs.specs.Notes.{ReportedRefusal};
-ghost use Rattle.silt_jobs.specs.HeldData.{IsFoundStore, Looks, MayOverwrite, MustStay, has_magic};
+ghost use Rattle.silt_jobs.specs.HeldData.{HasCharge, IsFoundStore, Looks, MayOverwrite, MustStay, has_magic, is_empty};
 ghost use Rattle.silt_jobs.specs.declared.held_data.Holding.{Holding as HoldingOf};
 
 use crate::damage::geometry_on;
@@ -22,6 +20,18 @@ pub struct HeldStore {
     /// How many put rows and sorted entries it has, at least as many as its keys. None if it is damaged or cannot be
     /// read.
     pub charge: Option<u32>,
+}
+
+impl HeldStore {
+    // Whether it is known to have no keys.
+    fn is_empty(&self) -> bool
+        ensures { result ≡ is_empty self.now }
+    {
+        match self.charge {
+            Some(charge) => charge == 0,
+            None => false,
+        }
+    }
 }
 
 // Its numbers in brackets, and how many keys it has at most, or that it is damaged or cannot be read.
@@ -50,7 +60,7 @@ pub enum Holding {
 }
 
 /// Reads the data on a disk before a format. Returns whether it may be overwritten: without force only an empty disk or
-/// a store of this program, which a note reports. Else a note says why the data stays.
+/// a store without keys. A note reports a store that is overwritten, or says why the data stays.
 pub fn may_overwrite<D: Disk, N: Notes + FaultNotes<D::Fault>>(
     alloc: Global,
     disk: &D,
@@ -64,10 +74,7 @@ pub fn may_overwrite<D: Disk, N: Notes + FaultNotes<D::Fault>>(
 {
     match look(alloc, disk) {
         Ok(Holding::Nothing) => true,
-        Ok(Holding::Store(store)) => {
-            notes.report_store(file, &store);
-            true
-        }
+        Ok(Holding::Store(store)) => may_overwrite_store(&store, file, force, notes),
         Ok(Holding::Other) | Err(_) if force => true,
         Ok(Holding::Other) => {
             notes.report_other(file);
@@ -77,6 +84,20 @@ pub fn may_overwrite<D: Disk, N: Notes + FaultNotes<D::Fault>>(
             notes.report_fault(file, &fault);
             false
         }
+    }
+}
+
+// Whether a store may be overwritten. A note says that it is, or that it stays.
+fn may_overwrite_store<N: Notes>(store: &HeldStore, file: &str, force: bool, notes: &mut N) -> bool
+    ensures { MatchBool result (((force || is_empty store.now) ≡ true) × N.reported_store notes.old notes.new file.now store.now)
+        ((force ≡ false) × (is_empty store.now ≡ false) × N.reported_kept notes.old notes.new file.now store.now) }
+{
+    if force || store.is_empty() {
+        notes.report_store(file, store);
+        true
+    } else {
+        notes.report_kept(file, store);
+        false
     }
 }
 
@@ -107,7 +128,7 @@ fn has_magic(header: &[u8; HEADER_LEN]) -> bool
 
 // The known facts of the store on a disk.
 fn held_store<D: Disk>(alloc: Global, disk: &D) -> HeldStore
-    ensures { IsTrue (D.content disk.now).honest → IsFoundStore (D.content disk.now) result }
+    ensures { IsTrue (D.content disk.now).honest → IsFoundStore D.Disk disk.now result }
 {
     HeldStore {
         geometry: geometry_on(disk),
@@ -117,7 +138,7 @@ fn held_store<D: Disk>(alloc: Global, disk: &D) -> HeldStore
 
 // The charge of the store on a disk, if no part of it is damaged and all of it can be read.
 fn charge_on<D: Disk>(alloc: Global, disk: &D) -> Option<u32>
-    ensures { IsTrue (D.content disk.now).honest → IfSome result (λ charge. (report : ReportOf) × IsReported (D.content disk.now).shown report × (charge ≡ report.charge)) }
+    ensures { IsTrue (D.content disk.now).honest → HasCharge D.Disk disk.now result }
 {
     match check(alloc, disk) {
         Ok(report) => Some(report.charge),

@@ -4,10 +4,9 @@ ghost use Rattle.std.specs.Io.KnownBytes.{Appends};
 ghost use Rattle.silt_disk.specs.Layout.{Shape, device_size};
 ghost use Rattle.silt_wire.specs.Statuses.{IsStatus};
 ghost use Rattle.silt_wire.specs.declared.sessions.SessionEnd.{SessionEnd as SessionEndOf};
-ghost use Rattle.silt_wire.specs.declared.sessions.SessionEnd.TheVariants.{End};
 ghost use Rattle.silt_jobs.specs.Damage.{HasShape, LacksShape};
-ghost use Rattle.silt_jobs.specs.Jobs.{AnswersLines, AnswersReader, EndsCheck, EndsFormat, EndsRun, EndsTend, EndsTending, Prints};
-ghost use Rattle.silt_jobs.specs.Jobs.{PrintsCheck, PrintsFormat, PrintsRun, PrintsTend, formatted_line, status_of, tended_line};
+ghost use Rattle.silt_jobs.specs.Jobs.{AnswersLines, AnswersReader, EndsCheck, EndsFormat, EndsRun, EndsTend, EndsTending, IsRunStatus, Prints};
+ghost use Rattle.silt_jobs.specs.Jobs.{PrintsCheck, PrintsFormat, PrintsRun, PrintsTend, formatted_line, run_status, tended_line};
 ghost use Rattle.silt_jobs.specs.Notes.{ReportedFailures, ReportedLines, ReportedRefusal, ReportedSession};
 
 use crate::background_work::{Steps, Tending, tend_all};
@@ -17,10 +16,12 @@ use crate::notes::{FaultNotes, Notes, report_end, report_failures, report_refusa
 use crate::output::write_out;
 use crate::refusal::refuse;
 use crate::streams::{KeepsError, KeepsLines, KeepsTally};
+use crate::tally::Tally;
 use silt_disk::{Disk, Geometry};
 use silt_recovery::{check, format};
 use silt_store_set::{Core, OpenFault, Refusal, Served};
 use silt_wire::{SessionEnd, session, write_report};
+use silt_words::RunOptions;
 use std::alloc::Global;
 use std::io::{self, Read, Write};
 
@@ -28,7 +29,8 @@ use std::io::{self, Read, Write};
 /// replies to the reader's lines to their end. The end flushes nothing. Returns the disk and the status: 0 at the end
 /// of the lines, 1 if the store is not opened or the session breaks off. It breaks off if a read or write fails, or if
 /// it is out of memory for a line or for the text of a reply. With `tend` it does the background work that is due
-/// before each line. Notes say why the session broke off, which lines were refused, and which calls of the disk failed.
+/// before each line. With `strict` the status is 3 at the end of the lines if a reply was a refusal. Notes say why the
+/// session broke off, which lines were refused, and which calls of the disk failed.
 ///
 /// # Errors
 ///
@@ -42,24 +44,29 @@ pub fn run_on<
     alloc: Global,
     disk: D,
     file: &str,
-    tend: bool,
+    options: RunOptions,
     reader: &mut R,
     writer: &mut W,
     notes: &mut N,
 ) -> (D, io::Result<u8>)
-    ensures printed { IfOk result.1 (IsStatus (PrintsRun D.Disk tend
+    ensures printed { IfOk result.1 (IsRunStatus
+        (PrintsRun D.Disk options (W.kept_tally writer.new)
         (ReportedRefusal N.reported_fault N.reported_damage N.reported_no_store notes.old notes.new file.now)
         (ReportedSession N.reported_failure D.kept_read D.last_failure N.reported_end N.reported_tally notes.old notes.new
         (R.kept_error reader.new) (W.kept_error writer.new) (R.kept_lines reader.new) (W.kept_tally writer.new) file.now)
-        disk result.0 (R.remaining reader.old) (R.remaining reader.new) (W.contents writer.old) (W.contents writer.new))) }
-    ensures answered { result.1 ≡ Ok 0 → EndsRun D.Disk tend
+        disk result.0 (R.remaining reader.old) (R.remaining reader.new) (W.contents writer.old) (W.contents writer.new))
+        (EndsRun D.Disk options (W.kept_tally writer.new)
         (ReportedSession N.reported_failure D.kept_read D.last_failure N.reported_end N.reported_tally notes.old notes.new
         (R.kept_error reader.new) (W.kept_error writer.new) (R.kept_lines reader.new) (W.kept_tally writer.new) file.now)
-        End disk result.0 (R.remaining reader.old) (R.remaining reader.new) (W.contents writer.old) (W.contents writer.new) }
+        3 disk result.0 (R.remaining reader.old) (R.remaining reader.new) (W.contents writer.old) (W.contents writer.new))) }
+    ensures answered { result.1 ≡ Ok 0 → EndsRun D.Disk options (W.kept_tally writer.new)
+        (ReportedSession N.reported_failure D.kept_read D.last_failure N.reported_end N.reported_tally notes.old notes.new
+        (R.kept_error reader.new) (W.kept_error writer.new) (R.kept_lines reader.new) (W.kept_tally writer.new) file.now)
+        0 disk result.0 (R.remaining reader.old) (R.remaining reader.new) (W.contents writer.old) (W.contents writer.new) }
 {
     match Core::open(alloc, disk) {
         Ok(core) => {
-            let (core, status) = answer_reader(alloc, core, tend, reader, writer, notes);
+            let (core, status) = answer_reader(alloc, core, options, reader, writer, notes);
             let disk = core.close();
             report_failures(file, &disk, notes);
             (disk, status)
@@ -100,22 +107,24 @@ fn answer_reader<
 >(
     alloc: Global,
     core: Core<D>,
-    tend: bool,
+    options: RunOptions,
     reader: &mut R,
     writer: &mut W,
     notes: &mut N,
 ) -> (Core<D>, io::Result<u8>)
-    ensures { IfOk result.1 (λ status. (end : SessionEndOf) × (status ≡ status_of end)
-        × AnswersReader D.Disk tend end core result.0
+    ensures { IfOk result.1 (λ status. (end : SessionEndOf) × (status ≡ run_status options (W.kept_tally writer.new) end)
+        × AnswersReader D.Disk options.tend end core result.0
         (R.remaining reader.old) (R.remaining reader.new) (W.contents writer.old) (W.contents writer.new)
-        × ReportedLines N.reported_end N.reported_tally (R.kept_error reader.new) (W.kept_error writer.new) (R.kept_lines reader.new) (W.kept_tally writer.new) end notes.old notes.new) }
+        × ReportedLines N.reported_end N.reported_tally (R.kept_error reader.new) (W.kept_error writer.new) (R.kept_lines reader.new) (W.kept_tally writer.new)
+        core.shape.value_len end notes.old notes.new) }
 {
     match write_out(b"opened\n", writer) {
         Ok(()) => {
-            let (core, end) = answer_lines(alloc, core, tend, reader, writer);
+            let value_len = core.geometry().value_len();
+            let (core, end) = answer_lines(alloc, core, options.tend, reader, writer);
             report_end(end, reader, writer, notes);
-            notes.report_tally(reader.lines(), writer.tally());
-            (core, Ok(status_of(end)))
+            notes.report_tally(reader.lines(), writer.tally(), value_len);
+            (core, Ok(run_status(options, writer.tally(), end)))
         }
         Err(error) => (core, Err(error)),
     }
@@ -142,11 +151,12 @@ fn answer_lines<D: Served, R: Read, W: Write>(
     (core, end)
 }
 
-// The status of a job by the end of its session.
-fn status_of(end: SessionEnd) -> u8
-    ensures { result ≡ status_of end }
+// The status of a run by the end of its session and, if the run is strict, by its replies.
+fn run_status(options: RunOptions, tally: &Tally, end: SessionEnd) -> u8
+    ensures { result ≡ run_status options tally.now end }
 {
     match end {
+        SessionEnd::End if options.strict && tally.has_refusals() => 3,
         SessionEnd::End => 0,
         _ => 1,
     }

@@ -7,14 +7,18 @@ use crate::held_data::HeldStore;
 use crate::input_lines::InputLines;
 use crate::notes::{FaultNotes, Notes, SourceNotes};
 use crate::plan::obstacle_of;
+use crate::plan_cost::PlanCost;
 use crate::streams::StreamError;
 use crate::tally::{KINDS, Refusals, Tally};
 use silt_disk::Geometry;
 use silt_store_set::Place;
 use silt_wire::SessionEnd;
-use silt_words::{FORMS, Numbers, PlanRequest, VERSION, asks_version, complaint_of};
+use silt_words::{Numbers, PlanRequest, VERSION, asks_version, complaint_of, forms_for};
 use std::fmt::Display;
 use std::io::{self, ErrorKind, Write};
+
+/// The number of the refusal of a value of another length.
+const BAD_VALUE: usize = 22;
 
 /// Notes as lines of a writer, like standard error: `silt: `, the subject, and the words of the system. A line that
 /// cannot be written is left out.
@@ -37,15 +41,19 @@ impl<W: Write> Notes for NoteLines<W> {
 
     ghost reported_store = { λ _ _ _ _. ⊤ };
 
+    ghost reported_kept = { λ _ _ _ _. ⊤ };
+
     ghost reported_other = { λ _ _ _. ⊤ };
 
     ghost reported_numbers = { λ _ _ _. ⊤ };
 
     ghost reported_no_plan = { λ _ _ _. ⊤ };
 
+    ghost reported_cost = { λ _ _ _. ⊤ };
+
     ghost reported_charge = { λ _ _ _ _ _. ⊤ };
 
-    ghost reported_tally = { λ _ _ _ _. ⊤ };
+    ghost reported_tally = { λ _ _ _ _ _. ⊤ };
 
     ghost reported_failure = { λ _ _ _ _. ⊤ };
 
@@ -68,6 +76,13 @@ impl<W: Write> Notes for NoteLines<W> {
         );
     }
 
+    fn report_kept(&mut self, file: &str, store: &HeldStore) {
+        let _ = writeln!(
+            self.writer,
+            "silt: {file}: it holds a store{store}; --force overwrites it"
+        );
+    }
+
     fn report_other(&mut self, file: &str) {
         let _ = writeln!(
             self.writer,
@@ -85,6 +100,13 @@ impl<W: Write> Notes for NoteLines<W> {
         let _ = writeln!(self.writer, "silt: {}", obstacle_of(request));
     }
 
+    fn report_cost(&mut self, cost: &PlanCost) {
+        let _ = writeln!(self.writer, "silt: {cost}");
+        if let Some(remedy) = cost.remedy {
+            let _ = writeln!(self.writer, "silt: {remedy}");
+        }
+    }
+
     fn report_charge(&mut self, file: &str, geometry: &Geometry, charge: u32) {
         let most = geometry.sorted_capacity();
         let numbers = NumbersText::of(geometry);
@@ -94,11 +116,12 @@ impl<W: Write> Notes for NoteLines<W> {
         );
     }
 
-    fn report_tally(&mut self, lines: &InputLines, tally: &Tally) {
+    fn report_tally(&mut self, lines: &InputLines, tally: &Tally, value_len: u32) {
         for kind in 1..KINDS {
             let refusals = tally.refusals(kind);
             if refusals.count > 0 {
                 let _ = write_refusals(&mut self.writer, kind, refusals, lines);
+                let _ = write_help(&mut self.writer, kind, value_len);
             }
         }
         if lines.has_rest() {
@@ -141,10 +164,10 @@ impl<W: Write> Notes for NoteLines<W> {
             let _ = writeln!(self.writer, "silt {VERSION}");
             return;
         }
+        let _ = write!(self.writer, "{}", forms_for(words));
         if let Some(complaint) = complaint_of(words) {
-            let _ = writeln!(self.writer, "silt: {complaint}");
+            let _ = writeln!(self.writer, "\nsilt: {complaint}");
         }
-        let _ = self.writer.write_all(FORMS.as_bytes());
     }
 }
 
@@ -182,8 +205,8 @@ impl<W: Write, F: Display> FaultNotes<F> for NoteLines<W> {
     }
 }
 
-// Writes how many lines of an input were refused with this number, which is the first, and what helps. The first reply,
-// `opened`, belongs to no line.
+// Writes how many lines of an input were refused with this number, and which is the first. The first reply, `opened`,
+// belongs to no line.
 fn write_refusals<W: Write>(
     writer: &mut W,
     kind: usize,
@@ -192,13 +215,24 @@ fn write_refusals<W: Write>(
 ) -> io::Result<()> {
     let Refusals { count, first } = refusals;
     let name = name_of(kind);
-    let help = help_for(kind);
     let noun = if count == 1 { "line" } else { "lines" };
     write!(writer, "silt: {count} {noun} refused {kind} {name}, ")?;
     match lines.number_of(first.saturating_sub(1)) {
-        Some(line) => writeln!(writer, "first line {line}{help}"),
-        None => writeln!(writer, "first far behind many blank lines{help}"),
+        Some(line) => write!(writer, "first line {line}"),
+        None => writer.write_all(b"first far behind many blank lines"),
     }
+}
+
+// Writes the end of the line about the refusals with this number: what helps.
+fn write_help<W: Write>(writer: &mut W, kind: usize, value_len: u32) -> io::Result<()> {
+    if kind == BAD_VALUE {
+        let digits = 2 * u64::from(value_len);
+        return writeln!(
+            writer,
+            "; a value has {digits} hexadecimal digits here (V is {value_len})"
+        );
+    }
+    writeln!(writer, "{}", help_for(kind))
 }
 
 // The name of a refusal of a line, by its number.
@@ -218,7 +252,7 @@ fn name_of(kind: usize) -> &'static str {
     }
 }
 
-// What helps against a refusal. The text comes after the refusal's name.
+// What helps against a refusal, whatever the store.
 fn help_for(kind: usize) -> &'static str {
     match kind {
         7 => {

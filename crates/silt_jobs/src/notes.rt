@@ -9,12 +9,14 @@ ghost use Rattle.silt_words.specs.declared.job.PlanRequest.{PlanRequest as PlanR
 ghost use Rattle.silt_jobs.specs.declared.failure.Failure.{Failure as FailureOf};
 ghost use Rattle.silt_jobs.specs.declared.input_lines.InputLines.{InputLines as InputLinesOf};
 ghost use Rattle.silt_jobs.specs.declared.held_data.HeldStore.{HeldStore as HeldStoreOf};
+ghost use Rattle.silt_jobs.specs.declared.plan_cost.PlanCost.{PlanCost as PlanCostOf};
 ghost use Rattle.silt_jobs.specs.declared.tally.Tally.{Tally as TallyOf};
 ghost use Rattle.silt_jobs.specs.declared.streams.StreamError.{StreamError as StreamErrorOf};
 
 use crate::failure::{Failure, Watched};
 use crate::held_data::HeldStore;
 use crate::input_lines::InputLines;
+use crate::plan_cost::PlanCost;
 use crate::streams::{KeepsError, StreamError};
 use crate::tally::Tally;
 use silt_disk::Geometry;
@@ -31,6 +33,9 @@ pub trait Notes {
     /// A note says that the file of this name has this store, which will be overwritten.
     ghost reported_store: { Self → Self → List ℕ → HeldStoreOf → Type 0 };
 
+    /// A note says that the file of this name has this store, which stays.
+    ghost reported_kept: { Self → Self → List ℕ → HeldStoreOf → Type 0 };
+
     /// A note says that the file of this name has other data, which stays.
     ghost reported_other: { Self → Self → List ℕ → Type 0 };
 
@@ -40,11 +45,14 @@ pub trait Notes {
     /// A note says why there is no store for what is planned.
     ghost reported_no_plan: { Self → Self → PlanRequestOf → Type 0 };
 
+    /// A note says what a planned store costs in merging and in memory at rest, and what helps if merging is dear.
+    ghost reported_cost: { Self → Self → PlanCostOf → Type 0 };
+
     /// A note has the six numbers of the store in the file of this name, and its charge: the number of live rows.
     ghost reported_charge: { Self → Self → List ℕ → Shape → ℕ → Type 0 };
 
-    /// A note says which lines of this input were refused, by these replies.
-    ghost reported_tally: { Self → Self → InputLinesOf → TallyOf → Type 0 };
+    /// A note says which lines of this input were refused, by these replies of a store with values of this length.
+    ghost reported_tally: { Self → Self → InputLinesOf → TallyOf → ℕ → Type 0 };
 
     /// A note says that this call failed on the disk of the file of this name.
     ghost reported_failure: { Self → Self → List ℕ → FailureOf → Type 0 };
@@ -67,6 +75,9 @@ pub trait Notes {
     /// Reports that the file of this name has this store, which will be overwritten.
     fn report_store(&mut self, file: &str, store: &HeldStore)
         ensures { reported_store self.old self.new file.now store.now };
+    /// Reports that the file of this name has this store, which stays.
+    fn report_kept(&mut self, file: &str, store: &HeldStore)
+        ensures { reported_kept self.old self.new file.now store.now };
     /// Reports that the file of this name has other data, which stays.
     fn report_other(&mut self, file: &str)
         ensures { reported_other self.old self.new file.now };
@@ -77,12 +88,16 @@ pub trait Notes {
     /// Reports why there is no store for what is planned.
     fn report_no_plan(&mut self, request: &PlanRequest)
         ensures { reported_no_plan self.old self.new request.now };
+    /// Reports what a planned store costs in merging and in memory at rest, and what helps if merging is dear.
+    fn report_cost(&mut self, cost: &PlanCost)
+        ensures { reported_cost self.old self.new cost.now };
     /// Reports which six numbers the store in the file of this name has, and its charge.
     fn report_charge(&mut self, file: &str, geometry: &Geometry, charge: u32)
         ensures { reported_charge self.old self.new file.now geometry.now charge };
-    /// Reports which lines of this input were refused, by these replies. The first reply belongs to no line.
-    fn report_tally(&mut self, lines: &InputLines, tally: &Tally)
-        ensures { reported_tally self.old self.new lines.now tally.now };
+    /// Reports which lines of this input were refused, by these replies of a store with values of this length. The first
+    /// reply belongs to no line.
+    fn report_tally(&mut self, lines: &InputLines, tally: &Tally, value_len: u32)
+        ensures { reported_tally self.old self.new lines.now tally.now value_len };
 
     /// Reports that this call failed on the disk of the file of this name.
     fn report_failure(&mut self, file: &str, failure: &Failure)

@@ -1,18 +1,20 @@
 // The six numbers of a planned store for a number of keys.
 ghost use Rattle.std.specs.Prelude.{◌≡◌, ◌≤◌, ◌+◌, ◌*◌, if◌then◌else◌, Ok, Some, None, IfOk, string_bytes};
 ghost use Rattle.std.specs.Option.{option_map};
+ghost use Rattle.silt_jobs.specs.PlanCosts.{ReportsCost};
 ghost use Rattle.silt_jobs.specs.Plans.{PrintsPlan, bucket_counts, first_planned, fits_memory, is_needed, is_possible, number_after, plan_text, shape_planned};
 
 use crate::notes::Notes;
 use crate::output::write_out;
+use crate::plan_cost::cost_of;
 use silt_disk::Geometry;
 use silt_words::PlanRequest;
 use std::alloc::{AllocError, Global};
 use std::fmt;
 use std::io::{self, Write};
 
-// The bucket counts of a geometry, the greatest first.
-const BUCKET_COUNTS: [u32; 15] = [
+/// The bucket counts of a geometry, the greatest first.
+pub(crate) const BUCKET_COUNTS: [u32; 15] = [
     32_768, 16_384, 8192, 4096, 2048, 1024, 512, 256, 128, 64, 32, 16, 8, 4, 2,
 ];
 
@@ -21,7 +23,7 @@ const MOST_KEYS: u32 = 16_777_216 - 77;
 
 /// Writes the six numbers of a store for this many keys, and what it costs on disk and in memory. It has as many
 /// buckets as four logs need for a ninth of the keys, or fewer if the numbers or the memory are limited. Returns the
-/// status: 1 if there is no such store. Then a note says why.
+/// status: 1 if there is no such store. A note says why, or what else the store costs.
 ///
 /// # Errors
 ///
@@ -34,12 +36,14 @@ pub fn write_plan<W: Write, N: Notes>(
 ) -> io::Result<u8>
     ensures plan { IfOk result (λ status. PrintsPlan request.now (first_planned request.now bucket_counts) status (W.contents writer.old) (W.contents writer.new)) }
     ensures printed { result ≡ Ok 1 → N.reported_no_plan notes.old notes.new request.now }
+    ensures cost { result ≡ Ok 0 → ReportsCost (N.reported_cost notes.old notes.new) request.now }
 {
     match plan(request) {
         Some(geometry) => {
             let memory = memory_planned(request.keys, geometry.buckets());
             let text = print_plan(alloc, &geometry, memory)?;
             write_out(text.as_bytes(), writer)?;
+            notes.report_cost(&cost_of(request.keys, geometry.buckets()));
             Ok(0)
         }
         None => {
@@ -120,8 +124,8 @@ fn planned(request: &PlanRequest, buckets: u32) -> Option<Geometry>
     Geometry::new(request.value_len, buckets, rows, 3, 8, most).ok()
 }
 
-// The bytes of memory that a store of this many buckets takes at most.
-fn memory_planned(keys: u32, buckets: u32) -> u64
+/// The bytes of memory that a store of this many buckets takes at most.
+pub(crate) fn memory_planned(keys: u32, buckets: u32) -> u64
     ensures { result ≡ 1043 * buckets + 21 * keys }
 {
     1043 * u64::from(buckets) + 21 * u64::from(keys)

@@ -1,6 +1,6 @@
 // Which lines of an output are refusals, and which is the first of each kind.
 ghost use Rattle.std.specs.Prelude.{◌≡◌, ◌-◌, ◌++◌, ◌∷◌, ◌<◌, ◌≤◌, [], cond, length, get_or, nat_lt};
-ghost use Rattle.silt_jobs.specs.Tally.{counted, line_ended, none_refused, refusal_number, refusal_in, tally_after, tally_of, unreported};
+ghost use Rattle.silt_jobs.specs.Tally.{counted, has_any, has_refusals, line_ended, none_refused, refusal_number, refusal_in, tally_after, tally_of, unreported};
 
 use std::marker::Model;
 
@@ -15,6 +15,15 @@ pub const KINDS: usize = 24;
 pub struct Refusals {
     pub count: u64,
     pub first: u64,
+}
+
+impl Refusals {
+    // Whether there are any.
+    fn has_any(&self) -> bool
+        ensures { result ≡ has_any self.now }
+    {
+        self.count > 0
+    }
 }
 
 // The first bytes of a line.
@@ -113,6 +122,13 @@ impl Tally {
         self.begun = Beginning::new();
     }
 
+    /// Whether some line is a refusal.
+    pub fn has_refusals(&self) -> bool
+        ensures { result ≡ has_refusals self.now }
+    {
+        self.refused[1..].iter().any(|refusals| refusals.has_any())
+    }
+
     /// The refusals of this number.
     pub fn refusals(&self, kind: usize) -> Refusals
         requires { kind < 24 }
@@ -127,7 +143,7 @@ fn counted(refusals: Refusals, line: u64) -> Refusals
     ensures { result ≡ counted refusals line }
 {
     Refusals {
-        count: refusals.count.wrapping_add(1),
+        count: refusals.count.saturating_add(1),
         first: if refusals.count == 0 {
             line
         } else {

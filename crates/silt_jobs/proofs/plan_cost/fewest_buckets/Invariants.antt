@@ -1,0 +1,10 @@
+use Rattle.std.proofs.Common.{◌≡◌, drop}
+use Rattle.silt_jobs.specs.Plans.{bucket_counts}
+use Rattle.silt_jobs.specs.PlanCosts.{first_needed}
+use Rattle.silt_jobs.proofs.plan_cost.fewest_buckets.Given as goal
+
+abbrev pub invariant-loop-buckets : goal.invariant-loop-buckets
+invariant-loop-buckets l = record {
+  items : l.buckets-items ≡ bucket_counts;
+  rest : first_needed l.most l.keys bucket_counts ≡ first_needed l.most l.keys (drop l.buckets-index bucket_counts);
+}

@@ -1,0 +1,54 @@
+-- What a planned store costs in merging, and in memory at rest.
+use Rattle.std.specs.Prelude.{◌≡◌, ℕ, ◌+◌, ◌*◌, ◌/◌, ◌==◌, nat_lt, ◌||◌, Bool, List, [], ◌∷◌, max, Option, Some, None, if◌then◌else◌}
+use Rattle.silt_words.specs.declared.job.PlanRequest.{PlanRequest}
+use Rattle.silt_jobs.specs.Plans.{bucket_counts, first_planned}
+use Rattle.silt_jobs.specs.declared.plan_cost.PlanCost.{PlanCost}
+use Rattle.silt_jobs.specs.declared.plan_cost.Remedy.{Remedy}
+use Rattle.silt_jobs.specs.declared.plan_cost.Remedy.TheVariants.{SeveralStores, Memory}
+
+-- The rows of four full logs, each with seven rows for two buckets: so many rows come between two merges.
+abbrev pub rows_between_merges : ℕ → ℕ
+rows_between_merges buckets = 28 * (buckets / 2)
+
+-- a merge that writes all keys writes more than this many entries for each row
+abbrev pub writes_more : ℕ → ℕ → ℕ → Bool
+writes_more most keys buckets = nat_lt (most * rows_between_merges buckets) keys
+
+-- the entries for each row in tenths, the nearest ones; half a tenth counts as one
+abbrev pub tenths_written : ℕ → ℕ → ℕ
+tenths_written keys rows = (20 * keys / max rows 1 + 1) / 2
+
+-- The bytes of memory when all is merged and one log is in use: the index of the sorted store takes 0.8 bytes a key and at least 18,504, the
+-- log's table 24 bytes a bucket, and its commit bytes one a row.
+abbrev pub at_rest : ℕ → ℕ → ℕ
+at_rest keys buckets = max ((4 * keys + 4) / 5) 18504 + 24 * buckets + 7 * (buckets / 2)
+
+-- with half as many buckets merging writes more than this many entries for each row, or there are no fewer buckets
+abbrev pub needs_buckets : ℕ → ℕ → ℕ → Bool
+needs_buckets most keys buckets = buckets == 2 || nat_lt (7 * most * buckets) keys
+
+-- the first of these bucket counts of which half are too few
+unfoldable pub first_needed : ℕ → ℕ → List ℕ → ℕ
+first_needed most keys [] = 2
+first_needed most keys (buckets ∷ more) = if needs_buckets most keys buckets then buckets else first_needed most keys more
+
+-- the bytes of memory of a plan with which merging writes at most this many entries for each row
+abbrev pub memory_for : ℕ → ℕ → ℕ
+memory_for most keys = 1043 * first_needed most keys bucket_counts + 21 * keys
+
+-- The memory with which merging writes at most ten entries for each row, or at most twenty if the most buckets write more than ten.
+abbrev pub more_memory : ℕ → Remedy
+more_memory keys = if writes_more 10 keys 32768 then Memory (memory_for 20 keys) 20 else Memory (memory_for 10 keys) 10
+
+-- What helps if merging writes more than twenty entries for each row: several stores, if that is so with the most buckets, or more memory.
+abbrev pub remedy_of : ℕ → ℕ → Option Remedy
+remedy_of keys buckets =
+    if writes_more 20 keys buckets then Some (if writes_more 20 keys 32768 then SeveralStores else more_memory keys) else None
+
+-- the cost of a planned store of this many buckets for these keys
+abbrev pub cost_of : ℕ → ℕ → PlanCost
+cost_of keys buckets = record { keys = keys; rows = rows_between_merges buckets; at_rest = at_rest keys buckets; remedy = remedy_of keys buckets }
+
+-- the cost of the plan is reported
+abbrev pub ReportsCost : (PlanCost → Type 0) → PlanRequest → Type 0
+ReportsCost reported r = (buckets : ℕ) × (first_planned r bucket_counts ≡ Some buckets) × reported (cost_of r.keys buckets)
