@@ -4,6 +4,7 @@ use Rattle.std.specs.Prelude.{IfOk, IfSome, is_some}
 use Rattle.std.specs.Result.{IsOk, result_unwrap_or}
 use Rattle.std.specs.Io.KnownBytes.{Appends}
 use Rattle.silt_wire.specs.Statuses.{IsStatus}
+use Rattle.silt_jobs.specs.Jobs.{IsRunStatus}
 use Rattle.silt_words.specs.Commands.{job_named}
 use Rattle.silt_words.specs.declared.job.WordsError.{WordsError}
 use Rattle.silt_words.specs.declared.job.WordsError.TheVariants.{Usage, NoMemory}
@@ -11,11 +12,24 @@ use Rattle.silt_words.specs.declared.job.PlanRequest.{PlanRequest}
 use Rattle.silt_jobs.specs.Plans.{PrintsPlan}
 use Rattle.silt.specs.Programs.{NamesNoJob, PrintsWords}
 
--- a job that was done or refused, and what is known of each
-pub job_ended : {E T D : Type 0} {W : ℕ → Type 0} (result : Result ℕ E) → ((status : ℕ) → ((status ≡ 0) × D) ⊎ ((status ≡ 1) × T) → W status)
-    → IfOk result (IsStatus T) → (result ≡ Ok 0 → D) → IfOk result W
-job_ended (Ok status) wrap (inl is) done = wrap status (inl (is, done (ap Ok is)))
-job_ended (Ok status) wrap (inr reported) done = wrap status (inr reported)
+-- the statuses of a job that never has status 3
+pub never_strict : {E : Type 0} (P Q : Type 0) (result : Result ℕ E) → IfOk result (IsStatus P) → IfOk result (IsRunStatus P Q)
+never_strict P Q (Ok status) known = inl known
+never_strict P Q (Err error) known = tt
+
+-- weaker statements than those reported with status 1 and with status 3
+pub both_weaker : {E P P₂ Q Q₂ : Type 0} (result : Result ℕ E) → (P → P₂) → (Q → Q₂) → IfOk result (IsRunStatus P Q) → IfOk result (IsRunStatus P₂ Q₂)
+both_weaker (Ok status) step further (inl (inl done)) = inl (inl done)
+both_weaker (Ok status) step further (inl (inr h)) = inl (inr (h.0, step h.1))
+both_weaker (Ok status) step further (inr h) = inr (h.0, further h.1)
+both_weaker (Err error) step further h = tt
+
+-- a job that was done, refused, or ended with status 3, and what is known of each
+pub job_ended : {E T U D : Type 0} {W : ℕ → Type 0} (result : Result ℕ E) → ((status : ℕ) → ((status ≡ 0) × D) ⊎ (((status ≡ 1) × T) ⊎ ((status ≡ 3) × U)) → W status)
+    → IfOk result (IsRunStatus T U) → (result ≡ Ok 0 → D) → IfOk result W
+job_ended (Ok status) wrap (inl (inl is)) done = wrap status (inl (is, done (ap Ok is)))
+job_ended (Ok status) wrap (inl (inr reported)) done = wrap status (inr (inl reported))
+job_ended (Ok status) wrap (inr refused) done = wrap status (inr (inr refused))
 job_ended (Err error) wrap reported done = tt
 
 -- no job was read
@@ -34,23 +48,40 @@ pub was_ok : {E : Type 0} (ended : Result ℕ E) (result status : ℕ) → resul
 was_ok (Ok known) result status is other at = refl
 was_ok (Err error) result status is other at = absurd (other (sym at ∙ is))
 
--- with 0 a job was done
-pub done_at_0 : {A : Type 0} (Named Done Reported : A → Type 0) (Unread : WordsError → Type 0) (status : ℕ) (before after : Option (List ℕ)) → status ≡ 0
-    → ((job : A) × Named job × (((status ≡ 0) × Done job) ⊎ ((status ≡ 1) × Reported job))) ⊎ ((error : WordsError) × Unread error × PrintsWords error status before after)
-    → (job : A) × Named job × Done job
-done_at_0 Named Done Reported Unread status before after is (inl (job, named, inl h)) = (job, named, h.1)
-done_at_0 Named Done Reported Unread status before after is (inl (job, named, inr h)) = absurd (omega (arith, is, h.0))
-done_at_0 Named Done Reported Unread status before after is (inr (Usage, cause, reported)) = absurd (omega (arith, is, reported.0))
-done_at_0 Named Done Reported Unread status before after is (inr (NoMemory, cause, reported)) = absurd (omega (arith, is, reported.0))
+module _ {A : Type 0} (Named Apart Done Reported Refused Clashed : A → Type 0) (reported_words : List (List ℕ) → Type 0) (words : List (List ℕ)) (before after : Option (List ℕ)) where
+  -- a job had this status, or no job was read
+  abbrev pub Ended : ℕ → Type 0
+  Ended status =
+      ((job : A) × Named job
+      × ((Apart job × (((status ≡ 0) × Done job) ⊎ (((status ≡ 1) × Reported job) ⊎ ((status ≡ 3) × Refused job)))) ⊎ ((status ≡ 1) × Clashed job)))
+      ⊎ ((error : WordsError) × NamesNoJob reported_words words error × PrintsWords error status before after)
 
--- with status 2 the words name no job, and a note says why
-pub usage_at_2 : {A : Type 0} (Named Done Reported : A → Type 0) (reported_words : List (List ℕ) → Type 0) (words : List (List ℕ)) (status : ℕ) (before after : Option (List ℕ)) → status ≡ 2
-    → ((job : A) × Named job × (((status ≡ 0) × Done job) ⊎ ((status ≡ 1) × Reported job))) ⊎ ((error : WordsError) × NamesNoJob reported_words words error × PrintsWords error status before after)
-    → (job_named words ≡ None) × reported_words words × Appends before after (codes "usage\n")
-usage_at_2 Named Done Reported reported_words words status before after is (inl (job, named, inl h)) = absurd (omega (arith, is, h.0))
-usage_at_2 Named Done Reported reported_words words status before after is (inl (job, named, inr h)) = absurd (omega (arith, is, h.0))
-usage_at_2 Named Done Reported reported_words words status before after is (inr (Usage, cause, reported)) = (cause.0, cause.1, reported.1)
-usage_at_2 Named Done Reported reported_words words status before after is (inr (NoMemory, cause, reported)) = absurd (omega (arith, is, reported.0))
+  -- with 0 a job was done
+  pub done_at_0 : (status : ℕ) → status ≡ 0 → Ended status → (job : A) × Named job × Apart job × Done job
+  done_at_0 status is (inl (job, named, inl (apart, inl h))) = (job, named, apart, h.1)
+  done_at_0 status is (inl (job, named, inl (apart, inr (inl h)))) = absurd (omega (arith, is, h.0))
+  done_at_0 status is (inl (job, named, inl (apart, inr (inr h)))) = absurd (omega (arith, is, h.0))
+  done_at_0 status is (inl (job, named, inr h)) = absurd (omega (arith, is, h.0))
+  done_at_0 status is (inr (Usage, cause, reported)) = absurd (omega (arith, is, reported.0))
+  done_at_0 status is (inr (NoMemory, cause, reported)) = absurd (omega (arith, is, reported.0))
+
+  -- with 3 a strict run refused a line
+  pub refused_at_3 : (status : ℕ) → status ≡ 3 → Ended status → (job : A) × Named job × Apart job × Refused job
+  refused_at_3 status is (inl (job, named, inl (apart, inl h))) = absurd (omega (arith, is, h.0))
+  refused_at_3 status is (inl (job, named, inl (apart, inr (inl h)))) = absurd (omega (arith, is, h.0))
+  refused_at_3 status is (inl (job, named, inl (apart, inr (inr h)))) = (job, named, apart, h.1)
+  refused_at_3 status is (inl (job, named, inr h)) = absurd (omega (arith, is, h.0))
+  refused_at_3 status is (inr (Usage, cause, reported)) = absurd (omega (arith, is, reported.0))
+  refused_at_3 status is (inr (NoMemory, cause, reported)) = absurd (omega (arith, is, reported.0))
+
+  -- with status 2 the words name no job, and a note says why
+  pub usage_at_2 : (status : ℕ) → status ≡ 2 → Ended status → (job_named words ≡ None) × reported_words words × Appends before after (codes "usage\n")
+  usage_at_2 status is (inl (job, named, inl (apart, inl h))) = absurd (omega (arith, is, h.0))
+  usage_at_2 status is (inl (job, named, inl (apart, inr (inl h)))) = absurd (omega (arith, is, h.0))
+  usage_at_2 status is (inl (job, named, inl (apart, inr (inr h)))) = absurd (omega (arith, is, h.0))
+  usage_at_2 status is (inl (job, named, inr h)) = absurd (omega (arith, is, h.0))
+  usage_at_2 status is (inr (Usage, cause, reported)) = (cause.0, cause.1, reported.1)
+  usage_at_2 status is (inr (NoMemory, cause, reported)) = absurd (omega (arith, is, reported.0))
 
 -- what is true if a value was made
 pub if_made : {A P : Type 0} (made : Option A) → IfSome made (λ _. P) → is_some made ≡ true → P

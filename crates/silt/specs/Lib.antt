@@ -1,2 +1,4 @@
+pub mod Clashes
 pub mod Programs
 pub mod Services
+pub mod Streams

@@ -3,31 +3,41 @@
 //! - `silt plan KEYS V [--memory BYTES]` prints the six numbers of a store for this many keys, and what they cost.
 //! - `silt format FILE V B CAP NL NH S [--force]` makes an empty store of this geometry in a file, and prints the file's
 //!   length. Without `--force` a file with other data stays as it is.
-//! - `silt run FILE [--tend]` is one life of the store in a file: it reads lines to the end, and writes one reply line for
-//!   each. The end of the input flushes nothing. With `--tend` it does the background work that is due between the lines.
+//! - `silt run FILE [--tend] [--strict]` is one life of the store in a file: it reads lines to the end, and writes one
+//!   reply line for each. The end of the input flushes nothing. With `--tend` it does the background work that is due
+//!   between the lines. With `--strict` it ends with status 3 if a line was refused.
 //! - `silt tend FILE` does all background work of the store in a file.
 //! - `silt check FILE` prints a report of the store in a file, in numbers.
 //! - `silt dump FILE` prints a line for each key with a value, which puts that value.
 //! - `silt script V B CAP NL NH S` makes an empty store of this geometry on a disk in memory, reads lines to the end, and
 //!   writes one reply line for each. Lines `stop K FILL` divide them into lives. Such a line is a crash at the K-th write or
 //!   sync of the life before it. The next life opens what the crash leaves.
-//! - `silt serve FILE PORT [--audit N] [--sessions M] [--idle SECONDS] [--pipeline]` serves the store in a file to the
-//!   connections of a port of this machine. With `--pipeline` the commands that a connection sent together are done
-//!   with one flush.
+//! - `silt serve FILE PORT [--audit N] [--sessions M] [--idle SECONDS] [--wait SECONDS] [--pipeline]` serves the store in a
+//!   file to the connections of a port of this machine. With `--pipeline` the commands that a connection sent together
+//!   are done with one flush.
+//!
+//! Before all else it opens `/dev/null` on each standard descriptor that is closed. A job whose file is a standard stream is
+//! refused.
 //!
 //! silt_jobs does the work on a file or in memory, and silt_server serves. Their functions work over any source of disks,
 //! and their contracts say what is written for each content of the path's disk. Of a disk in a file only its length is
 //! known.
 #![tactic(auto)]
 
+mod clash;
+mod file_identity;
 mod listener;
 mod program;
 mod service;
+mod standard_streams;
 
 use program::{program, refuse_words, status_of};
 use silt_device::FileDisks;
-use silt_jobs::{AfterProgress, NoteLines, Progress, WatchedFiles, WatchedReader, WatchedWriter};
+use silt_jobs::{
+    AfterProgress, NoteLines, Progress, SourceNotes, WatchedFiles, WatchedReader, WatchedWriter,
+};
 use silt_words::WordsError;
+use standard_streams::{NULL_DEVICE, StandardStreams, fill_descriptors};
 use std::env::{self, Env};
 use std::fs::File;
 use std::io::{self, ErrorKind, IsTerminal, Stderr, Write};
@@ -39,7 +49,17 @@ use std::thread::Threads;
 use std::time::Clock;
 
 fn main(rt: HostRuntime) -> ExitCode {
-    done(&rt, rt.stderr(), rt.stderr())
+    match fill_descriptors(rt.alloc(), &rt) {
+        Ok(files) => {
+            let status = done(&rt, rt.stderr(), rt.stderr());
+            drop(files); // not before the end, or a store's file could get such a number
+            status
+        }
+        Err(error) => {
+            NoteLines::new(rt.stderr()).report_error(NULL_DEVICE, &error);
+            ExitCode::from(1)
+        }
+    }
 }
 
 // Does the job that the process's own words name, and returns the exit status. Notes go to `errors`. Notes that cannot wait
@@ -52,7 +72,8 @@ fn done<
         + Clock
         + Threads
         + Wait
-        + Sync,
+        + Sync
+        + StandardStreams,
     E: Write + Drop,
 >(rt: &S, errors: E, at_once: Stderr) -> ExitCode {
     let progress = Progress::new(terminal(at_once));

@@ -4,11 +4,14 @@ ghost use Rattle.std.specs.Io.KnownBytes.{Appends};
 ghost use Rattle.std.specs.Result.{result_unwrap_or};
 ghost use Rattle.silt_words.specs.declared.job.Job.{Job as JobOf};
 ghost use Rattle.silt_words.specs.Commands.{job_named};
-ghost use Rattle.silt_wire.specs.Statuses.{IsStatus};
 ghost use Rattle.silt_jobs.specs.Notes.{ReportedFailures, ReportedRefusal, ReportedSession};
-ghost use Rattle.silt.specs.Programs.{Answers, EndsJob, NamesJob, PrintsJob, PrintsWords};
+ghost use Rattle.silt_jobs.specs.Jobs.{IsRunStatus};
+ghost use Rattle.silt.specs.Programs.{Answers, EndsJob, NamesJob, PrintsJob, PrintsWords, RefusesLines};
+ghost use Rattle.silt.specs.Streams.{IsApart};
 
+use crate::clash::{StreamNotes, clash_of, refuse_clash};
 use crate::service::serve_file;
+use crate::standard_streams::StandardStreams;
 use silt_device::DiskSource;
 use silt_disk::Disk;
 use silt_jobs::{
@@ -25,13 +28,19 @@ use std::thread::Threads;
 use std::time::Clock;
 
 /// Does the job that the words name, and returns the status: 0 if it is done, 1 if it is refused or a reader or writer
-/// fails, 2 if the words name no job. The first word is the program's own.
+/// fails, 2 if the words name no job, 3 if it is a strict run and a line was refused. The first word is the program's own.
+/// A job whose file is a standard stream is refused before anything is opened, read or printed.
 pub fn program<
     S: DiskSource,
-    H: Net<Listener = TcpListener, Stream = TcpStream> + Clock + Threads + Wait + Sync,
+    H: Net<Listener = TcpListener, Stream = TcpStream>
+        + Clock
+        + Threads
+        + Wait
+        + Sync
+        + StandardStreams,
     R: Read + KeepsError + KeepsLines,
     W: Write + KeepsError + KeepsTally,
-    N: Notes + SourceNotes<S::Error> + FaultNotes<<S::Disk as Disk>::Fault>,
+    N: Notes + SourceNotes<S::Error> + FaultNotes<<S::Disk as Disk>::Fault> + StreamNotes,
 >(
     rt: &H,
     alloc: Global,
@@ -43,12 +52,18 @@ pub fn program<
 ) -> u8
 where
     S::Disk: Served + Watched,
-    ensures done { result ≡ 0 → (job : JobOf) × NamesJob (map string_bytes words.now) job
+    ensures done { result ≡ 0 → (job : JobOf) × NamesJob (map string_bytes words.now) job × IsApart (H.are_file rt.now) job
         × EndsJob S.Disk.Disk N.Notes (ReportedRefusal N.reported_fault N.reported_damage N.reported_no_store)
         (ReportedSession N.reported_failure S.Disk.Watched.kept_read S.Disk.Watched.last_failure N.reported_end N.reported_tally notes.old notes.new
         (R.kept_error reader.new) (W.kept_error writer.new) (R.kept_lines reader.new) (W.kept_tally writer.new))
-        (ReportedFailures N.reported_failure S.Disk.Watched.kept_read S.Disk.Watched.last_failure notes.old notes.new) notes.old notes.new
+        (ReportedFailures N.reported_failure S.Disk.Watched.kept_read S.Disk.Watched.last_failure notes.old notes.new) (W.kept_tally writer.new) notes.old notes.new
         (S.opened source) (S.shared source) (S.found source) S.resized job
+        (R.remaining reader.old) (R.remaining reader.new) (W.contents writer.old) (W.contents writer.new) }
+    ensures refused { result ≡ 3 → (job : JobOf) × NamesJob (map string_bytes words.now) job × IsApart (H.are_file rt.now) job
+        × RefusesLines S.Disk.Disk
+        (ReportedSession N.reported_failure S.Disk.Watched.kept_read S.Disk.Watched.last_failure N.reported_end N.reported_tally notes.old notes.new
+        (R.kept_error reader.new) (W.kept_error writer.new) (R.kept_lines reader.new) (W.kept_tally writer.new))
+        (W.kept_tally writer.new) (S.opened source) job
         (R.remaining reader.old) (R.remaining reader.new) (W.contents writer.old) (W.contents writer.new) }
     ensures usage { result ≡ 2 → (job_named (map string_bytes words.now) ≡ None) × N.reported_words notes.old notes.new (map string_bytes words.now)
         × Appends (W.contents writer.old) (W.contents writer.new) (codes "usage\n") }
@@ -72,10 +87,15 @@ pub fn status_of(ended: io::Result<u8>) -> u8
 /// The reader's or the writer's, and out of memory for the text of a reply.
 pub fn answer<
     S: DiskSource,
-    H: Net<Listener = TcpListener, Stream = TcpStream> + Clock + Threads + Wait + Sync,
+    H: Net<Listener = TcpListener, Stream = TcpStream>
+        + Clock
+        + Threads
+        + Wait
+        + Sync
+        + StandardStreams,
     R: Read + KeepsError + KeepsLines,
     W: Write + KeepsError + KeepsTally,
-    N: Notes + SourceNotes<S::Error> + FaultNotes<<S::Disk as Disk>::Fault>,
+    N: Notes + SourceNotes<S::Error> + FaultNotes<<S::Disk as Disk>::Fault> + StreamNotes,
 >(
     rt: &H,
     alloc: Global,
@@ -90,16 +110,21 @@ where
     ensures { IfOk result (λ status. Answers S.Disk.Disk N.Notes (ReportedRefusal N.reported_fault N.reported_damage N.reported_no_store) N.reported_error
         (ReportedSession N.reported_failure S.Disk.Watched.kept_read S.Disk.Watched.last_failure N.reported_end N.reported_tally notes.old notes.new
         (R.kept_error reader.new) (W.kept_error writer.new) (R.kept_lines reader.new) (W.kept_tally writer.new))
-        (ReportedFailures N.reported_failure S.Disk.Watched.kept_read S.Disk.Watched.last_failure notes.old notes.new) notes.old notes.new
+        (ReportedFailures N.reported_failure S.Disk.Watched.kept_read S.Disk.Watched.last_failure notes.old notes.new) (W.kept_tally writer.new) notes.old notes.new
         (S.opened source) (S.not_opened source) (S.shared source) (S.not_shared source)
         (S.found source) (S.not_found source) S.resized S.not_resized
+        (H.are_file rt.now) N.reported_stream
         (map string_bytes words.now) status (R.remaining reader.old) (R.remaining reader.new) (W.contents writer.old) (W.contents writer.new)) }
 {
     match read_words(alloc, words) {
-        Ok(job) => do_job(rt, alloc, source, job, reader, writer, notes),
+        Ok(job) => match clash_of(rt, &job) {
+            Some(clash) => refuse_clash(alloc, &clash, writer, notes),
+            None => do_job(rt, alloc, source, job, reader, writer, notes),
+        },
         Err(error) => {
+            let status = refuse_words(error, writer); // before the note, so that a reason comes last
             report_unread(error, words, notes);
-            refuse_words(error, writer)
+            status
         }
     }
 }
@@ -132,17 +157,22 @@ fn do_job<
 ) -> io::Result<u8>
 where
     S::Disk: Served + Watched,
-    ensures printed { IfOk result (IsStatus (PrintsJob S.Disk.Disk N.Notes (ReportedRefusal N.reported_fault N.reported_damage N.reported_no_store) N.reported_error
+    ensures printed { IfOk result (IsRunStatus (PrintsJob S.Disk.Disk N.Notes (ReportedRefusal N.reported_fault N.reported_damage N.reported_no_store) N.reported_error
         (ReportedSession N.reported_failure S.Disk.Watched.kept_read S.Disk.Watched.last_failure N.reported_end N.reported_tally notes.old notes.new
         (R.kept_error reader.new) (W.kept_error writer.new) (R.kept_lines reader.new) (W.kept_tally writer.new))
-        (ReportedFailures N.reported_failure S.Disk.Watched.kept_read S.Disk.Watched.last_failure notes.old notes.new) notes.old notes.new
+        (ReportedFailures N.reported_failure S.Disk.Watched.kept_read S.Disk.Watched.last_failure notes.old notes.new) (W.kept_tally writer.new) notes.old notes.new
         (S.opened source) (S.not_opened source) (S.shared source) (S.not_shared source)
         (S.found source) (S.not_found source) S.resized S.not_resized
-        job.entry (R.remaining reader.old) (R.remaining reader.new) (W.contents writer.old) (W.contents writer.new))) }
+        job.entry (R.remaining reader.old) (R.remaining reader.new) (W.contents writer.old) (W.contents writer.new))
+        (RefusesLines S.Disk.Disk
+        (ReportedSession N.reported_failure S.Disk.Watched.kept_read S.Disk.Watched.last_failure N.reported_end N.reported_tally notes.old notes.new
+        (R.kept_error reader.new) (W.kept_error writer.new) (R.kept_lines reader.new) (W.kept_tally writer.new))
+        (W.kept_tally writer.new) (S.opened source) job.entry
+        (R.remaining reader.old) (R.remaining reader.new) (W.contents writer.old) (W.contents writer.new))) }
     ensures done { result ≡ Ok 0 → EndsJob S.Disk.Disk N.Notes (ReportedRefusal N.reported_fault N.reported_damage N.reported_no_store)
         (ReportedSession N.reported_failure S.Disk.Watched.kept_read S.Disk.Watched.last_failure N.reported_end N.reported_tally notes.old notes.new
         (R.kept_error reader.new) (W.kept_error writer.new) (R.kept_lines reader.new) (W.kept_tally writer.new))
-        (ReportedFailures N.reported_failure S.Disk.Watched.kept_read S.Disk.Watched.last_failure notes.old notes.new) notes.old notes.new
+        (ReportedFailures N.reported_failure S.Disk.Watched.kept_read S.Disk.Watched.last_failure notes.old notes.new) (W.kept_tally writer.new) notes.old notes.new
         (S.opened source) (S.shared source) (S.found source) S.resized job.entry
         (R.remaining reader.old) (R.remaining reader.new) (W.contents writer.old) (W.contents writer.new) }
 {
@@ -153,7 +183,9 @@ where
             force,
         } => format_file(alloc, source, file, &numbers, force, writer, notes).1,
         Job::Script(numbers) => run_script(alloc, &numbers, reader, writer, notes),
-        Job::Run { file, tend } => run_file(alloc, source, file, tend, reader, writer, notes).1,
+        Job::Run { file, options } => {
+            run_file(alloc, source, file, options, reader, writer, notes).1
+        }
         Job::Tend { file } => tend_file(alloc, source, file, writer, notes).1,
         Job::Check { file } => check_file(alloc, source, file, writer, notes).1,
         Job::Dump { file } => dump_file(alloc, source, file, writer, notes).1,

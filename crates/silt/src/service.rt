@@ -151,12 +151,14 @@ fn limits_of(service: &Service<'_>) -> Limits
     ensures sessions { result.sessions ≡ unwrap_or service.now.sessions 0 }
     ensures audit { result.audit ≡ service.now.audit }
     ensures idle { result.idle ≡ service.now.idle }
+    ensures wait { result.wait ≡ unwrap_or service.now.wait 10 }
     ensures pipeline { result.pipeline ≡ service.now.pipeline }
 {
     Limits {
         sessions: service.sessions.unwrap_or(0),
         audit: calls_kept(service.audit),
         idle: service.idle,
+        wait: service.wait.unwrap_or(10),
         pipeline: service.pipeline,
     }
 }
