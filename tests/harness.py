@@ -42,6 +42,27 @@ def scaled(count):
     return count * 100 if LONG else count
 
 
+def mounting(case):
+    """The words in front of a program that mounts file systems of its own. Leaves the test out where that is not allowed."""
+    words = ["unshare", "--mount"]
+    try:
+        ran = subprocess.run([*words, "mount", "-t", "tmpfs", "tmpfs", "/mnt"], capture_output=True, text=True)
+    except FileNotFoundError as missing:
+        case.skipTest(f"no file system can be mounted here: {missing}")
+    if ran.returncode:
+        case.skipTest(f"no file system can be mounted here: {ran.stderr.strip()}")
+    return words
+
+
+def closing(*numbers):
+    """What a child calls before it becomes the program, which then begins without these descriptors."""
+    def close():
+        for number in numbers:
+            os.close(number)
+
+    return close
+
+
 @dataclass
 class Ended:
     """How a run of the program ended: its status (a negative number is a signal), its output and its error output."""
@@ -74,6 +95,8 @@ class Case(unittest.TestCase):
     maxDiff = None
     # The version of the layout of the stores that `store` makes.
     version = 2
+    # The words in front of the program, if another one starts it.
+    starter = ()
 
     def setUp(self):
         self.folder = pathlib.Path(tempfile.mkdtemp(prefix="silt-test-"))
@@ -86,7 +109,7 @@ class Case(unittest.TestCase):
     def start(self, *words, env=None, **how):
         """Starts the program with these words in the test's folder. The caller reads and ends it."""
         how = {"stdin": subprocess.PIPE, "stdout": subprocess.PIPE, "stderr": subprocess.PIPE, "cwd": self.folder} | how
-        return subprocess.Popen([PROGRAM, *map(str, words)], env={**os.environ, **(env or {})}, **how)
+        return subprocess.Popen([*self.starter, PROGRAM, *map(str, words)], env={**os.environ, **(env or {})}, **how)
 
     def silt(self, *words, text="", env=None, limit=TIME_LIMIT):
         """Runs the program with these words and this standard input to its end."""
@@ -110,7 +133,7 @@ class Case(unittest.TestCase):
         """Makes a store of this geometry ('2 2 4 2 2 8') in the test's folder, and runs these lines on it. Returns its path.
 
         A store of version 1 is then as a program left it that knew no digests."""
-        made = self.silt("format", name, *geometry.split())
+        made = self.silt("format", name, *geometry.split(), "--force")
         self.assertEqual(made.status, 0, made)
         if lines:
             ran = self.silt("run", name, text="".join(line + "\n" for line in lines))

@@ -5,11 +5,13 @@ NAMES = {5: "Device", 6: "NoMemory", 7: "StoreFull", 8: "NoRoom", 9: "Failed", 1
          20: "BadLine", 21: "BadKey", 22: "BadValue", 23: "LineTooLong"}
 HELP = {7: "merging drops what was overwritten or deleted (run with --tend, or silt tend), and more keys need a larger S",
         8: "background work makes room: run with --tend, or silt tend",
-        9: "an earlier write or sync failed, and running again opens the store anew"}
+        9: "an earlier write or sync failed, and running again opens the store anew",
+        22: "a value has {digits} hexadecimal digits here (V is {length})"}
 
 
-def notes_of_lines(data, out):
-    """What a run says that read these bytes and printed this text, if it printed `opened`."""
+def notes_of_lines(data, out, length=2):
+    """What a run says that read these bytes and printed this text, if it printed `opened`. Its store has values of this
+    length."""
     *lines, rest = data.split(b"\n")
     numbers = [number for number, line in enumerate(lines, 1) if line not in (b"", b"\r")]
     replies = out.split("\n")[1:-1]
@@ -17,13 +19,14 @@ def notes_of_lines(data, out):
     for number, reply in zip(numbers, replies):
         if reply.startswith("refused "):
             refused.setdefault(int(reply.split()[1]), []).append(number)
-    notes = [notes_of_refusals(kind, refused[kind]) for kind in sorted(refused)]
+    notes = [notes_of_refusals(kind, refused[kind], length) for kind in sorted(refused)]
     return "".join(notes + ["silt: the last line has no line feed, and is not answered\n"] * (rest != b""))
 
 
-def notes_of_refusals(kind, lines):
+def notes_of_refusals(kind, lines, length):
     """What it says of lines with these numbers that were refused for one reason."""
     noun, help_words = "line" if len(lines) == 1 else "lines", f"; {HELP[kind]}" if kind in HELP else ""
+    help_words = help_words.format(digits=2 * length, length=length)
     return f"silt: {len(lines)} {noun} refused {kind} {NAMES[kind]}, first line {lines[0]}{help_words}\n"
 
 

@@ -3,12 +3,15 @@
 A `Server` is a running `silt serve`. A `Client` is one connection to it. `ServedCase` starts both,
 and ends them with the test.
 """
+import contextlib
 import os
+import pathlib
 import select
 import signal
 import socket
 import struct
 import subprocess
+import threading
 import time
 
 from harness import TIME_LIMIT, Ended
@@ -90,6 +93,20 @@ class Client:
             pass
         text, self.received = self.received.decode(), bytearray()
         return text.splitlines()
+
+    def exchange(self, lines):
+        """Sends these lines in one write and ends the input, and reads meanwhile. All replies."""
+        sending = threading.Thread(target=self.send_all, args=(lines,))
+        sending.start()
+        replies = self.rest()
+        sending.join()
+        return replies
+
+    def send_all(self, lines):
+        """Sends these lines, and ends the input. The server may close the connection before."""
+        with contextlib.suppress(OSError):
+            self.send(*lines)
+            self.end_input()
 
     def close(self):
         self.socket.close()
@@ -240,3 +257,30 @@ class ServedCase(WatchedCase):
 def digits(number):
     """A key of forty digits that begins with two digits of this number."""
     return f"{number:02}".ljust(40, "0")
+
+
+def free_port():
+    """A port of this machine that nobody listens on for now."""
+    with socket.create_server(("127.0.0.1", 0)) as listener:
+        return listener.getsockname()[1]
+
+
+def listening_sockets(process):
+    """Each internet socket at which a process can be reached: its protocol, and its address as
+    the system writes it."""
+    held = {link_of(it) for it in pathlib.Path(f"/proc/{process}/fd").iterdir()}
+    found = []
+    for protocol in ("tcp", "tcp6", "udp", "udp6"):
+        for row in pathlib.Path(f"/proc/net/{protocol}").read_text().splitlines()[1:]:
+            fields = row.split()
+            is_open = fields[3] == "0A" or protocol.startswith("udp")
+            if is_open and f"socket:[{fields[9]}]" in held:
+                found.append((protocol, fields[1]))
+    return found
+
+
+def link_of(path):
+    try:
+        return str(path.readlink())
+    except OSError:
+        return ""

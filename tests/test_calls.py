@@ -365,9 +365,10 @@ class Jobs(CallCase):
     """What the jobs of the program call, from the opening of the file on."""
 
     def opened(self, calls, flags, lock, file="store"):
-        """Judges that the file is opened so, and then locked, before anything else is done.
-        Returns the rest."""
-        first, second, *rest = [it for it in calls if it.file == file or it.name == "open"]
+        """Judges that the null device is opened for streams that may be closed, and then the file so,
+        and that it is locked before anything else is done. Returns the rest."""
+        null, first, second, *rest = [it for it in calls if it.file == file or it.name == "open"]
+        self.assertEqual((null.name, null.file, null.asked & 0o103), ("open", "/dev/null", 0o2))
         self.assertEqual((first.name, first.file, first.asked & 0o103), ("open", file, flags))
         self.assertEqual((second.name, second.asked, second.result), ("flock", lock, 0))
         return rest
@@ -440,7 +441,7 @@ class Jobs(CallCase):
     def test_a_script_touches_no_file(self):
         ended, calls = self.recorded("script", *G.split(), text="put =a 0001\nflush\nget =a\n")
         self.assertEqual(ended.lines[-1], "value 0001")
-        self.assertEqual([it for it in calls if it.name in ("open", "pwrite", "fsync", "fdatasync")], [])
+        self.assertEqual([it.file for it in calls if it.name in ("open", "pwrite", "fsync", "fdatasync")], ["/dev/null"])
 
     def test_replies_come_after_the_last_sync(self):
         self.store(G)

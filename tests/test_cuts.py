@@ -425,7 +425,7 @@ class Formats(CutCase):
         words, old = geometry.split(), before and self.report(before)
         if before is not None:
             self.path("store").write_bytes(before)
-        ended, calls = self.recorded("format", "store", *words)
+        ended, calls = self.recorded("format", "store", *words, "--force")
         self.assertEqual(ended.status, 0, ended)
         made = self.path("store").read_bytes()
         empty = self.report(made)

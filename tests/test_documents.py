@@ -28,6 +28,7 @@ import unittest
 from dataclasses import dataclass, field
 
 from harness import PROGRAM, TIME_LIMIT, TOP, Case
+from served import free_port
 
 SHELLS = ("sh", "bash", "shell")
 LANGUAGES = ("", "console", "text", *SHELLS)
@@ -145,11 +146,6 @@ def pattern_of(lines):
     return "".join(r"(?:.*\n)*" if line in ("..", "...") else re.escape(line) + r"\n" for line in lines)
 
 
-def free_port():
-    with socket.create_server(("127.0.0.1", 0)) as listener:
-        return str(listener.getsockname()[1])
-
-
 def end_group(number):
     """Ends the processes that a shell left running, if any."""
     try:
@@ -193,7 +189,7 @@ class Documents(Shell):
         """The same commands, with a free port in place of each port of a server."""
         ports = {it for command in commands for it in re.findall(r"\bserve \S+ ([1-9]\d*)", command.text)}
         for port in ports:
-            free = free_port()
+            free = str(free_port())
             for command in commands:
                 command.text = re.sub(rf"\b{port}\b", free, command.text)
                 command.shown = [re.sub(rf"\b{port}\b", free, line) for line in command.shown]
@@ -280,13 +276,11 @@ class Examples(Shell):
 
 
 class Library(unittest.TestCase):
-    """The example of the library is the text of a test that is proved and run."""
+    """The program that shows how the library is used is the source of a crate, which is proved."""
 
-    def test_its_functions(self):
+    def test_its_program(self):
         shown = next(it for it in blocks_of(TOP / "docs/library.md") if it.language == "rust")
-        functions = "\n".join(shown.lines[shown.lines.index("// A new store on this disk."):])
-        self.assertEqual(functions.count("\nfn "), 2)
-        self.assertIn(f"\n{functions}\n", (TOP / "crates/silt_tests/src/library.rt").read_text())
+        self.assertEqual("\n".join([*shown.lines, ""]), (TOP / "crates/silt_example/src/main.rt").read_text())
 
 
 class Parsing(unittest.TestCase):

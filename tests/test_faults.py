@@ -77,6 +77,8 @@ class FaultCase(JobCase):
                 with self.subTest(job=job.words[0], call=fault.call, number=number, error=fault.error):
                     if fault.is_none:
                         self.assertEqual((ended, self.left()), (whole, at_end))
+                    elif self.failed_file(fault, calls) == "/dev/null":
+                        self.judge_null_device(job, fault, ended)
                     else:
                         judge(job, fault, whole, ended, calls)
                 tried += 1
@@ -85,6 +87,15 @@ class FaultCase(JobCase):
     def failed_call(self, fault, calls):
         """The number of the call that failed first."""
         return next(n for n, it in enumerate(calls) if it.name == fault.call and it.error == fault.error)
+
+    def failed_file(self, fault, calls):
+        """The file of the call that failed first."""
+        return calls[self.failed_call(fault, calls)].file
+
+    def judge_null_device(self, job, fault, ended):
+        """Without it a file could get the number of a closed stream, so no other file is opened."""
+        self.assertEqual(ended, Ended(1, "", f"silt: /dev/null: {fault.text}\n"))
+        self.assertEqual(self.left(), job.before)
 
     def reason(self, fault, call):
         """What the standard error says, as a pattern."""
@@ -281,8 +292,10 @@ class Pieces(WatchedCase):
             self.store(SMALL, ["put =a 0102", "flush"])
             for words in ("run store", "tend store", "check store", "dump store", f"script {SMALL}"):
                 self.assertEqual(self.run_into(place, words), Ended(1, "", said), (words, place))
-            held = "silt: store holds a store (V 2, B 2, CAP 4, NL 2, NH 2, S 8) of at most 1 keys; it is overwritten\n"
-            self.assertEqual(self.run_into(place, f"format store {SMALL}"), Ended(1, "", held + said), place)
+            store = "a store (V 2, B 2, CAP 4, NL 2, NH 2, S 8) of at most 1 keys"
+            for force, note in (("", f"silt: store: it holds {store}; --force overwrites it\n"),
+                                (" --force", f"silt: store holds {store}; it is overwritten\n")):
+                self.assertEqual(self.run_into(place, f"format store {SMALL}{force}"), Ended(1, "", note + said), place)
 
     def run_into(self, place, words):
         """Runs the program with its standard output at a place, or in a pipe that is closed."""
@@ -370,15 +383,12 @@ class Others(FaultCase):
         left = self.left()
         empty = self.report_after(None, job)
         call = calls[self.failed_call(fault, calls)]
-        if fault.call == "pread" and ended.status:
-            # It cannot see what it would overwrite.
-            self.assertEqual((ended.status, ended.out, left), (1, DEVICE, job.before))
-            self.judge_reason(fault, call, ended)
-            return
         if fault.call == "pread":
-            # It cannot see the numbers of the store that is lost, or how many keys.
+            # It cannot see the store that is lost, or not its numbers, or not how many keys.
             self.assertEqual((ended.status, ended.out, self.report(left)), (0, whole.out, empty))
-            self.assertRegex(ended.err, rf"\Asilt: store holds a store( of at most 5 keys| \({NUMBERS}\) that is damaged or cannot be read); it is overwritten\n\Z")
+            first = next(it for it in calls if it.name == "pread")
+            seen = rf"silt: store holds a store( of at most 5 keys| \({NUMBERS}\) that is damaged or cannot be read); it is overwritten\n"
+            self.assertRegex(ended.err, r"\A\Z" if call is first else rf"\A{seen}\Z")
             return
         if call.file == "standard error":
             # It says in part that a store is lost.
@@ -398,15 +408,26 @@ class Others(FaultCase):
     def report_after(self, content, job):
         """What a check says of a file of this content that is formatted by force."""
         self.put_back(content)
-        self.silt(*job.words, "--force")
+        self.silt(*(it for it in job.words if it != "--force"), "--force")
         return self.report(self.left())
 
     def test_a_format_of_a_new_file(self):
         self.try_all(Job(["format", "store", *GEOMETRY.split()]), self.judge_format, self.of_a_format())
 
     def test_a_format_of_a_store(self):
-        job = Job(["format", "store", *GEOMETRY.split()], [], self.used())
+        job = Job(["format", "store", *GEOMETRY.split(), "--force"], [], self.used())
         self.try_all(job, self.judge_format, self.of_a_format())
+
+    def judge_kept(self, job, fault, whole, ended, calls):
+        """A store with keys stays, whatever can be seen of it."""
+        self.assertEqual((ended.status, self.left()), (1, job.before))
+        if fault.call != "write":
+            self.assertEqual(ended.out, DEVICE)
+            self.assertRegex(ended.err, r"\Asilt: store: .*\n\Z")
+
+    def test_a_format_that_is_refused(self):
+        job = Job(["format", "store", *GEOMETRY.split()], [], self.used())
+        self.try_all(job, self.judge_kept, self.of_a_format())
 
     def of_a_format(self):
         return [it for it in STREAMS if it.call == "write"] + READS + WRITES + SYNCS + OPENS

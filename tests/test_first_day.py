@@ -1,13 +1,12 @@
 """The first day with silt: what a newcomer does wrong destroys no data, leaves no work undone, and is reported with its reason."""
 import os
-import re
 import socket
 import unittest
 
 from commands import answer, done, value_of
 from harness import Ended, scaled
 from served import ServedCase
-from watch import WatchedCase
+from watch import WatchedCase, watching
 
 # Logs of four rows, and how a store of these numbers is named.
 SMALL = "2 2 4 2 2 8"
@@ -16,7 +15,10 @@ NAMED = "V 2, B 2, CAP 4, NL 2, NH 2, S 8"
 MANY = "8 16 56 3 4 2000"
 DEVICE = "refused 5 Device\n"
 OTHER = "silt: file: it holds other data; --force overwrites it\n"
-DAMAGED = "silt: file holds a store that is damaged or cannot be read; it is overwritten\n"
+# What is said of a store that is overwritten, and of one that stays.
+OVERWRITTEN = "silt: file holds a store{}; it is overwritten\n"
+KEPT = "silt: file: it holds a store{}; --force overwrites it\n"
+DAMAGED = " that is damaged or cannot be read"
 FULL = ("silt: 1 line refused 7 StoreFull, first line {}; merging drops what was overwritten or deleted (run with --tend, or silt "
         "tend), and more keys need a larger S\n")
 # Six numbers, and which one is out of its limits.
@@ -37,7 +39,7 @@ OUT_OF_LIMITS = {
 
 
 class Formats(WatchedCase):
-    """`format` overwrites only an empty file or a store, unless it is forced."""
+    """`format` overwrites only an empty file or a store without keys, unless it is forced."""
 
     def format(self, *options, geometry=SMALL, name="file"):
         return self.silt("format", name, *geometry.split(), *options)
@@ -76,30 +78,81 @@ class Formats(WatchedCase):
         self.check_formatted(ended)
         self.assertEqual(ended.err, "")
 
-    def test_a_store_is_named_before_it_is_overwritten(self):
-        self.store(SMALL, ["put =a 0102", "put =b 0304", "put =c 0506", "flush"], "file")
-        ended, calls = self.recorded("format", "file", *"2 2 8 2 2 16".split())
+    def check_kept(self, held, geometry=SMALL):
+        """A format is refused with a note of what the file holds, and changes no byte. By force it makes an empty store,
+        and says so before its first write."""
+        before = self.path("file").read_bytes()
+        ended, calls = self.recorded("format", "file", *geometry.split())
+        self.assertEqual(ended, Ended(1, DEVICE, KEPT.format(held)))
+        self.assertEqual([it.name for it in calls if it.name in ("pwrite", "ftruncate")], [])
+        self.assertTrue(self.path("file").read_bytes() == before, "the file has changed")
+        ended, calls = self.recorded("format", "file", *geometry.split(), "--force")
         self.check_formatted(ended)
-        self.assertEqual(ended.err, f"silt: file holds a store ({NAMED}) of at most 3 keys; it is overwritten\n")
+        self.assertEqual(ended.err, OVERWRITTEN.format(held))
         changed = next(n for n, it in enumerate(calls) if it.name in ("pwrite", "ftruncate"))
-        self.assertIn("standard error", [it.file for it in calls[:changed]])
+        notes = "".join(it.moved.decode() for it in calls[:changed] if it.file == "standard error")
+        self.assertEqual(notes, ended.err)
 
-    def test_a_damaged_store_is_overwritten(self):
-        path = self.store(SMALL, ["put =a 0102", "flush"], "file")
-        image = bytearray(path.read_bytes())
-        image[16384] = 3
-        path.write_bytes(image)
-        ended = self.format()
-        self.check_formatted(ended)
-        self.assertIn("damage", ended.err)
+    def test_a_store_with_keys_stays(self):
+        """Whatever the new numbers are."""
+        for geometry in (SMALL, "2 2 8 2 2 16"):
+            self.path("file").unlink(missing_ok=True)
+            self.store(SMALL, ["put =a 0102", "put =b 0304", "put =c 0506", "flush"], "file")
+            self.check_kept(f" ({NAMED}) of at most 3 keys", geometry)
+
+    def test_a_store_of_an_older_version_stays(self):
+        self.store(SMALL, ["put =a 0102", "put =b 0304", "flush"], "file")
+        self.make_old("file")
+        self.check_kept(f" ({NAMED}) of at most 2 keys")
+
+    def test_keys_that_are_not_in_a_log_stay(self):
+        """In hash stores and in the sorted store, also if they were deleted since and still take their places."""
+        puts, steps = [f"put =k{it} 0102" for it in range(5)], ["convert"] * 9
+        for lines in ([*puts, *steps, "delete =k4", "flush"], [*puts, *steps, *["merge"] * 13, "delete =k4", "flush"]):
+            self.path("file").unlink(missing_ok=True)
+            self.store(SMALL, lines, "file")
+            self.check_kept(f" ({NAMED}) of at most 5 keys")
+        self.path("file").unlink()
+        self.store(SMALL, ["put =a 0102", "delete =a", "flush"], "file")
+        self.check_kept(f" ({NAMED}) of at most 1 keys")
+
+    def test_a_store_without_keys(self):
+        """A new one, and one with deletes alone. Nothing that was accepted and not flushed counts."""
+        for lines in ([], ["delete =a", "flush"], ["put =a 0102"]):
+            self.path("file").unlink(missing_ok=True)
+            self.store(SMALL, lines, "file")
+            for options in ((), ("--force",)):
+                ended = self.format(*options)
+                self.check_formatted(ended)
+                self.assertEqual(ended.err, OVERWRITTEN.format(f" ({NAMED}) of at most 0 keys"))
+
+    def test_a_damaged_store_stays(self):
+        """It may hold keys, also if the damage is in a store of none."""
+        for lines, at in ((["put =a 0102", "flush"], 16384), ([], 4105)):
+            self.path("file").unlink(missing_ok=True)
+            path = self.store(SMALL, lines, "file")
+            image = bytearray(path.read_bytes())
+            image[at] = 3
+            path.write_bytes(image)
+            self.assertEqual(self.silt("check", "file").status, 1)
+            self.check_kept(f" ({NAMED}){DAMAGED}")
+
+    def test_a_store_that_cannot_be_read_stays(self):
+        """Each read of the look at it fails."""
+        self.store(SMALL, ["put =a 0102", "flush"], "file")
+        before = self.path("file").read_bytes()
+        for number in range(1, 5):
+            ended = self.silt("format", "file", *SMALL.split(), env=watching(self, fail=f"pread:{number}:EIO"))
+            self.assertEqual((ended.status, ended.out), (1, DEVICE), (number, ended))
+            self.assertTrue(self.path("file").read_bytes() == before, number)
 
     def test_a_format_that_was_stopped(self):
-        """A store of which only some writes were made is silt's."""
+        """A store of which only some writes were made is silt's, but nobody knows what it held."""
         self.store(SMALL, name="whole")
         image = bytearray(self.path("whole").read_bytes())
         image[0] = 0
         self.path("file").write_bytes(image)
-        self.check_formatted(self.format())
+        self.check_kept(DAMAGED)
 
     def assert_new(self):
         """The file is an empty store, and takes a put."""
@@ -113,15 +166,16 @@ class Formats(WatchedCase):
         self.assertEqual(self.path("file").read_bytes(), b"short")
         self.assert_ends("format file 2 2 8 2 2 16 --force", "formatted 45056\n")
         self.assert_new()
-        held = "silt: file holds a store (V 2, B 2, CAP 8, NL 2, NH 2, S 16) of at most 1 keys; it is overwritten\n"
-        self.assert_ends(f"format file {SMALL}", "formatted 45056\n", held)
+        held = " (V 2, B 2, CAP 8, NL 2, NH 2, S 16) of at most 1 keys"
+        self.assert_ends(f"format file {SMALL}", DEVICE, KEPT.format(held), 1)
+        self.assert_ends(f"format file {SMALL} --force", "formatted 45056\n", OVERWRITTEN.format(held))
         self.assert_new()
         self.assertEqual(self.path("file").stat().st_size, 45056)
 
     def test_each_kind_of_what_is_overwritten(self):
         """Other data, an empty store, a store of another length than its header says, and other data that
         begin almost as a store."""
-        empty = f"silt: file holds a store ({NAMED}) of at most 0 keys; it is overwritten\n"
+        empty = OVERWRITTEN.format(f" ({NAMED}) of at most 0 keys")
         text = b"no store, but a text of more bytes than a header has"
         self.path("file").write_bytes(text)
         self.assert_ends(f"format file {SMALL}", DEVICE, OTHER, 1)
@@ -130,7 +184,7 @@ class Formats(WatchedCase):
         self.assert_ends(f"format file {SMALL}", "formatted 45056\n", empty)
         self.assert_ends("format file 100 1024 3000 4 4 100000 --force", "formatted 27471872\n", empty)
         os.truncate(self.path("file"), 45056)
-        self.assert_ends(f"format file {SMALL}", "formatted 45056\n", DAMAGED)
+        self.check_kept(DAMAGED)
         with self.path("file").open("r+b") as file:
             file.seek(1)
             file.write(b"s")
@@ -143,13 +197,13 @@ class Formats(WatchedCase):
         self.assert_ends(f"format file {SMALL}", DEVICE, OTHER, 1)
         self.assertEqual(self.path("file").read_bytes(), diary)
         self.assert_ends(f"format file {SMALL} --force", "formatted 45056\n")
-        empty = f"silt: file holds a store ({NAMED}) of at most 0 keys; it is overwritten\n"
+        empty = OVERWRITTEN.format(f" ({NAMED}) of at most 0 keys")
         self.assert_ends(f"format file {SMALL}", "formatted 45056\n", empty)
 
     def test_a_header_that_is_damaged_or_written_in_part(self):
         for first in (b"\x00SILTFLSH", b"\xffSILTFLSH\x00\x00\x00\x01"):
             self.path("file").write_bytes(first.ljust(45056, b"\0"))
-            self.assert_ends(f"format file {SMALL}", "formatted 45056\n", DAMAGED)
+            self.check_kept(DAMAGED)
 
     def test_numbers_out_of_their_limits(self):
         """No file is made or touched. The first such number is named."""
@@ -208,7 +262,7 @@ class Runs(WatchedCase):
         self.assertEqual(ended.status, 0)
         self.assertEqual(ended.err, "silt: 2 lines refused 20 BadLine, first line 1\n"
                          "silt: 1 line refused 21 BadKey, first line 4\n"
-                         "silt: 3 lines refused 22 BadValue, first line 2\n")
+                         "silt: 3 lines refused 22 BadValue, first line 2; a value has 4 hexadecimal digits here (V is 2)\n")
 
     def test_no_room(self):
         self.store(SMALL)
@@ -223,7 +277,7 @@ class Runs(WatchedCase):
         out = "opened\nabsent\nrefused 8 NoRoom\nrefused 22 BadValue\nrefused 8 NoRoom\nrefused 20 BadLine\n"
         err = ("silt: 2 lines refused 8 NoRoom, first line 3; background work makes room: run with --tend, or silt tend\n"
                "silt: 1 line refused 20 BadLine, first line 8\n"
-               "silt: 1 line refused 22 BadValue, first line 6\n")
+               "silt: 1 line refused 22 BadValue, first line 6; a value has 4 hexadecimal digits here (V is 2)\n")
         self.assert_ends("run store", out, err, text=text)
 
     def test_lines_that_are_written_in_pieces(self):
@@ -345,62 +399,6 @@ class Tends(WatchedCase):
         self.path("zeros").write_bytes(bytes(45056))
         ended = self.silt("tend", "zeros")
         self.assertEqual((ended.status, ended.out), (1, "refused 1 NotFormatted\n"), ended)
-
-
-class Plans(WatchedCase):
-    """`plan` gives numbers that work."""
-
-    def planned(self, *words):
-        """The numbers of a plan, and what it says that they take."""
-        ended = self.silt("plan", *words)
-        self.assertEqual((ended.status, ended.err), (0, ""), ended)
-        return re.search(r"^(?:.*\s)?(\d+ \d+ \d+ \d+ \d+ \d+)$", ended.out, re.M).group(1), ended.out
-
-    def test_a_store_by_plan(self):
-        for keys, length in ((1, 1), (10, 2), (300, 8), (2000, 8)):
-            numbers, text = self.planned(keys, length)
-            self.assertEqual(int(numbers.split()[0]), length)
-            made = self.silt("format", "store", *numbers.split())
-            self.assertEqual(made.status, 0, made)
-            self.assertIn(made.out.split()[1], text.replace(",", ""))
-            lines = [f"put =key{n} {value_of(n, length) if length > 1 else '07'}" for n in range(keys)]
-            for _ in range(3):
-                ended = self.silt("run", "store", "--tend", text="\n".join([*lines, "flush", ""]))
-                self.assertEqual([it for it in ended.lines if it.startswith("refused")], [])
-
-    def test_worked_plans(self):
-        """Keys and the length of values, with a limit of memory or without."""
-        for words, out in (
-            ("1000000 100", "100 8192 28672 3 8 1315392\ndisk 357920768\nmemory 29544256\n"),
-            ("1000 100", "100 8 28 3 8 1308\ndisk 389120\nmemory 29344\n"),
-            ("0 1", "1 2 7 3 8 77\ndisk 77824\nmemory 2086\n"),
-            ("16000000 32", "32 16384 57344 3 8 16630784\ndisk 1766690816\nmemory 353088512\n"),
-            ("100000 8 --memory 3000000", "8 512 1792 3 8 119712\ndisk 7385088\nmemory 2634016\n"),
-            ("100000 8 --memory 2102086", "8 2 7 3 8 100077\ndisk 5681152\nmemory 2102086\n"),
-        ):
-            self.assert_ends(f"plan {words}", out)
-
-    def test_less_memory(self):
-        free, _ = self.planned(1_000_000, 100)
-        bound, _ = self.planned(1_000_000, 100, "--memory", 25_000_000)
-        self.assertLess(int(bound.split()[1]), int(free.split()[1]))
-
-    def test_no_plan(self):
-        """The value is looked at first, then the keys, and then the memory."""
-        for words, reason in (
-            ("16777140 100", "KEYS is 16777140, and may be 0 to 16777139"),
-            ("16777216 8", "KEYS is 16777216, and may be 0 to 16777139"),
-            ("4294967295 8", "KEYS is 4294967295, and may be 0 to 16777139"),
-            ("16777140 8 --memory 2102085", "KEYS is 16777140, and may be 0 to 16777139"),
-            ("1000 4097", "V is 4097, and may be 1 to 4096"),
-            ("4294967295 4097 --memory 2102085", "V is 4097, and may be 1 to 4096"),
-            ("1000 0", "V is 0, and may be 1 to 4096"),
-            ("100000 0", "V is 0, and may be 1 to 4096"),
-            ("1 0 --memory 2102085", "V is 0, and may be 1 to 4096"),
-            ("1000000 100 --memory 1000", "1000000 keys need 21002086 bytes of memory or more"),
-            ("100000 8 --memory 2102085", "100000 keys need 2102086 bytes of memory or more"),
-        ):
-            self.assert_ends(f"plan {words}", "no plan\n", f"silt: {reason}\n", 1)
 
 
 class Reasons(ServedCase):

@@ -87,8 +87,9 @@ class MemoryCase(JobCase):
         return left_out
 
 
-# What a format says of the old store if the look at it lacks memory.
+# What a format says of the old store if the look at it lacks memory, by force and without.
 UNREAD = re.compile(r"silt: store holds a store \(.*\) that is damaged or cannot be read; it is overwritten\n")
+UNREAD_KEPT = re.compile(r"silt: store: it holds a store \(.*\) that is damaged or cannot be read; --force overwrites it\n")
 
 
 class Jobs(MemoryCase):
@@ -121,9 +122,13 @@ class Jobs(MemoryCase):
         """If there is no memory for the words, that is reported, and no file is opened."""
         before, refused = self.store(GEOMETRY).read_bytes(), 0
         for ended, calls in self.recorded_all("run", "store"):
-            if not any(it.name == "open" for it in calls):
+            opened = {it.file for it in calls if it.name == "open"}
+            if opened == {"/dev/null"}:
                 self.assertEqual(ended, Ended(1, NO_MEMORY, ""))
                 refused += 1
+            elif not opened:
+                self.assertEqual((ended.status, ended.out), (1, ""))
+                self.assertIn("/dev/null", ended.err)
         self.assertGreater(refused, 0)
         self.assertEqual(self.left(), before)
 
@@ -153,22 +158,33 @@ class Jobs(MemoryCase):
         self.try_all(Job(["check", "store"], [], before), self.judge_check)
 
     def judge_format(self, job, whole, ended, onwards):
-        """The file is no store, an empty one or the old one. The next formatting, by force, makes
-        an empty store of it."""
+        """The file is no store, an empty one or the old one. The next formatting makes an empty store
+        of it."""
         left = self.left()
         is_unread = (ended.status, ended.out) == (whole.status, whole.out) and UNREAD.fullmatch(ended.err)
         self.assertTrue(is_unread or self.is_job(whole, ended), ended)
         if left is not None:
             self.assertIn(self.report(left), [self.empty, NO_STORE, self.report(job.before)])
         self.put_back(left)
-        self.assertEqual(self.silt(*job.words, "--force").status, 0)
+        self.assertEqual(self.silt(*job.words).status, 0)
         self.assertEqual(self.report(self.left()), self.empty)
 
     def test_a_format(self):
         self.empty = self.report(self.store(GEOMETRY).read_bytes())
         used = self.store(GEOMETRY, LINES).read_bytes()
-        words = ["format", "store", *GEOMETRY.split()]
+        words = ["format", "store", *GEOMETRY.split(), "--force"]
         self.try_all(Job(words, [], used), self.judge_format)
+
+    def judge_kept(self, job, whole, ended, onwards):
+        """A store with keys stays. What it holds is not known if the look at it lacks memory."""
+        self.assertEqual((ended.status, self.left()), (1, job.before))
+        self.assertIn(ended.out, (*OF_A_JOB, ""))
+        if "--force" in ended.err and not ended.err.startswith(whole.err):
+            self.assertRegex(ended.err, UNREAD_KEPT)
+
+    def test_a_format_that_is_refused(self):
+        used = self.store(GEOMETRY, LINES).read_bytes()
+        self.try_all(Job(["format", "store", *GEOMETRY.split()], [], used), self.judge_kept)
 
     def test_another_refusal_is_refused(self):
         """The judge sees a request that is reported as something else, and a line that is left

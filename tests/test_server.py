@@ -1,10 +1,9 @@
 """The server: its replies letter for letter, its options, where it listens, and how it ends."""
-import pathlib
 import signal
 import socket
 import unittest
 
-from served import SMALL, Client, ServedCase, digits
+from served import SMALL, Client, ServedCase, digits, free_port, listening_sockets
 
 OPENED_REPORT = ["active log 1 rows 1", "frozen logs 0 rows 0", "hash stores 0 rows 0", "sorted entries 4", "charge 5", "layout 2"]
 
@@ -222,35 +221,10 @@ def own_address():
         return asking.getsockname()[0]
 
 
-def listening_sockets(process):
-    """Each internet socket at which a process can be reached: its protocol, and its address as
-    the system writes it."""
-    held = {link_of(it) for it in pathlib.Path(f"/proc/{process}/fd").iterdir()}
-    found = []
-    for protocol in ("tcp", "tcp6", "udp", "udp6"):
-        for row in pathlib.Path(f"/proc/net/{protocol}").read_text().splitlines()[1:]:
-            fields = row.split()
-            is_open = fields[3] == "0A" or protocol.startswith("udp")
-            if is_open and f"socket:[{fields[9]}]" in held:
-                found.append((protocol, fields[1]))
-    return found
-
-
-def link_of(path):
-    try:
-        return str(path.readlink())
-    except OSError:
-        return ""
-
-
 class Listening(ServedCase):
     def setUp(self):
         super().setUp()
         self.store(SMALL)
-
-    def free_port(self):
-        with socket.create_server(("127.0.0.1", 0)) as listener:
-            return listener.getsockname()[1]
 
     def test_it_listens_on_this_machine_alone(self):
         server = self.serve()
@@ -263,13 +237,13 @@ class Listening(ServedCase):
         self.assertEqual(self.client(server).ask("get =abc"), ["absent"])
 
     def test_a_given_port(self):
-        port = self.free_port()
+        port = free_port()
         server = self.serve(port=port)
         self.assertEqual(server.port, port)
         self.assertEqual(self.client(server).ask("get =abc"), ["absent"])
 
     def test_a_port_is_free_again(self):
-        port = self.free_port()
+        port = free_port()
         for number in range(1, 4):
             server = self.serve("--sessions", 1, port=port)
             client = self.client(server)

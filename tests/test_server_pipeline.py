@@ -53,22 +53,10 @@ class PipelineCase(ServedCase):
         super().setUp()
         self.store(WIDE)
 
-    def exchange(self, client, lines):
-        """Sends these lines in one write and ends the input, and reads meanwhile. All replies."""
-        def send():
-            client.send(*lines)
-            client.end_input()
-
-        sending = threading.Thread(target=send)
-        sending.start()
-        replies = client.rest()
-        sending.join()
-        return replies
-
     def answers(self, *lines):
         """The replies to these lines, sent in one write, and the calls that the server made."""
         server = self.serve("--sessions", 1)
-        replies = self.exchange(self.client(server), lines)
+        replies = self.client(server).exchange(lines)
         return replies, self.calls_of(server.ended())
 
     def calls_of(self, ended):
@@ -276,7 +264,7 @@ class Flushes(PipelineCase):
         server = self.serve("--sessions", 1, env=watching(self, fail="fdatasync:2+:EIO"))
         lines = ["swap =a 0000 0001", "put =a 0001", "put =b 0002", "flush", "get =a", "put =c 0003", "flush"]
         due = ["differs", "unsettled 1", "unsettled 2", "refused 5 Device"] + ["refused 9 Failed"] * 3
-        self.assertEqual(self.exchange(self.client(server), lines), due)
+        self.assertEqual(self.client(server).exchange(lines), due)
         self.assertEqual(server.ended().status, 0)
 
     def test_the_sync_of_the_commit_bytes_fails(self):

@@ -175,7 +175,7 @@ class Sweeps(ServedCase):
 
     def check_fault(self, fault, refusals):
         """A server with this fault, a client of it, and what the next run finds."""
-        self.silt("format", "store", *SMALL.split())
+        self.silt("format", "store", *SMALL.split(), "--force")
         server = self.begin("store", 0, "--sessions", 1, *self.options, env=watching(self, fail=fault))
         replies = self.judge()
         if (server.line(1) or "").startswith("listening"):

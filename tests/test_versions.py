@@ -197,7 +197,7 @@ class Digests(VersionCase):
         self.path("store").write_bytes(self.changed(self.store_of.geometry.hash_at(0) + 22))
         self.assertEqual(self.silt("dump", "store").out, "refused 3 Damaged hash 0 digest\n")
         dumped = self.silt("dump", "copy").out
-        self.silt("format", "store", *WIDE.split())
+        self.silt("format", "store", *WIDE.split(), "--force")
         ran = self.silt("run", "store", "--tend", text=dumped + "flush\n")
         self.assertEqual(ran.lines[-1], "acknowledged 11")
         self.assertEqual(self.silt("dump", "store").out, dumped)
@@ -277,7 +277,7 @@ class OldDevices(VersionCase):
 
     def test_a_format_makes_a_new_device(self):
         self.image_of(G, [*CONVERTED, *MERGE], version=1)
-        self.assertEqual(self.silt("format", "store", *G.split()).out, "formatted 45056\n")
+        self.assertEqual(self.silt("format", "store", *G.split(), "--force").out, "formatted 45056\n")
         self.assert_form(2, [True, None])
         self.assert_whole(self.image(), 2)
 

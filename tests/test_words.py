@@ -2,7 +2,7 @@
 from harness import Case, Ended
 
 FORMS = """silt format FILE V B CAP NL NH S [--force]  makes an empty store in a file
-silt run FILE [--tend]                      replies to the lines of the standard input
+silt run FILE [--tend] [--strict]           replies to the lines of the standard input
 silt tend FILE                              does all background work that is due
 silt check FILE                             prints what the store in a file consists of
 silt dump FILE                              prints a line for each key that puts its value
@@ -10,6 +10,7 @@ silt plan KEYS V [--memory BYTES]           prints the six numbers of a store fo
 silt script V B CAP NL NH S                 runs the lives of the standard input in memory
 silt serve FILE PORT [OPTION]...            replies to the lines of a port's connections
 
+FILE  the file of the store
 V     bytes of a value, 1 to 4096
 B     buckets of a log's table, a power of two, 2 to 32768
 CAP   rows of a log, 1 to 4 times B
@@ -19,13 +20,40 @@ S     put rows of the store, and entries of a sorted region, 1 to 16777216
 KEYS  keys that have values at one time
 PORT  a port of this machine, at most 65535; 0 lets the system choose
 
---force           formats a file that holds other data; they are lost
+--force           formats a file that holds keys or other data; they are lost
 --tend            converts and merges between the lines, as long as work is due
+--strict          ends with status 3 if a line was refused
 --memory BYTES    what the store may take of memory, merge included
---audit N         records up to N calls in memory and refuses all later ones; the record is not printed
+--audit N         refuses every call after the first N, which it records in memory; the record is not printed
 --sessions M      ends after M sessions; 0 has no end
 --idle SECONDS    closes a connection that sends nothing for so long; 0 never does
+--wait SECONDS    how long a command waits for room; 10 if left out, 0 refuses at once
 --pipeline        does the commands that a connection sent together with one flush
+"""
+
+# The values and the options of each job.
+JOBS = {
+    "format": ("FILE V B CAP NL NH S", "--force"),
+    "run": ("FILE", "--tend --strict"),
+    "tend": ("FILE", ""),
+    "check": ("FILE", ""),
+    "dump": ("FILE", ""),
+    "plan": ("KEYS V", "--memory"),
+    "script": ("V B CAP NL NH S", ""),
+    "serve": ("FILE PORT", "--audit --sessions --idle --wait --pipeline"),
+}
+# What the help of a job with an input says of its lines.
+LINES = """put KEY VALUE     sets the value of a key
+delete KEY        deletes the value of a key
+swap KEY OLD NEW  sets the value of a key to NEW if it is OLD
+get KEY           prints the value of a key
+flush             makes all accepted commands safe from crashes
+"""
+STEPS = "convert, merge    does one step of background work\n"
+STOPS = "stop K FILL       crashes the life before it at its K-th write or sync\n"
+HELP_OF_LINES = {"run": LINES + STEPS, "script": LINES + STEPS + STOPS, "serve": LINES}
+MORE = """KEY is 40 hexadecimal digits, or = and a name. VALUE, OLD and NEW have two hexadecimal digits a byte.
+docs/program.md has these lines, and the replies to them.
 """
 
 # Why a word is no number.
@@ -42,6 +70,12 @@ COMPLAINTS = {
     "run disk --force": "'--force' is no option here",
     "run disk --tend=yes": "'--tend=yes' is no option here",
     "run disk --tend --tend": "--tend is given twice",
+    "run disk --strict --strict": "--strict is given twice",
+    "run disk --strict --tend --strict": "--strict is given twice",
+    "run disk --strict=1": "'--strict=1' is no option here",
+    "run --strict": "FILE is missing",
+    "run disk --wait 1": "'--wait' is no option here",
+    "run disk --stric": "'--stric' is no option here",
     "run --tend": "FILE is missing",
     "run --tend -- --tend --tend": "'--tend' is one word too many",
     "tend": "FILE is missing",
@@ -81,10 +115,32 @@ COMPLAINTS = {
     "serve disk 0 --audit 1 --audit=1": "--audit is given twice",
     "serve disk 0 --sessions 1 2": "'2' is one word too many",
     "serve disk 0 --idle": "--idle needs a number behind it",
+    "serve disk 0 --wait": "--wait needs a number behind it",
+    "serve disk 0 --wait --pipeline": "--wait needs a number behind it",
+    "serve disk 0 --wait=": f"--wait cannot be '': {NO_DIGITS}",
+    "serve disk 0 --wait 1.5": f"--wait cannot be '1.5': {SEPARATED}",
+    "serve disk 0 --wait -1": "--wait needs a number behind it",
+    "serve disk 0 --wait 10s": f"--wait cannot be '10s': {NO_DIGITS}",
+    "serve disk 0 --wait 4294967296": f"--wait cannot be '4294967296': {TOO_LARGE}",
+    "serve disk 0 --wait 1 --wait=1": "--wait is given twice",
+    "serve disk 0 --strict": "'--strict' is no option here",
     "serve disk 0 --pipeline --pipeline": "--pipeline is given twice",
     "serve disk 0 --pipeline --idle 1 --pipeline": "--pipeline is given twice",
     "serve disk 0 --pipeline=1": "'--pipeline=1' is no option here",
 }
+
+
+def form_of(job):
+    """The form of one job, with what its values and its options are. It is made of the lines of all forms."""
+    jobs, values, options = ([line + "\n" for line in part.splitlines()] for part in FORMS.split("\n\n"))
+    form = [line for line in jobs if line.startswith(f"silt {job} ")]
+    named, chosen = ([line for line in part if line.split()[0] in names.split()] for part, names in zip((values, options), JOBS[job]))
+    return "".join([*form, "\n", *named, *(["\n", *chosen] if chosen else [])])
+
+
+def forms_for(words):
+    """The form of the job that these words name, or those of all jobs."""
+    return form_of(words[0]) if words and words[0] in JOBS else FORMS
 
 
 class Words(Case):
@@ -98,13 +154,45 @@ class Words(Case):
         self.assertEqual(self.silt(*words, text="flush\n"), Ended(2, "usage\n", said), words)
 
     def test_the_wrong_word_is_named(self):
-        self.assert_usage([], "silt: no job is named\n" + FORMS)
+        """The form of the job that was meant comes first, and what is wrong is the last line."""
+        self.assert_usage([], FORMS + "\nsilt: no job is named\n")
         for words, complaint in COMPLAINTS.items():
-            self.assert_usage(words.split(" "), f"silt: {complaint}\n{FORMS}")
+            self.assert_usage(words.split(" "), f"{forms_for(words.split())}\nsilt: {complaint}\n")
+
+    def test_no_other_job_is_shown(self):
+        for job in JOBS:
+            said = self.silt(job, "--none").err.splitlines()
+            self.assertEqual(said[-1], f"silt: '--none' is no option here")
+            self.assertEqual([line.split()[1] for line in said if line.startswith("silt ")], [job])
+            shown = {line.split()[0] for line in said if line.startswith("--")}
+            self.assertEqual(shown, set(JOBS[job][1].split()))
+
+    def test_options_of_other_jobs(self):
+        """Each option names a job only where it belongs."""
+        words = {"format": "disk 2 2 4 2 2 8", "plan": "1000 2", "script": "2 2 4 2 2 8", "serve": "disk 0"}
+        for option in ("--strict", "--wait", "--tend", "--force"):
+            for job in JOBS:
+                if option not in JOBS[job][1].split():
+                    call = [job, *words.get(job, "disk").split(), option, *(["1"] if option == "--wait" else [])]
+                    self.assert_usage(call, f"{form_of(job)}\nsilt: '{option}' is no option here\n")
 
     def test_help_and_the_version_have_no_complaint(self):
-        for words, said in ((["--help"], FORMS), (["run", "--help"], FORMS), (["--version"], "silt 0.1.0\n"), (["-V"], "silt 0.1.0\n")):
+        for words, said in ((["--help"], FORMS), (["-h"], FORMS), (["--version"], "silt 0.1.0\n"), (["-V"], "silt 0.1.0\n")):
             self.assert_usage(words, said)
+
+    def test_help_of_a_job(self):
+        """It has the job's form alone, and the lines that it replies to."""
+        for job in JOBS:
+            lines = f"\n{HELP_OF_LINES[job]}\n{MORE}" if job in HELP_OF_LINES else ""
+            for words in (["--help"], ["-h"], ["disk", "--help"], ["--none", "--help"]):
+                self.assert_usage([job, *words], form_of(job) + lines)
+
+    def test_help_names_the_lines(self):
+        for job in ("run", "script", "serve"):
+            said = self.silt(job, "--help").err
+            for word in ("put KEY VALUE", "delete KEY", "swap KEY OLD NEW", "get KEY", "flush"):
+                self.assertIn(f"\n{word} ", said, job)
+            self.assertIn("docs/program.md", said, job)
 
     def test_other_words_that_name_no_job(self):
         for words in (["help"], ["run", "\udcff"]):
@@ -115,5 +203,5 @@ class Words(Case):
         """Why `usage` is not written comes behind what is wrong with the words."""
         with open("/dev/full", "wb") as full, self.start("prune", stdout=full) as running:
             ended = self.finish(running)
-        said = f"silt: there is no job 'prune'\n{FORMS}silt: No space left on device (os error 28)\n"
+        said = f"{FORMS}\nsilt: there is no job 'prune'\nsilt: No space left on device (os error 28)\n"
         self.assertEqual(ended, Ended(1, "", said))

@@ -5,11 +5,13 @@
 //
 // It reads these environment variables. CALL is one of `call_names` below. N counts the calls of
 // that name from 1. Counting begins when the program starts: after the loader and the constructors
-// of the C library. `CALL:N+` means the N-th call and all later ones. Commas divide several words.
+// of the C library. `CALL:N+` means the N-th call and all later ones. `CALL@T:N` counts the calls
+// of the T-th thread that the program starts alone. Commas divide several words.
 //
 //     SILT_WATCH_LOG=FILE          records the calls in this file, which watch.py reads
 //     SILT_WATCH_FAIL=CALL:N:ERRNO that call is not made and fails so: EIO, ENOSPC, EINTR, ..
 //     SILT_WATCH_SHORT=CALL:N      that call moves one byte alone
+//     SILT_WATCH_SLOW=CALL:N:M     that call begins M milliseconds later
 //     SILT_WATCH_DROP=CALL[:N]     those calls are not made and report success; no record has them
 //     SILT_WATCH_COUNTS=FILE       at the end, one line `CALL NUMBER` for each name
 //
@@ -36,6 +38,7 @@
 #include <sys/socket.h>
 #include <sys/syscall.h>
 #include <sys/uio.h>
+#include <time.h>
 #include <unistd.h>
 
 enum call {
@@ -52,14 +55,16 @@ static const struct { const char *name; int number; } error_names[] = {
     {"ENFILE", ENFILE}, {"ECONNABORTED", ECONNABORTED}, {"ECONNRESET", ECONNRESET}, {"EPIPE", EPIPE},
     {"EACCES", EACCES}, {"EBADF", EBADF}, {"EROFS", EROFS}, {"EDQUOT", EDQUOT}, {"EFBIG", EFBIG}, {"EINVAL", EINVAL}};
 
-enum what { FAIL, SHORT, DROP };
+enum what { FAIL, SHORT, DROP, SLOW };
 
-// What is planned for some calls of one name.
+enum { ANY_THREAD = -1 };
+
+// What is planned for some calls of one name, of one thread or of any. The number is an error's, or of milliseconds.
 struct plan {
     enum what what;
     enum call call;
-    long first, last;
-    int error;
+    long thread, first, last;
+    int number;
 };
 
 struct record {
@@ -72,11 +77,13 @@ struct record {
 
 static struct plan plans[64];
 static int plan_count, log_fd = -1, is_started;
-static atomic_long counts[CALLS];
+static atomic_long counts[CALLS], threads;
+// The number of this thread, from 1 in the order of their starts, and how many calls it made. They need no memory.
+static __thread long own_number __attribute__((tls_model("initial-exec"))), own_counts[CALLS] __attribute__((tls_model("initial-exec")));
 static pthread_mutex_t lock = PTHREAD_MUTEX_INITIALIZER;
 
 extern void *__libc_malloc(size_t), *__libc_calloc(size_t, size_t), *__libc_realloc(void *, size_t);
-extern void *__libc_memalign(size_t, size_t);
+extern void *__libc_memalign(size_t, size_t), __libc_free(void *);
 static __typeof__(&read) real_read;
 static __typeof__(&write) real_write;
 static __typeof__(&pread) real_pread;
@@ -112,18 +119,21 @@ static int error_of(const char *name) {
     return 0;
 }
 
-// One word of a variable: CALL, CALL:N or CALL:N:ERRNO. N may end in a plus.
+// One word of a variable: CALL, CALL:N, CALL:N:ERRNO or CALL:N:MILLISECONDS. A thread may be behind CALL. N may end in a plus.
 static void read_plan(enum what what, const char *word) {
-    struct plan *plan = &plans[plan_count];
-    const char *number = strchr(word, ':');
-    if (plan_count++ == sizeof plans / sizeof *plans || (what != DROP && !number)) refuse_words(word);
-    *plan = (struct plan){what, number_of(word, number ? (size_t)(number - word) : strlen(word)), 1, INT64_MAX, EIO};
-    if (!number) return;
-    char *rest;
-    plan->first = plan->last = strtol(number + 1, &rest, 10);
+    if (plan_count == sizeof plans / sizeof *plans) refuse_words(word);
+    struct plan *plan = &plans[plan_count++];
+    size_t name = strcspn(word, "@:");
+    char *rest = (char *)word + name;
+    *plan = (struct plan){what, number_of(word, name), ANY_THREAD, 1, INT64_MAX, EIO};
+    if (*rest == '@') plan->thread = strtol(rest + 1, &rest, 10);
+    if (!*rest && what == DROP) return;
+    if (*rest != ':') refuse_words(word);
+    plan->first = plan->last = strtol(rest + 1, &rest, 10);
     if (*rest == '+') plan->last = INT64_MAX, rest++;
-    if (what == FAIL && *rest == ':') plan->error = error_of(rest + 1);
-    else if (*rest || what == FAIL) refuse_words(word);
+    if (what == FAIL && *rest == ':') plan->number = error_of(rest + 1);
+    else if (what == SLOW && *rest == ':') plan->number = atoi(rest + 1);
+    else if (*rest || what == FAIL || what == SLOW) refuse_words(word);
 }
 
 static void read_plans(enum what what, const char *name) {
@@ -174,6 +184,7 @@ __attribute__((constructor)) static void start(void) {
     read_plans(FAIL, "SILT_WATCH_FAIL");
     read_plans(SHORT, "SILT_WATCH_SHORT");
     read_plans(DROP, "SILT_WATCH_DROP");
+    read_plans(SLOW, "SILT_WATCH_SLOW");
     open_log();
     is_started = 1;
 }
@@ -183,13 +194,25 @@ static void need_calls(void) {
     if (!real_exit) find_calls();
 }
 
-// Counts a call, and finds what is planned for it.
+static int is_planned(const struct plan *plan, enum call call, long number) {
+    if (plan->call != call || (plan->thread != ANY_THREAD && plan->thread != own_number)) return 0;
+    long its = plan->thread == ANY_THREAD ? number : own_counts[call];
+    return plan->first <= its && its <= plan->last;
+}
+
+// Counts a call, waits if it is to begin later, and finds what else is planned for it.
 static const struct plan *count(enum call call) {
     if (!is_started) return NULL;
+    const struct plan *found = NULL;
     long number = atomic_fetch_add(&counts[call], 1) + 1;
-    for (int i = 0; i < plan_count; i++)
-        if (plans[i].call == call && plans[i].first <= number && number <= plans[i].last) return &plans[i];
-    return NULL;
+    own_counts[call]++;
+    for (int i = plan_count - 1; i >= 0; i--) {
+        if (!is_planned(&plans[i], call, number)) continue;
+        struct timespec time = {plans[i].number / 1000, plans[i].number % 1000 * 1000000L};
+        if (plans[i].what == SLOW) nanosleep(&time, NULL);
+        else found = &plans[i];
+    }
+    return found;
 }
 
 // Adds a record. The caller holds the lock. It leaves errno as it is.
@@ -213,7 +236,7 @@ static int is(const struct plan *plan, enum what what) { return plan && plan->wh
 
 // What a failing call answers.
 static int failure(const struct plan *plan) {
-    errno = plan->error;
+    errno = plan->number;
     return -1;
 }
 
@@ -379,10 +402,28 @@ int accept4(int fd, struct sockaddr *address, socklen_t *len, int flags) {
 
 int accept(int fd, struct sockaddr *address, socklen_t *len) { return accept4(fd, address, len, 0); }
 
+struct started {
+    void *(*run)(void *);
+    void *with;
+    long number;
+};
+
+// A thread begins here, and gets its number.
+static void *begin(void *with) {
+    struct started started = *(struct started *)with;
+    __libc_free(with);
+    own_number = started.number;
+    return started.run(started.with);
+}
+
 int pthread_create(pthread_t *thread, const pthread_attr_t *how, void *(*run)(void *), void *with) {
     need_calls();
     const struct plan *plan = count(THREAD);
-    int error = is(plan, FAIL) ? plan->error : real_pthread_create(thread, how, run, with);
+    struct started *started = __libc_malloc(sizeof *started);
+    if (!started) return EAGAIN;
+    *started = (struct started){run, with, atomic_fetch_add(&threads, 1) + 1};
+    int error = is(plan, FAIL) ? plan->number : real_pthread_create(thread, how, begin, started);
+    if (error) __libc_free(started);
     note_alone(THREAD, -1, -1, 0, error, NULL, 0);
     return error;
 }
@@ -391,7 +432,7 @@ int pthread_create(pthread_t *thread, const pthread_attr_t *how, void *(*run)(vo
 static int is_refused(void) {
     const struct plan *plan = count(MEMORY);
     if (!is(plan, FAIL)) return 0;
-    errno = plan->error;
+    errno = plan->number;
     return 1;
 }
 
