@@ -21,7 +21,7 @@ for _ in 1 2 3 4 5 6 7 8 9; do echo convert; done | "$silt" run "$store" | tail 
 printf '\002' | dd of="$store" bs=1 seek=28694 conv=notrunc status=none
 "$silt" check "$store" || echo "status $?"
 
-# A new store of the same numbers, and what the old one held.
-"$silt" format "$store" 2 2 4 2 2 8
-(cat "$dump"; echo flush) | "$silt" run --tend "$store" | tail -1
+# A new store of the same numbers in place of the damaged one, and what that held.
+"$silt" format "$store" 2 2 4 2 2 8 --force
+(cat "$dump" && echo flush) | "$silt" run --tend --strict "$store" | tail -1
 "$silt" dump "$store" | cmp - "$dump" && echo "all is back"
