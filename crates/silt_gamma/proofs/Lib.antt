@@ -1,4 +1,5 @@
 pub mod BitLists
+pub mod Cutting
 pub mod Gamma
 pub mod Words
 pub mod Reading

@@ -1,5 +1,5 @@
 //! A writer of bits.
-ghost use Rattle.std.specs.Prelude.{◌≡◌, ℕ, ◌+◌, ◌-◌, ◌*◌, ◌/◌, ◌^◌, ◌<◌, ◌≤◌, List, [], ◌++◌, length, take, drop, replicate, OnOk, OnErr};
+ghost use Rattle.std.specs.Prelude.{◌≡◌, ℕ, ◌+◌, ◌-◌, ◌*◌, ◌/◌, ◌^◌, ◌<◌, ◌≤◌, List, [], ◌++◌, length, take, drop, replicate, IfOk, OnOk, OnErr};
 ghost use Rattle.silt_gamma.specs.Bits.{low_bits, high_bits, first_bits, HoldsBits, IsFilledTo};
 ghost use Rattle.silt_gamma.specs.Gamma.{gamma_code};
 
@@ -55,6 +55,32 @@ impl BitWriter {
     {
         let _len = self.len; // the bytes hold so many bits
         BitReader::new(&self.bytes, start, count)
+    }
+
+    /// A copy of these bits, with no more memory than it needs.
+    pub fn try_clone(&self, alloc: Global) -> Result<BitWriter, AllocError>
+        ensures { IfOk result (λ copy. copy ≡ self.now) }
+    {
+        let mut bytes = Vec::with_capacity(alloc, self.bytes.len())?;
+        bytes.extend_from_slice(&self.bytes)?;
+        Ok(BitWriter {
+            bytes,
+            len: self.len,
+        })
+    }
+
+    /// Keeps the first `len` bits.
+    pub fn truncate(&mut self, len: usize)
+        requires { len ≤ length self.old }
+        ensures { self.new ≡ take len self.old }
+    {
+        self.bytes.truncate(len.div_ceil(8));
+        let used = len % 8;
+        if used > 0 {
+            let spare = 8 - used;
+            self.bytes[len / 8] = self.bytes[len / 8] >> spare << spare;
+        }
+        self.len = len;
     }
 
     /// Frees the memory that the bits do not need.

@@ -8,4 +8,6 @@ mod cuckoo;
 #[cfg(test)]
 mod gamma;
 #[cfg(test)]
+mod memory;
+#[cfg(test)]
 mod trie;

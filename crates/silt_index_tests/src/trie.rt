@@ -281,20 +281,16 @@ fn misplaced(marked: &MarkedTrie, keys: &[Key], count: u32, firsts: u8) -> u32 {
     wrong
 }
 
-/// Marks of some keys, at this many levels, lead to them as a search does, among the first pseudo-random keys.
+/// Marks of some keys, as many as for `due` ones, lead to them as a search does, among the first pseudo-random keys.
 fn marks_locate(
     rt: &impl Abort,
     alloc: Global,
     keys: &[Key],
-    levels: usize,
+    due: usize,
     count: u32,
     firsts: u8,
-) -> Result<(), AllocError>
-    requires least { 8 ≤ levels }
-    requires most { levels ≤ 24 }
-{
-    assert!(rt; is_codable(keys, 0));
-    let marked = MarkedTrie::encode(alloc, keys, 0, 8, levels)?;
+) -> Result<(), AllocError> {
+    let marked = build(rt, alloc, keys, due)?;
     assert!(rt; marked.len() == keys.len());
     assert!(rt; misplaced(&marked, keys, count, firsts) == 0);
     Ok(())
@@ -304,8 +300,8 @@ fn marks_locate(
 fn marks_locate_as_a_search_does(rt: HostRuntime) -> Result<(), Fail> {
     let keys = random_keys(rt.alloc(), 6_000, 255)?;
     assert!(rt; keys.len() == 6_000);
-    marks_locate(&rt, rt.alloc(), &keys, 8, 12_000, 255)?;
-    marks_locate(&rt, rt.alloc(), &keys, 11, 12_000, 255)?;
+    marks_locate(&rt, rt.alloc(), &keys, 6_000, 12_000, 255)?;
+    marks_locate(&rt, rt.alloc(), &keys, 1_000_000, 12_000, 255)?;
     Ok(())
 }
 
@@ -313,7 +309,7 @@ fn marks_locate_as_a_search_does(rt: HostRuntime) -> Result<(), Fail> {
 fn marks_locate_in_many_keys_each(rt: HostRuntime) -> Result<(), Fail> {
     for count in [1, 300, 4_000] {
         let keys = random_keys(rt.alloc(), count, 1)?;
-        marks_locate(&rt, rt.alloc(), &keys, 8, 6_000, 1)?;
+        marks_locate(&rt, rt.alloc(), &keys, keys.len(), 6_000, 1)?;
     }
     Ok(())
 }
@@ -342,8 +338,7 @@ fn are_marked(rt: &impl Abort, marked: &MarkedTrie, keys: &[Key]) {
 #[test]
 fn marks_code_that_is_too_long_to_skip(rt: HostRuntime) -> Result<(), Fail> {
     let keys = paired_keys(rt.alloc())?;
-    assert!(rt; is_codable(&keys, 0));
-    let marked = MarkedTrie::encode(rt.alloc(), &keys, 0, 8, 8)?;
+    let marked = build(&rt, rt.alloc(), &keys, keys.len())?;
     assert!(rt; marked.memory() > 257 * 72 + 2 * 8_192); // more than 65,535 bits on the left
     are_marked(&rt, &marked, &keys);
     Ok(())
@@ -352,8 +347,7 @@ fn marks_code_that_is_too_long_to_skip(rt: HostRuntime) -> Result<(), Fail> {
 #[test]
 fn marks_few_keys(rt: HostRuntime) -> Result<(), Fail> {
     let keys = [key(0, 0), key(0, 0x40), key(0, 0x80)];
-    assert!(rt; is_codable(&keys, 0));
-    let marked = MarkedTrie::encode(rt.alloc(), &keys, 0, 8, 9)?;
+    let marked = build(&rt, rt.alloc(), &keys, 131_073)?;
     assert!(rt; marked.memory() == 1 + 72 * 513); // six bits, and a mark for each of the prefixes and one behind them
     are_marked(&rt, &marked, &keys);
     assert!(rt; marked.locate_marked(&key(1, 0)).is_none());
@@ -385,7 +379,7 @@ fn build(
     for key in keys {
         push(rt, &mut builder, *key)?;
     }
-    builder.finish()
+    builder.finish(alloc)
 }
 
 /// A builder takes a key.
@@ -395,42 +389,29 @@ fn push(rt: &impl Abort, builder: &mut MarkedTrieBuilder, key: Key) -> Result<()
     Ok(())
 }
 
-/// How many bytes the marks of some keys take.
-fn memory_of(
+/// What a builder makes of keys has them at their places, and their code takes this many bytes.
+fn check_built(
     rt: &impl Abort,
     alloc: Global,
     keys: &[Key],
-    levels: usize,
-) -> Result<usize, AllocError>
-    requires least { 8 ≤ levels }
-    requires most { levels ≤ 24 }
-{
-    assert!(rt; is_codable(keys, 0));
-    let marked = MarkedTrie::encode(alloc, keys, 0, 8, levels)?;
-    Ok(marked.memory())
-}
-
-/// What a builder makes of keys is what `encode` makes of them.
-fn check_built(rt: &impl Abort, alloc: Global, keys: &[Key]) -> Result<(), AllocError> {
+    code: usize,
+) -> Result<(), AllocError> {
     let built = build(rt, alloc, keys, keys.len())?;
     assert!(rt; built.len() == keys.len());
     are_marked(rt, &built, keys);
-    assert!(rt; built.memory() == memory_of(rt, alloc, keys, levels_for(keys.len()))?);
+    assert_eq!(rt; built.memory().saturating_sub(72 * 257), code);
     Ok(())
 }
 
 #[test]
 fn builds_few_keys(rt: HostRuntime) -> Result<(), Fail> {
     let alloc = rt.alloc();
-    check_built(&rt, alloc, &[])?;
-    check_built(&rt, alloc, &[key(0x35, 0x17)])?;
-    check_built(&rt, alloc, &[key(0, 0), key(0, 0x40), key(0, 0x80)])?;
-    check_built(&rt, alloc, &[key(9, 3), key(9, 4), key(9, 0xf0)])?;
-    check_built(
-        &rt,
-        alloc,
-        &[key(0, 1), key(0, 2), key(255, 1), key(255, 2)],
-    )?;
+    check_built(&rt, alloc, &[], 0)?;
+    check_built(&rt, alloc, &[key(0x35, 0x17)], 0)?;
+    check_built(&rt, alloc, &[key(0, 0), key(0, 0x40), key(0, 0x80)], 1)?; // 6 bits
+    check_built(&rt, alloc, &[key(9, 3), key(9, 4), key(9, 0xf0)], 3)?; // 18 bits
+    let two_groups = [key(0, 1), key(0, 2), key(255, 1), key(255, 2)];
+    check_built(&rt, alloc, &two_groups, 6)?; // 21 bits each
     Ok(())
 }
 
@@ -446,16 +427,7 @@ fn keys_of_all_groups(alloc: Global) -> Result<Vec<Key>, AllocError> {
 #[test]
 fn builds_a_key_for_each_group(rt: HostRuntime) -> Result<(), Fail> {
     let keys = keys_of_all_groups(rt.alloc())?;
-    check_built(&rt, rt.alloc(), &keys)?;
-    let built = build(&rt, rt.alloc(), &keys, keys.len())?;
-    assert!(rt; built.memory() == 72 * 257); // no bit of code
-    Ok(())
-}
-
-#[test]
-fn builds_random_keys(rt: HostRuntime) -> Result<(), Fail> {
-    let alloc = rt.alloc();
-    check_built(&rt, alloc, &random_keys(alloc, 3_000, 255)?)?;
+    check_built(&rt, rt.alloc(), &keys, 0)?; // no bit of code
     Ok(())
 }
 
@@ -486,7 +458,7 @@ fn build_refusing(
         push(rt, &mut builder, keys[at])?;
         refuse(rt, &mut builder, refused[at])?;
     }
-    builder.finish()
+    builder.finish(alloc)
 }
 
 #[test]
@@ -496,13 +468,5 @@ fn refuses_keys_that_do_not_rise(rt: HostRuntime) -> Result<(), Fail> {
     let built = build_refusing(&rt, rt.alloc(), &keys, &refused)?;
     assert!(rt; built.len() == 3);
     are_marked(&rt, &built, &keys);
-    Ok(())
-}
-
-#[test]
-fn takes_little_memory(rt: HostRuntime) -> Result<(), Fail> {
-    let few = [key(0, 0), key(0, 0x40), key(0, 0x80)];
-    assert!(rt; memory_of(&rt, rt.alloc(), &[], 8)? == 257 * 72);
-    assert!(rt; memory_of(&rt, rt.alloc(), &few, 8)? == 257 * 72 + 1);
     Ok(())
 }

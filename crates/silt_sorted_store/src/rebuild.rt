@@ -116,7 +116,7 @@ pub fn index_entries<D: Disk>(
     };
     let mut builder = MarkedTrieBuilder::new(alloc, entries.len() as usize);
     take_entries(&mut builder, hasher, disk, entries, &mut buffer, most)?;
-    match builder.finish() {
+    match builder.finish(alloc) {
         Ok(index) => Ok(index),
         Err(_) => Err(ScanError::NoMemory),
     }

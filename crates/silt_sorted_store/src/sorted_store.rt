@@ -5,9 +5,6 @@ ghost use Rattle.silt_disk.specs.Layout.{device_size};
 ghost use Rattle.silt_sorted_store.specs.Findings.{sorted_findings};
 ghost use Rattle.silt_sorted_store.specs.State.{sorted_rows};
 ghost use Rattle.silt_frame.specs.Rows.{StoredRow};
-ghost use Rattle.silt_trie.specs.Code.{IsCodable};
-ghost use Rattle.silt_trie.specs.Coded.{bytes_of};
-ghost use Rattle.silt_trie.specs.Marks.{IsMadeOf};
 
 use crate::rebuild::index_entries;
 use crate::sorted_entries::SortedEntries;
@@ -15,12 +12,9 @@ use sha1::Sha1;
 use silt_disk::{Disk, Geometry};
 use silt_frame::{Digest, Key};
 use silt_log::ScanError;
-use silt_trie::{MarkedTrie, levels_for};
-use std::alloc::{AllocError, Global};
+use silt_trie::MarkedTrie;
+use std::alloc::Global;
 use std::marker::Model;
-
-/// The number of a key's first bits by which the index groups keys.
-const GROUP_BITS: usize = 8;
 
 /// The sorted store of a device: entries of a sorted region whose keys rise strictly, the index of their keys, and the digest of
 /// their bytes.
@@ -49,24 +43,17 @@ impl SortedStore {
     ghost use Rattle.silt_sorted_store.specs.Rebuild.{IsFirstOutOfOrder};
     ghost use Rattle.silt_log.specs.Scans.{IsScanRefused};
 
-    /// The store of these entries with these keys and this digest. It does not read the device.
-    pub fn encode(
-        alloc: Global,
-        entries: SortedEntries,
-        keys: &[Key],
-        digest: Digest,
-    ) -> Result<Self, AllocError>
-        requires codable { IsCodable (bytes_of keys.now) 0 }
-        ensures store { IfOk result (λ store. store.sorted ≡ entries) }
-        ensures index { IfOk result (λ store. IsMadeOf (bytes_of keys.now) store.index) }
-        ensures digest { IfOk result (λ store. store.digest ≡ digest.0) }
+    /// The store of these entries with this index and this digest. It does not read the device.
+    pub fn new(entries: SortedEntries, index: MarkedTrie, digest: Digest) -> Self
+        ensures store { result.sorted ≡ entries }
+        ensures index { result.index ≡ index }
+        ensures digest { result.digest ≡ digest.0 }
     {
-        let index = MarkedTrie::encode(alloc, keys, 0, GROUP_BITS, levels_for(keys.len()))?;
-        Ok(SortedStore {
+        SortedStore {
             entries,
             index,
             digest,
-        })
+        }
     }
 
     /// The entries.
@@ -216,10 +203,7 @@ impl SortedStore {
         let entries = SortedEntries::new(geometry, region, count);
         let mut hasher = Sha1::new();
         let index = index_entries(alloc, disk, &entries, &mut hasher)?;
-        Ok(SortedStore {
-            entries,
-            index,
-            digest: Digest(hasher.finalize()),
-        })
+        let digest = Digest(hasher.finalize());
+        Ok(SortedStore::new(entries, index, digest))
     }
 }

@@ -11,9 +11,11 @@ use Rattle.silt_trie.specs.Building.{Building, EndWith, HasGroups, IsBuildingOf,
 use Rattle.silt_trie.specs.Code.{Follows, IsCodable}
 use Rattle.silt_trie.specs.Coded.{bytes_of}
 use Rattle.silt_trie.specs.Marks.{marks_of}
+use Rattle.silt_trie.specs.declared.trie_builder.MarkedTrieBuilder.TheInside.{Inside}
 use Rattle.std.proofs.lemmas.Bool.{cases_lt}
 use Rattle.silt_trie.proofs.Codes.{bytes_at, length-bytes_of}
-use Rattle.silt_trie.proofs.Gathered.{codable_push}
+use Rattle.silt_trie.proofs.Built.{ComesTo}
+use Rattle.silt_trie.proofs.Gathered.{codable_none, codable_push}
 use Rattle.silt_trie.proofs.Order.{below_at, group_law, order_law}
 
 -- a key's group is its first byte
@@ -78,20 +80,43 @@ group_push n keys key old new has here code marks levels group count =
       marks_are = marks ∙ has.marks_are ∙ ap (λ (m : ℕ). take (n * 2 ^ (m - 8)) (marks_of m 8 has.done 0 0 0)) (sym levels);
     }
 
+-- the builder of these fields
+abbrev pub building_of : Inside → Building
+building_of b = record { code = b.bits; marks = b.marks.items; group = b.group.items; count = b.count; last = b.last; levels = b.levels }
+
+-- what holds of a builder stays true once groups are coded
+held_next : (n : ℕ) (old now : Building) → IsHeldBuilding old → ComesTo n old now → IsHeldBuilding now
+held_next n old now held comes = elim (cases_lt (group_under_way old.last) n) [
+  | inr upto ↦ rw (comes.same upto) held
+  | inl later ↦
+      let most = held.levels in
+      let counted = held.few in
+      let levels = comes.levels in
+      let stays = comes.stays.0 in
+      let none = comes.empty later in
+      let size = ap length none in
+      record {
+        levels = (omega arith, omega arith);
+        few = (omega arith, omega arith);
+        codable = subst (λ (ks : List Key). IsCodable (bytes_of ks) 8) (sym none) (codable_none 8);
+        last_is = λ key some. absurd (omega arith);
+      }
+]
+
 -- the keys of the present group with one more can be coded
-pub waiting_push : (old now : Building) (key : Key) (new : List Key) → IsHeldBuilding now → now.count + 2 < 2 ^ 32 → (group_under_way old.last < group_of key.0 → now.group ≡ []) → (group_of key.0 ≤ group_under_way old.last → now ≡ old) → now.last ≡ old.last
+pub waiting_push : (n : ℕ) (old now : Building) (key : Key) (new : List Key) → IsHeldBuilding now → ComesTo n old now → n ≡ group_of key.0 → now.count + 2 < 2 ^ 32
     → ((before : Key) → old.last ≡ Some before → MayFollow before.0 key.0) → new ≡ now.group ++ key ∷ [] → IsCodable (bytes_of new) 8
-waiting_push old now key new held few empty same last next new_is =
+waiting_push n old now key new held comes group few next new_is =
     let size = length-bytes_of now.group in
     let within = held.few.0 in
     let before = get_or now.group (length now.group - 1) key in
     let first : 0 < length (bytes_of now.group) → Follows 8 (get_or (bytes_of now.group) (length (bytes_of now.group) - 1) []) key.0 = λ some.
-    let is : old.last ≡ Some before = sym last ∙ held.last_is key (omega arith) in
+    let is : old.last ≡ Some before = sym comes.stays.1 ∙ held.last_is key (omega arith) in
     let above = next before is in
     let later = above.later in
     let way : group_under_way old.last ≡ group_of before.0 = ap group_under_way is in
     let here : group_of before.0 ≡ group_of key.0 = elim (cases_lt (group_of before.0) (group_of key.0)) [
-      | inl earlier ↦ let none = ap length (empty (omega arith)) in absurd (omega arith)
+      | inl earlier ↦ let none = ap length (comes.empty (omega arith)) in absurd (omega arith)
       | inr upto ↦ omega arith
     ] in
     let place : length (bytes_of now.group) - 1 ≡ length now.group - 1 = omega arith in
@@ -101,29 +126,28 @@ waiting_push old now key new held few empty same last next new_is =
     subst (λ (ks : List (List ℕ)). IsCodable ks 8) (sym (ap bytes_of new_is ∙ bytes_push now.group key)) codable
 
 -- what holds stays true with one more key
-pub held_push : (old seen now new : Building) (key : Key) (n : ℕ) → now ≡ seen → IsHeldBuilding now → old.count + 2 < 2 ^ 32 → n ≡ group_of key.0 → (group_under_way old.last < n → seen.group ≡ []) → (n ≤ group_under_way old.last → seen ≡ old) → (seen.count ≡ old.count) × (seen.last ≡ old.last)
+pub held_push : (n : ℕ) (old now new : Building) (key : Key) → IsHeldBuilding old → ComesTo n old now → n ≡ group_of key.0 → old.count + 2 < 2 ^ 32
     → ((before : Key) → old.last ≡ Some before → MayFollow before.0 key.0) → new.group ≡ now.group ++ key ∷ [] → new.count ≡ now.count + 1 → new.last ≡ Some key → new.levels ≡ now.levels → IsHeldBuilding new
-held_push old seen now new key n view held few group empty same stays next group_is count last levels =
-    let most = held.levels in
-    let counted = held.few in
-    let stay = ap (λ (b : Building). b.count) view ∙ stays.0 in
-    let none : group_under_way old.last < group_of key.0 → now.group ≡ [] = λ h. ap (λ (b : Building). b.group) view ∙ empty (omega arith) in
-    let unchanged : group_of key.0 ≤ group_under_way old.last → now ≡ old = λ h. view ∙ same (omega arith) in
+held_push n old now new key held comes group few next group_is count last levels =
+    let held_now = held_next n old now held comes in
+    let most = held_now.levels in
+    let counted = held_now.few in
+    let stay = comes.stays.0 in
     let size = ap length group_is ∙ length_push now.group key in
     record {
       levels = (omega arith, omega arith);
       few = (omega arith, omega arith);
-      codable = waiting_push old now key new.group held (omega arith) none unchanged (ap (λ (b : Building). b.last) view ∙ stays.1) next group_is;
+      codable = waiting_push n old now key new.group held_now comes group (omega arith) next group_is;
       last_is = λ other some. last ∙ ap (λ (k : Key). Some k) (sym (ap (λ (ks : List Key). get_or ks (length new.group - 1) other) group_is ∙ get_or_push now.group key other (length new.group - 1) (omega arith)));
     }
 
 -- and the trie is built with it
-pub built_push : (old seen now new : Building) (key : Key) (n : ℕ) (keys : List (List ℕ)) → now ≡ seen → IsBuildingOf keys old → old.count + 2 < 2 ^ 32 → n ≡ group_of key.0 → ((keys : List (List ℕ)) → HasGroups (group_under_way old.last) keys old → group_under_way old.last ≤ n → HasGroups n keys seen) → (seen.count ≡ old.count) × (seen.last ≡ old.last)
+pub built_push : (n : ℕ) (old now new : Building) (key : Key) (keys : List (List ℕ)) → IsBuildingOf keys old → ComesTo n old now → n ≡ group_of key.0 → old.count + 2 < 2 ^ 32
     → ((before : Key) → old.last ≡ Some before → MayFollow before.0 key.0) → new.group ≡ now.group ++ key ∷ [] → new.count ≡ now.count + 1 → new.last ≡ Some key → new.levels ≡ now.levels → new.code ≡ now.code → new.marks ≡ now.marks → IsBuildingOf (keys ++ key.0 ∷ []) new
-built_push old seen now new key n keys view building few group coded stays next group_is count last levels code marks =
+built_push n old now new key keys building comes group few next group_is count last levels code marks =
     let later = group_later old.last key.0 next in
     let counted = building.groups.count_is in
-    let has = subst (λ (b : Building). HasGroups n keys b) (sym view) (coded keys building.groups (omega arith)) in
+    let has = comes.coded keys building.groups (omega arith) in
     let way : n ≡ group_under_way new.last = group ∙ sym (ap group_under_way last) in
     record {
       codable = codable_next keys old.last key.0 building.codable (omega arith) building.last_is next;

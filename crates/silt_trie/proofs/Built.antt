@@ -1,16 +1,17 @@
 -- Lemmas on a trie that is built from keys one after the other.
-use Rattle.std.proofs.Common.{◌≡◌, ℕ, ◌+◌, ◌-◌, ◌*◌, ◌^◌, ◌<◌, ◌≤◌, List, [], ◌∷◌, ◌++◌, length, take, Option, Some, None, Result, IfOk, refl, sym, ap, ◌∙◌, subst, arith}
+use Rattle.std.proofs.Common.{◌≡◌, ℕ, ◌+◌, ◌-◌, ◌*◌, ◌^◌, ◌<◌, ◌≤◌, List, [], ◌∷◌, ◌++◌, length, take, Option, None, Result, IfOk, refl, sym, ap, ◌∙◌, subst, arith}
 use Rattle.std.proofs.lemmas.List.{append-nil, length-append, take_all}
 use Rattle.std.proofs.lemmas.List.Elements.{All-append}
 use Rattle.std.proofs.lemmas.Result.{IfOk-weaker}
 use Rattle.silt_frame.specs.declared.key.Key.{Key}
 use Rattle.silt_trie.specs.Building.{Building, HasGroups, IsBuildingOf, group_of, group_under_way}
 use Rattle.silt_trie.specs.Code.{IsCodable, trie_code}
-use Rattle.silt_trie.specs.Coded.{bytes_of}
+use Rattle.silt_trie.specs.Coded.{Grows, bytes_of}
 use Rattle.silt_trie.specs.Marks.{IsMadeOf, MarkedCode, grouped_code, mark_behind, marks_of}
 use Rattle.silt_trie.specs.declared.marks.Mark.{Mark}
 use Rattle.silt_trie.proofs.Codes.{length-bytes_of}
 use Rattle.silt_trie.proofs.Gathered.{codable_none}
+use Rattle.silt_trie.proofs.Growing.{grows_more, grows_none}
 use Rattle.silt_trie.proofs.Groups.{code_grows, grouped_none, marks_grow, none_below, number_below, powers}
 use Rattle.silt_trie.proofs.MarkedKeys.{length-marks_of}
 
@@ -82,40 +83,86 @@ made_of keys b made codable has most made_is =
       count_is = has.count_is;
     })
 
--- what is known once groups from `first` up to `at` are coded
-pub record CodesGroups (first at : ℕ) (old new : Building) : Type 0 where
+-- Code and marks once groups from `first` up to `at` are coded, of which the first one has these keys and the others none; and the keys
+-- that still wait.
+pub record CodesGroups (first at count levels : ℕ) (keys waiting : List Key) (old code : List ℕ) (before marks : List Mark) : Type 0 where
   pub from : first ≤ at
-  pub coded : (keys : List (List ℕ)) → HasGroups first keys old → HasGroups at keys new
-  pub empty : first < at → new.group ≡ []
-  pub same : at ≤ first → new ≡ old
-  pub stays : (new.count ≡ old.count) × (new.last ≡ old.last)
-  pub levels : new.levels ≡ old.levels
+  pub coded : (all : List (List ℕ)) (last : Option Key) → HasGroups first all (record { code = old; marks = before; group = keys; count = count; last = last; levels = levels })
+      → HasGroups at all (record { code = code; marks = marks; group = waiting; count = count; last = last; levels = levels })
+  pub empty : first < at → waiting ≡ []
+  pub codable : IsCodable (bytes_of waiting) 8
+  pub few : length waiting ≤ count
+  pub grown : Grows old code × Grows before marks
+
+-- no group is coded yet
+pub codes_none : (first count levels : ℕ) (keys : List Key) (old : List ℕ) (before : List Mark) → IsCodable (bytes_of keys) 8 → length keys ≤ count → CodesGroups first first count levels keys keys old old before before
+codes_none first count levels keys old before codable few = record {
+  from = omega arith;
+  coded = λ all last has. has;
+  empty = λ h. absurd (omega arith);
+  codable = codable;
+  few = few;
+  grown = (grows_none old, grows_none before);
+}
 
 -- one group more
-pub codes_more : (first at : ℕ) (old now new : Building) → at < 256 → CodesGroups first at old now → ((n : ℕ) (keys : List (List ℕ)) → n < 256 → HasGroups n keys now → HasGroups (n + 1) keys new) → new.group ≡ [] → (new.count ≡ now.count) × (new.last ≡ now.last) → new.levels ≡ now.levels
-    → CodesGroups first (at + 1) old new
-codes_more first at old now new small codes coded empty stays levels =
+pub codes_more : (first at count levels place : ℕ) (keys waiting : List Key) (old code new_code : List ℕ) (before marks new_marks : List Mark) → at < 256 → 8 ≤ levels → CodesGroups first at count levels keys waiting old code before marks
+    → place ≡ count - length waiting → new_code ≡ code ++ trie_code (bytes_of waiting) 8 → new_marks ≡ marks ++ marks_of (levels - 8) 0 (bytes_of waiting) 8 (length code) place
+    → CodesGroups first (at + 1) count levels keys [] old new_code before new_marks
+codes_more first at count levels place keys waiting old code new_code before marks new_marks small most codes place_is code_is marks_is =
     let from = codes.from in
     record {
       from = omega arith;
-      coded = λ keys has. coded at keys small (codes.coded keys has);
-      empty = λ h. empty;
-      same = λ h. absurd (omega arith);
-      stays = (stays.0 ∙ codes.stays.0, stays.1 ∙ codes.stays.1);
-      levels = levels ∙ codes.levels;
+      coded = λ all last has.
+          coded_group at all (record { code = code; marks = marks; group = waiting; count = count; last = last; levels = levels }) (record { code = new_code; marks = new_marks; group = []; count = count; last = last; levels = levels })
+          place small (codes.coded all last has) most refl refl refl place_is code_is marks_is;
+      empty = λ h. refl;
+      codable = codable_none 8;
+      few = omega arith;
+      grown = (grows_more old code _ new_code codes.grown.0 code_is, grows_more before marks _ new_marks codes.grown.1 marks_is);
     }
 
--- there are 256 groups
-way_small : (o : Option Key) → group_under_way o < 256
-way_small None = omega arith
-way_small (Some last) = number_below 8 0 last.0
+-- a builder once groups up to n are coded
+pub record ComesTo (n : ℕ) (old now : Building) : Type 0 where
+  pub coded : (keys : List (List ℕ)) → HasGroups (group_under_way old.last) keys old → group_under_way old.last ≤ n → HasGroups n keys now
+  pub empty : group_under_way old.last < n → now.group ≡ []
+  pub same : n ≤ group_under_way old.last → now ≡ old
+  pub stays : (now.count ≡ old.count) × (now.last ≡ old.last)
+  pub levels : now.levels ≡ old.levels
 
--- code and marks with the mark behind all keys are made of the keys that they are built of
-pub finished : {E : Type 0} (r : Result MarkedCode E) (old seen now : Building) → now ≡ seen → ((keys : List (List ℕ)) → HasGroups (group_under_way old.last) keys old → group_under_way old.last ≤ 256 → HasGroups 256 keys seen) → 8 ≤ now.levels
-    → IfOk r (λ made. made ≡ record { code = now.code; marks = now.marks ++ mark_behind now.code now.count ∷ []; count = now.count; depth = 0; groups = 8; levels = now.levels })
-    → IfOk r (λ made. (keys : List (List ℕ)) → IsBuildingOf keys old → IsMadeOf keys made)
-finished r old seen now view coded most = IfOk-weaker r (λ made. made ≡ record { code = now.code; marks = now.marks ++ mark_behind now.code now.count ∷ []; count = now.count; depth = 0; groups = 8; levels = now.levels })
-    (λ made. (keys : List (List ℕ)) → IsBuildingOf keys old → IsMadeOf keys made)
-    (λ made made_is keys building.
-    let small = way_small old.last in
-    made_of keys now made building.codable (subst (λ (b : Building). HasGroups 256 keys b) (sym view) (coded keys building.groups (omega arith))) most made_is)
+-- it is there already
+pub comes_no_further : (n from : ℕ) (b now : Building) → from ≡ group_under_way b.last → n ≤ from → now ≡ b → ComesTo n b now
+comes_no_further n from b now start upto is = subst (λ (x : Building). ComesTo n b x) (sym is) (record {
+  coded = λ keys has later. let same : group_under_way b.last ≡ n = omega arith in subst (λ (m : ℕ). HasGroups m keys b) same has;
+  empty = λ h. absurd (omega arith);
+  same = λ h. refl;
+  stays = (refl, refl);
+  levels = refl;
+})
+
+-- the groups before are coded
+pub comes_to : (n from : ℕ) (b now : Building) (code : List ℕ) (marks : List Mark) (keys none : List Key) → from ≡ group_under_way b.last → from < n → keys ≡ b.group → none ≡ [] → now ≡ record { code = code; marks = marks; group = none; count = b.count; last = b.last; levels = b.levels }
+    → ((all : List (List ℕ)) (last : Option Key) → HasGroups from all (record { code = b.code; marks = b.marks; group = keys; count = b.count; last = last; levels = b.levels })
+    → HasGroups n all (record { code = code; marks = marks; group = []; count = b.count; last = last; levels = b.levels })) → ComesTo n b now
+comes_to n from b now code marks keys none start later keys_are none_is is coded =
+    let made : Building = record { code = code; marks = marks; group = []; count = b.count; last = b.last; levels = b.levels } in
+    let now_is : now ≡ made = is ∙ ap (λ (group : List Key). record { code = code; marks = marks; group = group; count = b.count; last = b.last; levels = b.levels }) none_is in
+    subst (λ (x : Building). ComesTo n b x) (sym now_is) (record {
+      coded = λ all has upto. coded all b.last (rw (start, keys_are) has);
+      empty = λ h. refl;
+      same = λ h. absurd (omega arith);
+      stays = (refl, refl);
+      levels = refl;
+    })
+
+-- code and marks with the mark behind all keys are made of the keys that a builder is built of, if they are its own once all groups are coded
+pub finished : {E : Type 0} (r : Result MarkedCode E) (b : Building) (from : ℕ) (copied code : List ℕ) (marked marks : List Mark) (keys : List Key) → from ≡ group_under_way b.last → copied ≡ b.code → marked ≡ b.marks → keys ≡ b.group → 8 ≤ b.levels
+    → ((all : List (List ℕ)) (last : Option Key) → HasGroups from all (record { code = copied; marks = marked; group = keys; count = b.count; last = last; levels = b.levels })
+    → HasGroups 256 all (record { code = code; marks = marks; group = []; count = b.count; last = last; levels = b.levels }))
+    → IfOk r (λ made. made ≡ record { code = code; marks = marks ++ mark_behind code b.count ∷ []; count = b.count; depth = 0; groups = 8; levels = b.levels })
+    → IfOk r (λ made. (all : List (List ℕ)) → IsBuildingOf all b → IsMadeOf all made)
+finished r b from copied code marked marks keys start code_is marks_is keys_are most coded = IfOk-weaker r (λ made. made ≡ record { code = code; marks = marks ++ mark_behind code b.count ∷ []; count = b.count; depth = 0; groups = 8; levels = b.levels })
+    (λ made. (all : List (List ℕ)) → IsBuildingOf all b → IsMadeOf all made)
+    (λ made made_is all building.
+    let has : HasGroups from all (record { code = copied; marks = marked; group = keys; count = b.count; last = b.last; levels = b.levels }) = rw (start, code_is, marks_is, keys_are) building.groups in
+    made_of all (record { code = code; marks = marks; group = []; count = b.count; last = b.last; levels = b.levels }) made building.codable (coded all b.last has) most made_is)

@@ -4,6 +4,7 @@ pub mod Sides
 pub mod Codes
 pub mod Pending
 pub mod Gathered
+pub mod Growing
 pub mod MarkedKeys
 pub mod Groups
 pub mod SkipsOf

@@ -7,6 +7,10 @@ use Rattle.silt_trie.specs.Code.{IsCodable, StandsAt, trie_code}
 abbrev pub bytes_of : List Key → List (List ℕ)
 bytes_of keys = map (λ key. key.0) keys
 
+-- more was appended to a list
+abbrev pub Grows : {X : Type 0} → List X → List X → Type 0
+Grows {X} old new = (more : List X) × (new ≡ old ++ more)
+
 -- a coded trie: its code, the number of its keys, and the number of bits in which they agree
 pub record Coded : Type 0 where
   pub code : List ℕ

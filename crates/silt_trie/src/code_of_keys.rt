@@ -1,7 +1,7 @@
 //! The code of keys.
-ghost use Rattle.std.specs.Prelude.{◌≡◌, ℕ, ◌+◌, ◌^◌, ◌<◌, List, ◌++◌, length, OnOk, OnErr};
+ghost use Rattle.std.specs.Prelude.{◌≡◌, ◌+◌, ◌^◌, ◌<◌, ◌++◌, length, OnOk, OnErr};
 ghost use Rattle.silt_trie.specs.Code.{IsCodable, trie_code, with_bit};
-ghost use Rattle.silt_trie.specs.Coded.{bytes_of};
+ghost use Rattle.silt_trie.specs.Coded.{Grows, bytes_of};
 
 use super::key::{KEY_BITS, key_bit};
 use silt_frame::Key;
@@ -13,7 +13,7 @@ use std::alloc::AllocError;
 pub fn write_code(bits: &mut BitWriter, keys: &[Key], depth: usize) -> Result<(), AllocError>
     requires { IsCodable (bytes_of keys.now) depth }
     ensures ok { OnOk result (bits.new ≡ bits.old ++ trie_code (bytes_of keys.now) depth) }
-    ensures err { OnErr result ((more : List ℕ) × (bits.new ≡ bits.old ++ more)) }
+    ensures err { OnErr result (Grows bits.old bits.new) }
 {
     if keys.len() < 2 || depth >= KEY_BITS {
         return Ok(());

@@ -1,7 +1,7 @@
 //! The code of keys with marks.
-ghost use Rattle.std.specs.Prelude.{◌≡◌, ℕ, ◌+◌, ◌^◌, ◌<◌, ◌≤◌, List, [], ◌∷◌, ◌++◌, length, OnOk, IfOk};
+ghost use Rattle.std.specs.Prelude.{◌≡◌, ℕ, ◌+◌, ◌^◌, ◌<◌, ◌≤◌, List, [], ◌∷◌, ◌++◌, length, OnOk, OnErr, IfOk};
 ghost use Rattle.silt_trie.specs.Code.{IsCodable, with_bit};
-ghost use Rattle.silt_trie.specs.Coded.{bytes_of};
+ghost use Rattle.silt_trie.specs.Coded.{Grows, bytes_of};
 ghost use Rattle.silt_trie.specs.Marks.{grouped_code, head_code, marks_of};
 
 use super::code_of_keys::count_left;
@@ -30,6 +30,7 @@ pub fn write_marked(
     ensures code { OnOk result (bits.new ≡ bits.old ++ grouped_code groups (bytes_of keys.now) depth) }
     ensures marks { OnOk result (marks.new.items
         ≡ marks.old.items ++ marks_of levels groups (bytes_of keys.now) depth (length bits.old) place) }
+    ensures err { OnErr result (Grows bits.old bits.new × Grows marks.old.items marks.new.items) }
 {
     if levels == 0 {
         let start = bits.len();
@@ -52,15 +53,16 @@ pub fn write_marked(
     )
 }
 
-/// Appends a mark. If a `u32` cannot count its place in the code, that is out of memory too.
+/// Appends a mark, or changes nothing. If a `u32` cannot count its place in the code, that is out of memory too.
 pub fn push_mark(
     marks: &mut Vec<Mark>,
     start: usize,
     place: u32,
     skips: [u16; SKIPS],
 ) -> Result<(), AllocError>
-    ensures { OnOk result (marks.new.items
+    ensures ok { OnOk result (marks.new.items
         ≡ marks.old.items ++ record { start = start; place = place; skips = skips } ∷ []) }
+    ensures err { OnErr result (marks.new.items ≡ marks.old.items) }
 {
     let start = u32::try_from(start).map_err(|_| AllocError)?;
     marks.push(Mark {
@@ -83,6 +85,7 @@ fn write_head(
     requires codable { IsCodable (bytes_of keys.now) depth }
     ensures left { IfOk result (λ left. left ≡ length (with_bit 0 depth (bytes_of keys.now))) }
     ensures code { OnOk result (bits.new ≡ bits.old ++ head_code groups (bytes_of keys.now) depth) }
+    ensures err { OnErr result (bits.new ≡ bits.old) }
 {
     let left = count_left(keys, depth);
     if groups > 0 || keys.len() < 2 {

@@ -1,15 +1,13 @@
 //! Code with marks of its own.
 ghost use Rattle.std.specs.Prelude.{◌≡◌, ℕ, ◌+◌, ◌-◌, ◌*◌, ◌/◌, ◌^◌, ◌<◌, ◌≤◌, [], ◌∷◌, ◌++◌, length, min, IfOk, IfSome};
-ghost use Rattle.silt_trie.specs.Code.{IsCodable};
-ghost use Rattle.silt_trie.specs.Coded.{bytes_of};
-ghost use Rattle.silt_trie.specs.Marks.{IsMadeOf, IsMarkedPlace, IsPlaceBetween, MarkedCode, mark_behind};
+ghost use Rattle.silt_trie.specs.Marks.{IsMarkedPlace, IsPlaceBetween, MarkedCode, mark_behind};
 
 use super::key_place::locate_from;
-use super::marked_code::{push_mark, write_marked};
+use super::marked_code::push_mark;
 use super::marks::{MOST_LEVELS, Mark, SKIPS, prefix_number};
 use silt_frame::Key;
 use silt_gamma::BitWriter;
-use std::alloc::{AllocError, Global};
+use std::alloc::AllocError;
 use std::marker::Model;
 use std::mem::size_of;
 
@@ -44,30 +42,6 @@ impl Model for MarkedTrie {
 }
 
 impl MarkedTrie {
-    /// The code of keys that rise strictly and agree in their first `depth` bits: in groups by the
-    /// next `groups` bits, and with marks of the next `levels` bits.
-    pub fn encode(
-        alloc: Global,
-        keys: &[Key],
-        depth: usize,
-        groups: usize,
-        levels: usize,
-    ) -> Result<MarkedTrie, AllocError>
-        requires codable { IsCodable (bytes_of keys.now) depth }
-        requires within { depth + levels ≤ 160 }
-        requires few { levels ≤ 24 }
-        requires grouped { groups ≤ levels }
-        ensures made { IfOk result (λ made. IsMadeOf (bytes_of keys.now) made) }
-        ensures depth { IfOk result (λ made. made.depth ≡ depth) }
-        ensures groups { IfOk result (λ made. made.groups ≡ groups) }
-        ensures levels { IfOk result (λ made. made.levels ≡ levels) }
-    {
-        let mut bits = BitWriter::new(alloc);
-        let mut marks = Vec::new(alloc);
-        write_marked(&mut bits, &mut marks, keys, 0, depth, groups, levels)?;
-        MarkedTrie::complete(bits, marks, keys.len(), depth, groups, levels)
-    }
-
     /// Code and marks of all keys as a trie. Puts the mark behind all keys, and frees the memory that
     /// they do not need.
     pub(crate) fn complete(

@@ -1,7 +1,7 @@
 //! How many bits of code lie on the left, so that a look-up skips them.
-ghost use Rattle.std.specs.Prelude.{◌≡◌, ℕ, ◌+◌, ◌-◌, ◌^◌, ◌<◌, ◌++◌, List, Option, length, min, replicate, OnOk};
+ghost use Rattle.std.specs.Prelude.{◌≡◌, ℕ, ◌+◌, ◌-◌, ◌^◌, ◌<◌, ◌++◌, List, Option, length, min, replicate, OnOk, OnErr};
 ghost use Rattle.silt_trie.specs.Code.{IsCodable, trie_code};
-ghost use Rattle.silt_trie.specs.Coded.{ArePast, bytes_of};
+ghost use Rattle.silt_trie.specs.Coded.{ArePast, Grows, bytes_of};
 ghost use Rattle.silt_trie.specs.Marks.{AreSkipsInto, IsSkipOf, skips_of};
 
 use super::code_of_keys::{count_left, write_code};
@@ -16,7 +16,8 @@ const MOST_SKIPPED: u16 = u16::MAX;
 
 /// Appends the code of keys. Writes into `skips`, which are zeros, how many bits the code of the
 /// keys on the left takes: of all keys, then of both parts that the next bit makes of them, and so
-/// on, the left part with all its parts first.
+/// on, the left part with all its parts first. After an error part of the code may have been
+/// appended.
 pub(crate) fn write_skipped(
     bits: &mut BitWriter,
     skips: &mut [u16],
@@ -27,6 +28,7 @@ pub(crate) fn write_skipped(
     ensures code { OnOk result (bits.new ≡ bits.old ++ trie_code (bytes_of keys.now) depth) }
     ensures skips { OnOk result ((m : ℕ) → skips.old ≡ replicate (2 ^ m - 1) 0
         → skips.new ≡ skips_of m (bytes_of keys.now) depth) }
+    ensures err { OnErr result (Grows bits.old bits.new) }
 {
     if keys.len() < 2 || depth >= KEY_BITS {
         return Ok(());

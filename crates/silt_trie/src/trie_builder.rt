@@ -1,8 +1,10 @@
 //! Builds a trie with marks from keys that come one after the other.
-ghost use Rattle.std.specs.Prelude.{◌≡◌, ℕ, true, false, None, ◌+◌, ◌-◌, ◌^◌, ◌<◌, ◌≤◌, List, [], ◌∷◌, ◌++◌, Some, Ok, length, IsTrue, IfOk, OnOk};
+ghost use Rattle.std.specs.Prelude.{◌≡◌, ℕ, true, false, None, ◌+◌, ◌-◌, ◌^◌, ◌<◌, ◌≤◌, List, [], ◌∷◌, ◌++◌, Some, Ok, Option, length, IsTrue, IfOk, OnOk, OnErr};
 ghost use Rattle.std.specs.Ordering.{nat_cmp, is_lt};
 ghost use Rattle.std.specs.Cmp.Lexicographic.{slice_cmp};
 ghost use Rattle.silt_trie.specs.Building.{Building, HasGroups, IsBuildingOf, IsHeldBuilding, MayFollow, SuitsKeys, group_of, group_under_way, is_above};
+ghost use Rattle.silt_trie.specs.Code.{IsCodable};
+ghost use Rattle.silt_trie.specs.Coded.{Grows, bytes_of};
 ghost use Rattle.silt_trie.specs.Marks.{IsMadeOf};
 
 use super::marked_code::write_marked;
@@ -79,7 +81,7 @@ impl MarkedTrieBuilder {
     }
 
     /// Takes one more key if it is greater than the last one, and else changes nothing. Returns
-    /// whether it took the key. After an error the keys are lost.
+    /// whether it took the key. After an error nothing has changed.
     pub fn push(&mut self, key: Key) -> Result<bool, AllocError>
         requires few { self.old.count + 2 < 2 ^ 32 }
         ensures taken { IfOk result (λ taken. taken ≡ is_above self.old.last key.0) }
@@ -89,74 +91,121 @@ impl MarkedTrieBuilder {
             → (self.new.last ≡ Some key) × (self.new.count ≡ self.old.count + 1) }
         ensures stays { result ≡ Ok false → self.new ≡ self.old }
         ensures levels { IfOk result (λ taken. self.new.levels ≡ self.old.levels) }
+        ensures err { OnErr result (self.new ≡ self.old) }
     {
         if !is_above(self.last, &key) {
             return Ok(false);
         }
-        self.code_groups(group_of(&key))?;
-        self.group.push(key)?;
+        self.group.reserve(1)?;
+        let (first, next) = (group_under_way(self.last), group_of(&key));
+        if first < next {
+            code_groups(
+                &mut self.bits,
+                &mut self.marks,
+                &self.group,
+                self.count,
+                self.levels,
+                first,
+                next,
+            )?;
+            self.group.clear();
+        }
+        self.group.push_reserved(key);
         self.last = Some(key);
         self.count += 1;
         Ok(true)
     }
 
-    /// The trie of the keys that were taken.
-    pub fn finish(mut self) -> Result<MarkedTrie, AllocError>
-        ensures made { IfOk result (λ made. (keys : List (List ℕ)) → IsBuildingOf keys self
+    /// The trie of the keys that were taken. It has a copy of their code and marks: so the caller
+    /// may fail afterwards, and still has a builder that takes keys and can be asked again.
+    pub fn finish(&self, alloc: Global) -> Result<MarkedTrie, AllocError>
+        ensures made { IfOk result (λ made. (keys : List (List ℕ)) → IsBuildingOf keys self.now
             → IsMadeOf keys made) }
         ensures depth { IfOk result (λ made. made.depth ≡ 0) }
         ensures groups { IfOk result (λ made. made.groups ≡ 8) }
-        ensures levels { IfOk result (λ made. made.levels ≡ self.levels) }
+        ensures levels { IfOk result (λ made. made.levels ≡ self.now.levels) }
     {
-        self.code_groups(GROUPS)?;
-        MarkedTrie::complete(
-            self.bits,
-            self.marks,
-            self.count,
-            0,
-            GROUP_BITS,
-            self.levels,
-        )
-    }
-
-    /// Codes the present group, and the empty ones behind it, up to this one.
-    fn code_groups(&mut self, next: usize) -> Result<(), AllocError>
-        requires { next ≤ 256 }
-        ensures coded { OnOk result ((keys : List (List ℕ)) → HasGroups (group_under_way self.old.last) keys self.old
-            → group_under_way self.old.last ≤ next → HasGroups next keys self.new) }
-        ensures empty { OnOk result (group_under_way self.old.last < next → self.new.group ≡ []) }
-        ensures same { next ≤ group_under_way self.old.last → self.new ≡ self.old }
-        ensures stays { (self.new.count ≡ self.old.count) × (self.new.last ≡ self.old.last) }
-        ensures levels { self.new.levels ≡ self.old.levels }
-    {
-        for _group in group_under_way(self.last)..next {
-            self.code_group()?;
-        }
-        Ok(())
-    }
-
-    /// Codes the present group, which may be empty.
-    fn code_group(&mut self) -> Result<(), AllocError>
-        ensures coded { OnOk result ((n : ℕ) (keys : List (List ℕ)) → n < 256 → HasGroups n keys self.old
-            → HasGroups (n + 1) keys self.new) }
-        ensures empty { OnOk result (self.new.group ≡ []) }
-        ensures stays { (self.new.count ≡ self.old.count) × (self.new.last ≡ self.old.last) }
-        ensures levels { self.new.levels ≡ self.old.levels }
-    {
-        let place = (self.count - self.group.len()) as u32;
-        let levels = self.levels - GROUP_BITS;
-        write_marked(
-            &mut self.bits,
-            &mut self.marks,
+        let mut bits = self.bits.try_clone(alloc)?;
+        let mut marks = Vec::with_capacity(alloc, (1 << self.levels) + 1)?;
+        marks.extend_from_slice(&self.marks)?;
+        write_groups(
+            &mut bits,
+            &mut marks,
             &self.group,
+            self.count,
+            self.levels,
+            group_under_way(self.last),
+            GROUPS,
+        )?;
+        MarkedTrie::complete(bits, marks, self.count, 0, GROUP_BITS, self.levels)
+    }
+}
+
+/// Appends code and marks of the groups from `first` up to `next`. The first one has these keys, and
+/// the others are empty; `count` keys are all so far. After an error nothing has changed.
+fn code_groups(
+    bits: &mut BitWriter,
+    marks: &mut Vec<Mark>,
+    keys: &[Key],
+    count: usize,
+    levels: usize,
+    first: usize,
+    next: usize,
+) -> Result<(), AllocError>
+    requires some { (first < next) × (next ≤ 256) }
+    requires levels { (8 ≤ levels) × (levels ≤ 24) }
+    requires few { (length keys.now ≤ count) × (count < 2 ^ 32) }
+    requires codable { IsCodable (bytes_of keys.now) 8 }
+    ensures coded { OnOk result ((all : List (List ℕ)) (last : Option Key)
+        → HasGroups first all (record { code = bits.old; marks = marks.old.items; group = keys.now; count = count; last = last; levels = levels })
+        → HasGroups next all (record { code = bits.new; marks = marks.new.items; group = []; count = count; last = last; levels = levels })) }
+    ensures err { OnErr result ((bits.new ≡ bits.old) × (marks.new.items ≡ marks.old.items)) }
+{
+    let (len, marked) = (bits.len(), marks.len());
+    match write_groups(bits, marks, keys, count, levels, first, next) {
+        Ok(()) => Ok(()),
+        Err(fault) => {
+            bits.truncate(len);
+            marks.truncate(marked);
+            Err(fault)
+        }
+    }
+}
+
+/// The same. After an error part of both may have been appended.
+fn write_groups(
+    bits: &mut BitWriter,
+    marks: &mut Vec<Mark>,
+    keys: &[Key],
+    count: usize,
+    levels: usize,
+    first: usize,
+    next: usize,
+) -> Result<(), AllocError>
+    requires some { (first < next) × (next ≤ 256) }
+    requires levels { (8 ≤ levels) × (levels ≤ 24) }
+    requires few { (length keys.now ≤ count) × (count < 2 ^ 32) }
+    requires codable { IsCodable (bytes_of keys.now) 8 }
+    ensures coded { OnOk result ((all : List (List ℕ)) (last : Option Key)
+        → HasGroups first all (record { code = bits.old; marks = marks.old.items; group = keys.now; count = count; last = last; levels = levels })
+        → HasGroups next all (record { code = bits.new; marks = marks.new.items; group = []; count = count; last = last; levels = levels })) }
+    ensures err { OnErr result (Grows bits.old bits.new × Grows marks.old.items marks.new.items) }
+{
+    let mut waiting = keys;
+    for _group in first..next {
+        let place = (count - waiting.len()) as u32;
+        write_marked(
+            bits,
+            marks,
+            waiting,
             place,
             GROUP_BITS,
             0,
-            levels,
+            levels - GROUP_BITS,
         )?;
-        self.group.clear();
-        Ok(())
+        waiting = &[];
     }
+    Ok(())
 }
 
 /// The group of a key.
