@@ -28,6 +28,7 @@ use Rattle.silt_hash_store.specs.Slots.{hash_rows}
 use Rattle.silt_hash_store.specs.State.{IsHashStore, IsHeldHash, HashState}
 use Rattle.silt_conversion.proofs.Writing.{store_stands}
 use Rattle.silt_merge.specs.State.{MergeState}
+use Rattle.silt_merge.specs.Comparing.{HasCompared}
 use Rattle.silt_merge.specs.Merging.{HasMerged}
 use Rattle.silt_merge.proofs.Elsewhere.{oldest_stores_law}
 use Rattle.silt_sorted_store.specs.State.{SortedState}
@@ -204,7 +205,10 @@ module _ (old : Content) (s : EngineState) (body : Body) (digests : Digests) (st
           in_front None merging merged = tt
           in_front (Some merge) merging merged =
               let way : IsMerging s merge = merging in
-              subst (λ (l : List HashState). HasMerged new l s.sorted merge) (sym (oldest_stores_law (store_of ends.conversion digest ∷ []) s.hashes merge.stores way.most)) merged
+              let same = sym (oldest_stores_law (store_of ends.conversion digest ∷ []) s.hashes merge.stores way.most) in (
+                subst (λ (l : List HashState). HasMerged new l s.sorted merge) same merged.0,
+                subst (λ (l : List HashState). HasCompared l s.sorted s.digest merge) same merged.1,
+              )
 
       fits : AreWhole (oldest_replaced s m ends.conversion digest) → Fits new after converted_stores
       unfolding converted_may_become_current

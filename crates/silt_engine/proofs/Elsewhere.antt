@@ -27,6 +27,7 @@ use Rattle.silt_image.proofs.Frame.{names_regions, pieces_apart}
 use Rattle.silt_image.proofs.Named.{apart_of, whole_law}
 use Rattle.silt_manifest.specs.Body.{is_well_formed}
 use Rattle.silt_manifest.specs.declared.body.Body.{Body}
+use Rattle.silt_merge.specs.Merging.{HasMerged}
 use Rattle.silt_merge.specs.State.{MergeState, oldest_stores}
 use Rattle.silt_merge.proofs.Elsewhere.{merged_elsewhere}
 use Rattle.silt_sorted_store.specs.State.{SortedState}
@@ -282,16 +283,18 @@ merged_all_elsewhere old new s at count (Some merge) stands changes outside behi
     let slots : IsTrue old.honest → All (λ (store : HashState). LiesOutside (hash_at s.sorted.shape store.region) (slots_len s.sorted.shape) at count) (oldest_stores merge.stores s.hashes) =
     λ h. All-drop (λ (store : HashState). LiesOutside (hash_at s.sorted.shape store.region) (slots_len s.sorted.shape) at count) (length s.hashes - merge.stores) s.hashes
     (λ k d inside. subst (λ (sh : Shape). LiesOutside (hash_at sh (get_or s.hashes k d).region) (slots_len sh) at count) (sym is_shape) (outside h (get_or s.hashes k d).region (hash_named s stands.whole.hash_regions k d inside))) in
-    let stays : IsTrue old.honest → HasGathered new s merge =
+    let stays : IsTrue old.honest → HasMerged new (oldest_stores merge.stores s.hashes) s.sorted merge =
     λ h. merged_elsewhere (oldest_stores merge.stores s.hashes) s.sorted merge old new at count stands.whole.held way.held fits
     (subst (λ (sh : Shape). LiesOutside (sorted_at sh merge.region) (entries_len sh) at count) (sym is_shape) (apart h))
     (subst (λ (n : ℕ). LiesOutside (sorted_at s.sorted.shape n) (entries_len s.sorted.shape) at count) (sym is_region)
     (subst (λ (sh : Shape). LiesOutside (sorted_at sh s.manifest.current.sorted) (entries_len sh) at count) (sym is_shape) (behind h)))
-    (slots h) changes is in
-    record {
-      shape = is.shape;
-      counted = is.counted;
-      apart = is.apart;
-      hashed = λ h. (stays (subst IsTrue changes.honest h)).hashed h;
-      merged = λ h. (stays (subst IsTrue changes.honest h)).merged h;
-    }
+    (slots h) changes is.0 in (
+      record {
+        shape = is.0.shape;
+        counted = is.0.counted;
+        apart = is.0.apart;
+        hashed = λ h. (stays (subst IsTrue changes.honest h)).hashed h;
+        merged = λ h. (stays (subst IsTrue changes.honest h)).merged h;
+      },
+      is.1,
+    )

@@ -1,6 +1,6 @@
 -- Clauses at exits.
 use Rattle.std.proofs.Common.{◌≡◌, Result, Ok, Err, sym, subst}
-use Rattle.std.specs.Prelude.{IfErr, OnOk}
+use Rattle.std.specs.Prelude.{IfErr, MatchResult, OnOk}
 use Rattle.std.specs.Result.{IsErrAnd}
 
 -- what holds of every result
@@ -12,3 +12,8 @@ on_ok (Err e) p = tt
 pub on_error : {T F : Type 0} (r : Result T F) (error : F) (P : F → Type 0) → IsErrAnd r (λ e. e ≡ error) → P error → IfErr r P
 on_error (Ok x) error P is p = tt
 on_error (Err e) error P is p = subst P (sym is) p
+
+-- what holds whatever the error is
+pub on_refusal : {T F : Type 0} (r : Result T F) (error : F) (P : T → Type 0) {Q : Type 0} → IsErrAnd r (λ e. e ≡ error) → Q → MatchResult r P (λ e. Q)
+on_refusal (Ok x) error P is q = absurd is
+on_refusal (Err e) error P is q = q

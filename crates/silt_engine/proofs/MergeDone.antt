@@ -1,10 +1,12 @@
 -- What a merge takes of the stores, and when it is done.
-use Rattle.std.proofs.Common.{◌≡◌, ◌≤◌, ◌<◌, ℕ, ◌+◌, ◌-◌, ◌^◌, ◌++◌, IsTrue, List, [], true, length, map, take, drop, refl, ap, sym, ◌∙◌, subst, Option, Some, None, arith}
+use Rattle.std.proofs.Common.{◌≡◌, ◌≤◌, ◌<◌, ℕ, ◌+◌, ◌-◌, ◌*◌, ◌^◌, ◌++◌, IsTrue, List, [], true, length, map, take, drop, get_or, refl, ap, sym, ◌∙◌, subst, Option, Some, None, arith}
 use Rattle.std.specs.Prelude.{IfSome}
-use Rattle.std.proofs.lemmas.List.{take-append-drop, take_all}
+use Rattle.std.proofs.lemmas.Bool.{and_parts, eqb-true, leb-true}
+use Rattle.std.proofs.lemmas.List.{length-drop, take-append-drop, take_all}
 use Rattle.std.proofs.lemmas.List.Elements.{All-drop}
+use Rattle.std.proofs.lemmas.Option.{slice_get-get_or}
 use Rattle.silt_disk.specs.Disk.{Content}
-use Rattle.silt_disk.specs.Layout.{Shape}
+use Rattle.silt_disk.specs.Layout.{Shape, entry_len, slots_len}
 use Rattle.silt_frame.specs.Rows.{StoredRow, put_count}
 use Rattle.silt_hash_store.specs.State.{HashState, IsHashStore, IsHeldHash}
 use Rattle.silt_image.specs.Meaning.{IsSound, charge_of, rows_of, with_log_rows}
@@ -19,6 +21,7 @@ use Rattle.silt_log.specs.State.{all_rows, waiting_rows}
 use Rattle.silt_manifest.specs.declared.body.Body.{Body}
 use Rattle.silt_manifest.specs.declared.digests.Digests.{Digests}
 use Rattle.silt_engine.specs.Replacements.{ReplacesStores, with_merged}
+use Rattle.silt_merge.specs.Comparing.{HasBytes}
 use Rattle.silt_merge.specs.Merging.{AreSound, HasMerged, IsMergeOf}
 use Rattle.silt_merge.specs.Rows.{entries_in, key_count, merged_rows, sources}
 use Rattle.silt_merge.specs.State.{MergeState, is_done, oldest_stores, steps_for, steps_of}
@@ -29,7 +32,7 @@ use Rattle.silt_merge.proofs.Sounding.{sound_stores}
 use Rattle.silt_sorted_store.specs.Index.{IndexedState, IsIndexOf}
 use Rattle.silt_sorted_store.proofs.Entries.{entry_count}
 use Rattle.silt_engine.specs.Digests.{merged_digests}
-use Rattle.silt_engine.specs.Merge.{EndsMerge, IsDoneBySteps, charge_without, merge_sources, merged_body, puts_in}
+use Rattle.silt_engine.specs.Merge.{AreCompared, EndsMerge, IsDoneBySteps, charge_without, merge_sources, merged_body, puts_in}
 use Rattle.silt_engine.specs.Merge as spec
 use Rattle.silt_standing.specs.State.{IsMerging, EngineState}
 use Rattle.silt_standing.specs.Standing.{HasGathered, Stands, base_map, full_image, shown_stores}
@@ -80,7 +83,7 @@ module _ (content : Content) (s : EngineState) (stands : Stands content s) where
           let way : IsMerging s merge = merging in
           subst (λ (rows : List StoredRow). (is_done merge s.sorted ≡ true → steps_of merge ≡ steps_for merge (key_count rows)) × (steps_of merge ≡ steps_for merge (key_count rows) → is_done merge s.sorted ≡ true))
           (sym (sources_full h merge.stores))
-          (done_steps merge s.sorted content (oldest_stores merge.stores s.hashes) (is_done merge s.sorted) refl way.held merged h (taken_sound h merge.stores))
+          (done_steps merge s.sorted content (oldest_stores merge.stores s.hashes) (is_done merge s.sorted) refl way.held merged.0 h (taken_sound h merge.stores))
 
 -- ---- a merge that is done
 
@@ -130,7 +133,7 @@ module _ (content : Content) (s : EngineState) (merge : MergeState) (stands : St
   pub entries_are : IsTrue content.honest → new_entries ≡ merged_rows rows
   entries_are h =
       ap (λ (sh : Shape). sorted_rows sh merge.region merge.written content.shown) (sym way.has_shape)
-      ∙ done_entries merge s.sorted content (oldest_stores merge.stores s.hashes) way.held done gathered h (taken_sound content s stands h merge.stores)
+      ∙ done_entries merge s.sorted content (oldest_stores merge.stores s.hashes) way.held done gathered.0 h (taken_sound content s stands h merge.stores)
       ∙ ap (λ (l : List StoredRow). take merge.shape.sorted_capacity (merged_rows l)) (sym (sources_shown content s stands merge.stores))
       ∙ ap (λ (sh : Shape). take sh.sorted_capacity (merged_rows rows)) way.has_shape
       ∙ take_all s.manifest.shape.sorted_capacity (merged_rows rows) (room h)
@@ -176,6 +179,19 @@ module _ (content : Content) (s : EngineState) (merge : MergeState) (stands : St
       let counted = stands.counted h in
       omega (arith, is, taken, written, fewer, moved, behind, before, counted, taken_puts)
 
+  -- what it read of each of its stores has the digest of that store
+  pub all_compared : AreCompared s merge.stores
+  all_compared =
+      let parts = and_parts _ _ done in
+      let taken : merge.store ≡ merge.stores = eqb-true merge.store merge.stores (and_parts _ _ parts.0).0 in
+      let stores : List HashState = oldest_stores merge.stores s.hashes in
+      record {
+        hashes = λ k d inside. subst (λ (sh : Shape). HasBytes (slots_len sh) (get_or stores k d).digest) way.has_shape
+            (gathered.1.hashes k (get_or stores k d) (omega (arith, taken, way.most, length-drop (length s.hashes - merge.stores) s.hashes)) (slice_get-get_or stores k d inside));
+        entries = λ some. subst (λ (sh : Shape). HasBytes (s.sorted.count * entry_len sh) s.digest) way.has_shape
+            (gathered.1.entries some (leb-true s.sorted.count merge.passed parts.1));
+      }
+
 -- ---- its end
 
 -- a merge that is done may end with a sorted store of its entries and their index
@@ -191,8 +207,8 @@ may_end s body digests merge store was done unspent entries is digests_are index
   unspent = unspent;
   entries = entries;
   located = λ content stands honest.
-      indexed content (oldest_stores merge.stores s.hashes) s.sorted done (gathered content s merge stands was done) honest (taken_sound content s stands honest merge.stores);
-  digested = λ content stands. digested content (oldest_stores merge.stores s.hashes) s.sorted (gathered content s merge stands was done);
+      indexed content (oldest_stores merge.stores s.hashes) s.sorted done (gathered content s merge stands was done).0 honest (taken_sound content s stands honest merge.stores);
+  digested = λ content stands. digested content (oldest_stores merge.stores s.hashes) s.sorted (gathered content s merge stands was done).0;
   is = is;
   digests_are = digests_are;
 }

@@ -1,25 +1,31 @@
 -- The steps of a merge.
-use Rattle.std.proofs.Common.{◌≡◌, ◌≢◌, ◌≤◌, ◌<◌, ℕ, ◌+◌, ◌-◌, ◌*◌, ◌==◌, ◌&&◌, nat_le, Bool, true, false, if◌then◌else◌, List, [], length, drop, Option, Some, None, inl, refl, ap, sym, ◌∙◌, subst, arith}
+use Rattle.std.proofs.Common.{◌≡◌, ◌≢◌, ◌≤◌, ◌<◌, ℕ, ◌+◌, ◌-◌, ◌*◌, ◌==◌, ◌&&◌, nat_le, nat_lt, Bool, true, false, if◌then◌else◌, IsTrue, List, [], get_or, length, drop, Option, Some, None, Result, inl, refl, ap, sym, ◌∙◌, subst, arith}
 use Rattle.std.specs.Prelude.{All, IfSome}
 use Rattle.std.specs.Option.{option_map}
-use Rattle.std.proofs.lemmas.Bool.{eq-eqb, eqb-false, ne_eqb}
+use Rattle.std.proofs.lemmas.Bool.{eq-eqb, eqb-false, lt-ltb, ne_eqb}
 use Rattle.std.proofs.lemmas.List.Elements.{All-drop}
-use Rattle.silt_disk.specs.Disk.{ChangesWithin, Content, CountsFault, GaveAny, size}
+use Rattle.silt_disk.specs.Disk.{ChangesWithin, Content, MakesAtMost}
 use Rattle.silt_disk.specs.declared.disk.Disk.{Ghosts}
 use Rattle.silt_disk.specs.Layout.{Shape, sorted_at, sorted_size}
-use Rattle.silt_hash_store.specs.State.{HashState}
-use Rattle.silt_merge.specs.Merging.{FailsMerge, HasMerged, IsSameMerge, TakesMemory}
+use Rattle.silt_event.specs.declared.place.Place.TheVariants.{HashDigest, SortedDigest}
+use Rattle.silt_hash_store.specs.State.{HashState, IsHashStore}
+use Rattle.silt_merge.specs.Comparing.{HasCompared, MatchesDigests}
+use Rattle.silt_merge.specs.Merging.{HasMerged, IsSameMerge}
+use Rattle.silt_merge.specs.Rows.{regions_of}
 use Rattle.silt_merge.specs.State.{IsHeldMerge, MergeState, is_done, oldest_stores, steps_of}
+use Rattle.silt_merge.specs.Steps.{FailsMerge, GoesOn, TakesMemory, TakesStep, damaged_place}
 use Rattle.silt_merge.specs.declared.merge.StepError.{StepError}
 use Rattle.silt_merge.specs.declared.merge.StepError.TheVariants as step_error
 use Rattle.silt_sorted_store.specs.State.{SortedState}
 use Rattle.silt_event.specs.declared.progress.Progress.{Progress}
 use Rattle.silt_event.specs.declared.progress.Progress.TheVariants.{Finished, Idle, Moved}
 use Rattle.silt_standing.specs.State.{AreWhole, IsHashOf, IsMerging, EngineState}
-use Rattle.silt_standing.specs.Standing.{HasGathered, Stands}
+use Rattle.silt_standing.specs.Standing.{HasGathered, SameDisk, Stands}
 use Rattle.silt_engine.specs.Calls.{Advances, Breaks, Remaps}
 use Rattle.silt_engine.specs.Conversion.{is_work}
-use Rattle.silt_engine.specs.Merge.{IsNextMerge, MayLackMemory, MergeErrorCause, Merges, merge_progress, merge_turn, refusal_of_step}
+use Rattle.silt_engine.specs.Costs.{StepMakes, step_syncs, step_writes, written_by_merge}
+use Rattle.silt_engine.specs.Merge.{IsNextMerge, MayLackMemory, MergeErrorCause, Merges, merge_progress, merge_turn, place_read, refusal_of_step}
+use Rattle.silt_engine.proofs.MergeDone.{taken_sound}
 use Rattle.silt_engine.proofs.MergeEntries.{entry_advances, entry_breaks, entry_failed_map}
 
 -- ---- the progress that is due
@@ -77,49 +83,88 @@ taken_shapes s merge whole way =
 pub sorted_shape : (s : EngineState) (merge : MergeState) → AreWhole s → IsMerging s merge → s.sorted.shape ≡ merge.shape
 sorted_shape s merge whole way = ap (λ (t : SortedState). t.shape) whole.sorted ∙ sym way.has_shape
 
--- what a step keeps, in the words of the stores
-pub kept_by_step : (old new : Content) (s : EngineState) (stores : List HashState) (sorted : SortedState) (before after : MergeState) → stores ≡ s.hashes → sorted ≡ s.sorted
-    → (HasMerged old (oldest_stores before.stores stores) sorted before → HasMerged new (oldest_stores before.stores stores) sorted after)
-    → HasMerged old (oldest_stores before.stores s.hashes) s.sorted before → HasMerged new (oldest_stores before.stores s.hashes) s.sorted after
-kept_by_step old new s stores sorted before after stores_are sorted_is keeps =
-    subst (λ (t : SortedState). HasMerged old (oldest_stores before.stores s.hashes) t before → HasMerged new (oldest_stores before.stores s.hashes) t after) sorted_is
-    (subst (λ (l : List HashState). HasMerged old (oldest_stores before.stores l) sorted before → HasMerged new (oldest_stores before.stores l) sorted after) stores_are keeps)
-
 -- ---- a step
 
-module _ (old new : Content) (s : EngineState) (before after : MergeState) (stands : Stands old s) (way : IsMerging s before) (sizes : size new ≡ size old)
-    (changes : ChangesWithin (sorted_at before.shape before.region) (sorted_size before.shape) old new) where
+-- what a step of a merge does to the hash stores and the sorted store of these stores
+abbrev pub StepsIn : {D F T : Type 0} → Ghosts D F → EngineState → D → D → MergeState → MergeState → Result T (StepError F) → Type 0
+StepsIn facts s old new before after result = TakesStep facts (oldest_stores before.stores s.hashes) s.sorted s.digest old new before after result
+
+-- from the step's own words
+pub steps_in : {D F T : Type 0} {facts : Ghosts D F} (s : EngineState) (stores : List HashState) (sorted : SortedState) (digest : List ℕ) {old new : D} {before after : MergeState} {result : Result T (StepError F)} → stores ≡ s.hashes → sorted ≡ s.sorted → digest ≡ s.digest
+    → TakesStep facts (oldest_stores before.stores stores) sorted digest old new before after result → StepsIn facts s old new before after result
+steps_in {facts = facts} s stores sorted digest {old = old} {new = new} {before = before} {after = after} {result = result} stores_are sorted_is digest_is step =
+    subst (λ (d : List ℕ). TakesStep facts (oldest_stores before.stores s.hashes) s.sorted d old new before after result) digest_is
+    (subst (λ (t : SortedState). TakesStep facts (oldest_stores before.stores s.hashes) t digest old new before after result) sorted_is
+    (subst (λ (l : List HashState). TakesStep facts (oldest_stores before.stores l) sorted digest old new before after result) stores_are step))
+
+module _ {D F T : Type 0} (facts : Ghosts D F) (old new : D) (s : EngineState) (before after : MergeState) (result : Result T (StepError F)) (stands : Stands (facts.content old) s) (way : IsMerging s before)
+    (step : StepsIn facts s old new before after result) where
   -- in the words of the stores
-  entry_changes : ChangesWithin (sorted_at s.manifest.shape before.region) (sorted_size s.manifest.shape) old new
-  entry_changes = subst (λ (sh : Shape). ChangesWithin (sorted_at sh before.region) (sorted_size sh) old new) way.has_shape changes
+  entry_changes : ChangesWithin (sorted_at s.manifest.shape before.region) (sorted_size s.manifest.shape) (facts.content old) (facts.content new)
+  entry_changes = subst (λ (sh : Shape). ChangesWithin (sorted_at sh before.region) (sorted_size sh) (facts.content old) (facts.content new)) way.has_shape step.region
 
-  -- ---- it was not done
+  pub step_disk : SameDisk (facts.content old) (facts.content new)
+  step_disk = record { size = step.size; honest = step.region.honest }
 
-  pub failed_breaks : Breaks old new s
-  failed_breaks = entry_breaks old new s before.region stands way.held.there way.apart sizes entry_changes
+  -- the merge is in progress
+  pub way_after : IsMerging s after
+  way_after = record {
+    has_shape = step.same.shape ∙ way.has_shape;
+    apart = λ e. way.apart (e ∙ step.same.region);
+    some = subst (λ (n : ℕ). 0 < n) (sym step.same.stores) way.some;
+    most = subst (λ (n : ℕ). n ≤ length s.hashes) (sym step.same.stores) way.most;
+    held = step.held;
+  }
 
-  pub failed_map : (merging : Option MergeState) → Remaps [] old new s (record s { merging = merging })
-  failed_map merging = entry_failed_map old new s before.region stands way.held.there way.apart sizes entry_changes
+  -- whether it was done or not
+  failed_breaks : Breaks (facts.content old) (facts.content new) s
+  failed_breaks = entry_breaks (facts.content old) (facts.content new) s before.region stands way.held.there way.apart step.size entry_changes
+
+  pub failed_map : (merging : Option MergeState) → Remaps [] (facts.content old) (facts.content new) s (record s { merging = merging })
+  failed_map merging = entry_failed_map (facts.content old) (facts.content new) s before.region stands way.held.there way.apart step.size entry_changes
+
+  -- the stores of the merge match their digests
+  matches : HasGathered (facts.content old) s before → IsTrue (facts.content old).honest → MatchesDigests (facts.content old) (oldest_stores before.stores s.hashes) s.sorted s.digest before
+  matches gathered h = record {
+    honest = h;
+    merged = gathered.0;
+    sound = taken_sound (facts.content old) s stands h before.stores;
+    hashes = All-drop (IsHashStore (facts.content old)) (length s.hashes - before.stores) s.hashes stands.hashed;
+    entries = stands.digested;
+  }
 
   -- ---- it was done
 
-  module _ (same : IsSameMerge before after) (held : IsHeldMerge after) (gathered : HasGathered old s before)
-      (merged : HasMerged old (oldest_stores before.stores s.hashes) s.sorted before → HasMerged new (oldest_stores before.stores s.hashes) s.sorted after) where
-    -- the merge is in progress
-    pub way_after : IsMerging s after
-    way_after = record {
-      has_shape = same.shape ∙ way.has_shape;
-      apart = λ e. way.apart (e ∙ same.region);
-      some = subst (λ (n : ℕ). 0 < n) (sym same.stores) way.some;
-      most = subst (λ (n : ℕ). n ≤ length s.hashes) (sym same.stores) way.most;
-      held = held;
-    }
+  module _ (goes : GoesOn facts (oldest_stores before.stores s.hashes) s.sorted s.digest old new before after) where
+    gathered_after : HasGathered (facts.content old) s before → HasGathered (facts.content new) s after
+    gathered_after gathered = (
+      subst (λ (n : ℕ). HasMerged (facts.content new) (oldest_stores n s.hashes) s.sorted after) (sym step.same.stores) (goes.merged gathered.0),
+      subst (λ (n : ℕ). HasCompared (oldest_stores n s.hashes) s.sorted s.digest after) (sym step.same.stores) (goes.compared gathered.1),
+    )
 
-    gathered_after : HasGathered new s after
-    gathered_after = subst (λ (n : ℕ). HasMerged new (oldest_stores n s.hashes) s.sorted after) (sym same.stores) (merged gathered)
+    pub step_advances : HasGathered (facts.content old) s before → Advances [] (facts.content old) (facts.content new) s (record s { merging = Some after })
+    step_advances gathered = entry_advances (facts.content old) (facts.content new) s before.region stands way.held.there way.apart step.size entry_changes (Some after) way_after (gathered_after gathered)
 
-    pub step_advances : Advances [] old new s (record s { merging = Some after })
-    step_advances = entry_advances old new s before.region stands way.held.there way.apart sizes entry_changes (Some after) way_after gathered_after
+    -- it makes a write for the entry that it writes, if it writes one
+    pub step_made : written_by_merge s.merging ≡ before.written → StepMakes facts old new s (record s { merging = Some after }) Moved
+    step_made were = (after.written - before.written, omega (arith, step.grew.1), omega (arith, were, step.grew.0), goes.made)
+
+  -- ---- why it was not
+
+  module _ (finished : EngineState) (turn : merge_turn s ≡ Moved) (gathered : HasGathered (facts.content old) s before) (same : after ≡ before → finished ≡ s)
+      (lacks : TakesMemory (facts.content old) (oldest_stores before.stores s.hashes) s.sorted before → MayLackMemory (facts.content old) s)
+      (reads : damaged_place (oldest_stores before.stores s.hashes) before ≡ place_read s.hashes s.merging)
+      (remaps : Remaps [] (facts.content old) (facts.content new) s finished) where
+    -- the cause in place of that of the step
+    pub step_cause : (error : StepError F) → FailsMerge facts (oldest_stores before.stores s.hashes) s.sorted s.digest old new before after error → MergeErrorCause facts old new s finished (refusal_of_step error)
+    step_cause step_error.NoMemory fails = (same fails.0, fails.1, inl (turn, lacks fails.2))
+    step_cause (step_error.Read fault) fails = (same fails.0, fails.1, turn, fails.2)
+    step_cause (step_error.Damaged place) fails = (same fails.0, fails.1, turn, fails.2 ∙ reads, λ h. fails.3 (matches gathered h))
+    step_cause (step_error.Write fault) fails = (ap is_work turn, record { counted = fails; breaks = failed_breaks; map = remaps })
+
+  -- it makes no more than one write
+  pub most_made : merge_turn s ≡ Moved → MakesAtMost facts.writes facts.syncs 1 0 old new → MakesAtMost facts.writes facts.syncs (step_writes (merge_turn s)) (step_syncs (merge_turn s)) old new
+  most_made turn most = subst (λ (p : Progress). MakesAtMost facts.writes facts.syncs (step_writes p) (step_syncs p) old new) (sym turn) most
 
 -- ---- the first step
 
@@ -128,7 +173,7 @@ pub some_stores : (stores : List HashState) (len : ℕ) (empty : Bool) → empty
 some_stores stores len empty is none same = let differ = eqb-false len 0 (sym is ∙ none) in omega (arith, differ, same)
 
 module _ (s : EngineState) (region : ℕ) (read : List HashState) (none : s.merging ≡ None) (some : 0 < length s.hashes) (whole : AreWhole s) (other : region ≡ 1 - s.sorted.region) (read_is : read ≡ s.hashes)
-    (sorted : SortedState) (sorted_is : sorted ≡ s.sorted) (started : MergeState) (is : started ≡ record { shape = sorted.shape; region = region; stores = length read; store = 0; slot = 0; waiting = []; passed = 0; written = 0; decided = 0; last = None; slots = []; ahead = []; keys = []; hasher = started.hasher }) (held : IsHeldMerge started) where
+    (sorted : SortedState) (sorted_is : sorted ≡ s.sorted) (started : MergeState) (is : started ≡ record { shape = sorted.shape; region = region; stores = length read; store = 0; slot = 0; waiting = []; passed = 0; written = 0; index = started.index; decided = 0; last = None; slots = []; ahead = []; input = started.input; hasher = started.hasher }) (held : IsHeldMerge started) where
   started_stores : started.stores ≡ length s.hashes
   started_stores = ap (λ (v : MergeState). v.stores) is ∙ ap length read_is
 
@@ -148,11 +193,27 @@ module _ (s : EngineState) (region : ℕ) (read : List HashState) (none : s.merg
       ap (λ (b : Bool). (b && (length started.waiting == 0)) && nat_le s.sorted.count started.passed) (ne_eqb started.store started.stores differ)
 
   -- its hash stores are all
-  pub begun : (content : Content) → HasMerged content read sorted started → HasGathered content s started
-  begun content has =
-      let nothing : length s.hashes - started.stores ≡ 0 = omega (arith, started_stores) in
-      let all_taken : oldest_stores started.stores s.hashes ≡ s.hashes = ap (λ (n : ℕ). drop n s.hashes) nothing in
-      subst (λ (l : List HashState). HasMerged content l s.sorted started) (read_is ∙ sym all_taken) (subst (λ (t : SortedState). HasMerged content read t started) sorted_is has)
+  all_taken : oldest_stores started.stores s.hashes ≡ s.hashes
+  all_taken = ap (λ (n : ℕ). drop n s.hashes) (let nothing : length s.hashes - started.stores ≡ 0 = omega (arith, started_stores) in nothing)
+
+  pub begun : (content : Content) → HasMerged content read sorted started → HasCompared read sorted s.digest started → HasGathered content s started
+  begun content has compared = (
+    subst (λ (l : List HashState). HasMerged content l s.sorted started) (read_is ∙ sym all_taken) (subst (λ (t : SortedState). HasMerged content read t started) sorted_is has),
+    subst (λ (l : List HashState). HasCompared l s.sorted s.digest started) (read_is ∙ sym all_taken) (subst (λ (t : SortedState). HasCompared read t s.digest started) sorted_is compared),
+  )
+
+  -- it reads the newest of them, and it has written nothing
+  pub started_reads : damaged_place (oldest_stores started.stores s.hashes) started ≡ place_read s.hashes s.merging
+  started_reads =
+      let first : started.store ≡ 0 = ap (λ (v : MergeState). v.store) is in
+      let gathers : nat_lt started.store started.stores ≡ true = lt-ltb started.store started.stores (omega (arith, first, some, started_stores)) in
+      ap (λ (b : Bool). if b then HashDigest (get_or (regions_of (oldest_stores started.stores s.hashes)) started.store 0) else SortedDigest) gathers
+      ∙ ap (λ (l : List HashState). HashDigest (get_or (regions_of l) started.store 0)) all_taken
+      ∙ ap (λ (n : ℕ). HashDigest (get_or (regions_of s.hashes) n 0)) first
+      ∙ ap (place_read s.hashes) (sym none)
+
+  pub started_written : written_by_merge s.merging ≡ started.written
+  started_written = ap written_by_merge none ∙ sym (ap (λ (v : MergeState). v.written) is)
 
   pub begin_merges : (after : MergeState) → IsSameMerge started after → steps_of after ≡ steps_of started + 1 → Merges Moved s (record s { merging = Some after })
   begin_merges after same step =
@@ -179,16 +240,6 @@ next_merges s before after was turn same step = record {
   };
 }
 
--- ---- why it was not
-
-module _ {D F : Type 0} (facts : Ghosts D F) (old new : D) (before after : EngineState) where
-  -- the cause in place of that of the step
-  pub step_cause : {Takes : Type 0} (error : StepError F) → FailsMerge (GaveAny facts.gave) (CountsFault facts.failures facts.gave old new) Takes old new error → after ≡ before → merge_turn before ≡ Moved → (Takes → MayLackMemory (facts.content old) before)
-      → Breaks (facts.content old) (facts.content new) before → Remaps [] (facts.content old) (facts.content new) before after → MergeErrorCause facts old new before after (refusal_of_step error)
-  step_cause step_error.NoMemory fails same turn lacks breaks remaps = (same, fails.0, inl (turn, lacks fails.1))
-  step_cause (step_error.Read fault) fails same turn lacks breaks remaps = (same, fails.0, turn, fails.1)
-  step_cause (step_error.Write fault) fails same turn lacks breaks remaps = (ap is_work turn, record { counted = fails; breaks = breaks; map = remaps })
-
 -- if no merge is in progress, any step may be out of memory
 pub first_lacks : (content : Content) (s : EngineState) → s.merging ≡ None → MayLackMemory content s
-first_lacks content s none = subst (λ (o : Option MergeState). IfSome o (λ merge. TakesMemory content (oldest_stores merge.stores s.hashes) merge)) (sym none) tt
+first_lacks content s none = subst (λ (o : Option MergeState). IfSome o (λ merge. TakesMemory content (oldest_stores merge.stores s.hashes) s.sorted merge)) (sym none) tt

@@ -1,5 +1,6 @@
 -- What is exchanged in memory at the end of a merge.
 use Rattle.std.proofs.Common.{◌≡◌, ℕ, ◌-◌, List, length, drop, take, Option, Some, None, ap, sym, ◌∙◌, subst, arith}
+use Rattle.std.specs.Prelude.{IfSome}
 use Rattle.std.proofs.lemmas.List.{length-drop, take_all}
 use Rattle.silt_hash_store.specs.State.{HashState}
 use Rattle.silt_manifest.specs.Standing.{ManifestState}
@@ -39,11 +40,14 @@ module _ (s : EngineState) (m : ManifestState) (store : IndexedState) (may : May
   parts l o n = record s { manifest = m; hashes = l; sorted = store.sorted; index = store.index; digest = store.digest; merging = o; charge = n }
 
   -- the stores afterwards
-  pub sorted_are : parts hashes merging charge ≡ sorted_replaced s m may.merge.stores store
+  sorted_are : parts hashes merging charge ≡ sorted_replaced s m may.merge.stores store
   sorted_are =
       ap (λ (l : List HashState). parts l merging charge) (hashes_are ∙ ap (λ (n : ℕ). take n s.hashes) newer_now)
       ∙ ap (λ (o : Option MergeState). parts (take (length s.hashes - may.merge.stores) s.hashes) o charge) merging_is
       ∙ ap (parts (take (length s.hashes - may.merge.stores) s.hashes) None) charge_now
+
+  pub replaced : IfSome s.merging (λ merge. record s { manifest = m; hashes = hashes; sorted = store.sorted; index = store.index; digest = store.digest; merging = merging; charge = charge } ≡ sorted_replaced s m merge.stores store)
+  replaced = subst (λ (o : Option MergeState). IfSome o (λ merge. parts hashes merging charge ≡ sorted_replaced s m merge.stores store)) (sym may.was) sorted_are
 
   -- are whole
   pub sorted_whole : AreWhole (record s { manifest = m; hashes = hashes; sorted = store.sorted; index = store.index; digest = store.digest; merging = merging; charge = charge })

@@ -38,7 +38,7 @@ use Rattle.silt_engine.proofs.NextBodies.{now_named, succeeds}
 use Rattle.silt_engine.proofs.MergeCounting.{may_end_merge}
 use Rattle.silt_engine.proofs.MergeStores.{merged_entries, merged_named, merged_current, merged_shape, sources_with, with_entries}
 use Rattle.silt_engine.proofs.Said.{merged_said}
-use Rattle.silt_engine.proofs.MergeDone.{entries_are, full_is, merged_counted, merged_full_sound, merged_map, merged_sound, merged_stores, way}
+use Rattle.silt_engine.proofs.MergeDone.{all_compared, entries_are, full_is, merged_counted, merged_full_sound, merged_map, merged_sound, merged_stores, way}
 
 -- a conversion is in progress in stores with fewer hash stores
 under_way_fewer : (s t : EngineState) (count : ℕ) (o : Option ConversionState) → t.manifest.shape ≡ s.manifest.shape → t.manifest.current.hashed ≡ take count s.manifest.current.hashed → t.frozen ≡ s.frozen → IfSome o (IsUnderWay s) → IfSome o (IsUnderWay t)
@@ -201,6 +201,7 @@ module _ (old : Content) (s : EngineState) (body : Body) (digests : Digests) (st
       active = refl;
       frozen = refl;
       converting = refl;
+      compared = all_compared old s ends.merge stands ends.was ends.done;
     })
 
     -- its entries are the newest rows that are puts, of what it took on a disk that shows the same stores

@@ -1,8 +1,11 @@
 -- The merge of the oldest hash stores and the sorted store into a new sorted store, step by step.
-use Rattle.std.specs.Prelude.{◌≡◌, ◌≤◌, ◌<◌, ◌+◌, ◌-◌, ◌^◌, ◌==◌, ◌⊎◌, ℕ, Bool, true, if◌then◌else◌, length, take, drop, sum_by, List, Option, Some, None, IfSome}
+use Rattle.std.specs.Prelude.{◌≡◌, ◌≤◌, ◌<◌, ◌+◌, ◌*◌, ◌-◌, ◌^◌, ◌==◌, ◌⊎◌, ℕ, Bool, true, if◌then◌else◌, IsTrue, All, get_or, length, take, drop, sum_by, List, Option, Some, None, IfSome}
 use Rattle.std.specs.Option.{option_map}
 use Rattle.silt_disk.specs.Disk.{Content, GaveAny}
+use Rattle.silt_disk.specs.Layout.{entry_len, slots_len}
 use Rattle.silt_disk.specs.declared.disk.Disk.{Ghosts}
+use Rattle.silt_event.specs.declared.place.Place.{Place}
+use Rattle.silt_event.specs.declared.place.Place.TheVariants.{HashDigest}
 use Rattle.silt_event.specs.declared.progress.Progress.{Progress}
 use Rattle.silt_event.specs.declared.progress.Progress.TheVariants.{Idle, Waiting, Moved, Finished}
 use Rattle.silt_frame.specs.Rows.{StoredRow}
@@ -12,13 +15,15 @@ use Rattle.silt_manifest.specs.Standing.{ManifestState}
 use Rattle.silt_manifest.specs.declared.body.Body.{Body}
 use Rattle.silt_manifest.specs.declared.digests.Digests.{Digests}
 use Rattle.silt_engine.specs.Replacements.{taken_rows}
-use Rattle.silt_merge.specs.Merging.{IsSameMerge, TakesMemory}
-use Rattle.silt_merge.specs.Rows.{key_count, merged_rows}
+use Rattle.silt_merge.specs.Comparing.{HasBytes}
+use Rattle.silt_merge.specs.Merging.{IsSameMerge}
+use Rattle.silt_merge.specs.Rows.{key_count, merged_rows, regions_of}
 use Rattle.silt_merge.specs.State.{MergeState, is_done, oldest_stores, steps_for, steps_of}
+use Rattle.silt_merge.specs.Steps.{TakesMemory, damaged_place}
 use Rattle.silt_merge.specs.declared.merge.StepError.{StepError}
 use Rattle.silt_merge.specs.declared.merge.StepError.TheVariants as step_error
 use Rattle.silt_engine.specs.declared.merge.MergeError.{MergeError}
-use Rattle.silt_engine.specs.declared.merge.MergeError.TheVariants.{Spent, NoMemory, Read, Write}
+use Rattle.silt_engine.specs.declared.merge.MergeError.TheVariants.{Spent, NoMemory, Damaged, Read, Write}
 use Rattle.silt_engine.specs.Calls.{BreaksOff, IsLastGeneration}
 use Rattle.silt_engine.specs.Digests.{merged_digests}
 use Rattle.silt_engine.specs.Conversion.{is_work}
@@ -53,6 +58,11 @@ pub record MergesOn (before after : EngineState) : Type 0 where
   pub is : after ≡ record before { merging = Some merge }
   pub step : IsNextMerge before before.merging merge
 
+-- what was read of each of this many of the oldest hash stores has its digest, and so has what was read of the entries, if there are any
+pub record AreCompared (s : EngineState) (count : ℕ) : Type 0 where
+  pub hashes : All (λ store. HasBytes (slots_len s.manifest.shape) store.digest) (oldest_stores count s.hashes)
+  pub entries : 0 < s.sorted.count → HasBytes (s.sorted.count * entry_len s.manifest.shape) s.digest
+
 -- a merge is finished: the next record is current, without the hash stores that were merged and with the new sorted store
 pub record EndsMerged (before after : EngineState) : Type 0 where
   pub merge : MergeState
@@ -63,6 +73,8 @@ pub record EndsMerged (before after : EngineState) : Type 0 where
   pub active : after.active ≡ before.active
   pub frozen : after.frozen ≡ before.frozen
   pub converting : after.converting ≡ before.converting
+  -- on any disk, what the merge read of each of its stores has the digest of that store
+  pub compared : AreCompared before merge.stores
 
 -- what a step changes in memory
 abbrev pub MergesTo : Progress → EngineState → EngineState → Type 0
@@ -95,15 +107,21 @@ IsDoneBySteps content s merge =
     (is_done merge s.sorted ≡ true → steps_of merge ≡ steps_for merge (key_count (merge_sources merge.stores (full_stores content s))))
     × (steps_of merge ≡ steps_for merge (key_count (merge_sources merge.stores (full_stores content s))) → is_done merge s.sorted ≡ true)
 
--- the step begins a merge, or it gathers the first row of a key
+-- the step begins a merge, it gathers the first row of a key, or it decides a key that has a value
 abbrev pub MayLackMemory : Content → EngineState → Type 0
-MayLackMemory content s = IfSome s.merging (λ merge. TakesMemory content (oldest_stores merge.stores s.hashes) merge)
+MayLackMemory content s = IfSome s.merging (λ merge. TakesMemory content (oldest_stores merge.stores s.hashes) s.sorted merge)
+
+-- what the next step of merging reads: a hash store, from the newest on, and behind all that it takes the sorted store
+abbrev pub place_read : List HashState → Option MergeState → Place
+place_read hashes None = HashDigest (get_or (regions_of hashes) 0 0)
+place_read hashes (Some merge) = damaged_place (oldest_stores merge.stores hashes) merge
 
 -- the error that says why a step of a merge was not done
 abbrev pub refusal_of_step : {F : Type 0} → StepError F → MergeError F
 refusal_of_step step_error.NoMemory = NoMemory
 refusal_of_step (step_error.Read fault) = Read fault
 refusal_of_step (step_error.Write fault) = Write fault
+refusal_of_step (step_error.Damaged place) = Damaged place
 
 module _ {D F : Type 0} (facts : Ghosts D F) (old new : D) (before after : EngineState) where
   -- why a step was not done, and what was changed
@@ -111,6 +129,8 @@ module _ {D F : Type 0} (facts : Ghosts D F) (old new : D) (before after : Engin
   MergeErrorCause Spent = (after ≡ before) × (new ≡ old) × (merge_turn before ≡ Finished) × IsLastGeneration before
   MergeErrorCause NoMemory = (after ≡ before) × (new ≡ old)
       × (((merge_turn before ≡ Moved) × MayLackMemory (facts.content old) before) ⊎ ((merge_turn before ≡ Finished) × (IsLastGeneration before → ⊥)))
+  MergeErrorCause (Damaged place) = (after ≡ before) × (new ≡ old) × (merge_turn before ≡ Moved)
+      × (place ≡ place_read before.hashes before.merging) × (IsTrue (facts.content old).honest → ⊥)
   MergeErrorCause (Read fault) = (after ≡ before) × (new ≡ old) × (merge_turn before ≡ Moved) × GaveAny facts.gave old fault
   MergeErrorCause (Write fault) = (is_work (merge_turn before) ≡ true) × BreaksOff facts old new before after fault
 

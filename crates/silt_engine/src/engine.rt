@@ -1,5 +1,5 @@
 // The stores of a device in memory, and their calls.
-ghost use Rattle.std.specs.Prelude.{vec_capacity, ◌≡◌, ◌*◌, ◌<◌, ◌≤◌, [], None, IfOk, IfErr, OnOk};
+ghost use Rattle.std.specs.Prelude.{vec_capacity, ◌≡◌, ◌*◌, ◌<◌, ◌≤◌, [], None, IfOk, IfErr, OnOk, is_some, length};
 ghost use Rattle.silt_disk.specs.Disk.{Costs};
 ghost use Rattle.silt_engine.specs.Costs.{row_waits};
 
@@ -136,6 +136,20 @@ impl Engine {
         ensures most { self.now.charge ≤ self.now.manifest.shape.sorted_capacity }
     {
         self.charge
+    }
+
+    /// How many hash stores there are, those of a merge in progress included.
+    pub fn hash_stores(&self) -> usize
+        ensures { result ≡ length self.now.hashes }
+    {
+        self.hashes.len()
+    }
+
+    /// Whether a merge is in progress.
+    pub fn is_merging(&self) -> bool
+        ensures { result ≡ is_some self.now.merging }
+    {
+        self.merging.is_some()
     }
 
     /// Settles the rows that wait: a sync, one write over their gates, a sync. If none waits it makes no device call.

@@ -11,10 +11,12 @@
 //! of the others, and the log no longer.
 //!
 //! All hash stores and the sorted store are **merged** into the sorted region that the manifest does not name, one slot
-//! or one key a step. The last step makes the index of the new entries in memory, syncs the entries, and then writes
-//! the next manifest record. It names the new sorted store, and the merged hash stores no longer; one that a conversion
-//! finished meanwhile stays in front. A crash loses background work in progress. It begins anew, and no reply depends
-//! on it.
+//! or one key a step. A merge compares: with the last slot of a hash store and with the last old entry, all that was
+//! read of that store must have the digest that the store has in memory. Else the step is refused, before any manifest
+//! is written, and nothing has changed. The last step finishes the index of the new entries in memory, syncs the
+//! entries, and then writes the next manifest record. It names the new sorted store, and the merged hash stores no
+//! longer; one that a conversion finished meanwhile stays in front. A crash loses background work in progress. It
+//! begins anew, and no reply depends on it.
 //!
 //! A lookup goes through the active log, the frozen ones and the hash stores, each the newest first, and then the
 //! sorted store, whose index names the one entry that is read. The first row of the key that it finds decides: a delete

@@ -13,7 +13,7 @@ ghost use Rattle.silt_standing.specs.Standing.{Stands};
 use crate::digests::digests_with;
 use crate::engine::{Engine, LAST_GENERATION};
 use silt_disk::Disk;
-use silt_event::Progress;
+use silt_event::{Place, Progress};
 use silt_hash_store::HashStore;
 use silt_manifest::{Body, Digests, Manifest};
 use silt_merge::{Merge, StepError};
@@ -25,9 +25,12 @@ use std::alloc::Global;
 pub enum MergeError<F> {
     /// The manifest must be written, and the current record has the last generation. Nothing was changed.
     Spent,
-    /// Out of memory for a row that waits for its key, or for what the merge or the new sorted store keeps. Nothing was
-    /// changed.
+    /// Out of memory for a row that waits for its key, for a key of the new sorted store, or for what the merge or that
+    /// store keeps. Nothing was changed.
     NoMemory,
+    /// What was read of this store does not have the store's digest, or two reads of one slot differ. Nothing was
+    /// changed.
+    Damaged(Place),
     /// A read failed. Nothing was changed.
     Read(F),
     /// A write or a sync failed.
@@ -40,6 +43,7 @@ impl<F> From<StepError<F>> for MergeError<F> {
     fn from(error: StepError<F>) -> Self {
         match error {
             StepError::NoMemory => MergeError::NoMemory,
+            StepError::Damaged(place) => MergeError::Damaged(place),
             StepError::Read(fault) => MergeError::Read(fault),
             StepError::Write(fault) => MergeError::Write(fault),
         }
@@ -113,7 +117,7 @@ impl Engine {
         let Ok(mut merge) = Merge::start(alloc, &self.hashes, sorted, region) else {
             return Err(MergeError::NoMemory);
         };
-        merge.step(&self.hashes, sorted, disk)?;
+        merge.step(&self.hashes, sorted, self.sorted.digest(), disk)?;
         self.merging = Some(merge);
         Ok(Progress::Moved)
     }
@@ -133,7 +137,12 @@ impl Engine {
         let Some(merge) = &mut self.merging else {
             unreachable!()
         };
-        merge.step(&self.hashes, self.sorted.entries(), disk)?;
+        merge.step(
+            &self.hashes,
+            self.sorted.entries(),
+            self.sorted.digest(),
+            disk,
+        )?;
         Ok(Progress::Moved)
     }
 
@@ -193,7 +202,7 @@ impl Engine {
     }
 
     // Finishes the merge, all of whose keys are decided, if the manifest has a generation left. The index of the new
-    // entries is made first, so if memory runs out the merge is as it was.
+    // entries is finished first, so if memory runs out the merge is as it was.
     fn finish_merge<D: Disk>(
         &mut self,
         alloc: Global,
@@ -230,12 +239,14 @@ impl Engine {
     /// One step of merging. If none is in progress, and there are hash stores, the merge of all of them and of the
     /// sorted store into the other sorted region begins. A step gathers one slot of a hash store, or decides one key.
     /// The step after the last key syncs the entries and writes the next manifest record. It names the new sorted
-    /// store, and the merged hash stores no longer. A hash store that came meanwhile stays in front.
+    /// store, and the merged hash stores no longer. A hash store that came meanwhile stays in front. With the last slot of
+    /// a hash store and with the last old entry, what was read must have the digest that the store has.
     ///
     /// # Errors
     ///
-    /// `Spent` before anything else, if the manifest must be written; `Read` and `NoMemory`, and then nothing was
-    /// changed; `Write` with the fault of a write or of a sync.
+    /// `Spent` before anything else, if the manifest must be written; `Read`, `Damaged` if a store's digest is not that
+    /// of what was read of it, and `NoMemory`, and then nothing was changed; `Write` with the fault of a write or of a
+    /// sync. On a disk that obeys the crash model `Damaged` cannot come.
     pub fn merge<D: Disk>(
         &mut self,
         alloc: Global,

@@ -3,7 +3,7 @@ use Rattle.std.proofs.Common.{◌≡◌, ◌≢◌, ℕ, suc, ◌+◌, ◌-◌, 
 use Rattle.std.specs.List.{All, range_with_len}
 use Rattle.std.proofs.lemmas.Bool.{cases_lt, cases_order}
 use Rattle.std.proofs.Math.Seq.{drop-append-add}
-use Rattle.std.proofs.lemmas.List.{get_or-map, length-append, length-drop, length-map, take-map}
+use Rattle.std.proofs.lemmas.List.{get_or-map, length-append, length-map, take-map}
 use Rattle.silt_disk.specs.Disk.{LiesOutside, Torn, size}
 use Rattle.silt_disk.specs.Layout.{Shape, device_size, entries_len, entry_len, hash_at, slots_len, sorted_at}
 use Rattle.silt_disk.proofs.Regions.{regions_apart}
@@ -17,7 +17,7 @@ use Rattle.silt_event.specs.Rows.{newest_row}
 use Rattle.silt_hash_store.specs.Findings.{hash_findings}
 use Rattle.silt_log.specs.Parts.{known_rows, oldest_first, Part}
 use Rattle.silt_sorted_store.specs.Findings.{sorted_findings}
-use Rattle.silt_frame.specs.Rows.{StoredRow, entries_bytes, has_known_kind, is_put_row, keys_of}
+use Rattle.silt_frame.specs.Rows.{StoredRow, entries_bytes, has_known_kind, is_put_row, keys_of, rows_bytes}
 use Rattle.silt_sorted_store.specs.State.{sorted_rows, IsHeldSorted, SortedState}
 use Rattle.silt_log.proofs.Bodies.{map_range_same}
 use Rattle.silt_merge.specs.Laws.{MergedElsewhereLaw, OldestStoresLaw}
@@ -25,9 +25,9 @@ use Rattle.silt_sorted_store.proofs.Elsewhere.{entries_inside, entries_outside}
 use Rattle.silt_merge.specs.Merging.{AreSound, IsGatheredIn, IsMergedIn, decided_rows, gathered_rows, source_row}
 use Rattle.silt_merge.specs.Pieces.{AreEntries}
 use Rattle.silt_merge.specs.Rows.{entries_in, has_row_with, rows_of_hashes, key_count, newest_rows, regions_of, sources}
-use Rattle.silt_merge.specs.State.{IsHeldMerge, MergeState, oldest_stores, source_at}
+use Rattle.silt_merge.specs.State.{IsHeldMerge, MergeState, source_at}
 use Rattle.silt_merge.specs.declared.source.Source.{Source}
-use Rattle.silt_trie.specs.Coded.{bytes_of}
+use Rattle.silt_trie.specs.Building.{IsBuildingOf}
 use Rattle.sha1.specs.Sha1.{Holds}
 use Rattle.silt_merge.proofs.Pieces.{slots_same}
 
@@ -43,6 +43,11 @@ pub record SameSources (s : Shape) (regions : List ℕ) (sorted : SortedState) (
   pub entries : entries_in new sorted ≡ entries_in old sorted
 
 module _ (s : Shape) (old new : List ℕ) where
+  -- the rows before a slot
+  before_same : (region count : ℕ) → ((slot : ℕ) → slot < count → slot_row s region new slot ≡ slot_row s region old slot) → rows_before s region new count ≡ rows_before s region old count
+  unfolding rows_before
+  before_same region count rows = map_range_same (slot_row s region new) (slot_row s region old) 0 count (λ place low high. rows place (omega arith))
+
   -- all rows of each store
   part_same : (region : ℕ) → ((slot : ℕ) → slot < 4 * s.buckets → slot_row s region new slot ≡ slot_row s region old slot) → hash_part s new region ≡ hash_part s old region
   unfolding rows_before
@@ -102,8 +107,8 @@ module _ (old new : List ℕ) (stores : List HashState) (sorted : SortedState) (
   pub merged_same : (merge : MergeState) → ((key : List ℕ) (source : Source) → source_at merge.waiting key ≡ Some source → (source.store < length (regions_of stores)) × (source.slot < 4 * sorted.shape.buckets))
       → (merge.store < length (regions_of stores)) ⊎ (merge.slot ≡ 0) → merge.slot ≤ 4 * sorted.shape.buckets
       → IsGatheredIn old stores sorted merge → sorted_rows merge.shape merge.region merge.written new ≡ take merge.shape.sorted_capacity (filter is_put_row (decided_rows old stores sorted merge.decided))
-      → keys_of (sorted_rows merge.shape merge.region merge.written new) ≡ bytes_of merge.keys → IsMergedIn new stores sorted merge
-  merged_same merge inside some most is writes keys =
+      → IsBuildingOf (keys_of (sorted_rows merge.shape merge.region merge.written new)) merge.index → IsMergedIn new stores sorted merge
+  merged_same merge inside some most is writes index =
       let decided : decided_rows new stores sorted merge.decided ≡ decided_rows old stores sorted merge.decided = ap (λ l. take merge.decided (newest_rows l)) sources_same in
       record {
         gathered = record {
@@ -121,9 +126,13 @@ module _ (old new : List ℕ) (stores : List HashState) (sorted : SortedState) (
               ap (λ l. has_row_with (get_or (keys_of l) place []) (decided_rows new stores sorted merge.decided)) same.entries
               ∙ ap (has_row_with (get_or (keys_of (entries_in old sorted)) place [])) decided
               ∙ is.passes place below;
+          slots_hashed = λ below.
+              subst (λ l. Holds merge.input (rows_bytes l)) (sym (before_same sorted.shape old new (get_or (regions_of stores) merge.store 0) merge.slot (λ slot inside. same.rows merge.store slot (omega (arith, below, regions_count stores)) (omega (arith, inside, most)))))
+              (is.slots_hashed below);
+          entries_hashed = λ past. subst (λ l. Holds merge.input (entries_bytes (take merge.passed l))) (sym same.entries) (is.entries_hashed past);
         };
         writes = writes ∙ ap (λ l. take merge.shape.sorted_capacity (filter is_put_row l)) (sym decided);
-        keys = keys;
+        index = index;
       }
     where
       row_of_source : (key : List ℕ) (o : Option Source) → source_at merge.waiting key ≡ o → option_map (source_row sorted.shape new (regions_of stores)) (source_at merge.waiting key) ≡ option_map (source_row sorted.shape old (regions_of stores)) (source_at merge.waiting key)
@@ -201,7 +210,7 @@ merged_elsewhere stores sorted merge old new at count held_sorted held fits own 
       let same = same_outside stores sorted old.shown new.shown at count fits sound.there held_sorted behind outside torn in
       let so_far = is.merged was (sound_before old.shown new.shown stores sorted same sound) in
       merged_same old.shown new.shown stores sorted same merge (source_inside stores sorted merge held is.shape is.counted) (store_next stores merge held is.counted)
-      (subst (λ (s : Shape). merge.slot ≤ 4 * s.buckets) (sym is.shape) (omega (arith, held.slot))) so_far.gathered (kept honest ∙ so_far.writes) (ap keys_of (kept honest) ∙ so_far.keys);
+      (subst (λ (s : Shape). merge.slot ≤ 4 * s.buckets) (sym is.shape) (omega (arith, held.slot))) so_far.gathered (kept honest ∙ so_far.writes) (subst (λ l. IsBuildingOf (keys_of l) merge.index) (sym (kept honest)) so_far.index);
 }
   where
     -- what it wrote stays
@@ -217,7 +226,3 @@ pub oldest_stores_law : OldestStoresLaw
 oldest_stores_law newer stores count most =
     let before : length (newer ++ stores) - count ≡ length newer + (length stores - count) = omega (arith, most, length-append newer stores) in
     ap (λ n. drop n (newer ++ stores)) before ∙ drop-append-add newer stores (length stores - count)
-
--- there are so many of them
-pub oldest_count : (stores : List HashState) (count : ℕ) → count ≤ length stores → length (oldest_stores count stores) ≡ count
-oldest_count stores count most = omega (arith, most, length-drop (length stores - count) stores)

@@ -1,10 +1,10 @@
 -- What the decision of a key leaves, and what a merge that is done has written.
-use Rattle.std.proofs.Common.{◌≡◌, ◌≢◌, ℕ, ◌+◌, ◌*◌, ◌<◌, ◌≤◌, ◌^◌, ◌&&◌, ◌==◌, nat_lt, nat_le, Bool, true, false, not, ◌||◌, cond, IsTrue, List, [], ◌∷◌, ◌++◌, filter, length, take, get_or, slice_get, Option, Some, None, option_map, inl, inr, refl, sym, subst, ap, ◌∙◌, arith}
+use Rattle.std.proofs.Common.{◌≡◌, ◌≢◌, ℕ, ◌+◌, ◌*◌, ◌<◌, ◌≤◌, ◌&&◌, ◌==◌, nat_lt, nat_le, Bool, true, false, not, ◌||◌, cond, IsTrue, List, [], ◌∷◌, ◌++◌, filter, length, take, get_or, slice_get, Option, Some, None, IsSomeAnd, option_map, inl, inr, refl, sym, subst, ap, ◌∙◌, arith}
 use Rattle.std.specs.Option.{is_some}
 use Rattle.std.specs.Str.{bytes_eq}
-use Rattle.std.proofs.lemmas.Bool.{and_from, and_parts, cases_lt, cond-true, cond-false, eq-eqb, eqb-true, le-leb, leb-true, ltb-true, ne_eqb}
+use Rattle.std.proofs.lemmas.Bool.{and_from, and_parts, cases_lt, cond-true, cond-false, eq-eqb, eqb-true, le-leb, leb-true, ltb-false, ltb-true, ne_eqb}
 use Rattle.std.proofs.lemmas.Map.Text.{is_eq-slice_cmp}
-use Rattle.std.proofs.lemmas.List.{take_all}
+use Rattle.std.proofs.lemmas.List.{length-map, take_all}
 use Rattle.std.proofs.lemmas.Option.{slice_get_within}
 use Rattle.silt_disk.specs.Disk.{ChangesWithin, Content, Torn, size}
 use Rattle.silt_disk.specs.Layout.{Shape, device_size, entry_len, sorted_at}
@@ -25,23 +25,24 @@ use Rattle.silt_sorted_store.specs.Findings.{sorted_findings}
 use Rattle.silt_sorted_store.specs.State.{sorted_rows, IsHeldSorted, SortedState, entries_of}
 use Rattle.silt_frame.specs.Rows.{StoredRow, entries_bytes, entry_row, is_put_row, keys_of}
 use Rattle.silt_merge.specs.Choice.{IsFirstWaiting, IsNextEntry, IsOffered, ReadsRow, choice_of, choice_puts}
-use Rattle.silt_sorted_store.specs.Region.{due_rows}
+use Rattle.silt_sorted_store.specs.Region.{due_rows, is_written}
 use Rattle.silt_merge.specs.Merging.{AreSound, HasMerged, IsGatheredIn, IsMergeOf, source_row}
 use Rattle.silt_merge.specs.Pieces.{AreEntries, AreSlots, parts_after}
 use Rattle.silt_merge.specs.Rows.{entries_in, has_row_with, rows_of_hashes, key_count, merged_rows, newest_rows, regions_of, sources}
-use Rattle.silt_merge.specs.State.{AreKeysUpTo, IsHeldMerge, IsInside, MergeState, hashed_after, is_behind, is_done, keys_after, passed_after, source_at, steps_for, steps_of, written_after}
-use Rattle.silt_trie.specs.Building.{is_above}
+use Rattle.silt_merge.specs.State.{IsHeldMerge, IsInside, MergeState, hashed_after, is_behind, is_done, keys_after, passed_after, source_at, steps_for, steps_of, written_after}
+use Rattle.silt_trie.specs.Building.{Building, IsBuildingOf, is_above}
 use Rattle.silt_merge.specs.declared.choice.Choice.{Choice}
 use Rattle.silt_merge.specs.declared.source.Source.{Source}
 use Rattle.silt_merge.proofs.Choosing.{IsChosen, chosen}
 use Rattle.silt_merge.proofs.Deciding.{IsDecided, all_decided, cond_some, decided_with, decided_without, due_more, has_more, lowest_next, next_above, next_enters, next_waits, none_waits}
-use Rattle.silt_merge.proofs.Elsewhere.{SameSources, merged_same, regions_count, same_beside, sound_before, source_inside, store_next}
+use Rattle.silt_merge.proofs.Elsewhere.{SameSources, merged_same, regions_count, same_beside, sound_before, source_inside}
 use Rattle.silt_merge.proofs.Gathering.{all_gathered}
-use Rattle.silt_merge.proofs.Keys.{written_entry, written_keys}
-use Rattle.silt_merge.proofs.Newest.{Rises, key_itself, merged_law, rises_from, turned}
+use Rattle.silt_merge.proofs.Comparing.{entry_bytes}
+use Rattle.silt_merge.proofs.Keys.{above_index, bytes_written, count_written, keys_written, puts_row, rows_due}
+use Rattle.silt_merge.proofs.Making.{grown}
+use Rattle.silt_merge.proofs.Newest.{Rises, key_itself, merged_law, rises_from, rises_newest, turned}
 use Rattle.silt_sorted_store.proofs.Entries.{entry_count, key_of_row}
 use Rattle.silt_sorted_store.proofs.Rising.{key_at, lower_below}
-use Rattle.silt_trie.specs.Coded.{bytes_of}
 use Rattle.sha1.specs.Sha1.{Holds}
 use Rattle.sha1.specs.declared.Sha1.{Sha1}
 
@@ -74,14 +75,16 @@ module _ (image : List ℕ) (stores : List HashState) (sorted : SortedState) whe
   -- and the other way round
   pub gathered_of : (merge : MergeState) → length (regions_of stores) ≤ merge.store → merge.slot ≡ 0 → merge.decided ≤ length (newest_rows (entries ++ hashed))
       → ((key : Key) → merge.last ≡ Some key → has_row_with key.0 (take merge.decided (newest_rows (entries ++ hashed))) ≡ true)
-      → AreEntries entries merge.passed merge.ahead
+      → AreEntries entries merge.passed merge.ahead → Holds merge.input (entries_bytes (take merge.passed entries))
       → IsDecided entries hashed merge.decided merge.passed (waits_in merge.waiting) → IsGatheredIn image stores sorted merge
   unfolding sources
-  gathered_of merge past none most last ahead is = record {
+  gathered_of merge past none most last ahead holds is = record {
     most = most;
     last = last;
     slots = λ below. absurd (omega (arith, past, below, regions_count stores));
     ahead = ahead;
+    slots_hashed = λ below. absurd (omega (arith, past, below, regions_count stores));
+    entries_hashed = λ past_all. holds;
     waits = λ key. is.waiting key
         ∙ ap (λ l. cond (has_row_with key (take merge.decided (newest_rows (entries ++ hashed)))) None (newest_row l key)) (sym (all_gathered sorted.shape image (regions_of stores) merge.store merge.slot past none));
     passes = λ place inside. is.passing place (omega (arith, entry_count sorted.shape sorted.region sorted.count image));
@@ -126,8 +129,8 @@ module _ (image : List ℕ) (stores : List HashState) (sorted : SortedState) (me
   decides = lowest_next old_entries old_hashed merge.decided merge.passed (waits_in image stores sorted merge.waiting) rises so_far choice.key.0 is.lowest
 
   -- whose entry is written, if it is a put
-  pub due_is : (after : List ℕ) → ReadsRow sorted.shape image (regions_of stores) choice.key.0 choice.source bytes after → due_rows (choice_puts choice.source) after ≡ filter is_put_row (decides.0 ∷ [])
-  due_is after read = go choice.source refl read
+  pub due_is_row : (after : List ℕ) → ReadsRow sorted.shape image (regions_of stores) choice.key.0 choice.source bytes after → due_rows (choice_puts choice.source) after ≡ filter is_put_row (decides.0 ∷ [])
+  due_is_row after read = go choice.source refl read
     where
       row : StoredRow
       row = decides.0
@@ -185,6 +188,21 @@ ahead_after rows true passed [] is = tt
 ahead_after rows true passed (bytes ∷ ahead) is = is.1
 ahead_after rows false passed ahead is = is
 
+-- the next entry is skipped only if there is one
+pub skipped_inside : (passed count : ℕ) (last : Option Key) (first : Option (Key × Source)) (next : Option Key) (choice : Choice) → choice_of first next ≡ Some choice → is_some next ≡ nat_lt passed count → (is_behind last next || choice.passes) ≡ true → passed < count
+skipped_inside passed count last first (Some next) choice made some skips = ltb-true passed count (sym some)
+skipped_inside passed count last None None choice made some skips = absurd (cc)
+skipped_inside passed count last (Some (key, source)) None choice made some skips =
+    let one : record { key = key; source = Some source; passes = false } ≡ choice = cc in
+    let stays : choice.passes ≡ false = sym (ap (λ (c : Choice). c.passes) one) in
+    absurd (cc)
+
+-- the bytes of the entries that are skipped after a key
+passed_bytes : (rows : List StoredRow) (passes : Bool) (passed : ℕ) (ahead : List (List ℕ)) → (passes ≡ true → 0 < length ahead) → AreEntries rows passed ahead
+    → entries_bytes (take (passed_after passes passed) rows) ≡ hashed_after passes (entries_bytes (take passed rows)) (get_or ahead 0 [])
+passed_bytes rows true passed ahead some are = entry_bytes rows passed ahead (some refl) are
+passed_bytes rows false passed ahead some are = refl
+
 -- a merge with entries that are read ahead
 pub merged_ahead : (content : Content) (stores : List HashState) (sorted : SortedState) (merge : MergeState) (ahead : List (List ℕ)) → (IsTrue content.honest → AreEntries (entries_of content sorted) merge.passed ahead)
     → HasMerged content stores sorted merge → HasMerged content stores sorted (record merge { ahead = ahead })
@@ -203,9 +221,11 @@ merged_ahead content stores sorted merge ahead there is = record {
           slots = so_far.gathered.slots;
           ahead = there honest;
           passes = so_far.gathered.passes;
+          slots_hashed = so_far.gathered.slots_hashed;
+          entries_hashed = so_far.gathered.entries_hashed;
         };
         writes = so_far.writes;
-        keys = so_far.keys;
+        index = so_far.index;
       };
 }
 
@@ -228,20 +248,22 @@ merged_slots content stores sorted merge slots there is = record {
           slots = λ below. there honest is.shape;
           ahead = so_far.gathered.ahead;
           passes = so_far.gathered.passes;
+          slots_hashed = so_far.gathered.slots_hashed;
+          entries_hashed = so_far.gathered.entries_hashed;
         };
         writes = so_far.writes;
-        keys = so_far.keys;
+        index = so_far.index;
       };
 }
 
 -- ---- on a disk
 
 -- on an honest disk the next entry is above the last key, so that none is passed over for its key
-pub merged_behind : (content : Content) (stores : List HashState) (sorted : SortedState) (merge : MergeState) (next : Option Key) (bytes : List ℕ) → IsHeldMerge merge → merge.store ≡ merge.stores
+pub merged_behind : (content : Content) (stores : List HashState) (sorted : SortedState) (merge : MergeState) (next : Option Key) (bytes : List ℕ) (input : Sha1) → IsHeldMerge merge → merge.store ≡ merge.stores
     → is_some next ≡ nat_lt merge.passed sorted.count → (IsTrue content.honest → AreEntries (entries_of content sorted) merge.passed merge.ahead → IsNextEntry (entries_of content sorted) merge.passed bytes next) → is_behind merge.last next ≡ true
-    → HasMerged content stores sorted merge → HasMerged content stores sorted (record merge { passed = merge.passed + 1; decided = merge.decided + 1; ahead = parts_after true merge.ahead })
+    → HasMerged content stores sorted merge → HasMerged content stores sorted (record merge { passed = merge.passed + 1; decided = merge.decided + 1; ahead = parts_after true merge.ahead; input = input })
 unfolding sources
-merged_behind content stores sorted merge next bytes held all some there behind is = record {
+merged_behind content stores sorted merge next bytes input held all some there behind is = record {
   shape = is.shape;
   counted = is.counted;
   apart = is.apart;
@@ -276,50 +298,36 @@ module _ (old new : Content) (stores : List HashState) (sorted : SortedState) (m
       same_beside stores sorted merge.region old.shown new.shown (subst (λ (s : Shape). device_size s ≤ size old) (sym is.shape) fits) sound.there held_sorted is.apart held.there
       (subst (λ (s : Shape). Torn (sorted_at s merge.region) (s.sorted_capacity * entry_len s) old.shown new.shown) (sym is.shape) (changes.shown was))
 
-  -- if the entries stay, all that was written stays
-  pub merged_stays : (IsTrue old.honest → sorted_rows merge.shape merge.region merge.written new.shown ≡ sorted_rows merge.shape merge.region merge.written old.shown) → HasMerged old stores sorted merge → HasMerged new stores sorted merge
-  merged_stays kept is = record {
-    shape = is.shape;
-    counted = is.counted;
-    apart = is.apart;
-    hashed = λ honest. let was : IsTrue old.honest = sym changes.honest ∙ honest in subst (λ (rows : List StoredRow). Holds merge.hasher (entries_bytes rows)) (sym (kept was)) (is.hashed was);
-    merged = λ honest sound.
-        let was : IsTrue old.honest = sym changes.honest ∙ honest in
-        let same = sources_stay is sound was in
-        let so_far = is.merged was (sound_before old.shown new.shown stores sorted same sound) in
-        merged_same old.shown new.shown stores sorted same merge (source_inside stores sorted merge held is.shape is.counted) (store_next stores merge held is.counted)
-        (subst (λ (s : Shape). merge.slot ≤ 4 * s.buckets) (sym is.shape) (omega (arith, held.slot))) so_far.gathered (kept was ∙ so_far.writes) (ap keys_of (kept was) ∙ so_far.keys);
-  }
-
   -- a source that waits after a key is decided waited before
   still_inside : (choice : Choice) (after : List (Key × Source)) → ((key : List ℕ) → source_at after key ≡ cond (bytes_eq choice.key.0 key) None (source_at merge.waiting key))
       → (key : List ℕ) (source : Source) → source_at after key ≡ Some source → source_at merge.waiting key ≡ Some source
   still_inside choice after gone key source is = (cond_some (bytes_eq choice.key.0 key) (source_at merge.waiting key) source (sym (gone key) ∙ is)).1
 
   -- a decided key, with its entry if it has one
-  pub merged_step : (first : Option (Key × Source)) (next : Option Key) (choice : Choice) (bytes row_bytes : List ℕ) (after : List (Key × Source)) (count : ℕ) (hasher : Sha1) → merge.store ≡ merge.stores → IsFirstWaiting merge.waiting first
+  pub merged_step : (first : Option (Key × Source)) (next : Option Key) (choice : Choice) (bytes row_bytes : List ℕ) (after : List (Key × Source)) (due : Bool) (count : ℕ) (index : Building) (input hasher : Sha1) → merge.store ≡ merge.stores → IsFirstWaiting merge.waiting first
       → choice_of first next ≡ Some choice → is_some next ≡ nat_lt merge.passed sorted.count → (IsTrue old.honest → AreEntries (entries_of old sorted) merge.passed merge.ahead → IsNextEntry (entries_of old sorted) merge.passed bytes next)
+      → (merge.passed < sorted.count → 0 < length merge.ahead)
       → (IsTrue old.honest → ReadsRow merge.shape old.shown (regions_of stores) choice.key.0 choice.source bytes row_bytes)
-      → (IsTrue old.honest → sorted_rows merge.shape merge.region count new.shown ≡ take merge.shape.sorted_capacity (sorted_rows merge.shape merge.region merge.written old.shown ++ due_rows (choice_puts choice.source) row_bytes))
+      → due ≡ is_written (choice_puts choice.source) merge.written merge.shape.sorted_capacity → count ≡ merge.written + cond (is_written due merge.written merge.shape.sorted_capacity) 1 0
+      → (IsTrue old.honest → sorted_rows merge.shape merge.region count new.shown ≡ take merge.shape.sorted_capacity (sorted_rows merge.shape merge.region merge.written old.shown ++ due_rows due row_bytes))
       → ((key : List ℕ) → source_at after key ≡ cond (bytes_eq choice.key.0 key) None (source_at merge.waiting key))
-      → ((hashed : List ℕ) → Holds merge.hasher hashed → Holds hasher (hashed_after (nat_lt merge.written count) hashed row_bytes))
+      → ((keys : List (List ℕ)) → IsBuildingOf keys merge.index → length keys ≡ merge.written → is_above merge.index.last choice.key.0 ≡ true → IsBuildingOf (keys_after due keys choice.key.0) index)
+      → ((hashed : List ℕ) → Holds merge.input hashed → Holds input (hashed_after choice.passes hashed (get_or merge.ahead 0 [])))
+      → ((hashed : List ℕ) → Holds merge.hasher hashed → Holds hasher (hashed_after due hashed row_bytes))
       → HasMerged old stores sorted merge
-      → HasMerged new stores sorted (record merge { waiting = after; passed = passed_after choice.passes merge.passed; written = written_after (nat_lt merge.written count) merge.written; keys = keys_after (nat_lt merge.written count) merge.keys choice.key; decided = merge.decided + 1; last = Some choice.key; ahead = parts_after choice.passes merge.ahead; hasher = hasher })
+      → HasMerged new stores sorted (record merge { waiting = after; passed = passed_after choice.passes merge.passed; written = written_after due merge.written; index = index; decided = merge.decided + 1; last = Some choice.key; ahead = parts_after choice.passes merge.ahead; input = input; hasher = hasher })
   unfolding sources
-  merged_step first next choice bytes row_bytes after count hasher all its_first made some there read written gone hashes is = record {
+  merged_step first next choice bytes row_bytes after due count index input hasher all its_first made some there is_ahead read due_is counted written gone indexes takes hashes is = record {
     shape = is.shape;
     counted = is.counted;
     apart = is.apart;
     hashed = λ honest.
         let was : IsTrue old.honest = sym changes.honest ∙ honest in
-        let is_written : Bool = nat_lt merge.written count in
-        let entry = written_entry merge.shape.sorted_capacity merge.written count (sorted_rows merge.shape merge.region merge.written old.shown) (sorted_rows merge.shape merge.region count new.shown) (choice_puts choice.source) row_bytes
-        (entry_count merge.shape merge.region merge.written old.shown) (entry_count merge.shape merge.region count new.shown) held.room (written was) in
-        subst (Holds hasher) (sym (ap (λ n. entries_bytes (sorted_rows merge.shape merge.region n new.shown)) (sym entry.0) ∙ entry.1)) (hashes (entries_bytes (sorted_rows merge.shape merge.region merge.written old.shown)) (is.hashed was));
+        subst (Holds hasher) (sym (ap entries_bytes rows_after ∙ bytes_written cap merge.written old_rows new_rows (choice_puts choice.source) due row_bytes due_is old_count held.room (written was))) (hashes (entries_bytes old_rows) (is.hashed was));
     merged = λ honest sound.
         let was : IsTrue old.honest = sym changes.honest ∙ honest in
         let image : List ℕ = old.shown in
-        let merge_after : MergeState = record merge { waiting = after; passed = passed_after choice.passes merge.passed; written = written_after (nat_lt merge.written count) merge.written; keys = keys_after (nat_lt merge.written count) merge.keys choice.key; decided = merge.decided + 1; last = Some choice.key; ahead = parts_after choice.passes merge.ahead; hasher = hasher } in
+        let merge_after : MergeState = record merge { waiting = after; passed = passed_after choice.passes merge.passed; written = written_after due merge.written; index = index; decided = merge.decided + 1; last = Some choice.key; ahead = parts_after choice.passes merge.ahead; input = input; hasher = hasher } in
         let same = sources_stay is sound was in
         let sound_old = sound_before old.shown new.shown stores sorted same sound in
         let so_far = is.merged was sound_old in
@@ -331,75 +339,107 @@ module _ (old new : Content) (stores : List HashState) (sorted : SortedState) (m
         let choices = chosen (entries_in image sorted) merge.passed bytes (source_row sorted.shape image (regions_of stores)) merge.waiting first next choice its_first (there was so_far.gathered.ahead) (some ∙ ap (nat_lt merge.passed) (sym long)) made in
         let next_row = decides image stores sorted merge choice bytes rises decided choices in
         let reads = subst (λ (s : Shape). ReadsRow s image (regions_of stores) choice.key.0 choice.source bytes row_bytes) (sym is.shape) (read was) in
-        let due = due_is image stores sorted merge choice bytes rises decided choices row_bytes reads in
+        let its_due = due_is_row image stores sorted merge choice bytes rises decided choices row_bytes reads in
         let below = slice_get_within (newest_rows (entries_in image sorted ++ rows_of_hashes sorted.shape image (regions_of stores))) merge.decided next_row.0 next_row.1 in
         let after_it = decided_step image stores sorted merge choice bytes rises decided choices after gone in
-        let writes = due_more (newest_rows (entries_in image sorted ++ rows_of_hashes sorted.shape image (regions_of stores))) merge.decided merge.shape.sorted_capacity next_row.0 (sorted_rows merge.shape merge.region merge.written image)
-        (due_rows (choice_puts choice.source) row_bytes) (sorted_rows merge.shape merge.region count new.shown) next_row.1 so_far.writes due (written was) in
-        let kept = written_keys merge.shape.sorted_capacity merge.written count (sorted_rows merge.shape merge.region merge.written image) (due_rows (choice_puts choice.source) row_bytes) (sorted_rows merge.shape merge.region count new.shown)
-        next_row.0 merge.keys choice.key (entry_count merge.shape merge.region merge.written image) (entry_count merge.shape merge.region count new.shown) held.room next_row.2 due (written was) so_far.keys in
-        let entries_after : sorted_rows merge.shape merge.region merge_after.written new.shown ≡ sorted_rows merge.shape merge.region count new.shown = ap (λ n. sorted_rows merge.shape merge.region n new.shown) (sym kept.0) in
+        let writes = due_more (newest_rows (entries_in image sorted ++ rows_of_hashes sorted.shape image (regions_of stores))) merge.decided cap next_row.0 old_rows
+        (due_rows (choice_puts choice.source) row_bytes) new_rows next_row.1 so_far.writes its_due (rows_due cap merge.written old_rows new_rows (choice_puts choice.source) due row_bytes due_is old_count held.room (written was)) in
+        let keys = keys_written cap merge.written old_rows new_rows (choice_puts choice.source) due row_bytes due_is old_count held.room (written was) next_row.0 choice.key.0 its_due next_row.2 in
+        let above = above_index old_rows (newest_rows (entries_in image sorted ++ rows_of_hashes sorted.shape image (regions_of stores))) merge.index merge.decided cap next_row.0 choice.key.0 (rises_newest (entries_in image sorted ++ rows_of_hashes sorted.shape image (regions_of stores))) so_far.index so_far.writes next_row.1 next_row.2 in
+        let built : IsBuildingOf (keys_after due (keys_of old_rows) choice.key.0) index = indexes (keys_of old_rows) so_far.index (length-map old_rows (λ (r : StoredRow). r.key) ∙ old_count) above in
+        let holds : Holds input (entries_bytes (take (passed_after choice.passes merge.passed) (entries_in image sorted))) =
+        subst (Holds input) (sym (passed_bytes (entries_in image sorted) choice.passes merge.passed merge.ahead (λ passes. is_ahead (let it = choices.passes passes in omega (arith, it.0, long))) so_far.gathered.ahead))
+        (takes (entries_bytes (take merge.passed (entries_in image sorted))) (so_far.gathered.entries_hashed (omega (arith, past, regions_count stores)))) in
         merged_same old.shown new.shown stores sorted same merge_after (λ key source found. source_inside stores sorted merge held is.shape is.counted key source (still_inside choice after gone key source found)) (inr none)
         (omega (arith, none)) (gathered_of image stores sorted merge_after past none (omega (arith, below))
         (λ key is_key. last_decided (newest_rows (entries_in image sorted ++ rows_of_hashes sorted.shape image (regions_of stores))) merge.decided next_row.0 choice.key key next_row.1 next_row.2 is_key)
-        (ahead_after (entries_in image sorted) choice.passes merge.passed merge.ahead so_far.gathered.ahead) after_it) (entries_after ∙ writes) (ap keys_of entries_after ∙ kept.1);
+        (ahead_after (entries_in image sorted) choice.passes merge.passed merge.ahead so_far.gathered.ahead) holds after_it) (rows_after ∙ writes)
+        (subst (λ (l : List (List ℕ)). IsBuildingOf l index) (sym (ap keys_of rows_after ∙ keys)) built);
   }
+    where
+      cap : ℕ
+      cap = merge.shape.sorted_capacity
+
+      old_rows : List StoredRow
+      old_rows = sorted_rows merge.shape merge.region merge.written old.shown
+
+      new_rows : List StoredRow
+      new_rows = sorted_rows merge.shape merge.region count new.shown
+
+      old_count : length old_rows ≡ merge.written
+      old_count = entry_count merge.shape merge.region merge.written old.shown
+
+      -- as many entries are written as the region returned
+      rows_after : sorted_rows merge.shape merge.region (written_after due merge.written) new.shown ≡ new_rows
+      rows_after = ap (λ n. sorted_rows merge.shape merge.region n new.shown) (sym (count_written cap merge.written (choice_puts choice.source) due count due_is counted))
+
+-- the next row to decide is a put, if the row that decides is
+pub next_puts : (content : Content) (stores : List HashState) (sorted : SortedState) (merge : MergeState) (first : Option (Key × Source)) (next : Option Key) (choice : Choice) (bytes row_bytes : List ℕ) → IsHeldMerge merge → merge.store ≡ merge.stores → IsFirstWaiting merge.waiting first
+    → choice_of first next ≡ Some choice → is_some next ≡ nat_lt merge.passed sorted.count → (IsTrue content.honest → AreEntries (entries_of content sorted) merge.passed merge.ahead → IsNextEntry (entries_of content sorted) merge.passed bytes next)
+    → (IsTrue content.honest → ReadsRow merge.shape content.shown (regions_of stores) choice.key.0 choice.source bytes row_bytes) → choice_puts choice.source ≡ true
+    → IsTrue content.honest → HasMerged content stores sorted merge → AreSound content.shown stores sorted → IsSomeAnd (slice_get (newest_rows (sources content.shown stores sorted)) merge.decided) (λ row. is_put_row row ≡ true)
+unfolding sources
+next_puts content stores sorted merge first next choice bytes row_bytes held all its_first made some there read puts honest is sound =
+    let image : List ℕ = content.shown in
+    let so_far = is.merged honest sound in
+    let past : length (regions_of stores) ≤ merge.store = omega (arith, regions_count stores, is.counted) in
+    let rises = rises_of (entries_in image sorted) sound.entries in
+    let decided = decided_of image stores sorted merge past (held.ended all) so_far.gathered in
+    let long = entry_count sorted.shape sorted.region sorted.count image in
+    let choices = chosen (entries_in image sorted) merge.passed bytes (source_row sorted.shape image (regions_of stores)) merge.waiting first next choice its_first (there honest so_far.gathered.ahead) (some ∙ ap (nat_lt merge.passed) (sym long)) made in
+    let next_row = decides image stores sorted merge choice bytes rises decided choices in
+    let reads = subst (λ (s : Shape). ReadsRow s image (regions_of stores) choice.key.0 choice.source bytes row_bytes) (sym is.shape) (read honest) in
+    let its_due = due_is_row image stores sorted merge choice bytes rises decided choices row_bytes reads in
+    let put : is_put_row next_row.0 ≡ true = puts_row row_bytes next_row.0 (sym (ap (λ b. due_rows b row_bytes) puts) ∙ its_due) in
+    subst (λ (o : Option StoredRow). IsSomeAnd o (λ row. is_put_row row ≡ true)) (sym next_row.1) put
 
 -- ---- on any disk
 
--- a merge with others ahead and another hasher
-pub held_with : (merge : MergeState) (slots ahead : List (List ℕ)) (hasher : Sha1) → IsHeldMerge merge → IsHeldMerge (record merge { slots = slots; ahead = ahead; hasher = hasher })
-held_with merge slots ahead hasher held = record {
+-- a merge with others ahead, another index with as many keys as there may be, and another hasher
+pub held_with : (merge : MergeState) (slots ahead : List (List ℕ)) (index : Building) (hasher : Sha1) → index.count ≤ merge.written + 1 → IsHeldMerge merge → IsHeldMerge (record merge { slots = slots; ahead = ahead; index = index; hasher = hasher })
+held_with merge slots ahead index hasher most held = record {
   there = held.there;
   store = held.store;
   slot = held.slot;
   ended = held.ended;
   gathers = held.gathers;
   fresh = held.fresh;
+  unpassed = held.unpassed;
   above = held.above;
   inside = λ key source found. let inside = held.inside key source found in record { store = inside.store; slot = inside.slot };
   room = held.room;
   few = held.few;
-  keys = held.keys;
+  index = most;
 }
 
--- the keys of a merge with one key more, which find room
-pub decided_keys : (merge : MergeState) (choice : Choice) (is_written : Bool) (count : ℕ) (keys : List Key) → IsHeldMerge merge → IsOffered merge.waiting merge.last choice → (is_written ≡ true → merge.written < merge.shape.sorted_capacity)
-    → merge.shape.sorted_capacity ≤ 16777216 → count ≡ written_after is_written merge.written
-    → ((last : Option Key) → AreKeysUpTo last merge.written merge.keys → is_above last choice.key.0 ≡ true → (is_written ≡ true → merge.written + 2 < 2 ^ 32) → AreKeysUpTo (Some choice.key) count keys)
-    → (count ≤ merge.shape.sorted_capacity) × AreKeysUpTo (Some choice.key) count keys
-decided_keys merge choice is_written count keys held offers room most long rising = (
-  within is_written room long,
-  rising merge.last held.keys offers.above (λ is. let below = room is in omega (arith, below, most)),
-)
-  where
-    within : (b : Bool) → (b ≡ true → merge.written < merge.shape.sorted_capacity) → count ≡ written_after b merge.written → count ≤ merge.shape.sorted_capacity
-    within true below is = let under = below refl in omega (arith, is, under)
-    within false below is = omega (arith, is, held.room)
-
--- a merge with one key more
-pub decided_held : (merge : MergeState) (choice : Choice) (after : List (Key × Source)) (count : ℕ) (keys : List Key) (ahead : List (List ℕ)) → IsHeldMerge merge → merge.store ≡ merge.stores → IsOffered merge.waiting merge.last choice
-    → count ≤ merge.shape.sorted_capacity → AreKeysUpTo (Some choice.key) count keys → ((key : List ℕ) → source_at after key ≡ cond (bytes_eq choice.key.0 key) None (source_at merge.waiting key))
+-- a merge with one key more, whose entry is written or not
+pub decided_held : (merge : MergeState) (choice : Choice) (is_written : Bool) (after : List (Key × Source)) (ahead : List (List ℕ)) (input : Sha1) → IsHeldMerge merge → merge.store ≡ merge.stores → IsOffered merge.waiting merge.last choice
+    → (is_written ≡ true → merge.written < merge.shape.sorted_capacity) → ((key : List ℕ) → source_at after key ≡ cond (bytes_eq choice.key.0 key) None (source_at merge.waiting key))
     → length after ≤ length merge.waiting → ((source : Source) → source_at merge.waiting choice.key.0 ≡ Some source → length after + 1 ≡ length merge.waiting)
-    → IsHeldMerge (record merge { waiting = after; passed = passed_after choice.passes merge.passed; written = count; keys = keys; decided = merge.decided + 1; last = Some choice.key; ahead = ahead })
-decided_held merge choice after count keys ahead held all offers room rising gone long less = record {
+    → IsHeldMerge (record merge { waiting = after; passed = passed_after choice.passes merge.passed; written = written_after is_written merge.written; decided = merge.decided + 1; last = Some choice.key; ahead = ahead; input = input })
+decided_held merge choice is_written after ahead input held all offers room gone long less = record {
   there = held.there;
   store = held.store;
   slot = held.slot;
   ended = held.ended;
   gathers = λ still. absurd (omega (arith, all));
   fresh = λ still. absurd (omega (arith, all));
+  unpassed = λ still. absurd (omega (arith, all));
   above = λ key source found.
       let parts = cond_some (bytes_eq choice.key.0 key) (source_at merge.waiting key) source (sym (gone key) ∙ found) in
       higher key parts.0 (offers.least key source parts.1);
   inside = λ key source found.
       let inside = held.inside key source (cond_some (bytes_eq choice.key.0 key) (source_at merge.waiting key) source (sym (gone key) ∙ found)).1 in
       record { store = inside.store; slot = inside.slot };
-  room = room;
+  room = within is_written room;
   few = go choice.source refl;
-  keys = rising;
+  index = let grows = grown is_written merge.written (written_after is_written merge.written) refl in omega (arith, grows, held.index);
 }
   where
+    within : (b : Bool) → (b ≡ true → merge.written < merge.shape.sorted_capacity) → written_after b merge.written ≤ merge.shape.sorted_capacity
+    within true below = let under = below refl in omega (arith, under)
+    within false below = held.room
+
     higher : (key : List ℕ) → bytes_eq choice.key.0 key ≡ false → slice_cmp nat_cmp key choice.key.0 ≢ Less → is_lt (slice_cmp nat_cmp choice.key.0 key) ≡ true
     higher key other least =
         let go : (o : Ordering) → slice_cmp nat_cmp key choice.key.0 ≡ o → is_lt (slice_cmp nat_cmp choice.key.0 key) ≡ true = elim [
@@ -439,6 +479,10 @@ module _ (merge : MergeState) (sorted : SortedState) where
       go true = sym (ap (λ b. b && nat_le sorted.count merge.passed) (ne_eqb (length merge.waiting) 0 some))
       go false = refl
 
+  -- nor is one that still gathers
+  pub not_gathered : merge.store < merge.stores → false ≡ is_done merge sorted
+  not_gathered below = sym (ap (λ b. (b && (length merge.waiting == 0)) && nat_le sorted.count merge.passed) (ne_eqb merge.store merge.stores (λ same. absurd (omega (arith, below, same)))))
+
   -- once all slots are gathered and no row waits, the entries decide
   pub entries_decide : merge.store ≡ merge.stores → length merge.waiting ≡ 0 → nat_le sorted.count merge.passed ≡ is_done merge sorted
   entries_decide all none =
@@ -460,6 +504,13 @@ module _ (merge : MergeState) (sorted : SortedState) where
   done_from all none past =
       and_from ((merge.store == merge.stores) && (length merge.waiting == 0)) (nat_le sorted.count merge.passed)
       (and_from (merge.store == merge.stores) (length merge.waiting == 0) (eq-eqb merge.store merge.stores all) (ap (λ (l : List (Key × Source)). length l == 0) none)) (le-leb sorted.count merge.passed past)
+
+  -- one that is not done has a key to decide once all slots are gathered
+  pub nothing_left : (first : Option (Key × Source)) (next : Option Key) → is_done merge sorted ≡ false → merge.store ≡ merge.stores → IsFirstWaiting merge.waiting first → is_some next ≡ nat_lt merge.passed sorted.count → choice_of first next ≡ None → ⊥
+  nothing_left None None more all none no_next no_choice = let done = done_from all none (ltb-false merge.passed sorted.count (sym no_next)) in absurd (cc)
+  nothing_left None (Some next) more all its_first some no_choice = absurd (cc)
+  nothing_left (Some (key, source)) None more all its_first some no_choice = absurd (cc)
+  nothing_left (Some (key, source)) (Some next) more all its_first some no_choice = absurd (cc)
 
   -- a list of rows that wait for no key is empty
   nothing_waits : (waiting : List (Key × Source)) → ((key : List ℕ) → source_at waiting key ≡ None) → waiting ≡ []
@@ -544,8 +595,3 @@ module _ (merge : MergeState) (sorted : SortedState) where
   done_merge content stores held done is honest sound room =
       let all = done_entries content stores held done is honest sound ∙ take_all merge.shape.sorted_capacity (merged_rows (sources content.shown stores sorted)) room in
       subst (IsMergeOf (sources content.shown stores sorted)) (sym all) (merged_law (sources content.shown stores sorted))
-
-  -- whose keys are those that are kept
-  pub done_keys : (content : Content) (stores : List HashState) → HasMerged content stores sorted merge → IsTrue content.honest → AreSound content.shown stores sorted
-      → keys_of (sorted_rows merge.shape merge.region merge.written content.shown) ≡ bytes_of merge.keys
-  done_keys content stores is honest sound = let so_far = is.merged honest sound in so_far.keys

@@ -1,201 +1,135 @@
--- The keys of the entries that a merge wrote.
-use Rattle.std.proofs.Common.{◌≡◌, ℕ, ◌+◌, ◌<◌, ◌≤◌, ◌^◌, nat_lt, Bool, true, false, List, [], ◌∷◌, ◌++◌, filter, length, take, get_or, Option, Some, None, inl, inr, refl, sym, subst, ap, ◌∙◌, arith}
-use Rattle.std.specs.List.{All}
+-- The keys and the bytes of the entries that a merge wrote.
+use Rattle.std.proofs.Common.{◌≡◌, ℕ, zero, suc, ◌+◌, ◌<◌, ◌≤◌, nat_lt, Bool, true, false, ◌&&◌, ◌||◌, cond, List, [], ◌∷◌, ◌++◌, filter, length, take, slice_get, Option, Some, None, inl, inr, refl, sym, ap, ◌∙◌, arith}
 use Rattle.std.specs.Ordering.{is_lt, nat_cmp}
 use Rattle.std.specs.Cmp.Lexicographic.{slice_cmp}
-use Rattle.std.specs.declared.cmp.Ordering.{Ordering}
-use Rattle.std.specs.declared.cmp.Ordering.TheVariants.{Less, Equal, Greater}
-use Rattle.std.proofs.lemmas.Bool.{cases_Bool, cases_lt, cond-true, cond-false, le-ltb, lt-ltb}
-use Rattle.std.proofs.lemmas.Cmp.{nat_list_cmp_total}
-use Rattle.std.proofs.lemmas.List.{append-nil, get_or-map, get_or_append_left, length-append, length-map, map-append, take_all, take_at}
-use Rattle.std.proofs.lemmas.Map.Lookups.{exact_bytes}
-use Rattle.std.proofs.Math.Seq.{get_or-append_seam}
+use Rattle.std.specs.Str.{bytes_eq}
+use Rattle.std.proofs.lemmas.Bool.{and_parts, cases_Bool, cond-true, cond-false, ltb-false, ltb-true}
+use Rattle.std.proofs.lemmas.List.{append-nil, length-append, map-append, take_all, take_at}
 use Rattle.silt_frame.specs.declared.key.Key.{Key}
 use Rattle.silt_frame.specs.Rows.{StoredRow, entries_bytes, entry_row, is_put_row, keys_of}
-use Rattle.silt_sorted_store.specs.Findings.{is_key_below}
-use Rattle.silt_merge.specs.State.{AreKeysUpTo, HasKeyBytes, hashed_after, keys_after, written_after}
-use Rattle.silt_trie.specs.Building.{is_above}
-use Rattle.silt_merge.proofs.Newest.{turned}
-use Rattle.silt_sorted_store.specs.Region.{due_rows}
+use Rattle.silt_merge.specs.Rows.{has_row_with}
+use Rattle.silt_merge.specs.State.{hashed_after, keys_after, written_after}
+use Rattle.silt_merge.proofs.Deciding.{before_at}
+use Rattle.silt_merge.proofs.Newest.{Rises, key_itself}
+use Rattle.silt_sorted_store.specs.Region.{due_rows, is_written}
 use Rattle.silt_sorted_store.proofs.Digested.{bytes_more}
-use Rattle.silt_sorted_store.proofs.Rising.{is_less, not_below_itself}
-use Rattle.silt_trie.specs.Code.{Follows, IsCodable}
-use Rattle.silt_trie.specs.Coded.{bytes_of}
-use Rattle.silt_trie.proofs.Order.{order_law}
+use Rattle.silt_trie.specs.Building.{Building, EndWith, IsBuildingOf, is_above}
 
--- ---- on any disk
+-- ---- the entry that is written
 
--- a key that the last one does not lie below is below each key that the last one lies below
-lower : (last : Option Key) (low key : List ℕ) → is_above last low ≡ false → is_above last key ≡ true → slice_cmp nat_cmp low key ≡ Less
-lower None low key not_above above = absurd (cc)
-lower (Some last) low key not_above above =
-    let less : slice_cmp nat_cmp last.0 key ≡ Less = is_less (slice_cmp nat_cmp last.0 key) above in
-    let go : (o : Ordering) → slice_cmp nat_cmp last.0 low ≡ o → slice_cmp nat_cmp low key ≡ Less = elim [
-      | Less ↦ λ o. let other : is_lt (slice_cmp nat_cmp last.0 low) ≡ true = ap is_lt o in absurd (cc)
-      | Equal ↦ λ o. ap (λ k. slice_cmp nat_cmp k key) (sym (exact_bytes last.0 low o)) ∙ less
-      | Greater ↦ λ o. nat_list_cmp_total.trans low last.0 key (turned last.0 low o) less
-    ] in
-    go (slice_cmp nat_cmp last.0 low) refl
+-- a put that is the only one is that of its row
+own_row : (bytes : List ℕ) (row : StoredRow) → entry_row bytes ∷ [] ≡ filter is_put_row (row ∷ []) → entry_row bytes ≡ row
+own_row bytes row is = elim (cases_Bool (is_put_row row)) [
+  | inl put ↦ let same : entry_row bytes ∷ [] ≡ row ∷ [] = is ∙ cond-true _ _ _ put in cc
+  | inr other ↦ let none : entry_row bytes ∷ [] ≡ [] = is ∙ cond-false _ _ _ other in absurd (cc)
+]
 
--- and so this one is not above it
-not_above_lower : (low key : List ℕ) → slice_cmp nat_cmp low key ≡ Less → is_key_below key low ≡ false
-not_above_lower low key less = go (slice_cmp nat_cmp key low) refl
+-- and it is a put
+pub puts_row : (bytes : List ℕ) (row : StoredRow) → entry_row bytes ∷ [] ≡ filter is_put_row (row ∷ []) → is_put_row row ≡ true
+puts_row bytes row is = elim (cases_Bool (is_put_row row)) [
+  | inl put ↦ put
+  | inr other ↦ let none : entry_row bytes ∷ [] ≡ [] = is ∙ cond-false _ _ _ other in absurd (cc)
+]
+
+-- so many are written after an entry that is written if it has a value and the region has room
+pub count_written : (most written : ℕ) (puts due : Bool) (count : ℕ) → due ≡ is_written puts written most → count ≡ written + cond (is_written due written most) 1 0 → count ≡ written_after due written
+count_written most written puts due count due_is counted = go due refl
   where
-    go : (o : Ordering) → slice_cmp nat_cmp key low ≡ o → is_lt (slice_cmp nat_cmp key low) ≡ false
-    go Less o = absurd (not_below_itself low low refl (nat_list_cmp_total.trans low key low less o))
-    go Equal o = ap is_lt o
-    go Greater o = ap is_lt o
+    go : (b : Bool) → due ≡ b → count ≡ written_after b written
+    go false none = let same : count ≡ written + 0 = counted ∙ ap (λ b. written + cond (is_written b written most) 1 0) none in omega (arith, same)
+    go true is =
+        let below : nat_lt written most ≡ true = (and_parts puts (nat_lt written most) (sym due_is ∙ is)).1 in
+        counted ∙ ap (λ b. written + cond (is_written b written most) 1 0) is ∙ ap (λ b. written + cond b 1 0) below
 
--- a key is not above itself
-not_above_itself : (key : List ℕ) → is_key_below key key ≡ false
-not_above_itself key = go (slice_cmp nat_cmp key key) refl
-  where
-    go : (o : Ordering) → slice_cmp nat_cmp key key ≡ o → is_lt (slice_cmp nat_cmp key key) ≡ false
-    go Less o = absurd (not_below_itself key key refl o)
-    go Equal o = ap is_lt o
-    go Greater o = ap is_lt o
-
--- a key follows one that is below it
-follows : (low key : List ℕ) → HasKeyBytes low → HasKeyBytes key → slice_cmp nat_cmp low key ≡ Less → Follows 0 low key
-follows low key its_low its_key less = record {
-  sized = (its_low.0, its_key.0);
-  below = order_law low key its_low.1 its_key.1 ∙ less;
-  alike = λ k before. absurd (omega (arith, before));
-}
-
--- keys that can be coded, and one that follows the last of them
-codable_more : (keys : List (List ℕ)) (key : List ℕ) → IsCodable keys 0 → length keys + 2 < 2 ^ 32 → ((i : ℕ) → i + 1 ≡ length keys → Follows 0 (get_or keys i []) key) → IsCodable (keys ++ key ∷ []) 0
-codable_more keys key is few last =
-    let long : length (keys ++ key ∷ []) ≡ length keys + 1 = length-append keys (key ∷ []) in
-    record {
-      few = omega (arith, long);
-      rising = λ i inside. elim (cases_lt (i + 1) (length keys)) [
-        | inl below ↦
-            subst (λ k. Follows 0 k (get_or (keys ++ key ∷ []) (i + 1) [])) (sym (get_or_append_left keys (key ∷ []) [] i (omega (arith, below))))
-            (subst (λ k. Follows 0 (get_or keys i []) k) (sym (get_or_append_left keys (key ∷ []) [] (i + 1) below)) (is.rising i below))
-        | inr past ↦
-            let same : i + 1 ≡ length keys = omega (arith, long, inside, past) in
-            subst (λ k. Follows 0 k (get_or (keys ++ key ∷ []) (i + 1) [])) (sym (get_or_append_left keys (key ∷ []) [] i (omega (arith, same))))
-            (subst (λ k. Follows 0 (get_or keys i []) k) (sym (ap (λ n. get_or (keys ++ key ∷ []) n []) same ∙ get_or-append_seam keys key [] [])) (last i same))
-      ];
-    }
-
--- no keys
-pub no_keys : (keys : List Key) (count : ℕ) → keys ≡ [] → count ≡ 0 → AreKeysUpTo None count keys
-no_keys keys count none zero_count =
-    let long : length keys ≡ 0 = ap length none in
-    record {
-      counted = omega (arith, long, zero_count);
-      codable = subst (λ (l : List Key). IsCodable (bytes_of l) 0) (sym none) (record { few = omega arith; rising = λ i inside. absurd (omega (arith, inside)) });
-      bytes = λ k blank below. absurd (omega (arith, long, below));
-      decided = λ k blank below. absurd (omega (arith, long, below));
-    }
-
-module _ (last : Option Key) (count : ℕ) (keys : List Key) (key : Key) (are : AreKeysUpTo last count keys) (above : is_above last key.0 ≡ true) where
-  -- none of them is above the next key
-  still_decided : All (λ (k : Key). is_above (Some key) k.0 ≡ false) keys
-  still_decided k blank below = not_above_lower (get_or keys k blank).0 key.0 (lower last (get_or keys k blank).0 key.0 (are.decided k blank below) above)
-
-  -- nor is the next key itself
-  with_decided : All (λ (k : Key). is_above (Some key) k.0 ≡ false) (keys ++ key ∷ [])
-  with_decided k blank below = elim (cases_lt k (length keys)) [
-    | inl before ↦ ap (λ (it : Key). is_key_below key.0 it.0) (get_or_append_left keys (key ∷ []) blank k before) ∙ still_decided k blank before
-    | inr past ↦
-        let same : k ≡ length keys = omega (arith, below, past, length-append keys (key ∷ [])) in
-        ap (λ (it : Key). is_key_below key.0 it.0) (ap (λ n. get_or (keys ++ key ∷ []) n blank) same ∙ get_or-append_seam keys key [] blank) ∙ not_above_itself key.0
-  ]
-
-  -- and all have the bytes of keys
-  with_bytes : HasKeyBytes key.0 → All (λ (k : Key). HasKeyBytes k.0) (keys ++ key ∷ [])
-  with_bytes its_key k blank below = elim (cases_lt k (length keys)) [
-    | inl before ↦ subst (λ (it : Key). HasKeyBytes it.0) (sym (get_or_append_left keys (key ∷ []) blank k before)) (are.bytes k blank before)
-    | inr past ↦
-        let same : k ≡ length keys = omega (arith, below, past, length-append keys (key ∷ [])) in
-        subst (λ (it : Key). HasKeyBytes it.0) (sym (ap (λ n. get_or (keys ++ key ∷ []) n blank) same ∙ get_or-append_seam keys key [] blank)) its_key
-  ]
-
-  -- the keys up to the next one, whose entry is written or not
-  pub keys_more : (is_written : Bool) → (is_written ≡ true → count + 2 < 2 ^ 32) → HasKeyBytes key.0
-      → AreKeysUpTo (Some key) (written_after is_written count) (keys_after is_written keys key)
-  keys_more false few its_key = record { counted = are.counted; codable = are.codable; bytes = are.bytes; decided = still_decided }
-  keys_more true few its_key =
-      let long : length (bytes_of keys) ≡ length keys = length-map keys (λ (k : Key). k.0) in
-      let all : bytes_of (keys ++ key ∷ []) ≡ bytes_of keys ++ key.0 ∷ [] = map-append (λ (k : Key). k.0) keys (key ∷ []) in
-      let room = few refl in
-      let next : (i : ℕ) → i + 1 ≡ length (bytes_of keys) → Follows 0 (get_or (bytes_of keys) i []) key.0 = λ i is_last.
-      let inside : i < length keys = omega (arith, long, is_last) in
-      follows (get_or (bytes_of keys) i []) key.0 (subst HasKeyBytes (sym (byte_at i inside)) (are.bytes i key inside)) its_key (subst (λ k. slice_cmp nat_cmp k key.0 ≡ Less) (sym (byte_at i inside)) (lower last (get_or keys i key).0 key.0 (are.decided i key inside) above)) in
-      record {
-        counted = length-append keys (key ∷ []) ∙ ap (λ n. n + 1) are.counted;
-        codable = subst (λ l. IsCodable l 0) (sym all) (codable_more (bytes_of keys) key.0 are.codable (omega (arith, long, room, are.counted)) next);
-        bytes = with_bytes its_key;
-        decided = with_decided;
-      }
+-- this entry is written if it has a value, and the region has room
+module _ (most written : ℕ) (old new : List StoredRow) (puts due : Bool) (bytes : List ℕ) (due_is : due ≡ is_written puts written most) (old_count : length old ≡ written) (room : written ≤ most)
+    (made : new ≡ take most (old ++ due_rows due bytes)) where
+  -- it comes behind those that are there
+  pub rows_written : new ≡ old ++ due_rows due bytes
+  rows_written = made ∙ take_all most (old ++ due_rows due bytes) (fits due refl)
     where
-      byte_at : (i : ℕ) → i < length keys → get_or (bytes_of keys) i [] ≡ (get_or keys i key).0
-      byte_at i inside = get_or-map (λ (k : Key). k.0) keys i key [] inside
+      fits : (b : Bool) → due ≡ b → length (old ++ due_rows b bytes) ≤ most
+      fits false none = omega (arith, old_count, room, length-append old [])
+      fits true is =
+          let below : written < most = ltb-true written most (and_parts puts (nat_lt written most) (sym due_is ∙ is)).1 in
+          omega (arith, old_count, below, length-append old (entry_row bytes ∷ []))
 
--- ---- on an honest disk
+  -- as if it were written whenever it has a value, up to the room that there is
+  pub rows_due : new ≡ take most (old ++ due_rows puts bytes)
+  rows_due = go puts (nat_lt written most) refl refl
+    where
+      go : (p below : Bool) → puts ≡ p → nat_lt written most ≡ below → new ≡ take most (old ++ due_rows p bytes)
+      go false below none room_is = let not_due : due ≡ false = due_is ∙ ap (λ b. b && nat_lt written most) none in made ∙ ap (λ b. take most (old ++ due_rows b bytes)) not_due
+      go true true some room_is = let is_due : due ≡ true = due_is ∙ ap (λ b. b && nat_lt written most) some ∙ room_is in made ∙ ap (λ b. take most (old ++ due_rows b bytes)) is_due
+      go true false some full =
+          let not_due : due ≡ false = due_is ∙ ap (λ b. b && nat_lt written most) some ∙ full in
+          let past : most ≤ written = ltb-false written most full in
+          rows_written ∙ ap (λ b. old ++ due_rows b bytes) not_due ∙ append-nil old ∙ sym (take_at old (entry_row bytes ∷ []) most (omega (arith, old_count, past, room)))
 
--- a written entry, if there was one to write and it had room, is that of the next key
-pub written_keys : (most written count : ℕ) (old due new : List StoredRow) (row : StoredRow) (keys : List Key) (key : Key) → length old ≡ written → length new ≡ count → written ≤ most → row.key ≡ key.0
-    → due ≡ filter is_put_row (row ∷ []) → new ≡ take most (old ++ due) → keys_of old ≡ bytes_of keys
-    → (count ≡ written_after (nat_lt written count) written) × (keys_of new ≡ bytes_of (keys_after (nat_lt written count) keys key))
-written_keys most written count old due new row keys key old_count new_count room same_key due_is made same =
-    elim (cases_lt most (length (old ++ due))) [
-      | inl over ↦ elim (cases_Bool (is_put_row row)) [
-        | inl puts ↦
-            let one : length due ≡ 1 = ap length (due_is ∙ cond-true _ _ _ puts) in
-            stays (made ∙ take_at old due most (omega (arith, over, room, old_count, one, length-append old due)))
-        | inr deletes ↦
-            let none : length due ≡ 0 = ap length (due_is ∙ cond-false _ _ _ deletes) in
-            absurd (omega (arith, over, room, old_count, none, length-append old due))
-      ]
-      | inr within ↦ elim (cases_Bool (is_put_row row)) [
-        | inl puts ↦ grows (made ∙ take_all most (old ++ due) within ∙ ap (λ l. old ++ l) (due_is ∙ cond-true _ _ _ puts))
-        | inr deletes ↦ stays (made ∙ take_all most (old ++ due) within ∙ ap (λ l. old ++ l) (due_is ∙ cond-false _ _ _ deletes) ∙ append-nil old)
-      ]
+  -- their bytes
+  pub bytes_written : entries_bytes new ≡ hashed_after due (entries_bytes old) bytes
+  bytes_written = ap entries_bytes rows_written ∙ go due
+    where
+      go : (b : Bool) → entries_bytes (old ++ due_rows b bytes) ≡ hashed_after b (entries_bytes old) bytes
+      go false = ap entries_bytes (append-nil old)
+      go true = bytes_more old bytes
+
+  -- and their keys, if it is the entry of this row
+  pub keys_written : (row : StoredRow) (key : List ℕ) → due_rows puts bytes ≡ filter is_put_row (row ∷ []) → row.key ≡ key → keys_of new ≡ keys_after due (keys_of old) key
+  keys_written row key its same = ap keys_of rows_written ∙ go due refl
+    where
+      go : (b : Bool) → due ≡ b → keys_of (old ++ due_rows b bytes) ≡ keys_after b (keys_of old) key
+      go false none = ap keys_of (append-nil old)
+      go true is =
+          let put : puts ≡ true = (and_parts puts (nat_lt written most) (sym due_is ∙ is)).0 in
+          let it : entry_row bytes ≡ row = own_row bytes row (sym (ap (λ b. due_rows b bytes) put) ∙ its) in
+          map-append (λ (r : StoredRow). r.key) old (entry_row bytes ∷ []) ∙ ap (λ (k : List ℕ). keys_of old ++ k ∷ []) (ap (λ (r : StoredRow). r.key) it ∙ same)
+
+-- ---- a key of the index
+
+-- one of two holds if the second does
+or_later : (b c : Bool) → c ≡ true → (b || c) ≡ true
+or_later true c is = refl
+or_later false c is = is
+
+-- and still if the second is replaced by what follows of it
+either : (b c d : Bool) → (c ≡ true → d ≡ true) → (b || c) ≡ true → (b || d) ≡ true
+either true c d step is = refl
+either false c d step is = step is
+
+-- the last of some keys is that of a row
+has_last : (rows : List StoredRow) (front : List (List ℕ)) (key : List ℕ) → keys_of rows ≡ front ++ key ∷ [] → has_row_with key rows ≡ true
+has_last [] [] key is = absurd (cc)
+has_last [] (first ∷ front) key is = absurd (cc)
+has_last (row ∷ rows) [] key is = let same : row.key ≡ key = cc in ap (λ b. b || has_row_with key rows) (key_itself row.key key same)
+has_last (row ∷ rows) (first ∷ front) key is =
+    let rest : keys_of rows ≡ front ++ key ∷ [] = cc in
+    or_later (bytes_eq row.key key) (has_row_with key rows) (has_last rows front key rest)
+
+-- a row of a beginning is one of all
+has_taken : (count : ℕ) (rows : List StoredRow) (key : List ℕ) → has_row_with key (take count rows) ≡ true → has_row_with key rows ≡ true
+has_taken zero rows key has = absurd (cc)
+has_taken (suc count) [] key has = has
+has_taken (suc count) (row ∷ rows) key has = either (bytes_eq row.key key) (has_row_with key (take count rows)) (has_row_with key rows) (has_taken count rows key) has
+
+-- a put is one of all rows
+has_put : (rows : List StoredRow) (key : List ℕ) → has_row_with key (filter is_put_row rows) ≡ true → has_row_with key rows ≡ true
+has_put [] key has = has
+has_put (row ∷ rows) key has =
+    let further : has_row_with key (filter is_put_row rows) ≡ true → has_row_with key rows ≡ true = has_put rows key in
+    elim (cases_Bool (is_put_row row)) [
+      | inl put ↦ either (bytes_eq row.key key) (has_row_with key (filter is_put_row rows)) (has_row_with key rows) further (sym (ap (has_row_with key) (cond-true _ _ _ put)) ∙ has)
+      | inr other ↦ or_later (bytes_eq row.key key) (has_row_with key rows) (further (sym (ap (has_row_with key) (cond-false _ _ _ other)) ∙ has))
     ]
+
+-- the key of the next row is above the last one of the index
+pub above_index : (rows newest : List StoredRow) (index : Building) (decided most : ℕ) (row : StoredRow) (key : List ℕ) → Rises newest → IsBuildingOf (keys_of rows) index
+    → rows ≡ take most (filter is_put_row (take decided newest)) → slice_get newest decided ≡ Some row → row.key ≡ key → is_above index.last key ≡ true
+above_index rows newest index decided most row key rises built is there same = go index.last built.last_is
   where
-    stays : new ≡ old → (count ≡ written_after (nat_lt written count) written) × (keys_of new ≡ bytes_of (keys_after (nat_lt written count) keys key))
-    stays is =
-        let long : length new ≡ length old = ap length is in
-        let none : nat_lt written count ≡ false = le-ltb written count (omega (arith, long, old_count, new_count)) in
-        let as_before : count ≡ written = omega (arith, long, old_count, new_count) in
-        (as_before ∙ sym (ap (λ b. written_after b written) none), ap keys_of is ∙ same ∙ sym (ap (λ b. bytes_of (keys_after b keys key)) none))
-
-    grows : new ≡ old ++ row ∷ [] → (count ≡ written_after (nat_lt written count) written) × (keys_of new ≡ bytes_of (keys_after (nat_lt written count) keys key))
-    grows is =
-        let long : length new ≡ length old + 1 = ap length is ∙ length-append old (row ∷ []) in
-        let some : nat_lt written count ≡ true = lt-ltb written count (omega (arith, long, old_count, new_count)) in
-        let one_more : count ≡ written + 1 = omega (arith, long, old_count, new_count) in
-        let its_keys : keys_of (old ++ row ∷ []) ≡ bytes_of keys ++ key.0 ∷ [] = map-append (λ (r : StoredRow). r.key) old (row ∷ []) ∙ ap (λ l. l ++ row.key ∷ []) same ∙ ap (λ k. bytes_of keys ++ k ∷ []) same_key in (
-          one_more ∙ sym (ap (λ b. written_after b written) some),
-          ap keys_of is ∙ its_keys ∙ sym (map-append (λ (k : Key). k.0) keys (key ∷ [])) ∙ sym (ap (λ b. bytes_of (keys_after b keys key)) some),
-        )
-
--- an entry that is due and finds room is written, and its bytes come behind those that are there
-pub written_entry : (most written count : ℕ) (old new : List StoredRow) (due : Bool) (bytes : List ℕ) → length old ≡ written → length new ≡ count → written ≤ most → new ≡ take most (old ++ due_rows due bytes)
-    → (count ≡ written_after (nat_lt written count) written) × (entries_bytes new ≡ hashed_after (nat_lt written count) (entries_bytes old) bytes)
-written_entry most written count old new due bytes old_count new_count room made = go due made
-  where
-    stays : new ≡ old → (count ≡ written_after (nat_lt written count) written) × (entries_bytes new ≡ hashed_after (nat_lt written count) (entries_bytes old) bytes)
-    stays is =
-        let long : length new ≡ length old = ap length is in
-        let none : nat_lt written count ≡ false = le-ltb written count (omega (arith, long, old_count, new_count)) in
-        let as_before : count ≡ written = omega (arith, long, old_count, new_count) in
-        (as_before ∙ sym (ap (λ b. written_after b written) none), ap entries_bytes is ∙ sym (ap (λ b. hashed_after b (entries_bytes old) bytes) none))
-
-    grows : new ≡ old ++ entry_row bytes ∷ [] → (count ≡ written_after (nat_lt written count) written) × (entries_bytes new ≡ hashed_after (nat_lt written count) (entries_bytes old) bytes)
-    grows is =
-        let long : length new ≡ length old + 1 = ap length is ∙ length-append old (entry_row bytes ∷ []) in
-        let some : nat_lt written count ≡ true = lt-ltb written count (omega (arith, long, old_count, new_count)) in
-        let one_more : count ≡ written + 1 = omega (arith, long, old_count, new_count) in
-        (one_more ∙ sym (ap (λ b. written_after b written) some), ap entries_bytes is ∙ bytes_more old bytes ∙ sym (ap (λ b. hashed_after b (entries_bytes old) bytes) some))
-
-    go : (b : Bool) → new ≡ take most (old ++ due_rows b bytes) → (count ≡ written_after (nat_lt written count) written) × (entries_bytes new ≡ hashed_after (nat_lt written count) (entries_bytes old) bytes)
-    go false is = stays (is ∙ ap (take most) (append-nil old) ∙ take_all most old (omega (arith, old_count, room)))
-    go true is = elim (cases_lt written most) [
-      | inl below ↦ grows (is ∙ take_all most (old ++ entry_row bytes ∷ []) (omega (arith, old_count, below, length-append old (entry_row bytes ∷ []))))
-      | inr full ↦ stays (is ∙ take_at old (entry_row bytes ∷ []) most (omega (arith, old_count, room, full)))
-    ]
+    go : (o : Option Key) → EndWith (keys_of rows) o → is_above o key ≡ true
+    go None none = refl
+    go (Some last) ends =
+        let taken : has_row_with last.0 (take most (filter is_put_row (take decided newest))) ≡ true = sym (ap (has_row_with last.0) is) ∙ has_last rows ends.0 last.0 ends.1 in
+        let before = has_put (take decided newest) last.0 (has_taken most (filter is_put_row (take decided newest)) last.0 taken) in
+        ap is_lt (ap (slice_cmp nat_cmp last.0) (sym same) ∙ before_at newest decided last.0 row rises before there)

@@ -1,4 +1,5 @@
 pub mod Choosing
+pub mod Comparing
 pub mod Counting
 pub mod Deciding
 pub mod Elsewhere
@@ -11,5 +12,7 @@ pub mod Sounding
 pub mod Kept
 pub mod Keys
 pub mod Making
+pub mod Stepped
 pub mod Stepping
+pub mod Taking
 pub mod Viewing

@@ -1,6 +1,7 @@
 -- Parts of a region that were read together, as parts of the bytes that were read.
-use Rattle.std.proofs.Common.{◌≡◌, ℕ, zero, suc, ◌+◌, ◌-◌, ◌*◌, ◌<◌, ◌≤◌, List, [], ◌∷◌, ◌++◌, length, take, slice_range, refl, sym, subst, ap, ◌∙◌, arith, length-append}
+use Rattle.std.proofs.Common.{◌≡◌, ℕ, zero, suc, ◌+◌, ◌-◌, ◌*◌, ◌<◌, ◌≤◌, List, [], ◌∷◌, ◌++◌, get_or, length, take, slice_range, refl, sym, subst, ap, ◌∙◌, arith, length-append}
 use Rattle.std.proofs.Math.Seq.{take-append_seam}
+use Rattle.std.proofs.lemmas.List.Edits.{length-between}
 use Rattle.silt_disk.specs.Layout.{Shape, row_len}
 use Rattle.silt_frame.specs.Rows.{StoredRow, row_of}
 use Rattle.silt_hash_store.specs.Slots.{HoldsSlots, slot_row}
@@ -39,15 +40,27 @@ pub are_entries : (rows : List StoredRow) (bytes : List ℕ) (place len count : 
 are_entries rows bytes place len count holds =
     subst (λ p. AreEntries rows p (parts_from bytes len 0 count)) (omega arith) (entries_from rows bytes place len 0 count (λ i low high. holds i (omega arith)))
 
--- the first of them is the entry in its place
-pub first_part : (rows : List StoredRow) (place : ℕ) (bytes : List ℕ) (len at count : ℕ) → 0 < count → AreEntries rows place (parts_from bytes len at count) → HasEntry rows place (slice_range bytes (at * len) (at * len + len))
-first_part rows place bytes len at zero some are = absurd (omega arith)
-first_part rows place bytes len at (suc count) some are = are.0
-
 -- there are so many parts
 pub part_count : (bytes : List ℕ) (len at count : ℕ) → length (parts_from bytes len at count) ≡ count
 part_count bytes len at zero = refl
 part_count bytes len at (suc count) = let rest = part_count bytes len (at + 1) count in omega (arith, rest)
+
+-- the bytes of the first of them
+pub first_part : (bytes : List ℕ) (len at count : ℕ) → 0 < count → get_or (parts_from bytes len at count) 0 [] ≡ slice_range bytes (at * len) (at * len + len)
+first_part bytes len at zero some = absurd (omega arith)
+first_part bytes len at (suc count) some = refl
+
+-- it has its length
+pub part_long : (bytes : List ℕ) (len at count most : ℕ) → 0 < count → at + count ≤ most → most * len ≤ length bytes → length (slice_range bytes (at * len) (at * len + len)) ≡ len
+part_long bytes len at count most some within fits =
+    let inside = part_inside 0 len most at (length bytes) (omega (arith, fits)) (omega (arith, some, within)) in
+    let part = length-between bytes (at * len) (at * len + len) (omega (arith, inside)) in
+    omega (arith, part)
+
+-- the first of parts that encode entries is the entry in its place
+pub first_entry : (rows : List StoredRow) (place : ℕ) (parts : List (List ℕ)) → 0 < length parts → AreEntries rows place parts → HasEntry rows place (get_or parts 0 [])
+first_entry rows place [] some are = absurd (omega arith)
+first_entry rows place (part ∷ parts) some are = are.0
 
 -- ---- slots
 
@@ -74,9 +87,9 @@ are_slots s region slot count image bytes within holds =
     subst (λ n. AreSlots s region image n (parts_from bytes (row_len s) 0 count)) (omega arith) (slots_from s region slot 0 count image bytes (omega (arith, within)) (λ i low high. holds i (omega arith)))
 
 -- the first of them shows the row in its slot
-pub first_slot : (s : Shape) (region slot : ℕ) (image bytes : List ℕ) (len at count : ℕ) → 0 < count → AreSlots s region image slot (parts_from bytes len at count) → slot_row s region image slot ≡ row_of (slice_range bytes (at * len) (at * len + len))
-first_slot s region slot image bytes len at zero some are = absurd (omega arith)
-first_slot s region slot image bytes len at (suc count) some are = are.0.1
+pub first_slot : (s : Shape) (region slot : ℕ) (image : List ℕ) (parts : List (List ℕ)) → 0 < length parts → AreSlots s region image slot parts → slot_row s region image slot ≡ row_of (get_or parts 0 [])
+first_slot s region slot image [] some are = absurd (omega arith)
+first_slot s region slot image (part ∷ parts) some are = are.0.1
 
 -- if the rows of the slots are the same, the parts are still their bytes
 pub slots_same : (s : Shape) (region : ℕ) (old new : List ℕ) (slot : ℕ) (parts : List (List ℕ)) → ((n : ℕ) → n < 4 * s.buckets → slot_row s region new n ≡ slot_row s region old n) → AreSlots s region old slot parts → AreSlots s region new slot parts

@@ -1,11 +1,16 @@
 -- What the read of a row gives.
-use Rattle.std.proofs.Common.{◌≡◌, ℕ, ◌<◌, List, [], ◌++◌, length, get_or, drop, Option, Some, None, Result, Ok, Err, IfSome, OnErr, OnOk, refl, sym, ap, ◌∙◌}
+use Rattle.std.proofs.Common.{◌≡◌, ℕ, ◌<◌, List, [], ◌++◌, length, get_or, drop, Option, Some, None, Result, Ok, Err, IfSome, OnErr, OnOk, refl, sym, ap, ◌∙◌, arith}
 use Rattle.std.specs.List.{All}
 use Rattle.std.proofs.lemmas.List.{drop_at, get_or-map, take_at}
 use Rattle.silt_disk.specs.Layout.{Shape}
 use Rattle.silt_hash_store.specs.Slots.{slot_row}
 use Rattle.silt_hash_store.specs.State.{HashState}
+use Rattle.silt_frame.specs.Frame.{kind_byte}
 use Rattle.silt_frame.specs.Rows.{StoredRow}
+use Rattle.silt_frame.specs.declared.key.Kind.{Kind}
+use Rattle.silt_frame.specs.declared.key.Kind.TheVariants.{Put, Delete}
+use Rattle.silt_frame.specs.declared.key.Row.{Row}
+use Rattle.silt_hash_store.specs.Lookup.{IsRowAt}
 use Rattle.silt_merge.specs.Choice.{ReadsRow}
 use Rattle.silt_merge.specs.Rows.{regions_of}
 use Rattle.silt_merge.specs.declared.source.Source.{Source}
@@ -44,3 +49,20 @@ row_read result shape image stores store key source old front value below is sha
 pub each_source : {P : Source → Type 0} (o : Option Source) → ((source : Source) → o ≡ Some source → P source) → IfSome o P
 each_source None each = tt
 each_source (Some source) each = each source refl
+
+-- a slot has one row
+pub one_row : (stored : StoredRow) (slot : ℕ) (a b : Option Row) → IsRowAt stored slot a → IsRowAt stored slot b → a ≡ b
+one_row stored slot None None first second = refl
+one_row stored slot None (Some b) first second = let known = second.known in absurd (cc)
+one_row stored slot (Some a) None first second = let known = first.known in absurd (cc)
+one_row stored slot (Some a) (Some b) first second =
+    let kind : a.kind ≡ b.kind = one_kind a.kind b.kind (first.kind ∙ sym second.kind) in
+    let key : a.key.0 ≡ b.key.0 = first.key ∙ sym second.key in
+    let place : a.place ≡ b.place = first.place ∙ sym second.place in
+    ap Some (ap (λ k. let r : Row = record a { kind = k } in r) kind ∙ ap (λ k. let r : Row = record { kind = b.kind; key = record { 0 = k }; place = a.place } in r) key ∙ ap (λ p. let r : Row = record b { place = p } in r) place)
+  where
+    one_kind : (k l : Kind) → kind_byte k ≡ kind_byte l → k ≡ l
+    one_kind Put Put same = refl
+    one_kind Put Delete same = absurd (omega (arith, same))
+    one_kind Delete Put same = absurd (omega (arith, same))
+    one_kind Delete Delete same = refl

@@ -1,30 +1,29 @@
 -- What each step of a merge leaves.
-use Rattle.std.proofs.Common.{◌≡◌, ◌≢◌, ℕ, ◌+◌, ◌*◌, ◌<◌, ◌≤◌, ◌⊎◌, eqb, Bool, true, false, cond, IsTrue, List, [], ◌∷◌, length, get_or, Option, Some, None, option_map, inl, inr, refl, sym, subst, ap, ◌∙◌, arith}
+use Rattle.std.proofs.Common.{◌≡◌, ◌≢◌, ℕ, ◌+◌, ◌*◌, ◌<◌, ◌≤◌, ◌⊎◌, eqb, Bool, true, false, cond, IsTrue, List, [], ◌∷◌, ◌++◌, length, get_or, take, Option, Some, None, option_map, inl, inr, refl, sym, subst, ap, ◌∙◌, arith}
 use Rattle.std.specs.Option.{option_or}
 use Rattle.std.specs.Str.{bytes_eq}
 use Rattle.std.proofs.lemmas.Bool.{cases_Bool, cond-true, cond-false, eq-eqb, eqb-true, le-ltb}
 use Rattle.std.proofs.lemmas.List.{take_all}
 use Rattle.silt_disk.specs.Disk.{Content}
-use Rattle.silt_disk.specs.Layout.{Shape}
+use Rattle.silt_disk.specs.Layout.{Shape, row_len}
 use Rattle.silt_frame.specs.declared.key.Key.{Key}
 use Rattle.silt_frame.specs.declared.key.Row.{Row}
 use Rattle.silt_hash_store.specs.Lookup.{IsRowAt}
-use Rattle.silt_hash_store.specs.Slots.{slot_row}
+use Rattle.silt_hash_store.specs.Slots.{rows_before, slot_row}
 use Rattle.silt_hash_store.specs.State.{HashState}
 use Rattle.silt_event.specs.Rows.{newest_row}
 use Rattle.silt_sorted_store.specs.State.{sorted_rows, SortedState}
-use Rattle.silt_frame.specs.Rows.{StoredRow, entries_bytes, keys_of}
+use Rattle.silt_frame.specs.Rows.{StoredRow, entries_bytes, keys_of, rows_bytes}
 use Rattle.silt_merge.specs.Choice.{Gathers, own_source}
 use Rattle.silt_merge.specs.Merging.{HasMerged, decided_rows, gathered_rows, source_row}
 use Rattle.silt_merge.specs.Pieces.{AreEntries, AreSlots, parts_after}
 use Rattle.silt_merge.specs.Rows.{entries_in, has_row_with, regions_of}
-use Rattle.silt_merge.specs.State.{IsHeldMerge, MergeState, slot_after, source_at}
-use Rattle.silt_trie.specs.Building.{is_above}
+use Rattle.silt_merge.specs.State.{IsHeldMerge, MergeState, ends_store, input_after, slot_after, source_at}
+use Rattle.silt_trie.specs.Building.{Building, IsBuildingOf, is_above}
 use Rattle.silt_merge.specs.declared.source.Source.{Source}
+use Rattle.silt_merge.proofs.Comparing.{slot_bytes}
 use Rattle.silt_merge.proofs.Elsewhere.{regions_count}
 use Rattle.silt_merge.proofs.Gathering.{next_gathered, none_gathered, waits_kept}
-use Rattle.silt_merge.proofs.Reading.{store_at}
-use Rattle.silt_trie.specs.Coded.{bytes_of}
 use Rattle.sha1.specs.Sha1.{Holds}
 use Rattle.sha1.specs.declared.Sha1.{Sha1}
 
@@ -35,10 +34,16 @@ none_written : (s : Shape) (region : ℕ) (image : List ℕ) → sorted_rows s r
 unfolding sorted_rows
 none_written s region image = refl
 
+-- no slot is hashed
+no_slots : (s : Shape) (region : ℕ) (image : List ℕ) → rows_before s region image 0 ≡ []
+unfolding rows_before
+no_slots s region image = refl
+
 -- nothing is gathered, and nothing is due
-pub started : (content : Content) (stores : List HashState) (sorted : SortedState) (shape : Shape) (region : ℕ) (waiting : List (Key × Source)) (written : ℕ) (keys : List Key) (slots ahead : List (List ℕ)) (hasher : Sha1) → shape ≡ sorted.shape → sorted.region ≢ region → waiting ≡ [] → written ≡ 0 → keys ≡ [] → slots ≡ [] → ahead ≡ []
-    → Holds hasher [] → HasMerged content stores sorted (record { shape = shape; region = region; stores = length stores; store = 0; slot = 0; waiting = waiting; passed = 0; written = written; keys = keys; decided = 0; last = None; slots = slots; ahead = ahead; hasher = hasher })
-started content stores sorted shape region waiting written keys slots ahead hasher same apart none no_entries no_keys no_slots none_ahead fresh = record {
+pub started : (content : Content) (stores : List HashState) (sorted : SortedState) (shape : Shape) (region : ℕ) (waiting : List (Key × Source)) (index : Building) (slots ahead : List (List ℕ)) (input hasher : Sha1) → shape ≡ sorted.shape → sorted.region ≢ region
+    → waiting ≡ [] → IsBuildingOf [] index → slots ≡ [] → ahead ≡ [] → Holds input [] → Holds hasher []
+    → HasMerged content stores sorted (record { shape = shape; region = region; stores = length stores; store = 0; slot = 0; waiting = waiting; passed = 0; written = 0; index = index; decided = 0; last = None; slots = slots; ahead = ahead; input = input; hasher = hasher })
+started content stores sorted shape region waiting index slots ahead input hasher same apart none no_keys none_read none_ahead fresh_input fresh = record {
   shape = sym same;
   counted = refl;
   apart = apart;
@@ -50,22 +55,24 @@ started content stores sorted shape region waiting written keys slots ahead hash
           ap (λ l. option_map (source_row sorted.shape content.shown (regions_of stores)) (source_at l key)) none
           ∙ sym (ap (λ l. newest_row l key) (none_gathered sorted.shape content.shown (regions_of stores) 0));
       last = λ key some. absurd (cc);
-      slots = λ below. subst (AreSlots sorted.shape (get_or (regions_of stores) 0 0) content.shown 0) (sym no_slots) tt;
+      slots = λ below. subst (AreSlots sorted.shape (get_or (regions_of stores) 0 0) content.shown 0) (sym none_read) tt;
       ahead = subst (AreEntries (entries_in content.shown sorted) 0) (sym none_ahead) tt;
       passes = λ place below. sym (le-ltb place 0 (omega arith));
+      slots_hashed = λ below. subst (λ (rows : List StoredRow). Holds input (rows_bytes rows)) (sym (no_slots sorted.shape (get_or (regions_of stores) 0 0) content.shown)) fresh_input;
+      entries_hashed = λ past. fresh_input;
     };
     writes = nothing ∙ sym (take_all shape.sorted_capacity [] (omega arith));
-    keys = ap keys_of nothing ∙ ap bytes_of (sym no_keys);
+    index = subst (λ (rows : List StoredRow). IsBuildingOf (keys_of rows) index) (sym nothing) no_keys;
   };
 }
   where
-    nothing : sorted_rows shape region written content.shown ≡ []
-    nothing = ap (λ n. sorted_rows shape region n content.shown) no_entries ∙ none_written shape region content.shown
+    nothing : sorted_rows shape region 0 content.shown ≡ []
+    nothing = none_written shape region content.shown
 
 -- ---- a slot that is gathered
 
 -- so many slots and one
-slots_more : (store slot slots : ℕ) → (slot_after store slot slots).0 * slots + (slot_after store slot slots).1 ≡ store * slots + slot + 1
+pub slots_more : (store slot slots : ℕ) → (slot_after store slot slots).0 * slots + (slot_after store slot slots).1 ≡ store * slots + slot + 1
 slots_more store slot slots = elim (cases_Bool (eqb (slot + 1) slots)) [
   | inl last ↦
       let all : slot + 1 ≡ slots = eqb-true (slot + 1) slots last in
@@ -101,9 +108,9 @@ kept_inside merge (Some row) after held below keeps key source is =
     own_inside false found = absurd (cc)
 
 -- a merge with one slot more
-pub gathered_held : (merge : MergeState) (row : Option Row) (after : List (Key × Source)) (next : ℕ × ℕ) (slots : List (List ℕ)) → IsHeldMerge merge → merge.store < merge.stores → Gathers merge.store merge.slot row merge.waiting after
-    → length after ≤ length merge.waiting + 1 → next ≡ slot_after merge.store merge.slot (4 * merge.shape.buckets) → IsHeldMerge (record merge { store = next.0; slot = next.1; waiting = after; slots = slots })
-gathered_held merge row after next slots held below keeps long is =
+pub gathered_held : (merge : MergeState) (row : Option Row) (after : List (Key × Source)) (next : ℕ × ℕ) (slots : List (List ℕ)) (input : Sha1) → IsHeldMerge merge → merge.store < merge.stores → Gathers merge.store merge.slot row merge.waiting after
+    → length after ≤ length merge.waiting + 1 → next ≡ slot_after merge.store merge.slot (4 * merge.shape.buckets) → IsHeldMerge (record merge { store = next.0; slot = next.1; waiting = after; slots = slots; input = input })
+gathered_held merge row after next slots input held below keeps long is =
     let count : next.0 * (4 * merge.shape.buckets) + next.1 ≡ merge.store * (4 * merge.shape.buckets) + merge.slot + 1 =
     ap (λ (p : ℕ × ℕ). p.0 * (4 * merge.shape.buckets) + p.1) is ∙ slots_more merge.store merge.slot (4 * merge.shape.buckets) in
     let place = where_next (after_last merge.store merge.slot (4 * merge.shape.buckets)) in
@@ -114,11 +121,12 @@ gathered_held merge row after next slots held below keeps long is =
       ended = place.2;
       gathers = λ still. held.gathers below;
       fresh = λ still. held.fresh below;
+      unpassed = λ still. held.unpassed below;
       above = λ key source found. ap (λ o. is_above o key) (held.fresh below);
       inside = λ key source found. let inside = kept_inside merge row after held below keeps key source found in record { store = inside.0; slot = inside.1 };
       room = held.room;
       few = omega (arith, held.few, count, long);
-      keys = held.keys;
+      index = held.index;
     }
   where
     where_next : (slot_after merge.store merge.slot (4 * merge.shape.buckets) ≡ (merge.store + 1, 0)) ⊎ ((slot_after merge.store merge.slot (4 * merge.shape.buckets) ≡ (merge.store, merge.slot + 1)) × (merge.slot + 1 ≢ 4 * merge.shape.buckets))
@@ -152,19 +160,36 @@ slots_next s regions image store slot (part ∷ other ∷ slots) are =
         let zero_slot : slot + 1 ≡ 0 = sym (ap (λ (p : ℕ × ℕ). p.1) further) ∙ ap (λ (p : ℕ × ℕ). p.1) last in
         omega (arith, zero_slot)
 
--- the row of a slot that was read of its store
-pub row_of_store : (s t : Shape) (stores : List HashState) (store : HashState) (image : List ℕ) (place slot : ℕ) (row : Option Row) → place < length stores → store ≡ get_or stores place store → store.shape ≡ t → s ≡ t
-    → IsRowAt (slot_row store.shape store.region image slot) slot row → IsRowAt (slot_row s (get_or (regions_of stores) place 0) image slot) slot row
-row_of_store s t stores store image place slot row inside here shape same is =
-    subst (λ r. IsRowAt (slot_row s r image slot) slot row) (sym (store_at stores place store inside here)) (subst (λ (u : Shape). IsRowAt (slot_row u store.region image slot) slot row) (shape ∙ sym same) is)
+-- the hashed bytes are those of the slots before the next one, or none before the first of the next store
+input_next : (s : Shape) (regions image : List ℕ) (store slot : ℕ) (slots : List (List ℕ)) (input : Sha1) → 0 < length slots → length (get_or slots 0 []) ≡ row_len s → AreSlots s (get_or regions store 0) image slot slots
+    → Holds input (input_after (eqb (slot + 1) (4 * s.buckets)) (rows_bytes (rows_before s (get_or regions store 0) image slot)) (get_or slots 0 []))
+    → ((slot_after store slot (4 * s.buckets)).0 ≡ store + 1 → Holds input [])
+    × Holds input (rows_bytes (rows_before s (get_or regions (slot_after store slot (4 * s.buckets)).0 0) image (slot_after store slot (4 * s.buckets)).1))
+input_next s regions image store slot slots input some long are holds = elim (cases_Bool (eqb (slot + 1) (4 * s.buckets))) [
+  | inl last ↦
+      let nothing : Holds input [] = subst (λ b. Holds input (input_after b (rows_bytes (rows_before s (get_or regions store 0) image slot)) (get_or slots 0 []))) last holds in
+      let next : slot_after store slot (4 * s.buckets) ≡ (store + 1, 0) = cond-true _ _ _ last in (
+        λ same. nothing,
+        subst (λ (p : ℕ × ℕ). Holds input (rows_bytes (rows_before s (get_or regions p.0 0) image p.1))) (sym next)
+            (subst (λ (rows : List StoredRow). Holds input (rows_bytes rows)) (sym (no_slots s (get_or regions (store + 1) 0) image)) nothing),
+      )
+  | inr other ↦
+      let more : Holds input (rows_bytes (rows_before s (get_or regions store 0) image slot) ++ get_or slots 0 []) = subst (λ b. Holds input (input_after b (rows_bytes (rows_before s (get_or regions store 0) image slot)) (get_or slots 0 []))) other holds in
+      let next : slot_after store slot (4 * s.buckets) ≡ (store, slot + 1) = cond-false _ _ _ other in (
+        λ same. let here : store ≡ store + 1 = sym (ap (λ (p : ℕ × ℕ). p.0) next) ∙ same in absurd (omega (arith, here)),
+        subst (λ (p : ℕ × ℕ). Holds input (rows_bytes (rows_before s (get_or regions p.0 0) image p.1))) (sym next)
+            (subst (Holds input) (sym (slot_bytes s (get_or regions store 0) image slot slots some long are)) more),
+      )
+]
 
 -- has gathered one slot more
-pub gathered_step : (content : Content) (stores : List HashState) (sorted : SortedState) (merge : MergeState) (row : Option Row) (after : List (Key × Source)) (next : ℕ × ℕ) → IsHeldMerge merge → merge.store < merge.stores
+pub gathered_step : (content : Content) (stores : List HashState) (sorted : SortedState) (merge : MergeState) (row : Option Row) (after : List (Key × Source)) (next : ℕ × ℕ) (input : Sha1) → IsHeldMerge merge → merge.store < merge.stores → 0 < length merge.slots
+    → length (get_or merge.slots 0 []) ≡ row_len merge.shape → ((bytes : List ℕ) → Holds merge.input bytes → Holds input (input_after (ends_store merge) bytes (get_or merge.slots 0 [])))
     → (IsTrue content.honest → sorted.shape ≡ merge.shape → AreSlots sorted.shape (get_or (regions_of stores) merge.store 0) content.shown merge.slot merge.slots
     → IsRowAt (slot_row sorted.shape (get_or (regions_of stores) merge.store 0) content.shown merge.slot) merge.slot row)
     → Gathers merge.store merge.slot row merge.waiting after → next ≡ slot_after merge.store merge.slot (4 * merge.shape.buckets)
-    → HasMerged content stores sorted merge → HasMerged content stores sorted (record merge { store = next.0; slot = next.1; waiting = after; slots = parts_after true merge.slots })
-gathered_step content stores sorted merge row after next held below read keeps is so_far = record {
+    → HasMerged content stores sorted merge → HasMerged content stores sorted (record merge { store = next.0; slot = next.1; waiting = after; slots = parts_after true merge.slots; input = input })
+gathered_step content stores sorted merge row after next input held below some long hashed read keeps is so_far = record {
   shape = so_far.shape;
   counted = so_far.counted;
   apart = so_far.apart;
@@ -186,18 +211,29 @@ gathered_step content stores sorted merge row after next held below read keeps i
       ap (λ (p : ℕ × ℕ). gathered_rows s image regions p.0 p.1) is
       ∙ ap (λ (t : Shape). gathered_rows s image regions (slot_after merge.store merge.slot (4 * t.buckets)).0 (slot_after merge.store merge.slot (4 * t.buckets)).1) (sym so_far.shape)
       ∙ next_gathered s image regions merge.store merge.slot within in
+      let same_next : slot_after merge.store merge.slot (4 * s.buckets) ≡ next = ap (λ (t : Shape). slot_after merge.store merge.slot (4 * t.buckets)) so_far.shape ∙ sym is in
+      let holds = input_next s regions image merge.store merge.slot merge.slots input some (long ∙ ap row_len (sym so_far.shape)) (was.gathered.slots inside)
+      (subst (λ (t : Shape). Holds input (input_after (eqb (merge.slot + 1) (4 * t.buckets)) (rows_bytes (rows_before s (get_or regions merge.store 0) image merge.slot)) (get_or merge.slots 0 []))) (sym so_far.shape)
+      (hashed (rows_bytes (rows_before s (get_or regions merge.store 0) image merge.slot)) (was.gathered.slots_hashed inside))) in
       record {
         gathered = record {
           most = was.gathered.most;
           waits = λ key. kept key ∙ ap (λ l. newest_row l key) (sym moved) ∙ sym (first key (gathered_rows s image regions next.0 next.1));
           last = was.gathered.last;
           slots = λ further.
-              subst (λ (p : ℕ × ℕ). AreSlots s (get_or regions p.0 0) image p.1 (parts_after true merge.slots)) (ap (λ (t : Shape). slot_after merge.store merge.slot (4 * t.buckets)) so_far.shape ∙ sym is)
+              subst (λ (p : ℕ × ℕ). AreSlots s (get_or regions p.0 0) image p.1 (parts_after true merge.slots)) same_next
               (slots_next s regions image merge.store merge.slot merge.slots (was.gathered.slots inside));
           ahead = was.gathered.ahead;
           passes = was.gathered.passes;
+          slots_hashed = λ further. subst (λ (p : ℕ × ℕ). Holds input (rows_bytes (rows_before s (get_or regions p.0 0) image p.1))) same_next holds.1;
+          entries_hashed = λ past.
+              let last : (slot_after merge.store merge.slot (4 * s.buckets)).0 ≡ merge.store + 1 = elim (after_last merge.store merge.slot (4 * s.buckets)) [
+                | inl it ↦ ap (λ (p : ℕ × ℕ). p.0) it
+                | inr it ↦ let same : next.0 ≡ merge.store = ap (λ (p : ℕ × ℕ). p.0) (sym same_next ∙ it.0) in absurd (omega (arith, same, past, inside))
+              ] in
+              subst (λ n. Holds input (entries_bytes (take n (entries_in image sorted)))) (sym (held.unpassed below)) (holds.0 last);
         };
         writes = was.writes;
-        keys = was.keys;
+        index = was.index;
       };
 }

@@ -1,5 +1,4 @@
 -- A merge as its record.
-use Rattle.std.specs.Vec.{vec_len}
 use Rattle.silt_merge.specs.State.{MergeState}
 use Rattle.silt_merge.specs.declared.merge.Merge.TheInside.{Inside}
 
@@ -13,11 +12,12 @@ state_of a = record {
   slot = a.slot;
   waiting = a.waiting.entries;
   passed = a.passed;
-  written = vec_len a.keys;
-  keys = a.keys.items;
+  written = a.written;
+  index = a.index;
   decided = a.decided;
   last = a.last;
   slots = a.slots.parts;
   ahead = a.ahead.parts;
+  input = a.input;
   hasher = a.hasher;
 }

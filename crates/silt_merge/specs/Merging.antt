@@ -9,16 +9,14 @@ use Rattle.silt_hash_store.specs.State.{HashState}
 use Rattle.silt_event.specs.Rows.{newest_row, map_of_rows}
 use Rattle.silt_hash_store.specs.Findings.{hash_findings}
 use Rattle.silt_sorted_store.specs.Findings.{sorted_findings}
-use Rattle.silt_frame.specs.Rows.{StoredRow, entries_bytes, has_known_kind, is_put_row, keys_of, put_count}
+use Rattle.silt_frame.specs.Rows.{StoredRow, entries_bytes, has_known_kind, is_put_row, keys_of, put_count, rows_bytes}
 use Rattle.silt_sorted_store.specs.State.{sorted_rows, SortedState}
 use Rattle.silt_frame.specs.declared.key.Key.{Key}
 use Rattle.silt_merge.specs.Pieces.{AreEntries, AreSlots}
 use Rattle.silt_merge.specs.Rows.{entries_in, has_row_with, rows_of_hashes, key_count, newest_rows, regions_of, sources}
 use Rattle.silt_merge.specs.State.{MergeState, source_at}
-use Rattle.silt_merge.specs.declared.merge.StepError.{StepError}
-use Rattle.silt_merge.specs.declared.merge.StepError.TheVariants.{Read, Write, NoMemory}
 use Rattle.silt_merge.specs.declared.source.Source.{Source}
-use Rattle.silt_trie.specs.Coded.{bytes_of}
+use Rattle.silt_trie.specs.Building.{IsBuildingOf}
 use Rattle.sha1.specs.Sha1.{Holds}
 
 -- the merged stores lie in hash regions, and there is no finding in them
@@ -41,7 +39,8 @@ abbrev pub decided_rows : List ℕ → List HashState → SortedState → ℕ �
 decided_rows image stores sorted decided = take decided (newest_rows (sources image stores sorted))
 
 -- So far the newest gathered row of each key waits until the key is decided, and the entries of decided keys are skipped. The last
--- key is a decided one, and the slots and the entries that are ahead are the next ones
+-- key is a decided one, and the slots and the entries that are ahead are the next ones. The bytes of the slots of the store in
+-- progress are hashed as far as they are gathered, and then those of the entries as far as they are skipped
 pub record IsGatheredIn (image : List ℕ) (stores : List HashState) (sorted : SortedState) (merge : MergeState) : Type 0 where
   pub most : merge.decided ≤ key_count (sources image stores sorted)
   pub waits : (key : List ℕ) → option_map (source_row sorted.shape image (regions_of stores)) (source_at merge.waiting key)
@@ -51,13 +50,15 @@ pub record IsGatheredIn (image : List ℕ) (stores : List HashState) (sorted : S
   pub ahead : AreEntries (entries_in image sorted) merge.passed merge.ahead
   pub passes : (place : ℕ) → place < sorted.count
       → has_row_with (get_or (keys_of (entries_in image sorted)) place []) (decided_rows image stores sorted merge.decided) ≡ nat_lt place merge.passed
+  pub slots_hashed : merge.store < length stores → Holds merge.input (rows_bytes (rows_before sorted.shape (get_or (regions_of stores) merge.store 0) image merge.slot))
+  pub entries_hashed : length stores ≤ merge.store → Holds merge.input (entries_bytes (take merge.passed (entries_in image sorted)))
 
--- and the entries of decided keys are written, under the keys that are kept
+-- and the entries of decided keys are written, and their keys are indexed
 pub record IsMergedIn (image : List ℕ) (stores : List HashState) (sorted : SortedState) (merge : MergeState) : Type 0 where
   pub gathered : IsGatheredIn image stores sorted merge
   pub writes : sorted_rows merge.shape merge.region merge.written image
       ≡ take merge.shape.sorted_capacity (filter is_put_row (decided_rows image stores sorted merge.decided))
-  pub keys : keys_of (sorted_rows merge.shape merge.region merge.written image) ≡ bytes_of merge.keys
+  pub index : IsBuildingOf (keys_of (sorted_rows merge.shape merge.region merge.written image)) merge.index
 
 -- So far everything is gathered and written, if the disk is honest and there is no finding in the merged stores. On any honest disk
 -- the written entries are hashed.
@@ -74,18 +75,6 @@ pub record IsMergeOf (rows entries : List StoredRow) : Type 0 where
   pub same_map : map_of_rows entries ≡ map_of_rows rows
   pub charge : put_count entries ≤ put_count rows
   pub counted : length entries ≡ put_count entries
-
--- the next slot to gather shows a row of a known kind, and no row of its key waits
-pub record TakesMemory (content : Content) (stores : List HashState) (merge : MergeState) : Type 0 where
-  pub gathers : merge.store < merge.stores
-  pub known : IsTrue content.honest → has_known_kind (slot_row merge.shape (get_or (regions_of stores) merge.store 0) content.shown merge.slot) ≡ true
-  pub new_key : IsTrue content.honest → source_at merge.waiting (slot_row merge.shape (get_or (regions_of stores) merge.store 0) content.shown merge.slot).key ≡ None
-
--- why a step failed: a read, or out of memory for a waiting row, and nothing has changed; or the write
-abbrev pub FailsMerge : {D F : Type 0} → (D → F → Type 0) → (F → Type 0) → Type 0 → D → D → StepError F → Type 0
-FailsMerge gave_read counts takes_memory old new (Read fault) = (new ≡ old) × gave_read old fault
-FailsMerge gave_read counts takes_memory old new (Write fault) = counts fault
-FailsMerge gave_read counts takes_memory old new NoMemory = (new ≡ old) × takes_memory
 
 -- the shape, the region and the number of stores of a merge never change
 pub record IsSameMerge (old new : MergeState) : Type 0 where

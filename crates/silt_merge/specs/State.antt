@@ -1,6 +1,5 @@
 -- A merge in memory.
-use Rattle.std.specs.Prelude.{◌≡◌, ℕ, ◌+◌, ◌*◌, ◌-◌, ◌==◌, ◌≤◌, ◌<◌, ◌⊎◌, nat_le, Bool, true, false, not, ◌&&◌, if◌then◌else◌, List, [], ◌∷◌, ◌++◌, drop, length, slice_index, Option, Some, None}
-use Rattle.std.specs.List.{All}
+use Rattle.std.specs.Prelude.{◌≡◌, ℕ, ◌+◌, ◌*◌, ◌-◌, ◌==◌, ◌≤◌, ◌<◌, ◌⊎◌, nat_le, Bool, true, false, not, ◌&&◌, if◌then◌else◌, List, [], ◌∷◌, ◌++◌, drop, length, min, sum_by, Option, Some, None}
 use Rattle.std.specs.Map.{lookup}
 use Rattle.std.specs.Ordering.{is_eq, nat_cmp}
 use Rattle.std.specs.Cmp.Lexicographic.{slice_cmp}
@@ -9,15 +8,13 @@ use Rattle.silt_frame.specs.declared.key.Key.{Key}
 use Rattle.silt_hash_store.specs.State.{HashState}
 use Rattle.silt_merge.specs.declared.source.Source.{Source}
 use Rattle.silt_sorted_store.specs.State.{SortedState}
-use Rattle.silt_trie.specs.Building.{is_above}
-use Rattle.silt_trie.specs.Code.{IsCodable}
-use Rattle.silt_trie.specs.Coded.{bytes_of}
-use Rattle.silt_frame.specs.Frame.{key_len}
+use Rattle.silt_trie.specs.Building.{Building, is_above}
 use Rattle.sha1.specs.declared.Sha1.{Sha1}
 
--- A merge: the sorted region that it writes, the number of hash stores, the store and the slot to gather next, the rows that wait for
--- their keys to be decided, the number of skipped entries of the sorted store, the number of written entries and their keys, the
--- number of decided keys and the last of them, the bytes of the next slots and entries as far as they are read, and the hasher of
+-- A merge: the sorted region that it writes, the number of hash stores, the store and the slot to gather next, the rows that wait
+-- for their keys to be decided, the number of skipped entries of the sorted store, the number of written entries and the index of
+-- their keys as far as it is built, the number of decided keys and the last of them, and the bytes of the next slots and entries as
+-- far as they are read. Then the hasher of what is taken, of the slots of the store in progress or of the entries, and the hasher of
 -- the written entries. An entry that is skipped because its key is not greater than the last one counts as a decided key.
 pub record MergeState : Type 0 where
   pub shape : Shape
@@ -28,11 +25,12 @@ pub record MergeState : Type 0 where
   pub waiting : List (Key × Source)
   pub passed : ℕ
   pub written : ℕ
-  pub keys : List Key
+  pub index : Building
   pub decided : ℕ
   pub last : Option Key
   pub slots : List (List ℕ)
   pub ahead : List (List ℕ)
+  pub input : Sha1
   pub hasher : Sha1
 
 -- the next entry's key is at most the last decided key
@@ -71,15 +69,32 @@ abbrev pub written_after : Bool → ℕ → ℕ
 written_after true written = written + 1
 written_after false written = written
 
--- the keys of the written entries after this key
-abbrev pub keys_after : Bool → List Key → Key → List Key
+-- the keys of the written entries after this key, whose entry is written or not
+abbrev pub keys_after : Bool → List (List ℕ) → List ℕ → List (List ℕ)
 keys_after true keys key = keys ++ key ∷ []
 keys_after false keys key = keys
 
--- the hashed bytes after this entry, which is written or not
+-- the hashed bytes after these, which are hashed or not
 abbrev pub hashed_after : Bool → List ℕ → List ℕ → List ℕ
-hashed_after true bytes entry = bytes ++ entry
-hashed_after false bytes entry = bytes
+hashed_after true hashed bytes = hashed ++ bytes
+hashed_after false hashed bytes = hashed
+
+-- the hashed bytes after a slot: none behind the last slot of a store
+abbrev pub input_after : Bool → List ℕ → List ℕ → List ℕ
+input_after true hashed slot = []
+input_after false hashed slot = hashed ++ slot
+
+-- the next slot is the last one of its store
+abbrev pub ends_store : MergeState → Bool
+ends_store merge = merge.slot + 1 == 4 * merge.shape.buckets
+
+-- the next entry is skipped, and it is the last one
+abbrev pub ends_entries : Bool → ℕ → ℕ → Bool
+ends_entries passes passed count = passes && (passed + 1 == count)
+
+-- at most as many entries come of these stores: one for each put and each entry, and no more than the region can hold
+abbrev pub most_entries : List HashState → SortedState → ℕ
+most_entries stores sorted = min (sorted.count + sum_by (λ store. store.puts) stores) sorted.shape.sorted_capacity
 
 -- the number of gathered slots
 abbrev pub gathered_count : MergeState → ℕ
@@ -102,18 +117,7 @@ pub record IsInside (merge : MergeState) (source : Source) : Type 0 where
   pub store : source.store < merge.stores
   pub slot : source.slot < 4 * merge.shape.buckets
 
--- the bytes of a key
-abbrev pub HasKeyBytes : List ℕ → Type 0
-HasKeyBytes bytes = (length bytes ≡ key_len) × ((i : ℕ) → slice_index bytes i < 256)
-
--- the keys of this many entries, which rise strictly up to the last decided key
-pub record AreKeysUpTo (last : Option Key) (count : ℕ) (keys : List Key) : Type 0 where
-  pub counted : length keys ≡ count
-  pub codable : IsCodable (bytes_of keys) 0
-  pub bytes : All (λ (key : Key). HasKeyBytes key.0) keys
-  pub decided : All (λ (key : Key). is_above last key.0 ≡ false) keys
-
--- the invariant of every merge, on any disk
+-- the invariant of every merge, on any disk; the index has one key more than is written after a write that failed
 pub record IsHeldMerge (merge : MergeState) : Type 0 where
   pub there : merge.region < 2
   pub store : merge.store ≤ merge.stores
@@ -121,8 +125,9 @@ pub record IsHeldMerge (merge : MergeState) : Type 0 where
   pub ended : merge.store ≡ merge.stores → merge.slot ≡ 0
   pub gathers : merge.store < merge.stores → merge.decided ≡ 0
   pub fresh : merge.store < merge.stores → merge.last ≡ None
+  pub unpassed : merge.store < merge.stores → merge.passed ≡ 0
   pub above : (key : List ℕ) (source : Source) → source_at merge.waiting key ≡ Some source → is_above merge.last key ≡ true
   pub inside : (key : List ℕ) (source : Source) → source_at merge.waiting key ≡ Some source → IsInside merge source
   pub room : merge.written ≤ merge.shape.sorted_capacity
   pub few : merge.decided + length merge.waiting ≤ gathered_count merge + merge.passed
-  pub keys : AreKeysUpTo merge.last merge.written merge.keys
+  pub index : merge.index.count ≤ merge.written + 1

@@ -7,9 +7,14 @@
 //!
 //! The last decided key stays in memory, and an entry whose key is not greater is skipped. So the written keys rise, on any disk.
 //!
-//! The merge keeps the keys that it writes, and builds the index from them at the end. So the new store finds each of its entries
-//! by one read. It reserves room for these keys when it begins. A hasher gets each entry that is written, for the new store's
-//! digest.
+//! The merge codes the key of each entry that it writes into the index of the new store. So the new store finds each of its entries
+//! by one read. A hasher gets each entry that is written, for the new store's digest.
+//!
+//! Another hasher gets each slot and each old entry that is taken. With the last one of a store, what was read must have the digest
+//! that the store has in memory. Else the step is refused before it keeps or writes anything, and the next step compares again. So
+//! a store that has changed on the disk does not get into the new store under a fresh digest. One way is left: the value of a row
+//! is read a second time, when its key is decided. If a byte of it changes between the two reads, the merge writes the changed
+//! byte, and the new store's digest covers it.
 //!
 //! It writes only entries of its own region. On a disk that is not honest (does not obey the crash model) it is safe and ends.
 #![tactic(auto)]

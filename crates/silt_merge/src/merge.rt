@@ -1,21 +1,23 @@
 // A merge of hash stores and a sorted store, step by step.
-ghost use Rattle.std.specs.Prelude.{◌≡◌, ◌≢◌, ◌==◌, ◌+◌, ◌*◌, ◌-◌, ◌<◌, ◌≤◌, ◌^◌, ◌↔◌, ℕ, List, [], Option, true, false, Some};
-ghost use Rattle.std.specs.Prelude.{None, cond, length, take, IsTrue, IfOk, IfErr, IfSome, IsSomeAnd, OnOk, OnErr, MatchResult, is_some, nat_lt, slice_index, vec_capacity, vec_len};
+ghost use Rattle.std.specs.Prelude.{◌≡◌, ◌≢◌, ◌==◌, ◌+◌, ◌*◌, ◌-◌, ◌<◌, ◌≤◌, ◌^◌, ◌↔◌, ◌++◌, ◌||◌, ℕ, List, [], Option, true, false, Some};
+ghost use Rattle.std.specs.Prelude.{None, cond, get_or, length, take, IsTrue, IfOk, IfErr, IfSome, IsSomeAnd, OnOk, OnErr, is_some, nat_lt};
 ghost use Rattle.std.specs.List.{All};
 ghost use Rattle.std.specs.Str.{bytes_eq};
-ghost use Rattle.silt_disk.specs.Disk.{Content, ChangesWithin, CountsFault, GaveAny, Makes, MakesAtMost, size};
-ghost use Rattle.silt_disk.specs.Layout.{Shape, device_size, entry_len, sorted_at, sorted_size};
+ghost use Rattle.silt_disk.specs.Disk.{Content, GaveAny, size};
+ghost use Rattle.silt_disk.specs.Layout.{Shape, device_size, row_len};
 ghost use Rattle.silt_frame.specs.declared.key.Key.{Key};
 ghost use Rattle.silt_hash_store.specs.State.{HashState};
 ghost use Rattle.silt_hash_store.specs.Lookup.{IsRowAt};
-ghost use Rattle.silt_hash_store.specs.Slots.{slot_row};
-ghost use Rattle.silt_merge.specs.Choice.{Gathers, IsNextEntry, IsOffered, ReadsRow};
+ghost use Rattle.silt_merge.specs.Choice.{Gathers, IsNextEntry, IsOffered, ReadsRow, choice_puts};
+ghost use Rattle.silt_merge.specs.Comparing.{HasCompared, MayTake};
 ghost use Rattle.silt_merge.specs.Rows.{regions_of};
-ghost use Rattle.silt_merge.specs.State.{AreKeysUpTo, ahead_without, hashed_after, keys_after, passed_after, slot_after, written_after};
-ghost use Rattle.silt_trie.specs.Building.{is_above};
+ghost use Rattle.silt_merge.specs.State.{ahead_without, ends_entries, hashed_after, input_after, keys_after, most_entries, passed_after, slot_after, written_after};
+ghost use Rattle.silt_merge.specs.Steps.{RefusesRow, TakesSlot, TakesStep};
+ghost use Rattle.silt_trie.specs.Building.{IsBuildingOf, SuitsKeys, is_above};
 ghost use Rattle.silt_merge.specs.declared.source.Source.{Source};
-ghost use Rattle.silt_frame.specs.Rows.{StoredRow};
-ghost use Rattle.silt_merge.specs.Pieces.{AreEntries, AreSlots, parts_after};
+ghost use Rattle.silt_frame.specs.Rows.{StoredRow, row_of};
+ghost use Rattle.silt_merge.specs.Pieces.{AreEntries, parts_after};
+ghost use Rattle.silt_sorted_store.specs.Region.{is_written};
 ghost use Rattle.silt_sorted_store.specs.State.{HasDigest, IsHeldSorted, SortedState, entries_of};
 ghost use Rattle.sha1.specs.Sha1.{Holds, sha1};
 
@@ -24,9 +26,11 @@ use crate::piece::Piece;
 use crate::source::{Source, first, keep, remove_waiting};
 use sha1::Sha1;
 use silt_disk::Disk;
+use silt_event::Place;
 use silt_frame::{Digest, KEY_LEN, Key, Row};
 use silt_hash_store::HashStore;
 use silt_sorted_store::{SortedEntries, SortedRegion, SortedStore};
+use silt_trie::MarkedTrieBuilder;
 use std::alloc::{AllocError, Global};
 use std::collections::BTreeMap;
 use std::marker::Model;
@@ -36,17 +40,20 @@ use std::marker::Model;
 pub enum StepError<F> {
     /// A read failed with this fault. Nothing has changed.
     Read(F),
-    /// The write of an entry failed with this fault. The entry may then show any bytes.
+    /// The write of an entry failed with this fault. The entry may then show any bytes, and the merge promises nothing more.
     Write(F),
-    /// Out of memory for a row. Nothing has changed.
+    /// Out of memory for a row that waits or for a key of the index. Nothing has changed.
     NoMemory,
+    /// What was read of this store does not have the store's digest, or two reads of it differ. Nothing has changed.
+    Damaged(Place),
 }
 
 /// Hash stores and a sorted store that are being merged into a new sorted store.
 ///
-/// It holds the key and the place of each row that waits to be decided, the last decided key, and the keys of all entries that it
-/// wrote. It also holds a piece of the next slots and one of the next entries of the sorted store, each from one read. Each step
-/// uses the same buffer for an entry. A hasher gets what is written, so that the new store's digest needs no further read.
+/// It holds the key and the place of each row that waits to be decided, the last decided key, and the index of the entries that it
+/// wrote, as far as it is built. It also holds a piece of the next slots and one of the next entries of the sorted store, each from
+/// one read. Each step uses the same buffer for an entry. One hasher gets what is taken of the store that is being read, to compare
+/// it with that store's digest, and one gets what is written, so that the new store's digest needs no further read.
 #[derive(Drop)]
 pub struct Merge {
     target: SortedRegion,
@@ -55,17 +62,19 @@ pub struct Merge {
     slot: u32,
     waiting: BTreeMap<Key, Source>,
     passed: u32,
-    keys: Vec<Key>,
-    hasher: Sha1,
+    written: u32,
+    index: MarkedTrieBuilder,
     decided: u64,
     last: Option<Key>,
     slots: Piece,
     ahead: Piece,
+    input: Sha1,
+    hasher: Sha1,
     made: Vec<u8>,
 }
 
 impl Model for Merge {
-    ghost use Rattle.std.specs.Prelude.{◌≡◌, ◌≤◌, vec_capacity, vec_len};
+    ghost use Rattle.std.specs.Prelude.{◌≡◌, ◌≤◌, vec_len};
     ghost use Rattle.silt_disk.specs.Layout.{entry_len, row_len};
     ghost use Rattle.silt_merge.specs.State.{MergeState, IsHeldMerge};
 
@@ -79,12 +88,13 @@ impl Model for Merge {
       slot = a.slot;
       waiting = a.waiting.entries;
       passed = a.passed;
-      written = vec_len a.keys;
-      keys = a.keys.items;
+      written = a.written;
+      index = a.index;
       decided = a.decided;
       last = a.last;
       slots = a.slots.parts;
       ahead = a.ahead.parts;
+      input = a.input;
       hasher = a.hasher;
     } };
 
@@ -96,15 +106,16 @@ impl Model for Merge {
       slot = a.slot;
       waiting = a.waiting.entries;
       passed = a.passed;
-      written = vec_len a.keys;
-      keys = a.keys.items;
+      written = a.written;
+      index = a.index;
       decided = a.decided;
       last = a.last;
       slots = a.slots.parts;
       ahead = a.ahead.parts;
+      input = a.input;
       hasher = a.hasher;
     }) × (a.slots.len ≡ row_len a.target.geometry) × (a.ahead.len ≡ entry_len a.target.geometry) × (vec_len a.made ≡ entry_len a.target.geometry)
-        × (a.target.geometry.sorted_capacity ≤ vec_capacity a.keys) × (a.target.geometry.sorted_capacity ≤ 16777216) };
+        × (a.target.geometry.sorted_capacity ≤ 16777216) };
 }
 
 // Puts the bytes of the next entry of the sorted store into a buffer, if not all are skipped. Returns its key.
@@ -163,6 +174,14 @@ fn slot_after(store: u16, slot: u32, slots: u32) -> (u16, u32)
     }
 }
 
+// The number of written entries after a key, whose entry is written or not.
+fn written_after(is_written: bool, written: u32) -> u32
+    requires { is_written ≡ true → written + 1 < 2 ^ 32 }
+    ensures { result ≡ written_after is_written written }
+{
+    if is_written { written + 1 } else { written }
+}
+
 // The number of skipped entries after a key. The next entry may have the key or not.
 fn passed_after(passes: bool, passed: u32) -> u32
     requires { passes ≡ true → passed + 1 < 2 ^ 32 }
@@ -171,57 +190,156 @@ fn passed_after(passes: bool, passed: u32) -> u32
     if passes { passed + 1 } else { passed }
 }
 
-// What the type of bytes says: each is less than 256.
-fn known_bytes(bytes: &[u8])
-    ensures { (place : ℕ) → slice_index bytes.now place < 256 }
-{}
-
-// Keeps the key of a written entry. There is room for it.
-fn keep_key(keys: &mut Vec<Key>, key: Key, is_written: bool)
-    requires room { is_written ≡ true → vec_len keys.old < vec_capacity keys.old }
-    ensures keys { keys.new.items ≡ keys_after is_written keys.old.items key }
-    ensures len { vec_len keys.new ≡ written_after is_written (vec_len keys.old) }
-    ensures room { vec_capacity keys.new ≡ vec_capacity keys.old }
-    ensures rising { (last : Option Key) → AreKeysUpTo last (vec_len keys.old) keys.old.items → is_above last key.0 ≡ true → (is_written ≡ true → vec_len keys.old + 2 < 2 ^ 32)
-        → AreKeysUpTo (Some key) (vec_len keys.new) keys.new.items }
+// At most as many entries come of these stores: one for each put and each entry, and no more than the region can hold.
+fn most_entries(stores: &[HashStore], sorted: &SortedEntries) -> u32
+    ensures { result ≡ most_entries stores.now sorted.now }
 {
-    known_bytes(&key.0);
-    if is_written {
-        keys.push_reserved(key);
+    let mut most = sorted.len();
+    for store in stores {
+        most = most.saturating_add(store.puts());
     }
+    most.min(sorted.geometry().sorted_capacity())
 }
 
-// Hashes the bytes of a written entry.
-fn hash_written(hasher: &mut Sha1, entry: &[u8], is_written: bool)
-    ensures { (bytes : List ℕ) → Holds hasher.old bytes → Holds hasher.new (hashed_after is_written bytes entry.now) }
+// A hasher that was fed the same.
+fn copy_of(hasher: &Sha1) -> Sha1
+    ensures { result ≡ hasher.now }
 {
-    if is_written {
-        hasher.update(entry);
-    }
+    let copy: Result<_, _> = hasher.clone();
+    let Ok(copy) = copy else { unreachable!() };
+    copy
 }
 
 // The digest of what was hashed so far.
 fn digest_so_far(hasher: &Sha1) -> Digest
     ensures { (bytes : List ℕ) → Holds hasher.now bytes → result.0 ≡ sha1 bytes }
 {
-    let copy: Result<_, _> = hasher.clone();
-    let Ok(copy) = copy else { unreachable!() };
-    Digest(copy.finalize())
+    Digest(copy_of(hasher).finalize())
+}
+
+// Whether the next part of a store may be taken. If it is the last part, all parts must have the store's digest.
+fn may_take(input: &Sha1, part: &[u8], ends: bool, digest: &Digest) -> bool
+    ensures { (bytes : List ℕ) → Holds input.now bytes → MayTake ends (bytes ++ part.now) digest.now.0 result }
+{
+    if !ends {
+        return true;
+    }
+    let mut all = copy_of(input);
+    all.update(part);
+    Digest(all.finalize()) == *digest
+}
+
+// Hashes a slot that is taken. The hasher is fresh for the next store after the last slot of a store.
+fn hash_slot(input: &mut Sha1, slot: &[u8], ends: bool)
+    ensures { (bytes : List ℕ) → Holds input.old bytes → Holds input.new (input_after ends bytes slot.now) }
+{
+    if ends {
+        *input = Sha1::new();
+    } else {
+        input.update(slot);
+    }
+}
+
+// Hashes the bytes of an entry, if it is taken or written.
+fn hash_entry(hasher: &mut Sha1, entry: &[u8], is_hashed: bool)
+    ensures { (bytes : List ℕ) → Holds hasher.old bytes → Holds hasher.new (hashed_after is_hashed bytes entry.now) }
+{
+    if is_hashed {
+        hasher.update(entry);
+    }
+}
+
+// Whether the next entry is skipped: it is not above the last key, or it has the key of a choice.
+fn skips_entry(is_behind: bool, choice: &Choice) -> bool
+    ensures { result ≡ (is_behind || choice.now.passes) }
+{
+    is_behind || choice.passes
+}
+
+// Whether an entry is written for a choice.
+fn is_due(choice: &Choice, written: u32, region: &SortedRegion) -> bool
+    ensures { result ≡ is_written (choice_puts choice.now.source) written region.now.geometry.sorted_capacity }
+{
+    let capacity = region.geometry.sorted_capacity();
+    choice.is_put() && written < capacity
+}
+
+// Whether the next entry is skipped and is the last one.
+fn ends_entries(passes: bool, passed: u32, sorted: &SortedEntries) -> bool
+    requires { passes ≡ true → passed < sorted.now.count }
+    ensures { result ≡ ends_entries passes passed sorted.now.count }
+{
+    let count = sorted.len();
+    passes && passed + 1 == count
+}
+
+// Takes the key of an entry that will be written into the index. After a write that failed, the index may have one key more than
+// entries are written. It then takes no further key.
+fn index_key(
+    index: &mut MarkedTrieBuilder,
+    written: u32,
+    key: Key,
+    is_due: bool,
+) -> Result<(), AllocError>
+    requires few { written ≤ 16777216 }
+    requires most { index.old.count ≤ written + 1 }
+    ensures index { OnOk result ((keys : List (List ℕ)) → IsBuildingOf keys index.old → length keys ≡ written → is_above index.old.last key.0 ≡ true
+        → IsBuildingOf (keys_after is_due keys key.0) index.new) }
+    ensures most { index.new.count ≤ written + 1 }
+    ensures err { OnErr result (index.new ≡ index.old) }
+    ensures due { OnErr result (is_due ≡ true) }
+{
+    if !is_due {
+        return Ok(());
+    }
+    if index.len() > written as usize {
+        return Ok(());
+    }
+    index.push(key)?;
+    Ok(())
+}
+
+// Whether two reads of a slot gave the same row.
+fn is_same_row(a: Option<Row>, b: Option<Row>) -> bool
+    ensures { result ≡ true ↔ a ≡ b }
+{
+    a == b
+}
+
+// Why the row of a slot is not kept, if there is no memory for it. It reads the slot's head again, so that the contract speaks of
+// what the slot shows now.
+fn refusal_of_row<D: Disk>(
+    store: &HashStore,
+    disk: &D,
+    slot: u32,
+    row: Option<Row>,
+) -> StepError<D::Fault>
+    requires slot { slot < 4 * store.now.shape.buckets }
+    requires size { device_size store.now.shape ≤ size (D.content disk.now) }
+    ensures { RefusesRow (GaveAny D.gave disk.now) (D.content disk.now) store.now slot row result }
+{
+    let now = match store.row_at(disk, slot) {
+        Ok(now) => now,
+        Err(fault) => return StepError::Read(fault),
+    };
+    if !is_same_row(now, row) {
+        return StepError::Damaged(Place::HashDigest(store.region()));
+    }
+    StepError::NoMemory
 }
 
 impl Merge {
-    ghost use Rattle.silt_merge.specs.Merging.{AreSound, FailsMerge, HasMerged, IsMergeOf, IsSameMerge, TakesMemory};
+    ghost use Rattle.silt_merge.specs.Merging.{AreSound, HasMerged, IsMergeOf};
     ghost use Rattle.silt_merge.specs.Rows.{key_count, merged_rows, sources};
-    ghost use Rattle.silt_merge.specs.State.{IsHeldMerge, MergeState, LastRises, is_done, oldest_stores, source_at, steps_for, steps_of};
+    ghost use Rattle.silt_merge.specs.State.{IsHeldMerge, ends_store, is_done, oldest_stores, source_at, steps_for, steps_of};
     ghost use Rattle.silt_sorted_store.specs.Index.{IsIndexOf};
-    ghost use Rattle.silt_sorted_store.specs.State.{sorted_entry_at};
 
     /// A merge of these hash stores, from the newest, and the sorted store, into the sorted region of this number, with no slot
-    /// gathered. It reserves room for as many keys as the region can hold, so that no step reserves more.
+    /// gathered.
     ///
     /// # Errors
     ///
-    /// Out of memory: this room, the two pieces or the bytes of one entry could not be allocated.
+    /// Out of memory: the two pieces or the bytes of one entry could not be allocated.
     pub fn start(
         alloc: Global,
         stores: &[HashStore],
@@ -240,15 +358,18 @@ impl Merge {
           waiting = [];
           passed = 0;
           written = 0;
-          keys = [];
+          index = merge.index;
           decided = 0;
           last = None;
           slots = [];
           ahead = [];
+          input = merge.input;
           hasher = merge.hasher;
         }) }
+        ensures levels { IfOk result (λ merge. SuitsKeys (most_entries stores.now sorted.now) merge.index.levels) }
         ensures held { IfOk result IsHeldMerge }
         ensures merged { (content : Content) → IfOk result (HasMerged content stores.now sorted.now) }
+        ensures compared { (digest : List ℕ) → IfOk result (HasCompared stores.now sorted.now digest) }
     {
         let geometry = sorted.geometry();
         let slots = Piece::new(alloc, geometry.row_len(), 4 * geometry.buckets())?;
@@ -263,12 +384,14 @@ impl Merge {
             slot: 0,
             waiting: BTreeMap::new(alloc),
             passed: 0,
-            keys: Vec::with_capacity(alloc, geometry.sorted_capacity() as usize)?,
-            hasher: Sha1::new(),
+            written: 0,
+            index: MarkedTrieBuilder::new(alloc, most_entries(stores, sorted) as usize),
             decided: 0,
             last: None,
             slots,
             ahead,
+            input: Sha1::new(),
+            hasher: Sha1::new(),
             made: vec![in alloc; 0; geometry.entry_len()]?,
         })
     }
@@ -332,7 +455,7 @@ impl Merge {
     // The row of the next slot, which is ahead.
     fn row_ahead(&self) -> Option<Row>
         requires there { 0 < length self.now.slots }
-        ensures { (shape : Shape) (region : ℕ) (image : List ℕ) → AreSlots shape region image self.now.slot self.now.slots → IsRowAt (slot_row shape region image self.now.slot) self.now.slot result }
+        ensures { IsRowAt (row_of (get_or self.now.slots 0 [])) self.now.slot result }
     {
         self.slots.first_row(self.slot)
     }
@@ -346,8 +469,9 @@ impl Merge {
           slot = (slot_after self.old.store self.old.slot (4 * self.old.shape.buckets)).1;
           waiting = self.new.waiting;
           slots = parts_after true self.old.slots;
+          input = self.new.input;
         }) }
-        ensures ok { OnOk result (steps_of self.new ≡ steps_of self.old + 1) }
+        ensures hashed { OnOk result ((bytes : List ℕ) → Holds self.old.input bytes → Holds self.new.input (input_after (ends_store self.old) bytes (get_or self.old.slots 0 []))) }
         ensures held { IsHeldMerge self.new }
         ensures err { OnErr result (self.new ≡ self.old) }
         ensures new_key { OnErr result (IsSomeAnd row (λ row. source_at self.old.waiting row.key.0 ≡ None)) }
@@ -356,72 +480,72 @@ impl Merge {
             return Err(error);
         }
         let slots = 4 * self.target.geometry.buckets();
+        hash_slot(&mut self.input, self.slots.first(), self.slot + 1 == slots);
         (self.store, self.slot) = slot_after(self.store, self.slot, slots);
         self.slots.pass(true);
         Ok(())
     }
 
-    // Gathers one slot by reading its head.
-    fn gather_head<D: Disk>(
+    // Whether the next slot, which is ahead, may be taken: it is not the last one of its store, or all have the store's digest.
+    fn may_take_slot(&self, store: &HashStore) -> bool
+        requires there { 0 < length self.now.slots }
+        ensures answer { (bytes : List ℕ) → Holds self.now.input bytes → MayTake (ends_store self.now) (bytes ++ get_or self.now.slots 0 []) store.now.digest result }
+        ensures len { length (get_or self.now.slots 0 []) ≡ row_len self.now.shape }
+        ensures held { IsHeldMerge self.now }
+    {
+        let slots = 4 * self.target.geometry.buckets();
+        let ends = self.slot + 1 == slots;
+        may_take(&self.input, self.slots.first(), ends, store.digest())
+    }
+
+    // Gathers the next slot, which is ahead.
+    fn gather_ahead<D: Disk>(
         &mut self,
         stores: &[HashStore],
         disk: &D,
     ) -> Result<(), StepError<D::Fault>>
         requires more { self.old.store < self.old.stores }
+        requires there { 0 < length self.old.slots }
         requires count { length stores.now ≡ self.old.stores }
         requires shapes { All (λ store. store.shape ≡ self.old.shape) stores.now }
         requires size { device_size self.old.shape ≤ size (D.content disk.now) }
-        ensures ok { OnOk result (steps_of self.new ≡ steps_of self.old + 1) }
-        ensures same { IsSameMerge self.old self.new }
-        ensures held { IsHeldMerge self.new }
-        ensures err { OnErr result (self.new ≡ self.old) }
-        ensures rises { LastRises self.old self.new }
-        ensures merged { (sorted : SortedState) → HasMerged (D.content disk.now) stores.now sorted self.old → HasMerged (D.content disk.now) stores.now sorted self.new }
-        ensures unwritten { self.new.written ≡ self.old.written }
-        ensures failures { IfErr result (FailsMerge (GaveAny D.gave) (λ fault. ⊥) (TakesMemory (D.content disk.now) stores.now self.old) disk.now disk.now) }
+        ensures step { (sorted : SortedState) (digest : List ℕ) → TakesStep D.Disk stores.now sorted digest disk.now disk.now self.old self.new result }
+        ensures slot { OnOk result (TakesSlot self.old self.new) }
     {
-        let row = match stores[self.store as usize].row_at(disk, self.slot) {
-            Ok(row) => row,
-            Err(fault) => return Err(StepError::Read(fault)),
-        };
+        let store = &stores[self.store as usize];
+        if !self.may_take_slot(store) {
+            return Err(StepError::Damaged(Place::HashDigest(store.region())));
+        }
+        let slot = self.slot;
+        let row = self.row_ahead();
         match self.take_row(row) {
             Ok(()) => Ok(()),
-            Err(_) => Err(StepError::NoMemory),
+            Err(_) => Err(refusal_of_row(store, disk, slot, row)),
         }
     }
 
-    // Gathers one slot, and first reads the next ones if none is ahead. If there is no memory for its row, the contract speaks of the
-    // slot as the disk shows it then.
+    // Gathers one slot, and first reads the next ones if none is ahead.
     fn gather<D: Disk>(&mut self, stores: &[HashStore], disk: &D) -> Result<(), StepError<D::Fault>>
         requires more { self.old.store < self.old.stores }
         requires count { length stores.now ≡ self.old.stores }
         requires shapes { All (λ store. store.shape ≡ self.old.shape) stores.now }
         requires size { device_size self.old.shape ≤ size (D.content disk.now) }
-        ensures ok { OnOk result (steps_of self.new ≡ steps_of self.old + 1) }
-        ensures same { IsSameMerge self.old self.new }
-        ensures held { IsHeldMerge self.new }
-        ensures err { OnErr result (self.new ≡ self.old) }
-        ensures rises { LastRises self.old self.new }
-        ensures merged { (sorted : SortedState) → HasMerged (D.content disk.now) stores.now sorted self.old → HasMerged (D.content disk.now) stores.now sorted self.new }
-        ensures unwritten { self.new.written ≡ self.old.written }
-        ensures failures { IfErr result (FailsMerge (GaveAny D.gave) (λ fault. ⊥) (TakesMemory (D.content disk.now) stores.now self.old) disk.now disk.now) }
+        ensures { (sorted : SortedState) (digest : List ℕ) → TakesStep D.Disk stores.now sorted digest disk.now disk.now self.old self.new result }
     {
         let is_read = match self.read_slots(stores, disk) {
             Ok(is_read) => is_read,
             Err(fault) => return Err(StepError::Read(fault)),
         };
-        let row = self.row_ahead();
-        match self.take_row(row) {
+        match self.gather_ahead(stores, disk) {
             Ok(()) => Ok(()),
-            Err(_) => {
+            Err(error) => {
                 self.forget_slots(is_read);
-                self.gather_head(stores, disk)
+                Err(error)
             }
         }
     }
 
-    // Marks a key as decided: no row waits for it any more, and the entry that has it is skipped. The key is kept if an entry was
-    // written.
+    // Marks a key as decided, whose entry is written or not: no row waits for it any more, and the entry that has it is skipped.
     fn mark_decided(&mut self, choice: &Choice, is_written: bool)
         requires gathered { self.old.store ≡ self.old.stores }
         requires offered { IsOffered self.old.waiting self.old.last choice.now }
@@ -433,15 +557,17 @@ impl Merge {
           waiting = self.new.waiting;
           passed = passed_after choice.now.passes self.old.passed;
           written = written_after is_written self.old.written;
-          keys = keys_after is_written self.old.keys choice.now.key;
           decided = self.old.decided + 1;
           last = Some choice.now.key;
           ahead = parts_after choice.now.passes self.old.ahead;
+          input = self.new.input;
         } }
+        ensures hashed { (bytes : List ℕ) → Holds self.old.input bytes → Holds self.new.input (hashed_after choice.now.passes bytes (get_or self.old.ahead 0 [])) }
     {
         remove_waiting(&mut self.waiting, &choice.key);
+        hash_entry(&mut self.input, self.ahead.first(), choice.passes);
         self.passed = passed_after(choice.passes, self.passed);
-        keep_key(&mut self.keys, choice.key, is_written);
+        self.written = written_after(is_written, self.written);
         self.decided += 1;
         self.last = Some(choice.key);
         self.ahead.pass(choice.passes);
@@ -452,8 +578,10 @@ impl Merge {
         requires gathered { self.old.store ≡ self.old.stores }
         requires passed { self.old.passed + 1 < 2 ^ 32 }
         ensures held { IsHeldMerge self.new }
-        ensures state { self.new ≡ record self.old { passed = self.old.passed + 1; decided = self.old.decided + 1; ahead = parts_after true self.old.ahead } }
+        ensures state { self.new ≡ record self.old { passed = self.old.passed + 1; decided = self.old.decided + 1; ahead = parts_after true self.old.ahead; input = self.new.input } }
+        ensures hashed { (bytes : List ℕ) → Holds self.old.input bytes → Holds self.new.input (bytes ++ get_or self.old.ahead 0 []) }
     {
+        self.input.update(self.ahead.first());
         self.passed += 1;
         self.decided += 1;
         self.ahead.pass(true);
@@ -491,11 +619,13 @@ impl Merge {
         }
     }
 
-    // Decides one key, with the next entry ahead: reads the value of the row that decides, and writes the entry if there is one to write.
+    // Decides one key, with the next entry ahead: reads the value of the row that decides, and writes the entry if there is one to
+    // write. The entry's key goes into the index before. So if there is no memory for it, nothing has changed.
     fn decide_next<D: Disk>(
         &mut self,
         stores: &[HashStore],
         sorted: &SortedEntries,
+        digest: &Digest,
         disk: &mut D,
     ) -> Result<(), StepError<D::Fault>>
         requires more { is_done self.old sorted.now ≡ false }
@@ -505,42 +635,40 @@ impl Merge {
         requires shapes { All (λ store. store.shape ≡ self.old.shape) stores.now }
         requires shape { sorted.now.shape ≡ self.old.shape }
         requires size { device_size self.old.shape ≤ size (D.content disk.old) }
-        ensures size { size (D.content disk.new) ≡ size (D.content disk.old) }
-        ensures changes { ChangesWithin (sorted_entry_at self.old.shape self.old.region self.old.written) (entry_len self.old.shape) (D.content disk.old) (D.content disk.new) }
-        ensures region { ChangesWithin (sorted_at self.old.shape self.old.region) (self.old.shape.sorted_capacity * entry_len self.old.shape) (D.content disk.old) (D.content disk.new) }
-        ensures ok { OnOk result (steps_of self.new ≡ steps_of self.old + 1) }
-        ensures same { IsSameMerge self.old self.new }
-        ensures held { IsHeldMerge self.new }
-        ensures err { OnErr result (self.new ≡ self.old) }
-        ensures rises { LastRises self.old self.new }
-        ensures merged { HasMerged (D.content disk.old) stores.now sorted.now self.old → HasMerged (D.content disk.new) stores.now sorted.now self.new }
-        ensures grew { (self.old.written ≤ self.new.written) × (self.new.written ≤ self.old.written + 1) }
-        ensures made { MatchResult result (λ _. Makes D.writes D.syncs (self.new.written - self.old.written) 0 disk.old disk.new) (λ _. MakesAtMost D.writes D.syncs 1 0 disk.old disk.new) }
-        ensures failures { MatchResult result (λ _. D.failures disk.new ≡ D.failures disk.old) (FailsMerge (GaveAny D.gave) (CountsFault D.failures D.gave disk.old disk.new) ⊥ disk.old disk.new) }
+        ensures { TakesStep D.Disk stores.now sorted.now digest.now.0 disk.old disk.new self.old self.new result }
     {
         let next = next_entry(sorted, &self.ahead, self.passed, &mut self.made);
-        if is_behind(self.last, next) {
-            self.pass_entry();
-            return Ok(());
-        }
+        let is_behind = is_behind(self.last, next);
         let Some(choice) = choose(first(&self.waiting), next) else {
             return Ok(());
         };
+        let passes = skips_entry(is_behind, &choice);
+        let ends = ends_entries(passes, self.passed, sorted);
+        if !may_take(&self.input, self.ahead.first(), ends, digest) {
+            return Err(StepError::Damaged(Place::SortedDigest));
+        }
+        if is_behind {
+            self.pass_entry();
+            return Ok(());
+        }
         if let Err(fault) = read_row(stores, disk, &choice, &mut self.made) {
             return Err(StepError::Read(fault));
         }
-        let written = self.keys.len() as u32;
+        let is_due = is_due(&choice, self.written, &self.target);
+        if let Err(_) = index_key(&mut self.index, self.written, choice.key, is_due) {
+            return Err(StepError::NoMemory);
+        }
         match self
             .target
-            .write_due(disk, written, choice.is_put(), &self.made)
+            .write_due(disk, self.written, is_due, &self.made)
         {
-            Ok(count) => {
-                hash_written(&mut self.hasher, &self.made, count > written);
-                self.mark_decided(&choice, count > written);
+            Ok(_) => {
+                hash_entry(&mut self.hasher, &self.made, is_due);
+                self.mark_decided(&choice, is_due);
+                Ok(())
             }
-            Err(fault) => return Err(StepError::Write(fault)),
+            Err(fault) => Err(StepError::Write(fault)),
         }
-        Ok(())
     }
 
     // Decides one key, and first reads the next entries if none is ahead.
@@ -548,6 +676,7 @@ impl Merge {
         &mut self,
         stores: &[HashStore],
         sorted: &SortedEntries,
+        digest: &Digest,
         disk: &mut D,
     ) -> Result<(), StepError<D::Fault>>
         requires more { is_done self.old sorted.now ≡ false }
@@ -556,24 +685,13 @@ impl Merge {
         requires shapes { All (λ store. store.shape ≡ self.old.shape) stores.now }
         requires shape { sorted.now.shape ≡ self.old.shape }
         requires size { device_size self.old.shape ≤ size (D.content disk.old) }
-        ensures size { size (D.content disk.new) ≡ size (D.content disk.old) }
-        ensures changes { ChangesWithin (sorted_entry_at self.old.shape self.old.region self.old.written) (entry_len self.old.shape) (D.content disk.old) (D.content disk.new) }
-        ensures region { ChangesWithin (sorted_at self.old.shape self.old.region) (self.old.shape.sorted_capacity * entry_len self.old.shape) (D.content disk.old) (D.content disk.new) }
-        ensures ok { OnOk result (steps_of self.new ≡ steps_of self.old + 1) }
-        ensures same { IsSameMerge self.old self.new }
-        ensures held { IsHeldMerge self.new }
-        ensures err { OnErr result (self.new ≡ self.old) }
-        ensures rises { LastRises self.old self.new }
-        ensures merged { HasMerged (D.content disk.old) stores.now sorted.now self.old → HasMerged (D.content disk.new) stores.now sorted.now self.new }
-        ensures grew { (self.old.written ≤ self.new.written) × (self.new.written ≤ self.old.written + 1) }
-        ensures made { MatchResult result (λ _. Makes D.writes D.syncs (self.new.written - self.old.written) 0 disk.old disk.new) (λ _. MakesAtMost D.writes D.syncs 1 0 disk.old disk.new) }
-        ensures failures { MatchResult result (λ _. D.failures disk.new ≡ D.failures disk.old) (FailsMerge (GaveAny D.gave) (CountsFault D.failures D.gave disk.old disk.new) ⊥ disk.old disk.new) }
+        ensures { TakesStep D.Disk stores.now sorted.now digest.now.0 disk.old disk.new self.old self.new result }
     {
         let is_read = match self.read_ahead(sorted, disk) {
             Ok(is_read) => is_read,
             Err(fault) => return Err(StepError::Read(fault)),
         };
-        match self.decide_next(stores, sorted, disk) {
+        match self.decide_next(stores, sorted, digest, disk) {
             Ok(()) => Ok(()),
             Err(error) => {
                 self.forget_ahead(is_read);
@@ -583,19 +701,24 @@ impl Merge {
     }
 
     /// Takes the next step: gathers one slot, or decides one key. It makes at most two reads and then at most one write, of one
-    /// entry, and no sync, and allocates memory for at most one row. Slots and entries are read once, in pieces of at most 64 KiB. If
-    /// the step that read a piece fails, the piece is read again.
+    /// entry, and no sync. It allocates memory for at most one row or one key of the index. Slots and entries are read once, in
+    /// pieces of at most 64 KiB. If the step that read a piece fails, the piece is read again.
+    ///
+    /// Before it takes the last slot of a hash store, it compares the digest of all the store's slots, as they were read, with the
+    /// store's own. Before it skips the last entry, it compares that of all entries with `digest`.
     ///
     /// Pass the present stores, from the newest. The last of them must be those that the merge took. Newer ones may have come before
-    /// them.
+    /// them. `digest` is that of the sorted store.
     ///
     /// # Errors
     ///
-    /// `Read` if a read failed, and `NoMemory`: nothing has changed. `Write` if the write failed: the merge has not changed.
+    /// `Read` if a read failed, `NoMemory`, and `Damaged` if a digest differs: nothing has changed, and the next step tries the
+    /// same again. `Write` if the write failed: the merge promises nothing more.
     pub fn step<D: Disk>(
         &mut self,
         stores: &[HashStore],
         sorted: &SortedEntries,
+        digest: &Digest,
         disk: &mut D,
     ) -> Result<(), StepError<D::Fault>>
         requires more { is_done self.old sorted.now ≡ false }
@@ -603,27 +726,13 @@ impl Merge {
         requires shapes { All (λ store. store.shape ≡ self.old.shape) (oldest_stores self.old.stores stores.now) }
         requires shape { sorted.now.shape ≡ self.old.shape }
         requires size { device_size self.old.shape ≤ size (D.content disk.old) }
-        ensures size { size (D.content disk.new) ≡ size (D.content disk.old) }
-        ensures changes { ChangesWithin (sorted_entry_at self.old.shape self.old.region self.old.written) (entry_len self.old.shape) (D.content disk.old) (D.content disk.new) }
-        ensures region { ChangesWithin (sorted_at self.old.shape self.old.region) (sorted_size self.old.shape) (D.content disk.old) (D.content disk.new) }
-        ensures ok { OnOk result (steps_of self.new ≡ steps_of self.old + 1) }
-        ensures same { IsSameMerge self.old self.new }
-        ensures held { IsHeldMerge self.new }
-        ensures err { OnErr result (self.new ≡ self.old) }
-        ensures rises { LastRises self.old self.new }
-        ensures merged { HasMerged (D.content disk.old) (oldest_stores self.old.stores stores.now) sorted.now self.old
-            → HasMerged (D.content disk.new) (oldest_stores self.old.stores stores.now) sorted.now self.new }
-        ensures gathers { self.old.store < self.old.stores → self.new.written ≡ self.old.written }
-        ensures grew { (self.old.written ≤ self.new.written) × (self.new.written ≤ self.old.written + 1) }
-        ensures made { MatchResult result (λ _. Makes D.writes D.syncs (self.new.written - self.old.written) 0 disk.old disk.new) (λ _. MakesAtMost D.writes D.syncs 1 0 disk.old disk.new) }
-        ensures failures { MatchResult result (λ _. D.failures disk.new ≡ D.failures disk.old)
-            (FailsMerge (GaveAny D.gave) (CountsFault D.failures D.gave disk.old disk.new) (TakesMemory (D.content disk.old) (oldest_stores self.old.stores stores.now) self.old) disk.old disk.new) }
+        ensures { TakesStep D.Disk (oldest_stores self.old.stores stores.now) sorted.now digest.now.0 disk.old disk.new self.old self.new result }
     {
         let (_newer, taken) = stores.split_at(stores.len() - self.stores as usize);
         if self.store < self.stores {
             return self.gather(taken, disk);
         }
-        self.decide(taken, sorted, disk)
+        self.decide(taken, sorted, digest, disk)
     }
 
     /// The sorted store of the written entries, with the index of their keys and the digest of their bytes.
@@ -643,8 +752,8 @@ impl Merge {
         ensures digested { (content : Content) (stores : List HashState) (sorted : SortedState) → HasMerged content stores sorted self.now
             → IfOk result (λ store. HasDigest content store.sorted store.digest) }
     {
-        let written = self.keys.len() as u32;
-        let entries = SortedEntries::new(self.target.geometry, self.target.number, written);
-        SortedStore::encode(alloc, entries, &self.keys, digest_so_far(&self.hasher))
+        let index = self.index.finish(alloc)?;
+        let entries = SortedEntries::new(self.target.geometry, self.target.number, self.written);
+        Ok(SortedStore::new(entries, index, digest_so_far(&self.hasher)))
     }
 }

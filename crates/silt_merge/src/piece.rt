@@ -1,10 +1,10 @@
 // A piece of a hash region or of a sorted region, read together and taken part by part.
-ghost use Rattle.std.specs.Prelude.{◌≡◌, ◌+◌, ◌*◌, ◌<◌, ◌≤◌, ℕ, [], true, false, List, length, take, IsTrue, IfOk, IfErr, OnOk, OnErr};
+ghost use Rattle.std.specs.Prelude.{◌≡◌, ◌+◌, ◌*◌, ◌<◌, ◌≤◌, ℕ, [], true, false, List, get_or, length, take, IsTrue, IfOk, IfErr, OnOk, OnErr};
 ghost use Rattle.silt_disk.specs.Disk.{GaveAny, size};
-ghost use Rattle.silt_disk.specs.Layout.{Shape, device_size, entry_len, row_len};
-ghost use Rattle.silt_frame.specs.Rows.{StoredRow};
+ghost use Rattle.silt_disk.specs.Layout.{device_size, entry_len, row_len};
+ghost use Rattle.silt_frame.specs.Rows.{StoredRow, row_of};
 ghost use Rattle.silt_hash_store.specs.Lookup.{IsRowAt};
-ghost use Rattle.silt_hash_store.specs.Slots.{HoldsSlots, slot_row};
+ghost use Rattle.silt_hash_store.specs.Slots.{HoldsSlots};
 ghost use Rattle.silt_sorted_store.specs.Indexing.{HoldsEntries};
 ghost use Rattle.silt_sorted_store.specs.OnlyRow.{HasEntry};
 ghost use Rattle.silt_sorted_store.specs.State.{entries_of};
@@ -171,6 +171,19 @@ impl Piece {
         Ok(())
     }
 
+    /// The bytes of the first part. Empty if all parts are skipped.
+    pub fn first(&self) -> &[u8]
+        ensures part { result.now ≡ get_or self.now.parts 0 [] }
+        ensures len { 0 < length self.now.parts → length result.now ≡ self.now.len }
+        ensures least { 20 ≤ self.now.len }
+    {
+        if self.left == 0 {
+            return &self.bytes[..0];
+        }
+        let at = self.at as usize * self.len;
+        &self.bytes[at..at + self.len]
+    }
+
     /// Puts the bytes of the first part, which is an entry, into a buffer of their length. Returns its key.
     pub fn first_entry(&self, out: &mut [u8]) -> Key
         requires some { 0 < length self.now.parts }
@@ -179,8 +192,7 @@ impl Piece {
         ensures key { result.0 ≡ take 20 out.new }
         ensures len { length out.new ≡ length out.old }
     {
-        let at = self.at as usize * self.len;
-        out.copy_from_slice(&self.bytes[at..at + self.len]);
+        out.copy_from_slice(self.first());
         let (key, _value) = entry_of(out);
         key
     }
@@ -189,10 +201,9 @@ impl Piece {
     pub fn first_row(&self, slot: u32) -> Option<Row>
         requires some { 0 < length self.now.parts }
         requires len { 21 ≤ self.now.len }
-        ensures { (shape : Shape) (region : ℕ) (image : List ℕ) → AreSlots shape region image slot self.now.parts → IsRowAt (slot_row shape region image slot) slot result }
+        ensures { IsRowAt (row_of (get_or self.now.parts 0 [])) slot result }
     {
-        let at = self.at as usize * self.len;
-        row_in(&self.bytes[at..at + self.len], slot)
+        row_in(self.first(), slot)
     }
 
     /// Skips the first part, if asked to.

@@ -14,6 +14,7 @@ use Rattle.silt_log.specs.State.{InBounds, IsLog, all_rows, settled_rows, waitin
 use Rattle.silt_log.specs.State as log
 use Rattle.silt_log_store.specs.State.{LogStoreState, IsIndexed}
 use Rattle.silt_manifest.specs.Standing.{IsCurrent}
+use Rattle.silt_merge.specs.Comparing.{HasCompared}
 use Rattle.silt_merge.specs.Merging.{HasMerged}
 use Rattle.silt_merge.specs.State.{MergeState, oldest_stores}
 use Rattle.silt_sorted_store.specs.Index.{HasIndex}
@@ -64,13 +65,16 @@ IsLocated content s = HasIndex content s.sorted s.index
 abbrev pub IsDigested : Content → EngineState → Type 0
 IsDigested content s = HasDigest content s.sorted s.digest
 
--- a merge has gathered and written what is due so far, of the oldest hash stores and the sorted store
+-- a merge of the oldest hash stores and the sorted store has gathered and written what is due so far, and compared what it read of each
+-- of them with its digest
 abbrev pub HasGathered : Content → EngineState → MergeState → Type 0
-HasGathered content s merge = HasMerged content (oldest_stores merge.stores s.hashes) s.sorted merge
+HasGathered content s merge =
+    HasMerged content (oldest_stores merge.stores s.hashes) s.sorted merge × HasCompared (oldest_stores merge.stores s.hashes) s.sorted s.digest merge
 
 -- The stores match their disk: every possible crash image has the stores that are shown, and nothing is wrong with these, also once the
 -- waiting rows are settled. The tables, the tags, the index and the digests in memory are those of what is shown. So are the digests that
--- the manifest has, if it has any. A conversion and a merge have written exactly what is due so far.
+-- the manifest has, if it has any. A conversion and a merge have written exactly what is due so far. What a merge has read has the digests
+-- of its stores, on any disk.
 pub record Stands (content : Content) (s : EngineState) : Type 0 where
   pub has_size : size content ≡ device_size s.manifest.shape
   pub whole : AreWhole s

@@ -10,8 +10,9 @@ ghost use Rattle.silt_merge.specs.Merging.{IsSameMerge};
 ghost use Rattle.silt_merge.specs.State.{oldest_stores};
 
 use crate::regions::{LEN, blank, done, put, row, same, same_in, shows, single, with_fault};
+use sha1::Sha1;
 use silt_device::{Call, Disk, Geometry, MemDisk};
-use silt_frame::Key;
+use silt_frame::{Digest, Key};
 use silt_hash_store::HashStore;
 use silt_merge::{Merge, StepError};
 use silt_sorted_store::{SortedEntries, SortedStore};
@@ -114,6 +115,7 @@ fn run_step<D: Disk>(
     merge: &mut Merge,
     stores: &[HashStore],
     sorted: &SortedEntries,
+    digest: &Digest,
     disk: &mut D,
 ) -> Outcome
     requires count { merge.old.stores ≤ length stores.now }
@@ -126,11 +128,11 @@ fn run_step<D: Disk>(
     if merge.is_done(sorted) {
         return (0, 0, 0);
     }
-    match merge.step(stores, sorted, disk) {
+    match merge.step(stores, sorted, digest, disk) {
         Ok(()) => (1, 0, 0),
         Err(StepError::Read(_)) => (0, 1, 0),
         Err(StepError::Write(_)) => (0, 0, 1),
-        Err(StepError::NoMemory) => (0, 0, 0),
+        Err(StepError::NoMemory | StepError::Damaged(_)) => (0, 0, 0),
     }
 }
 
@@ -139,6 +141,7 @@ fn run_steps<D: Disk>(
     merge: &mut Merge,
     stores: &[HashStore],
     sorted: &SortedEntries,
+    digest: &Digest,
     disk: &mut D,
     tries: u32,
 ) -> Outcome
@@ -153,7 +156,7 @@ fn run_steps<D: Disk>(
     let mut reads = 0u32;
     let mut writes = 0u32;
     for _step in 0..tries {
-        let one = run_step(merge, stores, sorted, disk);
+        let one = run_step(merge, stores, sorted, digest, disk);
         steps = steps.saturating_add(one.0);
         reads = reads.saturating_add(one.1);
         writes = writes.saturating_add(one.2);
@@ -170,6 +173,20 @@ fn both<D: Disk>(rt: &impl Abort, alloc: Global, disk: &D, geometry: Geometry) -
     let newest = done(rt, HashStore::rebuild(alloc, disk, geometry, 0)).store;
     let older = done(rt, HashStore::rebuild(alloc, disk, geometry, 1)).store;
     [newest, older]
+}
+
+// The digest of the bytes of these entries. It reads them at once, if there are any.
+fn digest_of<D: Disk>(rt: &impl Abort, alloc: Global, disk: &D, sorted: &SortedEntries) -> Digest
+    requires { device_size sorted.now.shape ≤ size (D.content disk.now) }
+{
+    let mut hasher = Sha1::new();
+    let len = sorted.len() as usize * sorted.geometry().entry_len();
+    let mut bytes = done(rt, vec![in alloc; 0u8; len]);
+    if !sorted.is_empty() {
+        done(rt, sorted.read_entries(disk, 0, sorted.len(), &mut bytes));
+    }
+    hasher.update(&bytes);
+    Digest(hasher.finalize())
 }
 
 // Merges hash region 0, the newest store, hash region 1, and this many entries of sorted region 0
@@ -191,7 +208,8 @@ fn merge_stores<D: Disk>(
     let stores = both(rt, alloc, disk, geometry);
     let sorted = SortedEntries::new(geometry, 0, entries);
     let mut merge = done(rt, Merge::start(alloc, &stores, &sorted, 1));
-    let outcome = run_steps(&mut merge, &stores, &sorted, disk, tries);
+    let digest = digest_of(rt, alloc, disk, &sorted);
+    let outcome = run_steps(&mut merge, &stores, &sorted, &digest, disk, tries);
     same(rt, &merge.is_done(&sorted), &true);
     (outcome, done(rt, merge.finish(alloc)))
 }
@@ -295,7 +313,7 @@ fn passes_over_what_does_not_rise(rt: HostRuntime) {
     drop(disk);
 }
 
-// A key that a merge keeps in memory takes 20 bytes.
+// A key that waits in memory takes 20 bytes.
 #[test]
 fn a_key_takes_twenty_bytes(rt: HostRuntime) {
     same(&rt, &size_of::<Key>(), &20);
@@ -316,20 +334,20 @@ fn goes_on(rt: &impl Abort, alloc: Global, call: Call, number: u64, (reads, writ
     );
 }
 
-// A step after a failed one does the same work. The rebuilds make 11 reads. The steps read the 8
+// A step after a failed one does the same work. The rebuilds make 11 reads, and the digest of the entries one. The steps read the 8
 // slots of each store and the 4 entries by one read each, and the 3 values of the rows that they
-// write. So read 17 is their last one. They write 5 entries. Read 18 is that of the last entry
+// write. So read 18 is their last one. They write 5 entries. Read 19 is that of the last entry
 // afterwards. The step that reads the entries also reads the first of the values. If that fails,
-// read 16 is of the entries again.
+// read 17 is of the entries again.
 #[test]
 fn goes_on_after_a_failed_step(rt: HostRuntime) {
     let alloc = rt.alloc();
-    goes_on(&rt, alloc, Call::Read, 12, (1, 0));
     goes_on(&rt, alloc, Call::Read, 13, (1, 0));
     goes_on(&rt, alloc, Call::Read, 14, (1, 0));
     goes_on(&rt, alloc, Call::Read, 15, (1, 0));
-    goes_on(&rt, alloc, Call::Read, 17, (1, 0));
-    goes_on(&rt, alloc, Call::Read, 19, (0, 0));
+    goes_on(&rt, alloc, Call::Read, 16, (1, 0));
+    goes_on(&rt, alloc, Call::Read, 18, (1, 0));
+    goes_on(&rt, alloc, Call::Read, 20, (0, 0));
     goes_on(&rt, alloc, Call::Write, 1, (0, 1));
     goes_on(&rt, alloc, Call::Write, 5, (0, 1));
     goes_on(&rt, alloc, Call::Write, 6, (0, 0));

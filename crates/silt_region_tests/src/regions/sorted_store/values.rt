@@ -8,8 +8,9 @@ ghost use Rattle.silt_device.specs.Memory.{memory_content};
 use crate::regions::sorted_store::{filled, key};
 use crate::regions::{blank_of, done, four_rows, put, same, same_in, with_fault};
 use silt_device::{Call, Disk, FaultDisk, Geometry, MemDisk};
-use silt_frame::Digest;
+use silt_frame::{Digest, Key};
 use silt_sorted_store::{SortedEntries, SortedStore};
+use silt_trie::{MarkedTrie, MarkedTrieBuilder};
 use std::alloc::Global;
 use std::process::Abort;
 
@@ -74,15 +75,20 @@ fn gets_the_value_of_each_key(rt: HostRuntime) {
 // in, and its digest.
 type Said = (u32, u32, bool, u32, Digest);
 
-// That of a store that is encoded from one key.
+// The index of one key.
+fn index_of(rt: &impl Abort, alloc: Global, key: Key) -> MarkedTrie {
+    let mut builder = MarkedTrieBuilder::new(alloc, 1);
+    let is_taken = done(rt, builder.push(key));
+    assert!(rt; is_taken);
+    done(rt, builder.finish(alloc))
+}
+
+// That of a store with one key.
 fn said(rt: &impl Abort, alloc: Global, geometry: Geometry) -> (Said, bool)
     requires { 1 ≤ geometry.sorted_capacity }
 {
     let entries = SortedEntries::new(geometry, 1, 1);
-    let store = done(
-        rt,
-        SortedStore::encode(alloc, entries, &[key(10, 0)], Digest([7; 20])),
-    );
+    let store = SortedStore::new(entries, index_of(rt, alloc, key(10, 0)), Digest([7; 20]));
     let said = (
         store.region(),
         store.len(),
@@ -93,9 +99,9 @@ fn said(rt: &impl Abort, alloc: Global, geometry: Geometry) -> (Said, bool)
     (said, store.geometry() == geometry)
 }
 
-// A store that is encoded from keys looks for them in the entries that it is given.
+// A store of an index looks for its keys in the entries that it is given.
 #[test]
-fn encodes_the_index_of_keys(rt: HostRuntime) {
+fn says_what_it_is_made_of(rt: HostRuntime) {
     let due = ((1, 1, false, 1, Digest([7; 20])), true);
     same(&rt, &said(&rt, rt.alloc(), four_rows(&rt)), &due);
 }

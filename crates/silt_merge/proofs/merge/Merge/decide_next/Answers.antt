@@ -1,30 +1,83 @@
-use Rattle.std.proofs.Common.{◌≡◌, ◌++◌, ◌+◌, ◌*◌, ◌<◌, ℕ, nat_lt, IsTrue, List, Some, drop, length, take, inr, ap, refl, sym, subst, ◌∙◌, arith}
+use Rattle.std.proofs.Common.{◌≡◌, ◌++◌, ◌+◌, ◌*◌, ◌<◌, ◌||◌, ℕ, true, false, cond, nat_lt, Bool, IsTrue, List, [], Some, Ok, drop, get_or, length, take, inr, ap, refl, sym, subst, ◌∙◌, arith}
 use Rattle.std.specs.List.{All}
+use Rattle.std.proofs.lemmas.Bool.{and_parts, ltb-true}
 use Rattle.std.proofs.lemmas.List.{take_at}
-use Rattle.silt_disk.specs.Layout.{Shape}
+use Rattle.sha1.specs.Sha1.{Holds}
+use Rattle.silt_disk.specs.Disk.{Content}
+use Rattle.silt_disk.specs.Layout.{Shape, entry_len}
+use Rattle.silt_event.specs.declared.place.Place.TheVariants.{SortedDigest}
 use Rattle.silt_hash_store.specs.State.{HashState}
-use Rattle.silt_merge.specs.Pieces.{AreEntries, parts_after}
+use Rattle.silt_sorted_store.specs.Region.{due_rows, is_written}
 use Rattle.silt_sorted_store.specs.State.{sorted_rows, entries_of}
 use Rattle.silt_merge.specs.Choice.{IsNextEntry, ReadsRow, choice_puts}
-use Rattle.silt_sorted_store.specs.Region.{due_rows}
-use Rattle.silt_merge.specs.Merging.{HasMerged}
+use Rattle.silt_merge.specs.Pieces.{AreEntries, parts_after}
 use Rattle.silt_merge.specs.Rows.{regions_of}
-use Rattle.silt_merge.specs.State.{MergeState, hashed_after, keys_after, passed_after, written_after}
-use Rattle.sha1.specs.Sha1.{Holds}
+use Rattle.silt_merge.specs.State.{IsHeldMerge, MergeState, ends_entries, hashed_after, is_behind, passed_after, written_after}
+use Rattle.silt_merge.specs.Steps.{TakesStep}
+use Rattle.silt_merge.specs.declared.choice.Choice.{Choice}
+use Rattle.silt_merge.specs.declared.merge.StepError.TheVariants.{Damaged, NoMemory, Read}
 use Rattle.silt_merge.specs.declared.source.Source.{Source}
 use Rattle.silt_merge.proofs.Choosing.{offered}
-use Rattle.silt_merge.proofs.Ending.{held_with, merged_behind, merged_stays, merged_step, offered_inside}
-use Rattle.silt_disk.proofs.Costs.{most_none}
-use Rattle.silt_merge.proofs.Making.{grown, made_added, made_none, stayed}
+use Rattle.silt_merge.proofs.Comparing.{compared_key, entry_agrees}
+use Rattle.silt_merge.proofs.Ending.{held_with, merged_step, next_puts, nothing_left, offered_inside, skipped_inside}
+use Rattle.silt_merge.proofs.Keys.{count_written}
+use Rattle.silt_merge.proofs.Making.{made_added}
 use Rattle.silt_merge.proofs.Reading.{each_source}
+use Rattle.silt_merge.proofs.Stepped.{broke, decided_on, deciding_place, refused}
+use Rattle.silt_merge.proofs.Taking.{entry_skipped, may_be}
 use Rattle.silt_merge.proofs.Viewing.{state_of}
 use Rattle.silt_merge.proofs.merge.Merge.decide_next.Goals as goal
+
+pub ends_entries-ends-requires : goal.ends_entries-ends-requires
+ends_entries-ends-requires g c = λ skips.
+    skipped_inside c.self.inside.passed c.args.sorted.now.count c.self.inside.last c.first.result c.next_entry-next.result c.in-Some.choice (sym c.choose.ensures ∙ c.in-Some.is) c.next_entry-next.ensures.is_some
+    (ap (λ b. b || c.in-Some.choice.passes) (sym c.is_behind-is_behind.ensures) ∙ sym c.skips_entry-passes.ensures ∙ skips)
+
+pub returns-in_default : goal.returns-in_default
+returns-in_default g c =
+    let merge : MergeState = state_of c.self.inside in
+    let more = rw (← c.self.view_is) at c.requires.more in
+    let all = rw (← c.self.view_is) at c.requires.gathered in
+    absurd (nothing_left merge c.args.sorted.now c.first.result c.next_entry-next.result more all c.first.ensures c.next_entry-next.ensures.is_some (sym c.choose.ensures ∙ c.in_default.is))
+
+pub returns-then-not-may_take : goal.returns-then-not-may_take
+returns-then-not-may_take g c =
+    let merge : MergeState = state_of c.self.inside in
+    let all = rw (← c.self.view_is) at c.requires.gathered in
+    let there = rw (← c.self.view_is) at c.requires.there in
+    rw (← c.self.view_is)
+    (refused g.D.Disk c.args.stores.now c.args.sorted.now c.args.digest.now.0 c.args.disk.now merge merge (Damaged SortedDigest) refl c.self.invariant.0 (
+      refl,
+      refl,
+      deciding_place c.args.stores.now merge all,
+      λ matches. entry_agrees (g.D.Disk.content c.args.disk.now) c.args.stores.now c.args.sorted.now c.args.digest.now.0 merge matches c.skips_entry-passes.result all there
+          (may_be c.ends_entries-ends.result (ends_entries c.skips_entry-passes.result merge.passed c.args.sorted.now.count) c.first-2.result.now (get_or merge.ahead 0 []) c.args.digest.now.0 c.may_take.result false merge.input
+          c.ends_entries-ends.ensures c.first-2.ensures.part c.if-not-may_take.true c.may_take.ensures),
+    ))
+
+pub returns-then-is_behind : goal.returns-then-is_behind
+returns-then-is_behind g c =
+    let merge : MergeState = state_of c.self.inside in
+    let all = rw (← c.self.view_is) at c.requires.gathered in
+    let there = rw (← c.self.view_is) at c.requires.there in
+    let behind : is_behind merge.last c.next_entry-next.result ≡ true = sym c.is_behind-is_behind.ensures ∙ c.if-is_behind.true in
+    let skips : c.skips_entry-passes.result ≡ true = c.skips_entry-passes.ensures ∙ ap (λ b. b || c.in-Some.choice.passes) c.if-is_behind.true in
+    let inside = skipped_inside merge.passed c.args.sorted.now.count merge.last c.first.result c.next_entry-next.result c.in-Some.choice (sym c.choose.ensures ∙ c.in-Some.is) c.next_entry-next.ensures.is_some (ap (λ b. b || c.in-Some.choice.passes) behind) in
+    let long : length (get_or merge.ahead 0 []) ≡ entry_len merge.shape = ap length (sym c.first-2.ensures.part) ∙ c.first-2.ensures.len (there inside) ∙ c.self.invariant.2 in
+    let next : IsTrue (g.D.Disk.content c.args.disk.now).honest → AreEntries (entries_of (g.D.Disk.content c.args.disk.now) c.args.sorted.now) merge.passed merge.ahead
+    → IsNextEntry (entries_of (g.D.Disk.content c.args.disk.now) c.args.sorted.now) merge.passed c.next_entry-next.new.out c.next_entry-next.result = λ honest. c.next_entry-next.ensures.next (entries_of (g.D.Disk.content c.args.disk.now) c.args.sorted.now) in
+    rw (← c.self.view_is)
+    (entry_skipped g.D.Disk c.args.stores.now c.args.sorted.now c.args.digest.now.0 c.args.disk.now merge c.pass_entry.new.self c.next_entry-next.result c.next_entry-next.new.out c.pass_entry.new.self.input _ c.self.invariant.0 all
+    c.next_entry-next.ensures.is_some next behind long
+    (may_be c.ends_entries-ends.result (ends_entries true merge.passed c.args.sorted.now.count) c.first-2.result.now (get_or merge.ahead 0 []) c.args.digest.now.0 c.may_take.result true merge.input
+    (c.ends_entries-ends.ensures ∙ ap (λ b. ends_entries b merge.passed c.args.sorted.now.count) skips) c.first-2.ensures.part c.if-not-may_take.false c.may_take.ensures)
+    c.pass_entry.ensures.hashed c.pass_entry.ensures.state c.pass_entry.ensures.held)
 
 pub read_row-requires-clause-store : goal.read_row-requires-clause-store
 read_row-requires-clause-store g c κs within =
     let merge : MergeState = state_of c.self.inside in
     let count = rw (← c.self.view_is) at c.requires.count in
-    let offers = offered merge.waiting merge.last c.first.result c.next_entry-next.result c.in-Some.choice c.first.ensures (sym c.choose.ensures ∙ c.in-Some.is) (sym c.is_behind.ensures ∙ c.if-is_behind.false) c.self.invariant.0.above in
+    let offers = offered merge.waiting merge.last c.first.result c.next_entry-next.result c.in-Some.choice c.first.ensures (sym c.choose.ensures ∙ c.in-Some.is) (sym c.is_behind-is_behind.ensures ∙ c.if-is_behind.false) c.self.invariant.0.above in
     let below : (source : Source) → c.in-Some.choice.source ≡ Some source → source.store < length c.args.stores.now = λ source is.
     let inside = offered_inside merge c.in-Some.choice c.self.invariant.0 offers source is in omega (arith, inside.store, count) in
     each_source c.in-Some.choice.source below
@@ -33,129 +86,120 @@ pub read_row-requires-clause-slot : goal.read_row-requires-clause-slot
 read_row-requires-clause-slot g c κs within =
     let merge : MergeState = state_of c.self.inside in
     let shapes = rw (← c.self.view_is) at c.requires.shapes in
-    let offers = offered merge.waiting merge.last c.first.result c.next_entry-next.result c.in-Some.choice c.first.ensures (sym c.choose.ensures ∙ c.in-Some.is) (sym c.is_behind.ensures ∙ c.if-is_behind.false) c.self.invariant.0.above in
+    let offers = offered merge.waiting merge.last c.first.result c.next_entry-next.result c.in-Some.choice c.first.ensures (sym c.choose.ensures ∙ c.in-Some.is) (sym c.is_behind-is_behind.ensures ∙ c.if-is_behind.false) c.self.invariant.0.above in
     let below : (source : Source) → c.in-Some.choice.source ≡ Some source → All (λ (store : HashState). source.slot < 4 * store.shape.buckets) c.args.stores.now = λ source is k blank inside.
     let it = offered_inside merge c.in-Some.choice c.self.invariant.0 offers source is in subst (λ (s : Shape). source.slot < 4 * s.buckets) (sym (shapes k blank inside)) it.slot in
     each_source c.in-Some.choice.source below
-
-pub returns-in-Err-write_due-clause-merged : goal.returns-in-Err-write_due-clause-merged
-returns-in-Err-write_due-clause-merged g c =
-    let merge : MergeState = state_of c.self.inside in
-    let fits = rw (← c.self.view_is) at c.requires.size in
-    rw (← c.self.view_is) (merged_stays (g.D.Disk.content c.args.disk.now) (g.D.Disk.content c.write_due.new.disk) c.args.stores.now c.args.sorted.now merge c.self.invariant.0 c.next_entry-next.ensures.held fits c.write_due.ensures.region
-    (subst (λ n. IsTrue (g.D.Disk.content c.args.disk.now).honest → sorted_rows merge.shape merge.region n (g.D.Disk.content c.write_due.new.disk).shown ≡ sorted_rows merge.shape merge.region n (g.D.Disk.content c.args.disk.now).shown) c.len-written.ensures c.write_due.ensures.kept))
 
 pub read_row-requires-clause-shapes : goal.read_row-requires-clause-shapes
 read_row-requires-clause-shapes g c κs within =
     let shapes = rw (← c.self.view_is) at c.requires.shapes in
     λ k blank below. ap (λ (s : Shape). 20 + s.value_len) (shapes k blank below) ∙ sym (c.deref_mut-2.ensures.len ∙ c.self.invariant.3)
 
-pub returns-then-is_behind-clause-merged : goal.returns-then-is_behind-clause-merged
-returns-then-is_behind-clause-merged g c =
+pub returns-in-Err : goal.returns-in-Err
+returns-in-Err g c =
     let merge : MergeState = state_of c.self.inside in
-    let all = rw (← c.self.view_is) at c.requires.gathered in
-    let there : IsTrue (g.D.Disk.content c.args.disk.now).honest → AreEntries (entries_of (g.D.Disk.content c.args.disk.now) c.args.sorted.now) merge.passed merge.ahead
-    → IsNextEntry (entries_of (g.D.Disk.content c.args.disk.now) c.args.sorted.now) merge.passed c.next_entry-next.new.out c.next_entry-next.result = λ honest. c.next_entry-next.ensures.next (entries_of (g.D.Disk.content c.args.disk.now) c.args.sorted.now) in
-    subst (λ (m : MergeState). HasMerged (g.D.Disk.content c.args.disk.now) c.args.stores.now c.args.sorted.now c.args.self.now → HasMerged (g.D.Disk.content c.args.disk.now) c.args.stores.now c.args.sorted.now m) (sym c.pass_entry.ensures.state)
-    (rw (← c.self.view_is)
-    (merged_behind (g.D.Disk.content c.args.disk.now) c.args.stores.now c.args.sorted.now merge c.next_entry-next.result c.next_entry-next.new.out c.self.invariant.0 all c.next_entry-next.ensures.is_some there (sym c.is_behind.ensures ∙ c.if-is_behind.true)))
+    rw (← c.self.view_is) (refused g.D.Disk c.args.stores.now c.args.sorted.now c.args.digest.now.0 c.args.disk.now merge merge (Read c.in-Err.fault) refl c.self.invariant.0 (refl, refl, c.in-Err.ensures.fault))
 
-pub mark_decided-requires-clause-offered : goal.mark_decided-requires-clause-offered
-mark_decided-requires-clause-offered g c =
+pub returns-in-Err-index_key : goal.returns-in-Err-index_key
+returns-in-Err-index_key g c =
     let merge : MergeState = state_of c.self.inside in
-    offered merge.waiting merge.last c.first.result c.next_entry-next.result c.in-Some.choice c.first.ensures (sym c.choose.ensures ∙ c.in-Some.is) (sym c.is_behind.ensures ∙ c.if-is_behind.false) c.self.invariant.0.above
-
-pub returns-clause-rises : goal.returns-clause-rises
-returns-clause-rises g c =
-    let merge : MergeState = state_of c.self.inside in
-    let offers = offered merge.waiting merge.last c.first.result c.next_entry-next.result c.in-Some.choice c.first.ensures (sym c.choose.ensures ∙ c.in-Some.is) (sym c.is_behind.ensures ∙ c.if-is_behind.false) c.self.invariant.0.above in
-    rw (← c.self.view_is) (inr (c.in-Some.choice.key, ap (λ (m : MergeState). m.last) c.mark_decided.ensures.state, offers.above))
-
-pub returns-clause-merged : goal.returns-clause-merged
-returns-clause-merged g c =
-    let merge : MergeState = state_of c.self.inside in
-    let fits = rw (← c.self.view_is) at c.requires.size in
+    let content : Content = g.D.Disk.content c.args.disk.now in
     let all = rw (← c.self.view_is) at c.requires.gathered in
     let shapes = rw (← c.self.view_is) at c.requires.shapes in
-    let old = g.D.Disk.content c.args.disk.now in
-    let new = g.D.Disk.content c.write_due.new.disk in
     let rest : List ℕ = drop (length c.next_entry-next.new.out) c.self.inside.made.items in
     let bytes : c.deref_mut-2.result.now ≡ c.next_entry-next.new.out =
     c.deref_mut-2.ensures.value ∙ take_at c.next_entry-next.new.out rest c.self.inside.made.len (omega (arith, c.next_entry-next.ensures.len, c.deref_mut.ensures.len)) in
-    let row_bytes : c.deref.result.now ≡ c.read_row.new.out = c.deref.ensures.value ∙ take_at c.read_row.new.out _ _ (omega (arith, c.read_row.ensures.len, c.deref_mut-2.ensures.len)) in
-    let there : IsTrue (g.D.Disk.content c.args.disk.now).honest → AreEntries (entries_of (g.D.Disk.content c.args.disk.now) c.args.sorted.now) merge.passed merge.ahead
-    → IsNextEntry (entries_of (g.D.Disk.content c.args.disk.now) c.args.sorted.now) merge.passed c.next_entry-next.new.out c.next_entry-next.result = λ honest. c.next_entry-next.ensures.next (entries_of (g.D.Disk.content c.args.disk.now) c.args.sorted.now) in
-    let read : IsTrue old.honest → ReadsRow merge.shape old.shown (regions_of c.args.stores.now) c.in-Some.choice.key.0 c.in-Some.choice.source c.next_entry-next.new.out c.read_row.new.out = λ honest.
-    subst (λ b. ReadsRow merge.shape old.shown (regions_of c.args.stores.now) c.in-Some.choice.key.0 c.in-Some.choice.source b c.read_row.new.out) bytes (c.in_default-read_row.ensures.row merge.shape shapes honest) in
-    let written : IsTrue old.honest → sorted_rows merge.shape merge.region c.in-Ok.count new.shown
-    ≡ take merge.shape.sorted_capacity (sorted_rows merge.shape merge.region merge.written old.shown ++ due_rows (choice_puts c.in-Some.choice.source) c.read_row.new.out) = λ honest.
-    c.in-Ok.ensures.written honest
-    ∙ ap (λ b. take merge.shape.sorted_capacity (sorted_rows merge.shape merge.region c.len-written.result old.shown ++ due_rows c.is_put.result b)) row_bytes
-    ∙ ap (λ b. take merge.shape.sorted_capacity (sorted_rows merge.shape merge.region c.len-written.result old.shown ++ due_rows b c.read_row.new.out)) c.is_put.ensures
-    ∙ ap (λ n. take merge.shape.sorted_capacity (sorted_rows merge.shape merge.region n old.shown ++ due_rows (choice_puts c.in-Some.choice.source) c.read_row.new.out)) c.len-written.ensures in
-    let hashed_bytes : c.deref-in-Ok.result.now ≡ c.read_row.new.out = c.deref-in-Ok.ensures.value ∙ take_at c.read_row.new.out _ _ (omega (arith, c.read_row.ensures.len, c.deref_mut-2.ensures.len)) in
-    let hashes : (hashed : List ℕ) → Holds merge.hasher hashed → Holds c.hash_written.new.hasher (hashed_after (nat_lt merge.written c.in-Ok.count) hashed c.read_row.new.out) = λ hashed holds.
-    subst (λ b. Holds c.hash_written.new.hasher (hashed_after (nat_lt merge.written c.in-Ok.count) hashed b)) hashed_bytes
-    (subst (λ n. Holds c.hash_written.new.hasher (hashed_after (nat_lt n c.in-Ok.count) hashed c.deref-in-Ok.result.now)) c.len-written.ensures (c.hash_written.ensures hashed holds)) in
-    subst (λ (m : MergeState). HasMerged old c.args.stores.now c.args.sorted.now c.args.self.now → HasMerged new c.args.stores.now c.args.sorted.now m) (sym c.mark_decided.ensures.state)
-    (rw (← c.self.view_is)
-    (subst (λ (n : ℕ). HasMerged old c.args.stores.now c.args.sorted.now merge → HasMerged new c.args.stores.now c.args.sorted.now (let m : MergeState = record merge { waiting = c.mark_decided.new.self.waiting; passed = passed_after c.in-Some.choice.passes merge.passed; written = written_after (nat_lt n c.in-Ok.count) merge.written; keys = keys_after (nat_lt n c.in-Ok.count) merge.keys c.in-Some.choice.key; decided = merge.decided + 1; last = Some c.in-Some.choice.key; ahead = parts_after c.in-Some.choice.passes merge.ahead; hasher = c.hash_written.new.hasher } in m)) (sym c.len-written.ensures)
-    (merged_step old new c.args.stores.now c.args.sorted.now merge c.self.invariant.0 c.next_entry-next.ensures.held fits c.write_due.ensures.region c.first.result c.next_entry-next.result c.in-Some.choice c.next_entry-next.new.out c.read_row.new.out
-    c.mark_decided.new.self.waiting c.in-Ok.count c.hash_written.new.hasher all c.first.ensures (sym c.choose.ensures ∙ c.in-Some.is) c.next_entry-next.ensures.is_some there read written c.mark_decided.ensures.gone hashes)))
+    let next : IsTrue content.honest → AreEntries (entries_of content c.args.sorted.now) merge.passed merge.ahead → IsNextEntry (entries_of content c.args.sorted.now) merge.passed c.next_entry-next.new.out c.next_entry-next.result = λ honest.
+    c.next_entry-next.ensures.next (entries_of content c.args.sorted.now) in
+    let read : IsTrue content.honest → ReadsRow merge.shape content.shown (regions_of c.args.stores.now) c.in-Some.choice.key.0 c.in-Some.choice.source c.next_entry-next.new.out c.read_row.new.out = λ honest.
+    subst (λ b. ReadsRow merge.shape content.shown (regions_of c.args.stores.now) c.in-Some.choice.key.0 c.in-Some.choice.source b c.read_row.new.out) bytes (c.in_default-read_row.ensures.row merge.shape shapes honest) in
+    let both = and_parts (choice_puts c.in-Some.choice.source) (nat_lt merge.written merge.shape.sorted_capacity) (sym c.is_due-is_due.ensures ∙ c.in-Err-index_key.ensures.due) in
+    let same : (let m : MergeState = record merge { index = c.index_key.new.index } in m) ≡ merge = ap (λ i. let m : MergeState = record merge { index = i } in m) c.in-Err-index_key.ensures.err in
+    rw (← c.self.view_is)
+    (refused g.D.Disk c.args.stores.now c.args.sorted.now c.args.digest.now.0 c.args.disk.now merge (let m : MergeState = record merge { index = c.index_key.new.index } in m) NoMemory same c.self.invariant.0 (
+      refl,
+      refl,
+      inr (record {
+        gathered = all;
+        room = ltb-true merge.written merge.shape.sorted_capacity both.1;
+        puts = next_puts content c.args.stores.now c.args.sorted.now merge c.first.result c.next_entry-next.result c.in-Some.choice c.next_entry-next.new.out c.read_row.new.out c.self.invariant.0 all c.first.ensures (sym c.choose.ensures ∙ c.in-Some.is)
+            c.next_entry-next.ensures.is_some next read both.0;
+      }),
+    ))
 
-pub returns-then-is_behind-clause-held : goal.returns-then-is_behind-clause-held
-returns-then-is_behind-clause-held g c = c.pass_entry.ensures.held
-
-pub returns-in_default-clause-held : goal.returns-in_default-clause-held
-returns-in_default-clause-held g c = c.self.invariant.0
-
-pub returns-in-Err-clause-held : goal.returns-in-Err-clause-held
-returns-in-Err-clause-held g c = c.self.invariant.0
-
-pub returns-in-Err-write_due-clause-held : goal.returns-in-Err-write_due-clause-held
-returns-in-Err-write_due-clause-held g c = c.self.invariant.0
-
-pub returns-clause-held : goal.returns-clause-held
-returns-clause-held g c = c.mark_decided.ensures.held
+pub returns-in-Err-write_due : goal.returns-in-Err-write_due
+returns-in-Err-write_due g c =
+    let merge : MergeState = state_of c.self.inside in
+    let all = rw (← c.self.view_is) at c.requires.gathered in
+    rw (← c.self.view_is)
+    (broke g.D.Disk c.args.stores.now c.args.sorted.now c.args.digest.now.0 c.args.disk.now c.write_due.new.disk merge (let m : MergeState = record merge { index = c.index_key.new.index } in m) c.write_due.ensures.size all (record { shape = refl; region = refl; stores = refl })
+    (held_with merge merge.slots merge.ahead c.index_key.new.index merge.hasher c.index_key.ensures.most c.self.invariant.0) c.write_due.ensures.changes c.write_due.ensures.region c.in-Err-write_due.fault refl refl c.in-Err-write_due.ensures.made c.in-Err-write_due.ensures.failures)
 
 pub invariant_of-self-in-Ok : goal.invariant_of-self-in-Ok
 invariant_of-self-in-Ok g c =
     let merge : MergeState = state_of c.self.inside in
-    (held_with merge merge.slots merge.ahead c.hash_written.new.hasher c.self.invariant.0, c.self.invariant.1, c.self.invariant.2, c.self.invariant.3, c.self.invariant.4, c.self.invariant.5)
+    (held_with merge merge.slots merge.ahead c.index_key.new.index c.hash_entry.new.hasher c.index_key.ensures.most c.self.invariant.0, c.self.invariant.1, c.self.invariant.2, c.self.invariant.3, c.self.invariant.4)
 
-pub returns-then-is_behind-clause-grew : goal.returns-then-is_behind-clause-grew
-returns-then-is_behind-clause-grew g c =
+pub invariant_of-self-in-Err-write_due : goal.invariant_of-self-in-Err-write_due
+invariant_of-self-in-Err-write_due g c =
     let merge : MergeState = state_of c.self.inside in
-    rw (← c.self.view_is) (stayed merge.written c.pass_entry.new.self.written (ap (λ (m : MergeState). m.written) c.pass_entry.ensures.state))
+    (held_with merge merge.slots merge.ahead c.index_key.new.index merge.hasher c.index_key.ensures.most c.self.invariant.0, c.self.invariant.1, c.self.invariant.2, c.self.invariant.3, c.self.invariant.4)
 
-pub returns-then-is_behind-clause-made : goal.returns-then-is_behind-clause-made
-returns-then-is_behind-clause-made g c =
+pub mark_decided-requires-clause-offered : goal.mark_decided-requires-clause-offered
+mark_decided-requires-clause-offered g c =
     let merge : MergeState = state_of c.self.inside in
-    rw (← c.self.view_is) (made_none merge.written c.pass_entry.new.self.written (ap (λ (m : MergeState). m.written) c.pass_entry.ensures.state))
+    offered merge.waiting merge.last c.first.result c.next_entry-next.result c.in-Some.choice c.first.ensures (sym c.choose.ensures ∙ c.in-Some.is) (sym c.is_behind-is_behind.ensures ∙ c.if-is_behind.false) c.self.invariant.0.above
 
-pub returns-in_default-clause-grew : goal.returns-in_default-clause-grew
-returns-in_default-clause-grew g c =
+pub mark_decided-requires-clause-room : goal.mark_decided-requires-clause-room
+mark_decided-requires-clause-room g c = λ due.
     let merge : MergeState = state_of c.self.inside in
-    rw (← c.self.view_is) (stayed merge.written merge.written refl)
+    let both = and_parts (choice_puts c.in-Some.choice.source) (nat_lt merge.written merge.shape.sorted_capacity) (sym c.is_due-is_due.ensures ∙ due) in
+    ltb-true merge.written merge.shape.sorted_capacity both.1
 
-pub returns-in_default-clause-made : goal.returns-in_default-clause-made
-returns-in_default-clause-made g c =
+pub returns-in-Ok : goal.returns-in-Ok
+returns-in-Ok g c =
     let merge : MergeState = state_of c.self.inside in
-    rw (← c.self.view_is) (made_none merge.written merge.written refl)
-
-pub returns-in-Err-clause-made : goal.returns-in-Err-clause-made
-returns-in-Err-clause-made g c = most_none
-
-pub returns-in-Err-write_due-clause-made : goal.returns-in-Err-write_due-clause-made
-returns-in-Err-write_due-clause-made g c = c.in-Err-write_due.ensures.made
-
-pub returns-clause-grew : goal.returns-clause-grew
-returns-clause-grew g c =
-    let merge : MergeState = state_of c.self.inside in
-    rw (← c.self.view_is) (grown (nat_lt c.len-written.result c.in-Ok.count) merge.written c.mark_decided.new.self.written (ap (λ (m : MergeState). m.written) c.mark_decided.ensures.state))
-
-pub returns-clause-made : goal.returns-clause-made
-returns-clause-made g c =
-    let merge : MergeState = state_of c.self.inside in
+    let fits = rw (← c.self.view_is) at c.requires.size in
+    let all = rw (← c.self.view_is) at c.requires.gathered in
+    let there = rw (← c.self.view_is) at c.requires.there in
+    let shapes = rw (← c.self.view_is) at c.requires.shapes in
+    let choice : Choice = c.in-Some.choice in
+    let due : Bool = c.is_due-is_due.result in
+    let old : Content = g.D.Disk.content c.args.disk.now in
+    let new : Content = g.D.Disk.content c.write_due.new.disk in
+    let made = sym c.choose.ensures ∙ c.in-Some.is in
+    let rest : List ℕ = drop (length c.next_entry-next.new.out) c.self.inside.made.items in
+    let bytes : c.deref_mut-2.result.now ≡ c.next_entry-next.new.out =
+    c.deref_mut-2.ensures.value ∙ take_at c.next_entry-next.new.out rest c.self.inside.made.len (omega (arith, c.next_entry-next.ensures.len, c.deref_mut.ensures.len)) in
+    let row_bytes : c.deref.result.now ≡ c.read_row.new.out = c.deref.ensures.value ∙ take_at c.read_row.new.out _ _ (omega (arith, c.read_row.ensures.len, c.deref_mut-2.ensures.len)) in
+    let hashed_bytes : c.deref-in-Ok.result.now ≡ c.read_row.new.out = c.deref-in-Ok.ensures.value ∙ take_at c.read_row.new.out _ _ (omega (arith, c.read_row.ensures.len, c.deref_mut-2.ensures.len)) in
+    let next : IsTrue old.honest → AreEntries (entries_of old c.args.sorted.now) merge.passed merge.ahead → IsNextEntry (entries_of old c.args.sorted.now) merge.passed c.next_entry-next.new.out c.next_entry-next.result = λ honest.
+    c.next_entry-next.ensures.next (entries_of old c.args.sorted.now) in
+    let read : IsTrue old.honest → ReadsRow merge.shape old.shown (regions_of c.args.stores.now) choice.key.0 choice.source c.next_entry-next.new.out c.read_row.new.out = λ honest.
+    subst (λ b. ReadsRow merge.shape old.shown (regions_of c.args.stores.now) choice.key.0 choice.source b c.read_row.new.out) bytes (c.in_default-read_row.ensures.row merge.shape shapes honest) in
+    let written : IsTrue old.honest → sorted_rows merge.shape merge.region c.in-Ok.field-0 new.shown ≡ take merge.shape.sorted_capacity (sorted_rows merge.shape merge.region merge.written old.shown ++ due_rows due c.read_row.new.out) = λ honest.
+    c.in-Ok.ensures.written honest ∙ ap (λ b. take merge.shape.sorted_capacity (sorted_rows merge.shape merge.region merge.written old.shown ++ due_rows due b)) row_bytes in
+    let hashes : (hashed : List ℕ) → Holds merge.hasher hashed → Holds c.hash_entry.new.hasher (hashed_after due hashed c.read_row.new.out) = λ hashed holds.
+    subst (λ b. Holds c.hash_entry.new.hasher (hashed_after due hashed b)) hashed_bytes (c.hash_entry.ensures hashed holds) in
+    let offers = offered merge.waiting merge.last c.first.result c.next_entry-next.result choice c.first.ensures made (sym c.is_behind-is_behind.ensures ∙ c.if-is_behind.false) c.self.invariant.0.above in
+    let own : c.skips_entry-passes.result ≡ choice.passes = c.skips_entry-passes.ensures ∙ ap (λ b. b || choice.passes) c.if-is_behind.false in
+    let inside : choice.passes ≡ true → merge.passed < c.args.sorted.now.count = λ passes.
+    skipped_inside merge.passed c.args.sorted.now.count merge.last c.first.result c.next_entry-next.result choice made c.next_entry-next.ensures.is_some
+    (ap (λ b. b || choice.passes) (sym c.is_behind-is_behind.ensures ∙ c.if-is_behind.false) ∙ passes) in
+    let long : choice.passes ≡ true → length (get_or merge.ahead 0 []) ≡ entry_len merge.shape = λ passes. ap length (sym c.first-2.ensures.part) ∙ c.first-2.ensures.len (there (inside passes)) ∙ c.self.invariant.2 in
+    let may = may_be c.ends_entries-ends.result (ends_entries choice.passes merge.passed c.args.sorted.now.count) c.first-2.result.now (get_or merge.ahead 0 []) c.args.digest.now.0 c.may_take.result true merge.input
+    (c.ends_entries-ends.ensures ∙ ap (λ b. ends_entries b merge.passed c.args.sorted.now.count) own) c.first-2.ensures.part c.if-not-may_take.false c.may_take.ensures in
+    let after : MergeState = record merge { waiting = c.mark_decided.new.self.waiting; passed = passed_after choice.passes merge.passed; written = written_after due merge.written; index = c.index_key.new.index; decided = merge.decided + 1; last = Some choice.key; ahead = parts_after choice.passes merge.ahead; input = c.mark_decided.new.self.input; hasher = c.hash_entry.new.hasher } in
+    let is : c.mark_decided.new.self ≡ after = c.mark_decided.ensures.state in
+    let counted = count_written merge.shape.sorted_capacity merge.written (choice_puts choice.source) due c.in-Ok.field-0 c.is_due-is_due.ensures c.in-Ok.ensures.count in
     rw (← c.self.view_is)
-    (made_added _ c.len-written.result c.in-Ok.count merge.written c.mark_decided.new.self.written c.len-written.ensures c.in-Ok.ensures.count (ap (λ (m : MergeState). m.written) c.mark_decided.ensures.state) c.in-Ok.ensures.made)
+    (subst (λ (m : MergeState). TakesStep g.D.Disk c.args.stores.now c.args.sorted.now c.args.digest.now.0 c.args.disk.now c.write_due.new.disk merge m (Ok tt)) (sym is)
+    (decided_on g.D.Disk c.args.stores.now c.args.sorted.now c.args.digest.now.0 c.args.disk.now c.write_due.new.disk merge after c.write_due.ensures.size all (record { shape = refl; region = refl; stores = refl }) (subst IsHeldMerge is c.mark_decided.ensures.held)
+    c.write_due.ensures.changes c.write_due.ensures.region due tt (inr (choice.key, refl, offers.above)) refl
+    (made_added (cond (is_written due merge.written merge.shape.sorted_capacity) 1 0) c.in-Ok.field-0 merge.written (written_after due merge.written) c.in-Ok.ensures.count counted c.in-Ok.ensures.made) c.in-Ok.ensures.failures (omega arith)
+    (merged_step old new c.args.stores.now c.args.sorted.now merge c.self.invariant.0 c.next_entry-next.ensures.held fits c.write_due.ensures.region c.first.result c.next_entry-next.result choice c.next_entry-next.new.out c.read_row.new.out
+    c.mark_decided.new.self.waiting due c.in-Ok.field-0 c.index_key.new.index c.mark_decided.new.self.input c.hash_entry.new.hasher all c.first.ensures made c.next_entry-next.ensures.is_some next there read c.is_due-is_due.ensures c.in-Ok.ensures.count written
+    c.mark_decided.ensures.gone c.in_default-index_key.ensures.index c.mark_decided.ensures.hashed hashes)
+    (compared_key c.args.stores.now c.args.sorted.now c.args.digest.now.0 merge choice.passes c.mark_decided.new.self.waiting (written_after due merge.written) c.index_key.new.index (merge.decided + 1) (Some choice.key) (parts_after choice.passes merge.ahead)
+    c.mark_decided.new.self.input c.hash_entry.new.hasher c.self.invariant.0 all long may c.mark_decided.ensures.hashed)))

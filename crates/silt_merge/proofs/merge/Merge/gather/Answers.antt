@@ -1,28 +1,29 @@
-use Rattle.std.proofs.Common.{◌≡◌, ◌+◌, ◌*◌, get_or, refl, sym, subst, ap, ◌∙◌, arith}
+use Rattle.std.proofs.Common.{Ok, Err, refl, ap, ◌∙◌, subst}
 use Rattle.silt_merge.specs.Merging.{HasMerged}
-use Rattle.silt_merge.specs.Rows.{regions_of}
-use Rattle.silt_merge.specs.State.{MergeState, slot_after, steps_of}
-use Rattle.silt_merge.proofs.Stepping.{gathered_step}
+use Rattle.silt_merge.specs.State.{IsHeldMerge, MergeState, ahead_without}
+use Rattle.silt_merge.specs.Steps.{TakesStep}
+use Rattle.silt_merge.proofs.Stepped.{read_and_failed, read_and_went, refused}
 use Rattle.silt_merge.proofs.merge.Merge.gather.Goals as goal
 
-pub returns-in-Ok-take_row-clause-merged : goal.returns-in-Ok-take_row-clause-merged
-returns-in-Ok-take_row-clause-merged g c = λ sorted is.
-    let content = g.D.Disk.content c.args.disk.now in
-    let read : MergeState = c.read_slots.new.self in
-    let same : c.args.self.now.store ≡ read.store = sym (ap (λ (m : MergeState). m.store) c.in-Ok.ensures.state) in
-    let all : c.args.self.now.stores ≡ read.stores = sym (ap (λ (m : MergeState). m.stores) c.in-Ok.ensures.state) in
-    subst (λ (m : MergeState). HasMerged content c.args.stores.now sorted m) (sym c.in-Ok-take_row.ensures.state)
-    (gathered_step content c.args.stores.now sorted read c.row_ahead-row.result c.take_row.new.self.waiting (slot_after read.store read.slot (4 * read.shape.buckets)) c.in-Ok.ensures.held (omega (arith, same, all, c.requires.more))
-    (λ honest shape slots. c.row_ahead-row.ensures sorted.shape (get_or (regions_of c.args.stores.now) read.store 0) content.shown slots) c.in-Ok-take_row.ensures.gathers refl (c.in-Ok.ensures.merged sorted is))
+pub returns-in-Err : goal.returns-in-Err
+returns-in-Err g c = λ sorted digest.
+    refused g.D.Disk c.args.stores.now sorted digest c.args.disk.now c.args.self.now c.read_slots.new.self _ c.in-Err.ensures.err (subst IsHeldMerge c.in-Err.ensures.err c.read_slots.ensures.held) (refl, refl, c.in-Err.ensures.fault)
 
-pub returns-in-Ok-take_row-clause-held : goal.returns-in-Ok-take_row-clause-held
-returns-in-Ok-take_row-clause-held g c = c.take_row.ensures.held
+pub returns-in-Ok-gather_ahead : goal.returns-in-Ok-gather_ahead
+returns-in-Ok-gather_ahead g c = λ sorted digest.
+    let before : MergeState = c.args.self.now in
+    read_and_went g.D.Disk c.args.stores.now sorted digest c.args.disk.now c.args.disk.now before c.read_slots.new.self.slots before.ahead
+    (subst (λ (m : MergeState). HasMerged (g.D.Disk.content c.args.disk.now) c.args.stores.now sorted before → HasMerged (g.D.Disk.content c.args.disk.now) c.args.stores.now sorted m) c.in-Ok.ensures.state (c.in-Ok.ensures.merged sorted))
+    c.gather_ahead.new.self c.in-Ok-gather_ahead.field-0
+    (subst (λ (m : MergeState). TakesStep g.D.Disk c.args.stores.now sorted digest c.args.disk.now c.args.disk.now m c.gather_ahead.new.self (Ok c.in-Ok-gather_ahead.field-0)) c.in-Ok.ensures.state (c.in-Ok-gather_ahead.ensures.step sorted digest))
 
-pub returns-in-Ok-take_row-clause-ok : goal.returns-in-Ok-take_row-clause-ok
-returns-in-Ok-take_row-clause-ok g c = subst (λ (m : MergeState). steps_of c.take_row.new.self ≡ steps_of m + 1) c.in-Ok.ensures.state c.in-Ok-take_row.ensures.ok
-
-pub returns-in-Err-take_row-clause-held : goal.returns-in-Err-take_row-clause-held
-returns-in-Err-take_row-clause-held g c = c.gather_head.ensures.held
-
-pub returns-in-Ok-take_row-clause-unwritten : goal.returns-in-Ok-take_row-clause-unwritten
-returns-in-Ok-take_row-clause-unwritten g c = ap (λ (m : MergeState). m.written) c.in-Ok-take_row.ensures.state ∙ ap (λ (m : MergeState). m.written) c.in-Ok.ensures.state
+pub returns-in-Err-gather_ahead : goal.returns-in-Err-gather_ahead
+returns-in-Err-gather_ahead g c = λ sorted digest.
+    let before : MergeState = c.args.self.now in
+    let mid : MergeState = c.gather_ahead.new.self in
+    read_and_failed g.D.Disk c.args.stores.now sorted digest c.args.disk.now c.args.disk.now before c.read_slots.new.self.slots before.ahead
+    (subst (λ (m : MergeState). HasMerged (g.D.Disk.content c.args.disk.now) c.args.stores.now sorted before → HasMerged (g.D.Disk.content c.args.disk.now) c.args.stores.now sorted m) c.in-Ok.ensures.state (c.in-Ok.ensures.merged sorted))
+    mid c.forget_slots.new.self (ahead_without c.in-Ok.is_read mid.slots) mid.ahead c.in-Err-gather_ahead.error c.forget_slots.ensures.state
+    (λ back. c.forget_slots.ensures.state ∙ ap (λ (m : MergeState). let r : MergeState = record m { slots = ahead_without c.in-Ok.is_read m.slots } in r) back ∙ ap (λ l. let r : MergeState = record before { slots = l } in r) c.in-Ok.ensures.before)
+    c.forget_slots.ensures.held
+    (subst (λ (m : MergeState). TakesStep g.D.Disk c.args.stores.now sorted digest c.args.disk.now c.args.disk.now m mid (Err c.in-Err-gather_ahead.error)) c.in-Ok.ensures.state (c.in-Err-gather_ahead.ensures.step sorted digest))

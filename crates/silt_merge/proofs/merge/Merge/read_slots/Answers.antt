@@ -12,7 +12,7 @@ use Rattle.silt_merge.proofs.merge.Merge.read_slots.Goals as goal
 pub invariant_of-self : goal.invariant_of-self
 invariant_of-self g c =
     let merge : MergeState = state_of c.self.inside in
-    (held_with merge c.read_slots.new.self.parts merge.ahead merge.hasher c.self.invariant.0, c.read_slots.ensures.len ∙ c.self.invariant.1, c.self.invariant.2, c.self.invariant.3, c.self.invariant.4, c.self.invariant.5)
+    (held_with merge c.read_slots.new.self.parts merge.ahead merge.index merge.hasher c.self.invariant.0.index c.self.invariant.0, c.read_slots.ensures.len ∙ c.self.invariant.1, c.self.invariant.2, c.self.invariant.3, c.self.invariant.4)
 
 pub returns-in_err-read_slots-clause-err : goal.returns-in_err-read_slots-clause-err
 returns-in_err-read_slots-clause-err g c =
@@ -40,14 +40,14 @@ returns-clause-merged g c =
 pub invariant_of-self-2 : goal.invariant_of-self-2
 invariant_of-self-2 g c =
     let merge : MergeState = state_of c.self.inside in
-    (held_with merge c.read_slots.new.self.parts merge.ahead merge.hasher c.self.invariant.0, c.read_slots.ensures.len ∙ c.self.invariant.1, c.self.invariant.2, c.self.invariant.3, c.self.invariant.4, c.self.invariant.5)
+    (held_with merge c.read_slots.new.self.parts merge.ahead merge.index merge.hasher c.self.invariant.0.index c.self.invariant.0, c.read_slots.ensures.len ∙ c.self.invariant.1, c.self.invariant.2, c.self.invariant.3, c.self.invariant.4)
 
 pub returns-clause-held : goal.returns-clause-held
 returns-clause-held g c =
     let merge : MergeState = state_of c.self.inside in
-    held_with merge c.read_slots.new.self.parts merge.ahead merge.hasher c.self.invariant.0
+    held_with merge c.read_slots.new.self.parts merge.ahead merge.index merge.hasher c.self.invariant.0.index c.self.invariant.0
 
 pub returns-in_err-read_slots-clause-held : goal.returns-in_err-read_slots-clause-held
 returns-in_err-read_slots-clause-held g c =
     let merge : MergeState = state_of c.self.inside in
-    held_with merge c.read_slots.new.self.parts merge.ahead merge.hasher c.self.invariant.0
+    held_with merge c.read_slots.new.self.parts merge.ahead merge.index merge.hasher c.self.invariant.0.index c.self.invariant.0

@@ -1,8 +1,21 @@
-use Rattle.silt_merge.proofs.Making.{none_either}
+use Rattle.std.proofs.Common.{◌≡◌, List, ap, ◌∙◌, sym, subst}
+use Rattle.std.specs.List.{All}
+use Rattle.silt_hash_store.specs.State.{HashState}
+use Rattle.silt_merge.specs.State.{MergeState, oldest_stores}
+use Rattle.silt_merge.specs.Steps.{TakesStep}
 use Rattle.silt_merge.proofs.merge.Merge.step.Goals as goal
 
-pub returns-then-self-clause-made : goal.returns-then-self-clause-made
-returns-then-self-clause-made g c = none_either g.D.Disk.writes g.D.Disk.syncs c.args.disk.now c.gather.result c.args.self.now.written c.gather.new.self.written c.gather.ensures.unwritten
+pub returns-then-self : goal.returns-then-self
+returns-then-self g c =
+    let taken = c.split_at.ensures.back ∙ ap (λ (m : MergeState). oldest_stores m.stores c.args.stores.now) c.self.view_is in
+    subst (λ (l : List HashState). TakesStep g.D.Disk l c.args.sorted.now c.args.digest.now.0 c.args.disk.now c.args.disk.now c.args.self.now c.gather.new.self c.gather.result) taken (c.gather.ensures c.args.sorted.now c.args.digest.now.0)
 
-pub returns-clause-made : goal.returns-clause-made
-returns-clause-made g c = c.decide.ensures.made
+pub returns : goal.returns
+returns g c =
+    let taken = c.split_at.ensures.back ∙ ap (λ (m : MergeState). oldest_stores m.stores c.args.stores.now) c.self.view_is in
+    subst (λ (l : List HashState). TakesStep g.D.Disk l c.args.sorted.now c.args.digest.now.0 c.args.disk.now c.decide.new.disk c.args.self.now c.decide.new.self c.decide.result) taken c.decide.ensures
+
+pub decide-requires-clause-shapes : goal.decide-requires-clause-shapes
+decide-requires-clause-shapes g c κs within =
+    let taken = c.split_at.ensures.back ∙ ap (λ (m : MergeState). oldest_stores m.stores c.args.stores.now) c.self.view_is in
+    subst (λ (l : List HashState). All (λ (store : HashState). store.shape ≡ c.args.self.now.shape) l) (sym taken) c.requires.shapes

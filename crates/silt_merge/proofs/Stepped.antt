@@ -1,0 +1,189 @@
+-- What a step does, at its exits.
+use Rattle.std.proofs.Common.{◌≡◌, ℕ, ◌+◌, ◌*◌, ◌-◌, ◌<◌, Bool, List, length, get_or, Ok, Err, inl, inr, refl, sym, subst, ap, ◌∙◌, arith}
+use Rattle.std.proofs.lemmas.Bool.{cond-false, cond-true, le-ltb, lt-ltb}
+use Rattle.silt_disk.specs.Disk.{ChangesWithin, CountsFault, Makes, MakesAtMost, size}
+use Rattle.silt_disk.specs.Layout.{entry_len, sorted_at, sorted_size}
+use Rattle.silt_disk.specs.declared.disk.Disk.{Ghosts}
+use Rattle.silt_disk.proofs.Costs.{most_none}
+use Rattle.silt_disk.proofs.Images.{within_refl, within_wider}
+use Rattle.silt_disk.proofs.Regions.{up_least}
+use Rattle.silt_event.specs.declared.place.Place.TheVariants.{HashDigest, SortedDigest}
+use Rattle.silt_hash_store.specs.State.{HashState}
+use Rattle.silt_sorted_store.specs.State.{SortedState, sorted_entry_at}
+use Rattle.silt_merge.specs.Comparing.{HasCompared, MatchesDigests}
+use Rattle.silt_merge.specs.Merging.{HasMerged, IsSameMerge}
+use Rattle.silt_merge.specs.State.{IsHeldMerge, LastRises, MergeState, steps_of, written_after}
+use Rattle.silt_merge.specs.Steps.{FailsMerge, TakesMemory, TakesStep, damaged_place}
+use Rattle.silt_merge.specs.declared.merge.StepError.{StepError}
+use Rattle.silt_merge.specs.declared.merge.StepError.TheVariants.{Read, Write, NoMemory, Damaged}
+use Rattle.silt_merge.proofs.Comparing.{compared_with}
+use Rattle.silt_merge.proofs.Making.{grown, made_none, stayed}
+use Rattle.silt_merge.proofs.Reading.{store_at}
+
+-- what is damaged while a merge gathers
+pub gathering_place : (stores : List HashState) (merge : MergeState) (store : HashState) (region : ℕ) → merge.store < merge.stores → length stores ≡ merge.stores → store ≡ get_or stores merge.store store → region ≡ store.region
+    → HashDigest region ≡ damaged_place stores merge
+gathering_place stores merge store region below counted here is =
+    ap HashDigest (is ∙ sym (store_at stores merge.store store (omega (arith, below, counted)) here)) ∙ sym (cond-true _ _ _ (lt-ltb merge.store merge.stores below))
+
+-- and what is once all slots are gathered
+pub deciding_place : (stores : List HashState) (merge : MergeState) → merge.store ≡ merge.stores → SortedDigest ≡ damaged_place stores merge
+deciding_place stores merge all = sym (cond-false _ _ _ (le-ltb merge.store merge.stores (omega (arith, all))))
+
+-- a merge is the same if nothing of it changed but this
+pub same_merge : (merge : MergeState) → IsSameMerge merge merge
+same_merge merge = record { shape = refl; region = refl; stores = refl }
+
+module _ {D F : Type 0} (facts : Ghosts D F) (stores : List HashState) (sorted : SortedState) (digest : List ℕ) where
+  -- a step that was refused before it wrote
+  pub refused : {T : Type 0} (disk : D) (before after : MergeState) (error : StepError F) → after ≡ before → IsHeldMerge before → FailsMerge facts stores sorted digest disk disk before before error
+      → TakesStep {T = T} facts stores sorted digest disk disk before after (Err error)
+  refused {T} disk before after error same held fails =
+      let at_most : MakesAtMost facts.writes facts.syncs 1 0 disk disk = most_none in
+      subst (λ (m : MergeState). TakesStep {T = T} facts stores sorted digest disk disk before m (Err error)) (sym same) (record {
+        size = refl;
+        changes = within_refl _ _ (facts.content disk);
+        region = within_refl _ _ (facts.content disk);
+        same = same_merge before;
+        held = held;
+        rises = inl (refl, refl);
+        gathers = λ below. refl;
+        grew = stayed before.written before.written refl;
+        goes = tt;
+        most = at_most;
+        fails = fails;
+      })
+
+  -- a step that wrote nothing
+  pub went_on : {T : Type 0} (disk : D) (before after : MergeState) (x : T) → IsSameMerge before after → IsHeldMerge after → after.last ≡ before.last → after.written ≡ before.written → steps_of after ≡ steps_of before + 1
+      → (HasMerged (facts.content disk) stores sorted before → HasMerged (facts.content disk) stores sorted after) → (HasCompared stores sorted digest before → HasCompared stores sorted digest after)
+      → TakesStep facts stores sorted digest disk disk before after (Ok x)
+  went_on disk before after x same held last written steps merged compared =
+      let none : Makes facts.writes facts.syncs (after.written - before.written) 0 disk disk = made_none before.written after.written written in
+      record {
+        size = refl;
+        changes = within_refl _ _ (facts.content disk);
+        region = within_refl _ _ (facts.content disk);
+        same = same;
+        held = held;
+        rises = inl (last, written);
+        gathers = λ below. written;
+        grew = stayed before.written after.written written;
+        goes = record { steps = steps; made = none; failures = refl; merged = merged; compared = compared };
+        most = tt;
+        fails = tt;
+      }
+
+  module _ (old new : D) (before after : MergeState) (sizes : size (facts.content new) ≡ size (facts.content old)) (all : before.store ≡ before.stores) (same : IsSameMerge before after) (held : IsHeldMerge after)
+      (entry : ChangesWithin (sorted_entry_at before.shape before.region before.written) (entry_len before.shape) (facts.content old) (facts.content new))
+      (within : ChangesWithin (sorted_at before.shape before.region) (before.shape.sorted_capacity * entry_len before.shape) (facts.content old) (facts.content new)) where
+    in_region : ChangesWithin (sorted_at before.shape before.region) (sorted_size before.shape) (facts.content old) (facts.content new)
+    in_region =
+        let least = up_least (before.shape.sorted_capacity * entry_len before.shape) in
+        within_wider (sorted_at before.shape before.region) (sorted_size before.shape) (omega arith) (omega (arith, least)) within
+
+    -- a step that decided a key, whose entry is written or not
+    pub decided_on : {T : Type 0} (is_written : Bool) (x : T) → LastRises before after → after.written ≡ written_after is_written before.written → Makes facts.writes facts.syncs (after.written - before.written) 0 old new
+        → facts.failures new ≡ facts.failures old → steps_of after ≡ steps_of before + 1 → (HasMerged (facts.content old) stores sorted before → HasMerged (facts.content new) stores sorted after)
+        → (HasCompared stores sorted digest before → HasCompared stores sorted digest after) → TakesStep facts stores sorted digest old new before after (Ok x)
+    decided_on is_written x rises written made failures steps merged compared = record {
+      size = sizes;
+      changes = entry;
+      region = in_region;
+      same = same;
+      held = held;
+      rises = rises;
+      gathers = λ below. absurd (omega (arith, below, all));
+      grew = grown is_written before.written after.written written;
+      goes = record { steps = steps; made = made; failures = failures; merged = merged; compared = compared };
+      most = tt;
+      fails = tt;
+    }
+
+    -- a step whose write failed
+    pub broke : {T : Type 0} (fault : F) → after.last ≡ before.last → after.written ≡ before.written → MakesAtMost facts.writes facts.syncs 1 0 old new → CountsFault facts.failures facts.gave old new fault
+        → TakesStep {T = T} facts stores sorted digest old new before after (Err (Write fault))
+    broke fault last written most counts = record {
+      size = sizes;
+      changes = entry;
+      region = in_region;
+      same = same;
+      held = held;
+      rises = inl (last, written);
+      gathers = λ below. written;
+      grew = stayed before.written after.written written;
+      goes = tt;
+      most = most;
+      fails = counts;
+    }
+
+  -- ---- what is read ahead first
+
+  module _ (old new : D) (before : MergeState) (slots ahead : List (List ℕ)) (reads : HasMerged (facts.content old) stores sorted before → HasMerged (facts.content old) stores sorted (record before { slots = slots; ahead = ahead })) where
+    abbrev read : MergeState
+    read = record before { slots = slots; ahead = ahead }
+
+    -- a step that goes on with it
+    pub read_and_went : {T : Type 0} (after : MergeState) (x : T) → TakesStep facts stores sorted digest old new read after (Ok x) → TakesStep facts stores sorted digest old new before after (Ok x)
+    read_and_went after x is = record {
+      size = is.size;
+      changes = is.changes;
+      region = is.region;
+      same = record { shape = is.same.shape; region = is.same.region; stores = is.same.stores };
+      held = is.held;
+      rises = is.rises;
+      gathers = is.gathers;
+      grew = is.grew;
+      goes = record {
+        steps = is.goes.steps;
+        made = is.goes.made;
+        failures = is.goes.failures;
+        merged = λ merged. is.goes.merged (reads merged);
+        compared = λ compared. is.goes.compared (compared_with stores sorted digest before slots ahead compared);
+      };
+      most = tt;
+      fails = tt;
+    }
+
+    -- it needs memory if it did before
+    takes_before : TakesMemory (facts.content old) stores sorted read → TakesMemory (facts.content old) stores sorted before
+    takes_before (inl row) = inl (record { gathers = row.gathers; known = row.known; new_key = row.new_key })
+    takes_before (inr key) = inr (record { gathered = key.gathered; room = key.room; puts = λ honest merged sound. key.puts honest (reads merged) sound })
+
+    -- and the digests are the stores' if they were before
+    matches_after : MatchesDigests (facts.content old) stores sorted digest before → MatchesDigests (facts.content old) stores sorted digest read
+    matches_after matches = record { honest = matches.honest; merged = reads matches.merged; sound = matches.sound; hashes = matches.hashes; entries = matches.entries }
+
+    -- the cause of an error is that of the step without it
+    fails_before : (mid after : MergeState) (error : StepError F) → (mid ≡ read → after ≡ before) → FailsMerge facts stores sorted digest old new read mid error → FailsMerge facts stores sorted digest old new before after error
+    fails_before mid after (Read fault) back fails = (back fails.0, fails.1, fails.2)
+    fails_before mid after (Write fault) back fails = fails
+    fails_before mid after NoMemory back fails = (back fails.0, fails.1, takes_before fails.2)
+    fails_before mid after (Damaged place) back fails = (back fails.0, fails.1, fails.2, λ matches. fails.3 (matches_after matches))
+
+    -- a step that forgets it again after an error
+    pub read_and_failed : {T : Type 0} (mid after : MergeState) (slots_after ahead_after : List (List ℕ)) (error : StepError F) → after ≡ record mid { slots = slots_after; ahead = ahead_after } → (mid ≡ read → after ≡ before) → IsHeldMerge after
+        → TakesStep {T = T} facts stores sorted digest old new read mid (Err error) → TakesStep {T = T} facts stores sorted digest old new before after (Err error)
+    read_and_failed {T} mid after slots_after ahead_after error is_after back held is =
+        let written : after.written ≡ mid.written = ap (λ (m : MergeState). m.written) is_after in
+        let last : after.last ≡ mid.last = ap (λ (m : MergeState). m.last) is_after in
+        record {
+          size = is.size;
+          changes = is.changes;
+          region = is.region;
+          same = record {
+            shape = ap (λ (m : MergeState). m.shape) is_after ∙ is.same.shape;
+            region = ap (λ (m : MergeState). m.region) is_after ∙ is.same.region;
+            stores = ap (λ (m : MergeState). m.stores) is_after ∙ is.same.stores;
+          };
+          held = held;
+          rises = elim is.rises [
+            | inl stays ↦ inl (last ∙ stays.0, written ∙ stays.1)
+            | inr goes ↦ inr (goes.0, last ∙ goes.1, goes.2)
+          ];
+          gathers = λ below. written ∙ is.gathers below;
+          grew = (omega (arith, written, is.grew), omega (arith, written, is.grew));
+          goes = tt;
+          most = is.most;
+          fails = fails_before mid after error back is.fails;
+        }
