@@ -1,5 +1,5 @@
 -- Maps from keys to values, and the commands that change them.
-use Rattle.std.specs.Prelude.{◌≡◌, ℕ, List, [], ◌∷◌, ◌++◌}
+use Rattle.std.specs.Prelude.{◌≡◌, ℕ, List, [], ◌∷◌, ◌++◌, Option, Some, None}
 use Rattle.std.specs.Ordering.{nat_cmp}
 use Rattle.std.specs.Cmp.Lexicographic.{slice_cmp}
 use Rattle.std.specs.FinMap.{FinMap, insert, remove, code}
@@ -9,6 +9,11 @@ use Rattle.std.specs.Coded.{Coded, coded_ℕ, coded_list}
 pub data Command : Type 0 where
   put : List ℕ → List ℕ → Command
   delete : List ℕ → Command
+
+-- the command that gives a key this value, or takes its value away
+abbrev pub setting : List ℕ → Option (List ℕ) → Command
+setting key (Some value) = put key value
+setting key None = delete key
 
 -- a finite map from the bytes of keys to the bytes of values
 abbrev pub Map : Type 0

@@ -1,5 +1,5 @@
 -- Which replies a store may give, and which commands a crash may take away.
-use Rattle.std.specs.Prelude.{Vec, ◌≡◌, ◌≢◌, ◌≤◌, ℕ, ◌+◌, Bool, true, false, ◌||◌, IsTrue, Some, None, List, [], ◌∷◌, ◌++◌, length, codes}
+use Rattle.std.specs.Prelude.{Vec, ◌≡◌, ◌≢◌, ◌≤◌, ℕ, ◌+◌, Bool, true, false, ◌||◌, IsTrue, Some, None, IfSome, List, [], ◌∷◌, ◌++◌, length, codes}
 use Rattle.std.specs.FinMap.{get}
 use Rattle.std.specs.declared.alloc.Global.{Global}
 use Rattle.silt_event.specs.declared.reply.LifeReply.{LifeReply}
@@ -10,7 +10,7 @@ use Rattle.silt_event.specs.declared.refusal.Refusal.{Refusal}
 use Rattle.silt_event.specs.declared.refusal.Refusal.TheVariants.{NotFormatted, BadGeometry, Damaged, Crowded, Device, NoMemory, StoreFull, NoRoom, Failed, Spent, HistoryFull}
 use Rattle.silt_event.specs.declared.reply.Reply.{Reply}
 use Rattle.silt_event.specs.declared.reply.Reply.TheVariants.{Accepted, Acknowledged, Found, Absent, Differs, Progress, Refused, Unsettled, NotServed}
-use Rattle.silt_event.specs.Commands.{Command, put, delete, Map, changed, map_after, Begins}
+use Rattle.silt_event.specs.Commands.{Command, put, delete, setting, Map, changed, map_after, Begins}
 
 -- ---- refusals
 
@@ -63,16 +63,16 @@ PlainReply = Reply (Unit {0})
 -- each value of a put or a swap has the store's value length
 abbrev pub HasValueOf : ℕ → Event → Type 0
 HasValueOf len (Put key value) = length value ≡ len
-HasValueOf len (Swap key old new) = (length old ≡ len) × (length new ≡ len)
+HasValueOf len (Swap key old new) = IfSome old (λ value. length value ≡ len) × IfSome new (λ value. length value ≡ len)
 HasValueOf len event = Unit {0}
 
--- An event with this reply takes one map to the other. A swap is accepted exactly if the key has the old value. A refused event
--- changes nothing.
+-- An event with this reply takes one map to the other. A swap is accepted exactly if the key has the old value, or no value if
+-- that is what the swap expects. A refused event changes nothing.
 abbrev pub Step : {F : Type 0} → Map → Event → Reply F → Map → Type 0
 Step map (Put key value) (Accepted n) to = to ≡ changed map (put key.0 value)
 Step map (Delete key) (Accepted n) to = to ≡ changed map (delete key.0)
-Step map (Swap key old new) (Accepted n) to = (get map key.0 ≡ Some old) × (to ≡ changed map (put key.0 new))
-Step map (Swap key old new) Differs to = (get map key.0 ≢ Some old) × (to ≡ map)
+Step map (Swap key old new) (Accepted n) to = (get map key.0 ≡ old) × (to ≡ changed map (setting key.0 new))
+Step map (Swap key old new) Differs to = (get map key.0 ≢ old) × (to ≡ map)
 Step map Flush (Acknowledged n) to = to ≡ map
 Step map (Get key) (Found value) to = (get map key.0 ≡ Some value) × (to ≡ map)
 Step map (Get key) Absent to = (get map key.0 ≡ None) × (to ≡ map)
@@ -107,7 +107,7 @@ Legal count map events replies end to = ⊥
 abbrev pub accepted_command : {F : Type 0} → Event → Reply F → List Command
 accepted_command (Put key value) (Accepted n) = put key.0 value ∷ []
 accepted_command (Delete key) (Accepted n) = delete key.0 ∷ []
-accepted_command (Swap key old new) (Accepted n) = put key.0 new ∷ []
+accepted_command (Swap key old new) (Accepted n) = setting key.0 new ∷ []
 accepted_command event reply = []
 
 -- the commands that were accepted, in order

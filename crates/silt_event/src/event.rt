@@ -1,4 +1,6 @@
 // The calls of a store, as data.
+ghost use Rattle.std.specs.Prelude.{◌≡◌};
+ghost use Rattle.std.specs.Option.{option_map};
 
 use silt_frame::{Key, Value};
 
@@ -9,8 +11,9 @@ pub enum Event {
     Put(Key, Value),
     /// Deletes a key.
     Delete(Key),
-    /// Compare and swap: sets the value of a key to the second value if its value is the first one.
-    Swap(Key, Value, Value),
+    /// Compare and swap: if the value of a key is the first one, sets it to the second one. `None` as the first value means
+    /// that the key has no value, and `None` as the second one deletes the key.
+    Swap(Key, Option<Value>, Option<Value>),
     /// Acknowledges all commands accepted so far.
     Flush,
     /// Looks up a key's value.
@@ -19,4 +22,14 @@ pub enum Event {
     Convert,
     /// One step of the merge of the hash stores into the sorted store.
     Merge,
+}
+
+/// The bytes of a value, if there is one.
+pub fn bytes_of(value: &Option<Value>) -> Option<&[u8]>
+    ensures { option_map (λ bytes. bytes.now) result ≡ value.now }
+{
+    match value {
+        Some(value) => Some(value.as_slice()),
+        None => None,
+    }
 }

@@ -23,7 +23,7 @@ mod report;
 
 pub use answerer::Answerer;
 pub use damage::Finding;
-pub use event::Event;
+pub use event::{Event, bytes_of};
 pub use laws::{count_law, map_law, newest_law};
 pub use place::Place;
 pub use progress::Progress;

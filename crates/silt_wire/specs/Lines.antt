@@ -52,9 +52,14 @@ with_key_and_value None value = Err BadKey
 with_key_and_value (Some key) None = Err BadValue
 with_key_and_value (Some key) (Some value) = Ok (Put key value)
 
--- a swap: the key is looked at before the values
-abbrev pub with_key_and_values : Option Key → Option (List ℕ) → Option (List ℕ) → Result Event LineFault
+-- the value that a word of a swap spells: none for a hyphen
+abbrev pub value_or_none_of : ℕ → List ℕ → Option (Option (List ℕ))
+value_or_none_of value_len word = if bytes_eq word (codes "-") then Some None else option_map Some (value_of value_len word)
+
+-- a swap: the key is looked at before the values, and one of these has to be there
+abbrev pub with_key_and_values : Option Key → Option (Option (List ℕ)) → Option (Option (List ℕ)) → Result Event LineFault
 with_key_and_values None old new = Err BadKey
+with_key_and_values (Some key) (Some None) (Some None) = Err BadValue
 with_key_and_values (Some key) (Some old) (Some new) = Ok (Swap key old new)
 with_key_and_values (Some key) old new = Err BadValue
 
@@ -78,10 +83,10 @@ abbrev pub value_event : ℕ → List ℕ → List ℕ → List ℕ → Result E
 value_event value_len word key value =
     if bytes_eq word (codes "put") then with_key_and_value (key_of key) (value_of value_len value) else Err BadLine
 
--- what a word, a key and two values ask for
+-- what a word, a key and two values ask for, each a value or a hyphen
 abbrev pub swap_event : ℕ → List ℕ → List ℕ → List ℕ → List ℕ → Result Event LineFault
 swap_event value_len word key old new =
-    if bytes_eq word (codes "swap") then with_key_and_values (key_of key) (value_of value_len old) (value_of value_len new) else Err BadLine
+    if bytes_eq word (codes "swap") then with_key_and_values (key_of key) (value_or_none_of value_len old) (value_or_none_of value_len new) else Err BadLine
 
 -- what the words of a line ask for: the first word and the number of words are looked at first
 unfoldable pub event_of : ℕ → List (List ℕ) → Result Event LineFault

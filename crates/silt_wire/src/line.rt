@@ -2,7 +2,7 @@
 ghost use Rattle.std.specs.Prelude.{◌≡◌, ◌⊎◌, ◌==◌, ◌∷◌, [], length, position, IfSome, IfNone, IfOk, IfErr};
 ghost use Rattle.std.specs.Str.Lines.{strip_carriage_return};
 ghost use Rattle.silt_event.specs.Events.{HasValueOf};
-ghost use Rattle.silt_wire.specs.Lines.{Parses, words_of, value_of, bare_event, key_event, value_event, swap_event, event_of, asked_by, is_blank};
+ghost use Rattle.silt_wire.specs.Lines.{Parses, words_of, value_of, value_or_none_of, bare_event, key_event, value_event, swap_event, event_of, asked_by, is_blank};
 
 use crate::keys::key_of;
 use silt_event::Event;
@@ -101,6 +101,23 @@ fn value_of(alloc: Global, value_len: usize, word: &[u8]) -> Result<Value, LineF
     }
 }
 
+// The value that a word of a swap spells: none for a hyphen.
+fn value_or_none_of(
+    alloc: Global,
+    value_len: usize,
+    word: &[u8],
+) -> Result<Option<Value>, LineFault>
+    ensures value { IfOk result (λ value. value_or_none_of value_len word.now ≡ Some value) }
+    ensures fits { IfOk result (λ value. IfSome value (λ bytes. length bytes ≡ value_len)) }
+    ensures fault { IfErr result (λ fault. (fault ≡ LineFault.NoMemory) ⊎ ((fault ≡ LineFault.BadValue) × (value_or_none_of value_len word.now ≡ None))) }
+{
+    if word == b"-".as_slice() {
+        return Ok(None);
+    }
+    let value = value_of(alloc, value_len, word)?;
+    Ok(Some(value))
+}
+
 // The request of a line with one word.
 fn bare_event(word: &[u8]) -> Result<Event, LineFault>
     ensures { result ≡ bare_event word.now }
@@ -148,7 +165,7 @@ fn value_event(
     Ok(Event::Put(key, value))
 }
 
-// What a word, a key and two values ask for.
+// What a word, a key and two values ask for, each a value or a hyphen.
 fn swap_event(
     alloc: Global,
     value_len: usize,
@@ -164,8 +181,11 @@ fn swap_event(
         return Err(LineFault::BadLine);
     }
     let key = key_of(key).ok_or(LineFault::BadKey)?;
-    let old = value_of(alloc, value_len, old)?;
-    let new = value_of(alloc, value_len, new)?;
+    let old = value_or_none_of(alloc, value_len, old)?;
+    let new = value_or_none_of(alloc, value_len, new)?;
+    if old.is_none() && new.is_none() {
+        return Err(LineFault::BadValue);
+    }
     Ok(Event::Swap(key, old, new))
 }
 
@@ -194,12 +214,13 @@ fn parse_words(alloc: Global, text: &[u8], value_len: usize) -> Result<Event, Li
 ///
 /// The line comes without its line feed, and one carriage return at its end is not part of a word. Words are in lower
 /// case, with single spaces between them: `put KEY VALUE`, `delete KEY`, `swap KEY OLD NEW`, `get KEY`, `flush`,
-/// `convert` and `merge`.
+/// `convert` and `merge`. A hyphen for OLD or for NEW, but not for both, stands for no value.
 ///
 /// # Errors
 ///
 /// The first of these that is found: `LineTooLong`, for more than 16,600 bytes; `BadLine`, for the first word and the
-/// number of words; `BadKey`; then, for each value of a put or a swap in order, `NoMemory` and `BadValue`.
+/// number of words; `BadKey`; then, for each value of a put or a swap in order, `NoMemory` and `BadValue`; and
+/// `BadValue` for two hyphens.
 pub fn parse_line(alloc: Global, line: &[u8], value_len: usize) -> Result<Event, LineFault>
     ensures asked { Parses (asked_by value_len line.now) result }
     ensures fits { IfOk result (HasValueOf value_len) }
