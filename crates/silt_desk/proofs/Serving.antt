@@ -217,7 +217,8 @@ module _ {D F : Type 0} (facts : Ghosts D F) where
   never_full : (old new : CoreState D) (event : Event) → Cause facts old new event (Refused HistoryFull) → ⊥
   never_full old new (Put key value) cause = cause.1
   never_full old new (Delete key) cause = cause.1
-  never_full old new (Swap key expected value) cause = cause.2
+  never_full old new (Swap key expected (Some value)) cause = cause.1.1
+  never_full old new (Swap key expected None) cause = cause.1.1
   never_full old new Flush cause = cause
   never_full old new (Get key) cause = cause
   never_full old new Convert cause = cause

@@ -3,7 +3,7 @@ ghost use Rattle.std.specs.Prelude.{◌≡◌, ℕ, List};
 ghost use Rattle.silt_store_set.specs.Replies.{get_reply};
 ghost use Rattle.silt_event.specs.declared.reply.Reply.TheVariants as reply_case;
 ghost use Rattle.silt_desk.specs.History.{accepted_by, is_recorded};
-ghost use Rattle.silt_desk.specs.Notes.{noted_event, plain_answer, reply_of};
+ghost use Rattle.silt_desk.specs.Notes.{given, noted_event, plain_answer, reply_of};
 
 use silt_event::{Event, Progress, Refusal, Reply};
 use silt_frame::{Key, Value};
@@ -22,7 +22,8 @@ pub struct RecordedCall {
 pub enum Note {
     Put(Key, Result<u64, Refusal<()>>),
     Delete(Key, Result<u64, Refusal<()>>),
-    Swap(Key, Result<Option<u64>, Refusal<()>>),
+    /// Whether there is an old value, and a new one.
+    Swap(Key, bool, bool, Result<Option<u64>, Refusal<()>>),
     Flush(Result<u64, Refusal<()>>),
     Get(Key, Result<bool, Refusal<()>>),
     Convert(Result<Progress, Refusal<()>>),
@@ -35,7 +36,7 @@ impl Note {
         ensures { (value : List ℕ) → result ≡ accepted_by (reply_of self.now value) }
     {
         match self {
-            Note::Put(_, Ok(_)) | Note::Delete(_, Ok(_)) | Note::Swap(_, Ok(Some(_))) => 1,
+            Note::Put(_, Ok(_)) | Note::Delete(_, Ok(_)) | Note::Swap(_, _, _, Ok(Some(_))) => 1,
             _ => 0,
         }
     }
@@ -46,15 +47,15 @@ impl Note {
     {
         match self {
             Note::Put(_, Err(refusal)) | Note::Delete(_, Err(refusal)) => is_record(refusal),
-            Note::Swap(_, Err(refusal)) | Note::Get(_, Err(refusal)) => is_record(refusal),
+            Note::Swap(_, _, _, Err(refusal)) | Note::Get(_, Err(refusal)) => is_record(refusal),
             Note::Flush(Err(refusal)) => is_record(refusal),
             Note::Convert(Err(refusal)) | Note::Merge(Err(refusal)) => is_record(refusal),
             _ => true,
         }
     }
 
-    /// The event and the reply. `bytes` is the value of a put or of a get, and the old value of a swap; `second` is the
-    /// new value of a swap.
+    /// The event and the reply. `bytes` is the value of a put or of a get, and the old value of a swap, if it has one;
+    /// `second` is the new value of a swap, if it has one.
     pub fn with_values(self, bytes: Vec<u8>, second: Vec<u8>) -> (Event, Reply<()>)
         ensures event { result.0 ≡ noted_event self bytes.items second.items }
         ensures reply { result.1 ≡ reply_of self bytes.items }
@@ -62,8 +63,8 @@ impl Note {
         match self {
             Note::Put(key, answer) => (Event::Put(key, Value::new(bytes)), accepted(answer)),
             Note::Delete(key, answer) => (Event::Delete(key), accepted(answer)),
-            Note::Swap(key, answer) => {
-                let event = Event::Swap(key, Value::new(bytes), Value::new(second));
+            Note::Swap(key, has_old, has_new, answer) => {
+                let event = Event::Swap(key, given(has_old, bytes), given(has_new, second));
                 (event, swapped(answer))
             }
             Note::Flush(Ok(count)) => (Event::Flush, Reply::Acknowledged(count)),
@@ -72,6 +73,17 @@ impl Note {
             Note::Convert(answer) => (Event::Convert, progressed(answer)),
             Note::Merge(answer) => (Event::Merge, progressed(answer)),
         }
+    }
+}
+
+// A value of these bytes, if there is one.
+fn given(is_given: bool, bytes: Vec<u8>) -> Option<Value>
+    ensures { result ≡ given is_given bytes.items }
+{
+    if is_given {
+        Some(Value::new(bytes))
+    } else {
+        None
     }
 }
 

@@ -1,8 +1,9 @@
 // A store with its trace, whose callers have seats.
-ghost use Rattle.std.specs.Prelude.{◌≡◌, ◌≢◌, ℕ, ◌+◌, ◌≤◌, ◌<◌, ◌%◌, ◌^◌, [], Some, Ok, false, IsTrue, length, IfOk, IfErr, OnOk, MatchResult, vec_len, vec_capacity, slice_get};
+ghost use Rattle.std.specs.Prelude.{◌≡◌, ◌≢◌, ℕ, ◌+◌, ◌≤◌, ◌<◌, ◌%◌, ◌^◌, [], Some, Ok, false, IsTrue, length, is_some, IfOk, IfErr, IfSome, OnOk, MatchResult, vec_len, vec_capacity, slice_get};
+ghost use Rattle.std.specs.Option.{option_map};
 ghost use Rattle.silt_event.specs.Events.{plain};
 ghost use Rattle.silt_desk.specs.DeskState.{Notes};
-ghost use Rattle.silt_desk.specs.Notes.{noted_event, reply_of};
+ghost use Rattle.silt_desk.specs.Notes.{given, noted_event, reply_of};
 ghost use Rattle.silt_desk.specs.Preparing.{unprepared_refusal};
 ghost use Rattle.silt_desk.specs.Seats.{accepted_of, calls_of, fresh};
 
@@ -48,7 +49,7 @@ impl<D: Disk, T: Trace, N: DeskId> Model for Desk<D, T, N> {
     ghost invariant = { λ d. T.agrees d.trace (seen D.Disk d.core) × T.counts d.trace d.ledgers.calls d.ledgers.accepted };
 }
 
-// Notes a call in the trace, with the seat and in the ledgers, if it is to be recorded. Only a swap has a second value.
+// Notes a call in the trace, with the seat and in the ledgers, if it is to be recorded. Only a swap can have a second value.
 fn note_both<T: Trace, N: DeskId>(
     trace: &mut T,
     ledgers: &mut Ledgers<N>,
@@ -86,6 +87,16 @@ fn note<T: Trace, N: DeskId>(
     note_both(trace, ledgers, seat, room, note, value, &[]);
 }
 
+// The bytes of a value, or none.
+fn or_none(value: Option<&[u8]>) -> &[u8]
+    ensures { given (is_some value.entry) result.now ≡ option_map (λ bytes. bytes.now) value.entry }
+{
+    match value {
+        Some(bytes) => bytes,
+        None => &[],
+    }
+}
+
 // The refusal of a call that cannot be recorded.
 fn refusal<F>(lack: NotPrepared) -> Refusal<F>
     ensures { result ≡ unprepared_refusal lack }
@@ -103,7 +114,7 @@ impl<D: Disk, T: Trace, N: DeskId> Desk<D, T, N> {
     ghost use Rattle.silt_engine.specs.Calls.{HasBegun};
     ghost use Rattle.silt_store_set.specs.CoreInvariant.{LeavesBegun};
     ghost use Rattle.silt_event.specs.Commands.{map_after};
-    ghost use Rattle.silt_store_set.specs.CoreState.{Does, map_of, wants_convert, wants_merge};
+    ghost use Rattle.silt_store_set.specs.CoreState.{Does, map_of, may_merge, wants_convert, wants_merge};
     ghost use Rattle.silt_store_set.specs.Replies.{change_reply, flush_reply, get_reply, progress_reply, swap_reply};
     ghost use Rattle.silt_event.specs.declared.event.Event.TheVariants.{Put, Delete, Swap, Get, Flush, Convert, Merge};
     ghost use Rattle.silt_desk.specs.DeskState.{Serves, found_of};
@@ -203,34 +214,36 @@ impl<D: Disk, T: Trace, N: DeskId> Desk<D, T, N> {
     }
 
     /// Compare and swap: sets the value of a key to `new` if its value is `old`, as a recorded call, and returns how many
-    /// commands are accepted, this one included. If the key has another value or none, it returns `None` and changes
-    /// nothing.
+    /// commands are accepted, this one included. If the key has another value, it returns `None` and changes nothing.
+    /// `None` for `old` expects that the key has no value, and `None` for `new` deletes the key.
     pub fn swap(
         &mut self,
         alloc: Global,
         seat: &mut Seat<N>,
         key: &Key,
-        old: &[u8],
-        new: &[u8],
+        old: Option<&[u8]>,
+        new: Option<&[u8]>,
     ) -> Result<Option<u64>, Refusal<D::Fault>>
-        requires old { length old.now ≡ self.old.core.shape.value_len }
-        requires new { length new.now ≡ self.old.core.shape.value_len }
-        ensures { Serves D.Disk T.Trace self.old self.new seat.old seat.new (Swap key.now old.now new.now) (swap_reply result) }
+        requires old { IfSome old (λ value. length value.now ≡ self.old.core.shape.value_len) }
+        requires new { IfSome new (λ value. length value.now ≡ self.old.core.shape.value_len) }
+        ensures { Serves D.Disk T.Trace self.old self.new seat.old seat.new
+            (Swap key.now (option_map (λ value. value.now) old.entry) (option_map (λ value. value.now) new.entry)) (swap_reply result) }
     {
-        let room = match self.trace.prepare(alloc, old.len(), new.len()) {
+        let (value, second) = (or_none(old), or_none(new));
+        let room = match self.trace.prepare(alloc, value.len(), second.len()) {
             Ok(room) => room,
             Err(lack) => return Err(refusal(lack)),
         };
         let answer = self.core.swap(alloc, key, old, new);
-        let noted = Note::Swap(*key, plain(&answer));
+        let noted = Note::Swap(*key, old.is_some(), new.is_some(), plain(&answer));
         note_both(
             &mut self.trace,
             &mut self.ledgers,
             seat,
             room,
             noted,
-            old,
-            new,
+            value,
+            second,
         );
         answer
     }
@@ -323,14 +336,24 @@ impl<D: Disk, T: Trace, N: DeskId> Desk<D, T, N> {
         self.core.wants_merge()
     }
 
-    /// Which background work there is to do.
-    pub fn due(&self) -> Due
+    /// Whether there is a step of merging to do that goes on with a merge, or that begins one of at least this many hash
+    /// stores. If a conversion waits for a hash region, any number is enough.
+    pub fn may_merge(&self, least: u32) -> bool
+        ensures { result ≡ may_merge self.now.core least }
+    {
+        self.core.may_merge(least)
+    }
+
+    /// Which background work there is to do, if a merge begins with at least this many hash stores.
+    pub fn due(&self, least: u32) -> Due
         ensures converts { result.converts ≡ wants_convert self.now.core }
         ensures merges { result.merges ≡ wants_merge self.now.core }
+        ensures begins { result.begins ≡ may_merge self.now.core least }
     {
         Due {
             converts: self.wants_convert(),
             merges: self.wants_merge(),
+            begins: self.may_merge(least),
         }
     }
 

@@ -18,7 +18,7 @@ pub enum NotPrepared {
     NoMemory,
 }
 
-/// Buffers for the values of one call. Only a swap has a second value.
+/// Buffers for the values of one call. Only a swap can have a second value.
 #[derive(Drop)]
 pub struct Room {
     pub value: Vec<u8>,
@@ -51,7 +51,7 @@ pub trait Trace: Drop {
         ensures { MatchResult result (λ room. (is_full self.now → ⊥) × fits (vec_capacity room.value) len × fits (vec_capacity room.second) second)
             (NotPreparedCause (is_full self.now) (takes_memory self.now)) };
 
-    /// Records a call of a seat, with the bytes of its value and, for a swap, of its new value.
+    /// Records a call of a seat, with the bytes of its value and, for a swap, of its new value, if it has one.
     fn record(&mut self, seat: u64, note: Note, value: &[u8], second: &[u8], room: Room)
         requires room { is_full self.old → ⊥ }
         requires fits { fits (vec_capacity room.value) (length value.now) }

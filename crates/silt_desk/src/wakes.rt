@@ -18,7 +18,7 @@ impl Wakes {
         if due.converts {
             wake(rt, &self.converter);
         }
-        if due.merges {
+        if due.begins {
             wake(rt, &self.merger);
         }
     }

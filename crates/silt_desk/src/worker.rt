@@ -1,7 +1,7 @@
 // Workers that do a store's steps in the background, one under each guard.
 ghost use Rattle.std.specs.Prelude.{◌≡◌, false, true, Result};
 ghost use Rattle.silt_event.specs.declared.progress.Progress.{Progress as ProgressOf};
-ghost use Rattle.silt_store_set.specs.CoreState.{wants_convert, wants_merge};
+ghost use Rattle.silt_store_set.specs.CoreState.{may_merge, wants_convert};
 ghost use Rattle.silt_store_set.specs.Replies.{progress_reply};
 ghost use Rattle.silt_event.specs.declared.event.Event.TheVariants.{Convert, Merge};
 ghost use Rattle.silt_event.specs.declared.refusal.Refusal.{Refusal as RefusalOf};
@@ -16,7 +16,7 @@ use crate::trace::Trace;
 use crate::wakes::wake;
 use crossbeam_channel::{Receiver, Sender};
 use silt_disk::Disk;
-use silt_event::{Progress, Refusal};
+use silt_event::{Place, Progress, Refusal};
 use std::alloc::Global;
 use std::sync::Wait;
 
@@ -34,6 +34,8 @@ pub enum Wake {
 pub struct Due {
     pub converts: bool,
     pub merges: bool,
+    /// Whether the merger has a step to do now. Else it waits for more hash stores.
+    pub begins: bool,
 }
 
 /// Where a worker passes a gate.
@@ -58,6 +60,16 @@ pub trait Gate {
     fn finished(&self, spot: Spot) {
         let _ = spot;
     }
+
+    /// The least number of hash stores with which the merger begins a merge, unless a conversion waits for a hash region.
+    fn merges_at(&self) -> u32 {
+        1
+    }
+
+    /// The worker's step is refused, because this part of the device is damaged.
+    fn damaged(&self, spot: Spot, place: Place) {
+        let _ = (spot, place);
+    }
 }
 
 /// A gate that is always open: a worker that passes it waits only for the store.
@@ -77,6 +89,8 @@ pub enum Turn {
     WakeOther,
     /// There is nothing to do before a message.
     Wait,
+    /// The same, because this part of the device is damaged.
+    Damaged(Place),
 }
 
 // What the result of a step asks of a worker. After a refused step it waits too.
@@ -86,7 +100,9 @@ fn turn_after<F: Drop>(answer: Result<Progress, Refusal<F>>) -> Turn
     match answer {
         Ok(Progress::Moved) => Turn::GoOn,
         Ok(Progress::Finished) => Turn::WakeOther,
-        Ok(Progress::Idle | Progress::Waiting) | Err(_) => Turn::Wait,
+        Ok(Progress::Idle | Progress::Waiting) => Turn::Wait,
+        Err(Refusal::Damaged(place)) => Turn::Damaged(place),
+        Err(_) => Turn::Wait,
     }
 }
 
@@ -106,17 +122,19 @@ pub fn convert_once<D: Disk, T: Trace, N: DeskId>(
     turn_after(desk.convert(alloc, seat))
 }
 
-/// Does one step of merging if there is one to do, and else nothing.
+/// Does one step of merging if there is one to do, and else nothing. It begins a merge only of at least this many hash
+/// stores, or if a conversion waits for a hash region.
 pub fn merge_once<D: Disk, T: Trace, N: DeskId>(
     desk: &mut Desk<D, T, N>,
     alloc: Global,
     seat: &mut Seat<N>,
+    least: u32,
 ) -> Turn
-    ensures waits { wants_merge desk.old.core ≡ false → (result ≡ TurnOf.Wait) × (desk.new ≡ desk.old) × (seat.new ≡ seat.old) }
-    ensures steps { wants_merge desk.old.core ≡ true → (answer : Result ProgressOf (RefusalOf D.Fault)) × (result ≡ turn_of answer)
+    ensures waits { may_merge desk.old.core least ≡ false → (result ≡ TurnOf.Wait) × (desk.new ≡ desk.old) × (seat.new ≡ seat.old) }
+    ensures steps { may_merge desk.old.core least ≡ true → (answer : Result ProgressOf (RefusalOf D.Fault)) × (result ≡ turn_of answer)
         × Serves D.Disk T.Trace desk.old desk.new seat.old seat.new Merge (progress_reply answer) }
 {
-    if !desk.wants_merge() {
+    if !desk.may_merge(least) {
         return Turn::Wait;
     }
     turn_after(desk.merge(alloc, seat))
@@ -163,6 +181,11 @@ fn rest<G: Gate, W: Hears, R: Wait>(
             gate.rest(spot);
             wakes.goes_on(rt)
         }
+        Turn::Damaged(place) => {
+            gate.damaged(spot, place);
+            gate.rest(spot);
+            wakes.goes_on(rt)
+        }
     }
 }
 
@@ -204,7 +227,7 @@ pub fn merger<D: Disk, T: Trace, N: DeskId, G: Gate, W: Hears, R: Wait>(
 {
     for _ in rt.forever() {
         gate.pass(Spot::Merger);
-        let turn = merge_once(&mut *shared.write(rt), alloc, &mut seat);
+        let turn = merge_once(&mut *shared.write(rt), alloc, &mut seat, gate.merges_at());
         if !rest(rt, turn, Spot::Merger, gate, &wakes, &other) {
             return seat;
         }

@@ -17,8 +17,8 @@ use crossbeam_channel::{Receiver, Sender};
 use silt_desk::{Desk, DeskId, Gate, Kept, Seat, Shared, Trace, Wake, converter, merger, settle};
 use silt_device::Disk;
 use silt_event::{Progress, Refusal};
-use silt_fixtures::key;
-use silt_frame::Key;
+use silt_fixtures::{key, two_bytes};
+use silt_frame::{Key, Value};
 use silt_store_set::Core;
 use std::alloc::Global;
 use std::sync::ledger::Blank;
@@ -58,19 +58,35 @@ fn put<D: Disk, T: Trace, N: DeskId>(
     plain(desk.put(alloc, seat, key, &value))
 }
 
-// A swap of the second value for the first one.
+// The bytes of a value, if there is one.
+fn two_or_none(value: &Option<Value>) -> Option<[u8; 2]> {
+    match value {
+        Some(value) => Some(two_bytes(value)),
+        None => None,
+    }
+}
+
+// A swap of the second value for the first one, `None` for no value.
 fn swap<D: Disk, T: Trace, N: DeskId>(
     desk: &mut Desk<D, T, N>,
     alloc: Global,
     seat: &mut Seat<N>,
     key: &Key,
-    old: [u8; 2],
-    new: [u8; 2],
+    old: Option<[u8; 2]>,
+    new: Option<[u8; 2]>,
 ) -> Result<Option<u64>, u32> {
     if desk.geometry().value_len() != 2 {
         return Err(OTHER_LENGTH);
     }
-    plain(desk.swap(alloc, seat, key, &old, &new))
+    let old = match &old {
+        Some(bytes) => Some(bytes.as_slice()),
+        None => None,
+    };
+    let new = match &new {
+        Some(bytes) => Some(bytes.as_slice()),
+        None => None,
+    };
+    plain(desk.swap(alloc, seat, key, old, new))
 }
 
 // The value that a get finds.

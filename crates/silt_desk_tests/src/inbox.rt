@@ -384,6 +384,6 @@ fn empty(alloc: Global) -> Value {
 
 #[test]
 fn names_the_kind_of_a_swap(rt: HostRuntime) {
-    let event = Event::Swap(Key([1; 20]), empty(rt.alloc()), empty(rt.alloc()));
+    let event = Event::Swap(Key([1; 20]), Some(empty(rt.alloc())), None);
     same(&rt, &kind_of(event), &EventKind::Swap);
 }

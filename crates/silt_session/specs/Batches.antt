@@ -1,5 +1,5 @@
 -- What is done for a batch of jobs.
-use Rattle.std.specs.Prelude.{◌≡◌, ◌≢◌, ◌≤◌, ◌&&◌, ◌||◌, ◌⊎◌, ℕ, zero, suc, ◌+◌, Bool, true, false, MatchOption, List, [], ◌∷◌, ◌++◌, drop, length, take, Option, Some, None, Result, Err, vec_capacity, vec_len}
+use Rattle.std.specs.Prelude.{◌≡◌, ◌≢◌, ◌≤◌, ◌&&◌, ◌||◌, ◌⊎◌, ℕ, zero, suc, ◌+◌, Bool, true, false, IsSomeAnd, MatchOption, List, [], ◌∷◌, ◌++◌, drop, length, take, Option, Some, None, Result, Err, vec_capacity, vec_len}
 use Rattle.std.specs.List.{AllZip}
 use Rattle.silt_disk.specs.declared.disk.Disk.{Ghosts}
 use Rattle.silt_event.specs.declared.event.Event.TheVariants as event
@@ -39,7 +39,8 @@ module _ {D F T : Type 0} (facts : Ghosts D F) (trace : TraceOf T) where
       × Serves facts trace old new seat after (event.Swap key expected value) (swap_reply reported)
   Performs old new seat after (Put key value) None = (length value ≢ old.core.shape.value_len) × (new ≡ old) × (after ≡ seat)
   Performs old new seat after (Swap key expected value) None =
-      ((length expected ≢ old.core.shape.value_len) ⊎ (length value ≢ old.core.shape.value_len)) × (new ≡ old) × (after ≡ seat)
+      (IsSomeAnd expected (λ v. length v ≢ old.core.shape.value_len) ⊎ IsSomeAnd value (λ v. length v ≢ old.core.shape.value_len))
+      × (new ≡ old) × (after ≡ seat)
   Performs old new seat after Flush None = (new ≡ old) × (after ≡ seat)
   Performs old new seat after request answer = ⊥
 

@@ -1,5 +1,5 @@
 // A batch of jobs: the tasks of each are done, then all is flushed once, and then each task has its reply.
-ghost use Rattle.std.specs.Prelude.{◌≡◌, ◌≤◌, [], List, vec_capacity, vec_len};
+ghost use Rattle.std.specs.Prelude.{◌≡◌, ◌≢◌, ◌≤◌, [], true, false, length, IfSome, IsSomeAnd, List, vec_capacity, vec_len};
 ghost use Rattle.silt_session.specs.Batches.{EndsRound, Flushes, IsBatch, IsDueAt, KeepsLeft, MayMakeRoom, Performs, PerformsAll, PerformsRequest, PerformsTask, ServesBatch, StepsThrough, TriesAgain, TriesOnce, done_in, left_in, writer_at};
 ghost use Rattle.silt_session.specs.Requests.{compared};
 ghost use Rattle.silt_session.specs.declared.job.Job.{Job as JobOf};
@@ -9,7 +9,7 @@ use crate::job::{Answer, Job, Request, Task};
 use crate::room::{HearsRoom, RoomWait};
 use silt_desk::{Desk, DeskId, Due, Gate, Seat, Shared, Spot, Trace, plain};
 use silt_disk::Disk;
-use silt_event::Refusal;
+use silt_event::{Refusal, bytes_of};
 use std::alloc::Global;
 use std::sync::Wait;
 use std::time::Clock;
@@ -37,6 +37,17 @@ fn compared(answer: Result<u64, Refusal<()>>) -> Answer
     }
 }
 
+// Whether a value has this length, if there is one.
+fn may_have_len(value: Option<&[u8]>, len: usize) -> bool
+    ensures yes { result ≡ true → IfSome value.entry (λ bytes. length bytes.now ≡ len) }
+    ensures no { result ≡ false → IsSomeAnd value.entry (λ bytes. length bytes.now ≢ len) }
+{
+    match value {
+        Some(bytes) => bytes.len() == len,
+        None => true,
+    }
+}
+
 // Does a request at the desk, and returns the result. There is none for a flush, because the batch does one for all of
 // them, and none for a put or a swap if a value of it has another length than the store's.
 fn perform<D: Disk, T: Trace, N: DeskId>(
@@ -57,9 +68,9 @@ fn perform<D: Disk, T: Trace, N: DeskId>(
         }
         Request::Delete(key) => Some(compared(plain(&desk.delete(alloc, seat, key)))),
         Request::Swap(key, old, new) => {
-            let (old, new) = (old.as_slice(), new.as_slice());
+            let (old, new) = (bytes_of(old), bytes_of(new));
             let len = desk.geometry().value_len() as usize;
-            if old.len() != len || new.len() != len {
+            if !may_have_len(old, len) || !may_have_len(new, len) {
                 return None;
             }
             Some(plain(&desk.swap(alloc, seat, key, old, new)))
@@ -68,17 +79,19 @@ fn perform<D: Disk, T: Trace, N: DeskId>(
     }
 }
 
-// Flushes. Returns the result, and which background work there is to do then.
+// Flushes. Returns the result, and which background work there is to do then, if a merge begins with at least this many
+// hash stores.
 fn flush<D: Disk, T: Trace, N: DeskId>(
     desk: &mut Desk<D, T, N>,
     alloc: Global,
     seat: &mut Seat<N>,
+    least: u32,
 ) -> (Result<u64, Refusal<()>>, Due)
     ensures flushes { Flushes D.Disk T.Trace desk.old desk.new seat.old seat.new result.0 }
     ensures due { IsDueAt desk.new result.1 }
 {
     let flushed = plain(&desk.flush(alloc, seat));
-    (flushed, desk.due())
+    (flushed, desk.due(least))
 }
 
 // The background work that may make room for a request with this result. None if the request is not refused for want of
@@ -86,12 +99,13 @@ fn flush<D: Disk, T: Trace, N: DeskId>(
 fn work_for_room<D: Disk, T: Trace, N: DeskId>(
     desk: &Desk<D, T, N>,
     answer: &Option<Answer>,
+    least: u32,
 ) -> Option<Due>
     ensures { MayMakeRoom desk.now answer.now result }
 {
     match answer {
         Some(Err(Refusal::NoRoom)) => {
-            let due = desk.due();
+            let due = desk.due(least);
             if due.converts || due.merges {
                 Some(due)
             } else {
@@ -108,11 +122,12 @@ fn try_at<D: Disk, T: Trace, N: DeskId>(
     alloc: Global,
     seat: &mut Seat<N>,
     request: &Request,
+    least: u32,
 ) -> (Option<Answer>, Option<Due>)
     ensures { TriesOnce D.Disk T.Trace seat.old request.now result.0 result.1 seat.new }
 {
     let answer = perform(desk, alloc, seat, request);
-    let due = work_for_room(desk, &answer);
+    let due = work_for_room(desk, &answer, least);
     (answer, due)
 }
 
@@ -128,7 +143,8 @@ fn try_request<D: Disk, T: Trace, N: DeskId, G: Gate, H: HearsRoom, R: Wait>(
     ensures { TriesOnce D.Disk T.Trace seat.old request.now result.0 result.1 seat.new }
 {
     at.gate.pass(Spot::Writer);
-    try_at(&mut *at.shared.write(rt), alloc, seat, request)
+    let least = at.gate.merges_at();
+    try_at(&mut *at.shared.write(rt), alloc, seat, request, least)
 }
 
 // Does a request that was refused for want of room once more, as soon as a worker may have made room, and again if it is
@@ -174,7 +190,8 @@ fn end_round<D: Disk, T: Trace, N: DeskId, G: Gate, H: HearsRoom, R: Wait>(
     ensures left { KeepsLeft batch.old batch.new }
 {
     at.gate.pass(Spot::Writer);
-    let (flushed, _) = flush(&mut *at.shared.write(rt), alloc, seat);
+    let least = at.gate.merges_at();
+    let (flushed, _) = flush(&mut *at.shared.write(rt), alloc, seat, least);
     batch.send_done(rt, &flushed);
 }
 
@@ -261,7 +278,8 @@ pub fn serve_batch<D: Disk, T: Trace, N: DeskId, G: Gate, H: HearsRoom, R: Wait 
     let mut batch = Batch::new(jobs);
     perform_all(rt, alloc, at, seat, &mut batch);
     at.gate.pass(Spot::Writer);
-    let (flushed, due) = flush(&mut *at.shared.write(rt), alloc, seat);
+    let least = at.gate.merges_at();
+    let (flushed, due) = flush(&mut *at.shared.write(rt), alloc, seat, least);
     let mut jobs = batch.into_jobs();
     reply_to_all(&mut jobs, &flushed);
     (jobs, due)

@@ -14,8 +14,8 @@ use std::sync::Wait;
 pub enum Request {
     Put(Key, Value),
     Delete(Key),
-    /// The old value and the new one.
-    Swap(Key, Value, Value),
+    /// The old value and the new one, if there are such.
+    Swap(Key, Option<Value>, Option<Value>),
     Flush,
 }
 

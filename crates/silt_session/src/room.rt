@@ -3,6 +3,7 @@ ghost use Rattle.std.specs.Prelude.{◌≡◌, false};
 
 use crossbeam_channel::{Receiver, Sender};
 use silt_desk::{Gate, Spot, Wake, Wakes, wake};
+use silt_event::Place;
 use std::alloc::{AllocError, Global};
 use std::sync::Wait;
 use std::time::{Clock, Duration, Instant};
@@ -82,5 +83,13 @@ impl<G: Gate, R: Wait> Gate for RoomGate<'_, G, R> {
         if spot == Spot::Converter {
             wake(self.rt, &self.room);
         }
+    }
+
+    fn merges_at(&self) -> u32 {
+        self.gate.merges_at()
+    }
+
+    fn damaged(&self, spot: Spot, place: Place) {
+        self.gate.damaged(spot, place);
     }
 }

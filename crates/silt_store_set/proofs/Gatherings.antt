@@ -1,5 +1,5 @@
--- If a merge is out of memory, the slot that it gathers next has the first row of a key.
-use Rattle.std.proofs.Common.{◌≡◌, ℕ, zero, suc, ◌+◌, ◌-◌, ◌*◌, ◌<◌, ◌≤◌, true, IsTrue, cond, List, [], ◌∷◌, ◌++◌, drop, filter, flat_map, length, map, take, get_or, slice_get, Option, Some, None, option_map, refl, sym, subst, ap, ◌∙◌, arith, append_assoc, suc-mul}
+-- If a merge is out of memory, the slot that it gathers next has the first row of a key, or the key that it decides next has a value.
+use Rattle.std.proofs.Common.{◌≡◌, ℕ, zero, suc, ◌+◌, ◌-◌, ◌*◌, ◌<◌, ◌≤◌, true, IsTrue, cond, List, [], ◌∷◌, ◌++◌, drop, filter, flat_map, length, map, take, get_or, slice_get, Option, Some, None, IsSomeAnd, option_map, refl, sym, subst, ap, ◌∙◌, arith, append_assoc, suc-mul}
 use Rattle.std.specs.Option.{option_or}
 use Rattle.std.proofs.lemmas.List.{length-append, length-map, take-append-drop}
 use Rattle.std.proofs.lemmas.List.Elements.{filter-append}
@@ -8,7 +8,7 @@ use Rattle.std.proofs.Math.Seq.{get_or-append_seam, take-append_seam}
 use Rattle.silt_disk.specs.Disk.{Content}
 use Rattle.silt_disk.specs.Layout.{Shape}
 use Rattle.silt_event.specs.Rows.{newest_row}
-use Rattle.silt_frame.specs.Rows.{StoredRow, has_known_kind}
+use Rattle.silt_frame.specs.Rows.{StoredRow, has_known_kind, is_put_row}
 use Rattle.silt_hash_store.specs.Slots.{hash_part, hash_rows, rows_before, slot_row}
 use Rattle.silt_hash_store.specs.State.{HashState}
 use Rattle.silt_hash_store.proofs.Slotting.{all_before, before_count, before_more, before_taken}
@@ -17,14 +17,15 @@ use Rattle.silt_image.specs.Stores.{Stores, stores_named}
 use Rattle.silt_log.specs.State.{all_rows}
 use Rattle.silt_log.specs.Parts.{known_rows, part_rows}
 use Rattle.silt_manifest.specs.declared.body.Body.{Body}
-use Rattle.silt_merge.specs.Merging.{IsMergedIn, TakesMemory, decided_rows, gathered_rows, source_row}
-use Rattle.silt_merge.specs.Rows.{has_row_with, regions_of, rows_of_hashes}
+use Rattle.silt_merge.specs.Merging.{IsMergedIn, decided_rows, gathered_rows, source_row}
+use Rattle.silt_merge.specs.Rows.{has_row_with, newest_rows, regions_of, rows_of_hashes}
 use Rattle.silt_merge.specs.State.{MergeState, oldest_stores, source_at, steps_of}
+use Rattle.silt_merge.specs.Steps.{TakesKey, TakesRow}
 use Rattle.silt_merge.proofs.Newest.{newest_append}
-use Rattle.silt_engine.specs.Merge.{full_stores}
+use Rattle.silt_engine.specs.Merge.{full_stores, merge_sources}
 use Rattle.silt_standing.specs.Standing.{HasGathered, Stands}
 use Rattle.silt_standing.specs.State.{IsMerging, EngineState}
-use Rattle.silt_engine.proofs.MergeDone.{full_is, sorted_shape, taken_sound}
+use Rattle.silt_engine.proofs.MergeDone.{full_is, sorted_shape, sources_full, taken_sound}
 use Rattle.silt_engine.proofs.MergeStores.{taken_named}
 use Rattle.silt_store_set.specs.CoreState.{HasNewKey}
 
@@ -161,7 +162,18 @@ module _ (content : Content) (s : EngineState) (stands : Stands content s) (hone
       ∙ ap (flat_map part_rows) (taken_named s.manifest.shape content.shown s.manifest.current.hashed s.hashes count stands.whole.hash_regions)
       ∙ parts_slots s.manifest.shape content.shown (regions_of (oldest_stores count s.hashes))
 
-  module _ (merge : MergeState) (way : IsMerging s merge) (merged : HasGathered content s merge) (takes : TakesMemory content (oldest_stores merge.stores s.hashes) merge) where
+  -- the key that a merge decides next has a value, if its entry needs memory
+  pub decides_next : (merge : MergeState) → IsMerging s merge → HasGathered content s merge → TakesKey content (oldest_stores merge.stores s.hashes) s.sorted merge
+      → IsSomeAnd (slice_get (newest_rows (merge_sources merge.stores (full_stores content s))) (steps_of merge - merge.stores * (4 * s.manifest.shape.buckets))) (λ row. is_put_row row ≡ true)
+  decides_next merge way merged takes =
+      let slots : merge.store * (4 * merge.shape.buckets) ≡ merge.stores * (4 * s.manifest.shape.buckets) =
+      ap (λ (n : ℕ). n * (4 * merge.shape.buckets)) takes.gathered ∙ ap (λ (sh : Shape). merge.stores * (4 * sh.buckets)) way.has_shape in
+      let decided : merge.decided ≡ steps_of merge - merge.stores * (4 * s.manifest.shape.buckets) = omega (arith, slots, way.held.ended takes.gathered) in
+      subst (λ (n : ℕ). IsSomeAnd (slice_get (newest_rows (merge_sources merge.stores (full_stores content s))) n) (λ row. is_put_row row ≡ true)) decided
+      (subst (λ (rows : List StoredRow). IsSomeAnd (slice_get (newest_rows rows) merge.decided) (λ row. is_put_row row ≡ true)) (sym (sources_full content s stands honest merge.stores))
+      (takes.puts honest merged.0 (taken_sound content s stands honest merge.stores)))
+
+  module _ (merge : MergeState) (way : IsMerging s merge) (merged : HasGathered content s merge) (takes : TakesRow content (oldest_stores merge.stores s.hashes) merge) where
     abbrev stores : List HashState
     stores = oldest_stores merge.stores s.hashes
 
@@ -173,7 +185,7 @@ module _ (content : Content) (s : EngineState) (stands : Stands content s) (hone
     due_in sh = slot_row sh (get_or regions merge.store 0) content.shown merge.slot
 
     was : IsMergedIn content.shown stores s.sorted merge
-    was = merged.merged honest (taken_sound content s stands honest merge.stores)
+    was = merged.0.merged honest (taken_sound content s stands honest merge.stores)
 
     -- if no row of a key waits, none of its rows is gathered
     none_gathered : (key : List ℕ) → source_at merge.waiting key ≡ None → newest_row (gathered_rows s.manifest.shape content.shown regions merge.store merge.slot) key ≡ None
@@ -186,7 +198,7 @@ module _ (content : Content) (s : EngineState) (stands : Stands content s) (hone
 
     pub new_key_next : HasNewKey (flat_map part_rows (drop (length (full_stores content s).hashes - merge.stores) (full_stores content s).hashes)) (steps_of merge)
     new_key_next =
-        let long : length regions ≡ merge.stores = length-map stores (λ store. store.region) ∙ merged.counted in
+        let long : length regions ≡ merge.stores = length-map stores (λ store. store.region) ∙ merged.0.counted in
         let steps : steps_of merge ≡ merge.store * (4 * s.manifest.shape.buckets) + merge.slot =
         omega (arith, way.held.gathers takes.gathers, ap (λ (sh : Shape). merge.store * (4 * sh.buckets)) way.has_shape) in
         subst (λ (l : List StoredRow). HasNewKey l (steps_of merge)) (sym (slots_taken merge.stores))

@@ -1,5 +1,5 @@
 -- What a crash keeps of a run.
-use Rattle.std.proofs.Common.{◌≡◌, ◌≤◌, ℕ, ◌+◌, ◌||◌, Bool, true, false, IsTrue, List, [], ◌∷◌, ◌++◌, length, refl, ap, sym, ◌∙◌, subst, arith, append_assoc, length-append}
+use Rattle.std.proofs.Common.{◌≡◌, ◌≤◌, ℕ, ◌+◌, ◌||◌, Bool, true, false, IsTrue, List, [], ◌∷◌, ◌++◌, length, Some, None, refl, ap, sym, ◌∙◌, subst, arith, append_assoc, length-append}
 use Rattle.silt_disk.specs.Disk.{Left, LeavesOnly}
 use Rattle.silt_disk.specs.Layout.{Shape}
 use Rattle.silt_disk.specs.declared.disk.Disk.{Ghosts}
@@ -32,21 +32,18 @@ own_counts facts old new Convert (Accepted n) c d cause counts = absurd cause
 own_counts facts old new Merge (Accepted n) c d cause counts = absurd cause
 own_counts facts old new (Put key value) (Acknowledged n) c d cause counts = absurd cause
 own_counts facts old new (Delete key) (Acknowledged n) c d cause counts = absurd cause
-own_counts facts old new (Swap key expected value) (Acknowledged n) c d cause counts = absurd cause
 own_counts facts old new Flush (Acknowledged n) c d cause counts = omega (arith, counts.1)
 own_counts facts old new (Get key) (Acknowledged n) c d cause counts = absurd cause
 own_counts facts old new Convert (Acknowledged n) c d cause counts = absurd cause
 own_counts facts old new Merge (Acknowledged n) c d cause counts = absurd cause
 own_counts facts old new (Put key value) (Found v) c d cause counts = absurd cause
 own_counts facts old new (Delete key) (Found v) c d cause counts = absurd cause
-own_counts facts old new (Swap key expected value) (Found v) c d cause counts = absurd cause
 own_counts facts old new Flush (Found v) c d cause counts = absurd cause
 own_counts facts old new (Get key) (Found v) c d cause counts = omega (arith, counts)
 own_counts facts old new Convert (Found v) c d cause counts = absurd cause
 own_counts facts old new Merge (Found v) c d cause counts = absurd cause
 own_counts facts old new (Put key value) Absent c d cause counts = absurd cause
 own_counts facts old new (Delete key) Absent c d cause counts = absurd cause
-own_counts facts old new (Swap key expected value) Absent c d cause counts = absurd cause
 own_counts facts old new Flush Absent c d cause counts = absurd cause
 own_counts facts old new (Get key) Absent c d cause counts = omega (arith, counts)
 own_counts facts old new Convert Absent c d cause counts = absurd cause
@@ -60,7 +57,6 @@ own_counts facts old new Convert Differs c d cause counts = absurd cause
 own_counts facts old new Merge Differs c d cause counts = absurd cause
 own_counts facts old new (Put key value) (Progress p) c d cause counts = absurd cause
 own_counts facts old new (Delete key) (Progress p) c d cause counts = absurd cause
-own_counts facts old new (Swap key expected value) (Progress p) c d cause counts = absurd cause
 own_counts facts old new Flush (Progress p) c d cause counts = absurd cause
 own_counts facts old new (Get key) (Progress p) c d cause counts = absurd cause
 own_counts facts old new Convert (Progress p) c d cause counts = omega (arith, counts)
@@ -69,9 +65,9 @@ own_counts facts old new event (Refused refusal) c d cause counts = omega (arith
 own_counts facts old new (Put key value) (Unsettled n) c d cause counts = absurd cause
 own_counts facts old new (Put key value) NotServed c d cause counts = absurd cause
 own_counts facts old new (Delete key) (Unsettled n) c d cause counts = absurd cause
-own_counts facts old new (Swap key expected value) (Unsettled n) c d cause counts = absurd cause
 own_counts facts old new (Delete key) NotServed c d cause counts = absurd cause
-own_counts facts old new (Swap key expected value) NotServed c d cause counts = absurd cause
+own_counts facts old new (Swap key expected (Some value)) reply c d cause counts = absurd cause.1
+own_counts facts old new (Swap key expected None) reply c d cause counts = absurd cause.1
 own_counts facts old new Flush (Unsettled n) c d cause counts = absurd cause
 own_counts facts old new Flush NotServed c d cause counts = absurd cause
 own_counts facts old new (Get key) (Unsettled n) c d cause counts = absurd cause

@@ -8,6 +8,8 @@ pub mod Openings
 pub mod Waits
 pub mod Converts
 pub mod Gatherings
+pub mod Damages
+pub mod MayMerge
 pub mod Merges
 pub mod Flushes
 pub mod Gets

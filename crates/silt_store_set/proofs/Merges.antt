@@ -1,10 +1,8 @@
 -- What a step of merging does, from what the same step of the stores in memory does.
-use Rattle.std.proofs.Common.{◌≡◌, ◌<◌, ℕ, ◌+◌, ◌-◌, ◌*◌, ◌%◌, ◌^◌, ◌==◌, ◌⊎◌, inl, inr, Bool, false, true, IsTrue, [], length, Option, Some, None, IfSome, refl, ap, sym, ◌∙◌, subst, arith}
+use Rattle.std.proofs.Common.{◌≡◌, ◌<◌, ℕ, ◌+◌, ◌-◌, ◌*◌, ◌%◌, ◌^◌, ◌==◌, ◌⊎◌, inl, inr, Bool, false, true, IsTrue, IsSomeAnd, [], length, Option, Some, None, IfSome, refl, ap, sym, ◌∙◌, subst, arith}
 use Rattle.std.specs.Option.{option_map}
 use Rattle.std.proofs.lemmas.Bool.{cases_Bool, eqb-true, eq-eqb}
 use Rattle.std.proofs.lemmas.List.{length-map}
-use Rattle.std.proofs.lemmas.Nat.{mul-add-lt}
-use Rattle.std.proofs.Math.Nat.{mul_comm}
 use Rattle.silt_disk.specs.Disk.{GaveAny, MakesAtMost}
 use Rattle.silt_disk.proofs.Costs.{most_more, none_made}
 use Rattle.silt_disk.specs.Layout.{Shape}
@@ -12,24 +10,26 @@ use Rattle.silt_disk.specs.declared.disk.Disk.{Ghosts}
 use Rattle.silt_event.specs.declared.event.Event.TheVariants.{Merge}
 use Rattle.silt_event.specs.declared.progress.Progress.{Progress as ProgressOf}
 use Rattle.silt_event.specs.declared.progress.Progress.TheVariants.{Idle, Waiting, Moved, Finished}
-use Rattle.silt_event.specs.declared.refusal.Refusal.TheVariants.{Device, NoMemory, Spent}
+use Rattle.silt_event.specs.declared.place.Place.{Place}
+use Rattle.silt_event.specs.declared.refusal.Refusal.TheVariants.{Damaged, Device, NoMemory, Spent}
 use Rattle.silt_event.specs.declared.reply.Reply.TheVariants.{Progress, Refused}
-use Rattle.silt_merge.specs.Merging.{TakesMemory}
 use Rattle.silt_merge.specs.Rows.{key_count, merged_rows}
 use Rattle.silt_merge.specs.State.{MergeState, is_done, oldest_stores, steps_of}
+use Rattle.silt_merge.specs.Steps.{TakesKey, TakesMemory, TakesRow}
 use Rattle.silt_engine.specs.Calls.{Advances, Breaks, IsLastGeneration, Remaps}
 use Rattle.silt_standing.specs.Standing.{SameDisk}
 use Rattle.silt_engine.specs.Conversion.{is_work}
 use Rattle.silt_engine.specs.Costs.{step_syncs, step_writes}
 use Rattle.silt_engine.specs.Costs as engine
-use Rattle.silt_engine.specs.Merge.{EndsMerged, HasMergedEntries, IsDoneBySteps, IsNextMerge, MayLackMemory, Merges, MergesOn, full_stores, merge_progress, merge_sources, merge_turn, merged_body}
+use Rattle.silt_engine.specs.Merge.{EndsMerged, HasMergedEntries, IsDoneBySteps, IsNextMerge, MayLackMemory, Merges, MergesOn, full_stores, merge_progress, merge_sources, merge_turn, merged_body, place_read}
 use Rattle.silt_standing.specs.Standing.{HasGathered, Stands}
 use Rattle.silt_standing.specs.State.{IsMerging, EngineState, hash_region_of}
 use Rattle.silt_engine.proofs.Meaning.{meaning}
 use Rattle.silt_store_set.specs.Basis.{basis_of}
-use Rattle.silt_store_set.specs.CoreState.{CoreState, Does, GathersNewKey, GathersNext, IsMergeDue, MadeFor, MergeGoesOn, MergeLacksMemory, entries_written, has_decided, merge_due, merge_work}
+use Rattle.silt_store_set.specs.CoreState.{CoreState, DecidesValue, Does, GathersNewKey, GathersNext, IsMergeDue, MadeFor, MergeGoesOn, MergeLacksMemory, entries_written, has_decided, merge_due, merge_work}
 use Rattle.silt_store_set.proofs.Calls.{seen, seen_failed, advanced, answered, broke, refused}
-use Rattle.silt_store_set.proofs.Gatherings.{new_key_next}
+use Rattle.silt_store_set.proofs.Damages.{place_seen, slot_below}
+use Rattle.silt_store_set.proofs.Gatherings.{decides_next, new_key_next}
 
 -- a test is equality if it is true exactly when the two numbers are the same
 tells_same : (a b : ℕ) (c : Bool) → (c ≡ true → a ≡ b) → (a ≡ b → c ≡ true) → (a == b) ≡ c
@@ -43,10 +43,6 @@ tells_same a b false gives takes = elim (cases_Bool (a == b)) [
 some_work : (hashes : ℕ) (done : Bool) → is_work (merge_progress hashes (Some done)) ≡ true
 some_work hashes true = refl
 some_work hashes false = refl
-
--- a slot before the end of the stores is a number below that of all slots
-slot_below : (store stores slot slots : ℕ) → store < stores → slot < slots → store * slots + slot < stores * slots
-slot_below store stores slot slots store_in slot_in = subst (λ (n : ℕ). store * slots + slot < n) (mul_comm slots stores) (mul-add-lt store slots slot stores store_in slot_in)
 
 -- a merge in memory and the contracts' view of it have written as many entries
 written_seen : (o : Option MergeState) → entries_written (merge_work o) ≡ engine.written_by_merge o
@@ -166,30 +162,57 @@ module _ {D F : Type 0} (facts : Ghosts D F) (disk : D) (stores : EngineState) (
       → Does facts before (seen facts new after count) Merge (Refused Spent)
   step_spent new after same same_disk turn last = rw (same_disk, same) (refused facts disk stores count Merge Spent stands refl (refl, due Finished (sym turn), last))
 
-  -- a merge that gathers a slot has not gathered all of them
-  gathers : (o : Option MergeState) → IfSome o (IsMerging stores) → IfSome o (λ (merge : MergeState). TakesMemory (facts.content disk) (oldest_stores merge.stores stores.hashes) merge)
-      → GathersNext stores.manifest.shape (merge_work o)
-  gathers None merging takes = tt
-  gathers (Some merge) merging takes =
+  -- why a step that goes on is out of memory, in the contracts' view
+  abbrev Lacks : Option MergeState → Type 0
+  Lacks o =
+      (GathersNext stores.manifest.shape (merge_work o) × (IsTrue (facts.content disk).honest → GathersNewKey before (merge_work o)))
+      ⊎ IsSomeAnd (merge_work o) (DecidesValue facts before)
+
+  -- a merge that gathers a slot has not gathered all of them, and what it gathers is the first row of a key
+  lacks_row : (merge : MergeState) → IsMerging stores merge → HasGathered (facts.content disk) stores merge → TakesRow (facts.content disk) (oldest_stores merge.stores stores.hashes) merge → Lacks (Some merge)
+  lacks_row merge merging merged takes =
       let slots : 4 * merge.shape.buckets ≡ 4 * stores.manifest.shape.buckets = ap (λ (s : Shape). 4 * s.buckets) merging.has_shape in
       let below : merge.store * (4 * merge.shape.buckets) + merge.slot < merge.stores * (4 * merge.shape.buckets) = slot_below merge.store merge.stores merge.slot (4 * merge.shape.buckets) takes.gathers merging.held.slot in
-      subst (λ (n : ℕ). steps_of merge < merge.stores * n) slots (omega (arith, below, merging.held.gathers takes.gathers))
+      inl (
+        subst (λ (n : ℕ). steps_of merge < merge.stores * n) slots (omega (arith, below, merging.held.gathers takes.gathers)),
+        λ h. new_key_next (facts.content disk) stores stands h merge merging merged takes,
+      )
 
-  -- and what it gathers is the first row of a key
-  new_key : IsTrue (facts.content disk).honest → (o : Option MergeState) → IfSome o (IsMerging stores) → IfSome o (HasGathered (facts.content disk) stores)
-      → IfSome o (λ (merge : MergeState). TakesMemory (facts.content disk) (oldest_stores merge.stores stores.hashes) merge) → GathersNewKey before (merge_work o)
-  new_key h None merging merged takes = tt
-  new_key h (Some merge) merging merged takes = new_key_next (facts.content disk) stores stands h merge merging merged takes
+  -- one that indexes a key has gathered all slots, and the key has a value
+  lacks_key : (merge : MergeState) → IsMerging stores merge → HasGathered (facts.content disk) stores merge → TakesKey (facts.content disk) (oldest_stores merge.stores stores.hashes) stores.sorted merge → Lacks (Some merge)
+  lacks_key merge merging merged takes =
+      let all : merge.store * (4 * merge.shape.buckets) ≡ merge.stores * (4 * stores.manifest.shape.buckets) =
+      ap (λ (n : ℕ). n * (4 * merge.shape.buckets)) takes.gathered ∙ ap (λ (s : Shape). merge.stores * (4 * s.buckets)) merging.has_shape in
+      inr (record {
+        gathered = omega (arith, all);
+        room = subst (λ (s : Shape). merge.written < s.sorted_capacity) merging.has_shape takes.room;
+        puts = λ h. decides_next (facts.content disk) stores stands h merge merging merged takes;
+      })
+
+  lacks_next : (o : Option MergeState) → IfSome o (IsMerging stores) → IfSome o (HasGathered (facts.content disk) stores)
+      → IfSome o (λ (merge : MergeState). TakesMemory (facts.content disk) (oldest_stores merge.stores stores.hashes) stores.sorted merge) → Lacks o
+  lacks_next None merging merged takes = inl (tt, λ h. tt)
+  lacks_next (Some merge) merging merged (inl row) = lacks_row merge merging merged row
+  lacks_next (Some merge) merging merged (inr key) = lacks_key merge merging merged key
+
+  lacks_moved : merge_turn stores ≡ Moved → Lacks stores.merging → MergeLacksMemory facts before before
+  lacks_moved turn (inl gathers) = inl (due Moved (sym turn), gathers.0, gathers.1)
+  lacks_moved turn (inr decides) = inr (inl (due Moved (sym turn), decides))
 
   lacks : ((merge_turn stores ≡ Moved) × MayLackMemory (facts.content disk) stores) ⊎ ((merge_turn stores ≡ Finished) × (IsLastGeneration stores → ⊥))
       → MergeLacksMemory facts before before
-  lacks (inl (turn, may)) = inl (due Moved (sym turn), gathers stores.merging stands.whole.merging may, λ h. new_key h stores.merging stands.whole.merging stands.merged may)
-  lacks (inr (turn, more)) = inr (due Finished (sym turn), more)
+  lacks (inl (turn, may)) = lacks_moved turn (lacks_next stores.merging stands.whole.merging stands.merged may)
+  lacks (inr (turn, more)) = inr (inr (due Finished (sym turn), more))
 
   pub step_no_memory : (new : D) (after : EngineState) → after ≡ stores → new ≡ disk
       → ((merge_turn stores ≡ Moved) × MayLackMemory (facts.content disk) stores) ⊎ ((merge_turn stores ≡ Finished) × (IsLastGeneration stores → ⊥))
       → Does facts before (seen facts new after count) Merge (Refused NoMemory)
   step_no_memory new after same same_disk why = rw (same_disk, same) (refused facts disk stores count Merge NoMemory stands refl (refl, lacks why))
+
+  pub step_damaged : (new : D) (after : EngineState) (place : Place) → after ≡ stores → new ≡ disk → merge_turn stores ≡ Moved → place ≡ place_read stores.hashes stores.merging → (IsTrue (facts.content disk).honest → ⊥)
+      → Does facts before (seen facts new after count) Merge (Refused (Damaged place))
+  step_damaged new after place same same_disk turn reads never =
+      rw (same_disk, same) (refused facts disk stores count Merge (Damaged place) stands refl (refl, due Moved (sym turn), reads ∙ place_seen stores stands.whole stores.merging stands.whole.merging, never))
 
   -- a write or a sync failed
   pub step_broke : (new : D) (after : EngineState) (fault : F) → SameDisk (facts.content disk) (facts.content new) → is_work (merge_turn stores) ≡ true → Breaks (facts.content disk) (facts.content new) stores

@@ -89,8 +89,11 @@ module _ {D F : Type 0} (facts : Ghosts D F) where
   call_made old new (Delete key) (Accepted n) h front was is does =
       let row = row_made old new key.0 _ h does.cause.1 does.made in
       record { generation = row.0; made = row.1; waits = row.2 }
-  call_made old new (Swap key expected value) (Accepted n) h front was is does =
-      let row = row_made old new key.0 _ h does.cause.2 does.made in
+  call_made old new (Swap key expected (Some value)) (Accepted n) h front was is does =
+      let row = row_made old new key.0 _ h does.cause.1.1 does.made in
+      record { generation = row.0; made = row.1; waits = row.2 }
+  call_made old new (Swap key expected None) (Accepted n) h front was is does =
+      let row = row_made old new key.0 _ h does.cause.1.1 does.made in
       record { generation = row.0; made = row.1; waits = row.2 }
   call_made old new Flush (Acknowledged n) h front was is does =
       let same : new.body.generation ≡ old.body.generation = ap (λ b. b.generation) (does.keeps_body is refl refl) in
@@ -113,6 +116,7 @@ module _ {D F : Type 0} (facts : Ghosts D F) where
       }
   call_made old new Convert reply h front was is does = absurd (let no : IsTrue false = front in cc)
   call_made old new Merge reply h front was is does = absurd (let no : IsTrue false = front in cc)
+  call_made old new (Swap key expected value) reply h front was is does = absurd does.cause.1
   call_made old new event reply h front was is does = absurd does.cause
 
   -- ---- runs

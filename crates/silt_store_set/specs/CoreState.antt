@@ -1,5 +1,5 @@
 -- What contracts see of a store, and what its calls do.
-use Rattle.std.specs.Prelude.{◌≡◌, ◌≢◌, ◌≤◌, ◌<◌, ◌-◌, ◌*◌, ◌^◌, ◌%◌, ◌==◌, ◌&&◌, ◌⊎◌, ℕ, ◌+◌, not, Option, Some, None, Bool, true, false, IsTrue, List, [], ◌∷◌, ◌++◌, drop, filter, flat_map, length, slice_get, take}
+use Rattle.std.specs.Prelude.{◌≡◌, ◌≢◌, ◌≤◌, ◌<◌, ◌-◌, ◌*◌, ◌^◌, ◌%◌, ◌/◌, ◌==◌, ◌&&◌, ◌⊎◌, ℕ, ◌+◌, not, nat_lt, if◌then◌else◌, Option, Some, None, Bool, true, false, IsTrue, IsSomeAnd, List, [], ◌∷◌, ◌++◌, drop, filter, flat_map, get_or, length, slice_get, take, is_some, nat_le, ◌||◌}
 use Rattle.std.specs.FinMap.{get}
 use Rattle.std.specs.Option.{option_map}
 use Rattle.silt_disk.specs.Disk.{Content, GaveAny, LeavesOnly, Makes, MakesAtMost}
@@ -14,10 +14,10 @@ use Rattle.silt_image.specs.Meaning.{image_map, IsGood, StandsFor}
 use Rattle.silt_image.specs.Stores.{Stores, stores_named}
 use Rattle.silt_log.specs.Rows.{log_rows}
 use Rattle.silt_event.specs.Rows.{newest_row}
-use Rattle.silt_frame.specs.Rows.{StoredRow, has_known_kind}
+use Rattle.silt_frame.specs.Rows.{StoredRow, has_known_kind, is_put_row}
 use Rattle.silt_log.specs.Parts.{part_rows}
 use Rattle.silt_manifest.specs.declared.body.Body.{Body}
-use Rattle.silt_merge.specs.Rows.{key_count, merged_rows}
+use Rattle.silt_merge.specs.Rows.{key_count, merged_rows, newest_rows}
 use Rattle.silt_merge.specs.State.{MergeState, steps_of}
 use Rattle.silt_engine.specs.Calls.{CannotTake, HasBegun}
 use Rattle.silt_standing.specs.Standing.{SameDisk}
@@ -32,8 +32,10 @@ use Rattle.silt_event.specs.declared.progress.Progress.{Progress as ProgressOf}
 use Rattle.silt_event.specs.declared.progress.Progress.TheVariants.{Idle, Waiting, Moved, Finished}
 use Rattle.silt_conversion.specs.Conversion.{ConversionState}
 use Rattle.silt_hash_store.specs.Slots.{hash_rows}
+use Rattle.silt_event.specs.declared.place.Place.{Place}
+use Rattle.silt_event.specs.declared.place.Place.TheVariants.{HashDigest, SortedDigest}
 use Rattle.silt_event.specs.declared.refusal.Refusal.{Refusal}
-use Rattle.silt_event.specs.declared.refusal.Refusal.TheVariants.{Device, NoMemory, StoreFull, NoRoom, Failed, Spent}
+use Rattle.silt_event.specs.declared.refusal.Refusal.TheVariants.{Damaged, Device, NoMemory, StoreFull, NoRoom, Failed, Spent}
 use Rattle.silt_event.specs.declared.reply.Reply.{Reply}
 use Rattle.silt_event.specs.declared.reply.Reply.TheVariants.{Accepted, Acknowledged, Found, Absent, Differs, Progress, Refused}
 use Rattle.silt_event.specs.Events.{Step, Counts, accepted_command, accepted_commands, acknowledged_after, is_fault, is_failed, plain, PlainReply}
@@ -163,6 +165,16 @@ merge_due core = merge_progress (length core.body.hashed) (option_map (has_decid
 abbrev pub wants_merge : {D : Type 0} → CoreState D → Bool
 wants_merge core = not core.failed && is_work (merge_due core)
 
+-- a conversion waits for a hash region
+abbrev pub awaits_region : ProgressOf → Bool
+awaits_region Waiting = true
+awaits_region progress = false
+
+-- There is a step of merging to do, and it goes on with a merge, or it begins one of at least this many hash stores. If a conversion
+-- waits for a hash region, it begins one of those that there are.
+abbrev pub may_merge : {D : Type 0} → CoreState D → ℕ → Bool
+may_merge core least = wants_merge core && (is_some core.merging || (nat_le least (length core.body.hashed) || awaits_region (convert_due core)))
+
 -- Below, `facts` is what the trait of disks states of a type of disks: its content, how many writes and syncs have failed, and which call
 -- gave which fault. A clause at `D: Disk` passes `D.Disk`.
 
@@ -200,6 +212,22 @@ pub record HasNewKey (slots : List StoredRow) (gathered : ℕ) : Type 0 where
 abbrev pub GathersNewKey : {D : Type 0} → CoreState D → Option MergeWork → Type 0
 GathersNewKey core None = Unit {0}
 GathersNewKey core (Some work) = HasNewKey (slots_taken core work) work.steps
+
+-- all slots of the hash stores that a merge takes are gathered, the sorted region that it writes has room, and the key that it decides next
+-- has a value
+pub record DecidesValue {D F : Type 0} (facts : Ghosts D F) (core : CoreState D) (work : MergeWork) : Type 0 where
+  pub gathered : work.stores * (4 * core.shape.buckets) ≤ work.steps
+  pub room : work.written < core.shape.sorted_capacity
+  pub puts : IsTrue (facts.content core.disk).honest
+      → IsSomeAnd (slice_get (newest_rows (taken_by core work)) (work.steps - work.stores * (4 * core.shape.buckets))) (λ row. is_put_row row ≡ true)
+
+-- what the next step of merging reads: the hash store whose slot is due, from the newest on, or behind all that it takes the sorted store
+abbrev pub place_due : Shape → Body → Option MergeWork → Place
+place_due shape body None = HashDigest (get_or body.hashed 0 0)
+place_due shape body (Some work) =
+    if nat_lt work.steps (work.stores * (4 * shape.buckets))
+    then HashDigest (get_or (drop (length body.hashed - work.stores) body.hashed) (work.steps / (4 * shape.buckets)) 0)
+    else SortedDigest
 
 -- one more step is taken, or the first one of a merge of all hash stores
 abbrev pub MergeGoesOn : Body → Option MergeWork → Option MergeWork → Type 0
@@ -279,21 +307,22 @@ module _ {D F : Type 0} (facts : Ghosts D F) (old new : CoreState D) where
   DeleteCause key (Refused refusal) = MayCount old × NoRowCause key refusal
   DeleteCause key reply = ⊥
 
-  -- on an honest disk, the key has this value before the call
-  abbrev pub HasOldValue : List ℕ → List ℕ → Type 0
-  HasOldValue key value = IsTrue (facts.content old.disk).honest → get (map_of old) key ≡ Some value
+  -- a put of this value, or a delete if there is none
+  abbrev pub SettingCause : List ℕ → Option (List ℕ) → Reply F → Type 0
+  SettingCause key (Some value) = PutCause key value
+  SettingCause key None = DeleteCause key
 
-  -- A swap of the expected value: as a put, but only where the key has that value. A read may fail before that is known.
-  abbrev pub SwapCause : List ℕ → List ℕ → List ℕ → Reply F → Type 0
-  SwapCause key expected value (Accepted n) = HasOldValue key expected × MayPut old × WritesRow key (put key value)
+  -- on an honest disk, the key has this value before the call, or none
+  abbrev pub HasOldValue : List ℕ → Option (List ℕ) → Type 0
+  HasOldValue key value = IsTrue (facts.content old.disk).honest → get (map_of old) key ≡ value
+
+  -- A swap: as a put or a delete, but only if the key has the expected value. A read may fail before that is known.
+  abbrev pub SwapCause : List ℕ → Option (List ℕ) → Option (List ℕ) → Reply F → Type 0
   SwapCause key expected value Differs = (old.failed ≡ false) × (new ≡ old)
   SwapCause key expected value (Refused Failed) = old.failed ≡ true
-  SwapCause key expected value (Refused StoreFull) = HasOldValue key expected × MayCount old × (old.charge ≡ old.shape.sorted_capacity)
-  SwapCause key expected value (Refused Spent) =
-      HasOldValue key expected × (old.failed ≡ false) × ((old.count ≡ most_commands) ⊎ (MayPut old × NoRowCause key Spent))
-  SwapCause key expected value (Refused (Device fault)) = FailsRead facts old new fault ⊎ (HasOldValue key expected × MayPut old × FailsBy facts old new fault)
-  SwapCause key expected value (Refused refusal) = HasOldValue key expected × MayPut old × NoRowCause key refusal
-  SwapCause key expected value reply = ⊥
+  SwapCause key expected value (Refused (Device fault)) =
+      FailsRead facts old new fault ⊎ (HasOldValue key expected × SettingCause key value (Refused (Device fault)))
+  SwapCause key expected value reply = HasOldValue key expected × SettingCause key value reply
 
   -- if no command waits, a flush changes nothing
   abbrev pub FlushCause : Reply F → Type 0
@@ -339,18 +368,23 @@ module _ {D F : Type 0} (facts : Ghosts D F) (old new : CoreState D) where
   AnswersMerge Moved = (new.body ≡ old.body) × MergeGoesOn old.body old.merging new.merging
   AnswersMerge Finished = IsMerged facts old new
 
-  -- why merging is out of memory: the merge begins, it gathers the first row of a key, or it makes what the new sorted store keeps
+  -- why merging is out of memory: the merge begins, it gathers the first row of a key, it decides a key that has a value, or it makes what
+  -- the new sorted store keeps
   abbrev pub MergeLacksMemory : Type 0
   MergeLacksMemory =
       (IsMergeDue facts old Moved × GathersNext old.shape old.merging × (IsTrue (facts.content old.disk).honest → GathersNewKey old old.merging))
+      ⊎ (IsMergeDue facts old Moved × IsSomeAnd old.merging (DecidesValue facts old))
       ⊎ (IsMergeDue facts old Finished × (old.body.generation ≢ last_generation))
 
-  -- a step of merging does the next thing that is due, and only the last one writes the manifest
+  -- a step of merging does the next thing that is due, and only the last one writes the manifest; on an honest disk nothing that it reads is
+  -- damaged
   abbrev pub MergeCause : Reply F → Type 0
   MergeCause (Progress progress) = (old.failed ≡ false) × IsMergeDue facts old progress × AnswersMerge progress × (facts.failures new.disk ≡ facts.failures old.disk)
   MergeCause (Refused Failed) = old.failed ≡ true
   MergeCause (Refused Spent) = (old.failed ≡ false) × IsMergeDue facts old Finished × (old.body.generation ≡ last_generation)
   MergeCause (Refused NoMemory) = (old.failed ≡ false) × MergeLacksMemory
+  MergeCause (Refused (Damaged place)) =
+      (old.failed ≡ false) × IsMergeDue facts old Moved × (place ≡ place_due old.shape old.body old.merging) × (IsTrue (facts.content old.disk).honest → ⊥)
   MergeCause (Refused (Device fault)) =
       (IsMergeDue facts old Moved × FailsRead facts old new fault) ⊎ ((is_work (merge_due old) ≡ true) × FailsBy facts old new fault)
   MergeCause reply = ⊥

@@ -16,9 +16,11 @@
 //! A row goes to the active log. If the log is full, or its table cannot place the row, the log is frozen and a new one
 //! is started. [`Core::convert`] rewrites the oldest frozen log as a hash store, one slot a call, and then the log's
 //! region is free again. [`Core::merge`] merges all hash stores and the sorted store into a new sorted store, one slot
-//! or one key a call, and then their regions are free again. A conversion and a merge may be in progress at the same
-//! time; neither touches the other's work. Background work in progress does not survive a crash: it begins anew.
-//! [`Core::wants_convert`] and [`Core::wants_merge`] return whether there is a step to do.
+//! or one key a call, and then their regions are free again. It compares what it reads of each store with the store's
+//! digest: a step that finds another one is refused, before a manifest names the new store. A conversion and a merge may
+//! be in progress at the same time; neither touches the other's work. Background work in progress does not survive a
+//! crash: it begins anew. [`Core::wants_convert`] and [`Core::wants_merge`] return whether there is a step to do, and
+//! [`Core::may_merge`] whether there are enough hash stores to begin a merge.
 #![tactic(auto)]
 
 mod answerer;

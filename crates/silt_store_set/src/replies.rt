@@ -3,6 +3,7 @@ ghost use Rattle.std.specs.Prelude.{◌≡◌, ◌≤◌, length, IfOk};
 ghost use Rattle.silt_frame.specs.declared.key.Kind.TheVariants.{Delete};
 ghost use Rattle.silt_log.specs.Rows.{IsValueOf};
 ghost use Rattle.silt_engine.specs.Conversion.{is_work};
+ghost use Rattle.silt_store_set.specs.CoreState.{awaits_region};
 ghost use Rattle.silt_store_set.specs.Replies.{change_reply, progress_reply, swap_reply};
 
 use crate::{Progress, Refusal, Reply};
@@ -33,6 +34,13 @@ pub fn is_work(progress: Progress) -> bool
     ensures { result ≡ is_work progress }
 {
     matches!(progress, Progress::Moved | Progress::Finished)
+}
+
+// Whether this progress of a background step is a wait for other work.
+pub fn awaits_region(progress: Progress) -> bool
+    ensures { result ≡ awaits_region progress }
+{
+    matches!(progress, Progress::Waiting)
 }
 
 /// The reply to a put or a delete.

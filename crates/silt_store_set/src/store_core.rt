@@ -1,13 +1,15 @@
 // The store on one device: what it holds in memory, and its calls.
-ghost use Rattle.std.specs.Prelude.{◌≡◌, ◌<◌, ◌≤◌, ◌↔◌, length, false, Some, Ok, All, IsTrue, IfOk, IfErr, OnErr, MatchResult};
+ghost use Rattle.std.specs.Prelude.{◌≡◌, ◌<◌, ◌≤◌, ◌↔◌, length, false, Some, Ok, All, IsTrue, IfOk, IfErr, IfSome, OnErr, MatchResult};
+ghost use Rattle.std.specs.Option.{option_map};
 ghost use Rattle.silt_event.specs.Events.{Legal};
 ghost use Rattle.silt_disk.specs.Disk.{LeavesOnly};
 
 use crate::basis::Basis;
-use crate::replies::{accepted, copied, is_work, progressed, swapped, zeros};
+use crate::replies::{accepted, awaits_region, copied, is_work, progressed, swapped, zeros};
 use crate::{Event, Progress, Refusal, Reply};
 use silt_disk::{Disk, Geometry};
 use silt_engine::{ConvertError, Engine, EntriesError, MergeError, WriteError};
+use silt_event::bytes_of;
 use silt_frame::{Key, Kind, Value};
 use std::alloc::{AllocError, Global};
 use std::collections::BTreeMap;
@@ -80,7 +82,7 @@ impl<D: Disk> Core<D> {
     ghost use Rattle.silt_engine.specs.Calls.{HasBegun};
     ghost use Rattle.silt_store_set.specs.CoreInvariant.{LeavesBegun};
     ghost use Rattle.silt_frame.specs.Rows.{key_cmp};
-    ghost use Rattle.silt_store_set.specs.CoreState.{CoreState, Does, Runs, Opens, EntriesCause, IsRefusedRead, StandsKept, map_of, MayWrite, row_event, wants_convert, wants_merge};
+    ghost use Rattle.silt_store_set.specs.CoreState.{CoreState, Does, Runs, Opens, EntriesCause, IsRefusedRead, StandsKept, map_of, MayWrite, may_merge, row_event, wants_convert, wants_merge};
     ghost use Rattle.silt_store_set.specs.Costs.{RunMade};
     ghost use Rattle.silt_event.specs.Events.{HasValueOf};
     ghost use Rattle.silt_store_set.specs.Opening.{OpeningCause, RefusalMakes};
@@ -193,20 +195,21 @@ impl<D: Disk> Core<D> {
     }
 
     /// Compare and swap: sets the value of a key to `new` if its value is `old`, and returns how many commands this life
-    /// has accepted, this one included. If the key has another value or none, it returns `None` and changes nothing.
+    /// has accepted, this one included. If the key has another value, it returns `None` and changes nothing. `None` for
+    /// `old` expects that the key has no value, and `None` for `new` deletes the key.
     ///
     /// The checks are in this order: `Failed`, the reads of the key's value (`Device`), the comparison (`None`), and then
-    /// those of a put, from `Spent` (the count) on.
+    /// those of a put or of a delete, from `Spent` (the count) on.
     pub fn swap(
         &mut self,
         alloc: Global,
         key: &Key,
-        old: &[u8],
-        new: &[u8],
+        old: Option<&[u8]>,
+        new: Option<&[u8]>,
     ) -> Result<Option<u64>, Refusal<D::Fault>>
-        requires old { length old.now ≡ self.old.shape.value_len }
-        requires new { length new.now ≡ self.old.shape.value_len }
-        ensures { Does D.Disk self.old self.new (Swap key.now old.now new.now) (swap_reply result) }
+        requires old { IfSome old (λ value. length value.now ≡ self.old.shape.value_len) }
+        requires new { IfSome new (λ value. length value.now ≡ self.old.shape.value_len) }
+        ensures { Does D.Disk self.old self.new (Swap key.now (option_map (λ value. value.now) old.entry) (option_map (λ value. value.now) new.entry)) (swap_reply result) }
     {
         if self.failed {
             return Err(Refusal::Failed);
@@ -214,22 +217,28 @@ impl<D: Disk> Core<D> {
         if !self.holds(key, old)? {
             return Ok(None);
         }
-        let count = self.put(alloc, key, new)?;
-        Ok(Some(count))
+        match new {
+            Some(value) => Ok(Some(self.put(alloc, key, value)?)),
+            None => Ok(Some(self.delete(alloc, key)?)),
+        }
     }
 
-    // Whether the key has this value. The buffer has room for the longest value, so that a row takes one read.
-    fn holds(&self, key: &Key, value: &[u8]) -> Result<bool, Refusal<D::Fault>>
+    // Whether the key has this value, or none. The buffer has room for the longest value, so that a row takes one read.
+    fn holds(&self, key: &Key, value: Option<&[u8]>) -> Result<bool, Refusal<D::Fault>>
         requires working { self.now.failed ≡ false }
-        requires value { length value.now ≡ self.now.shape.value_len }
-        ensures holds { IsTrue (D.content self.now.disk).honest → IfOk result (λ holds. IsTrue holds ↔ (get (map_of self.now) key.now.0 ≡ Some value.now)) }
+        requires value { IfSome value (λ value. length value.now ≡ self.now.shape.value_len) }
+        ensures holds { IsTrue (D.content self.now.disk).honest
+            → IfOk result (λ holds. IsTrue holds ↔ (get (map_of self.now) key.now.0 ≡ option_map (λ value. value.now) value.entry)) }
         ensures fault { IfErr result (λ refusal. IsRefusedRead D.Disk self.now refusal) }
     {
         let mut longest = [0; MOST_VALUE_LEN];
         let out = &mut longest[..self.engine.geometry().value_len() as usize];
         match self.engine.get(&self.disk, key, out) {
-            Ok(true) => Ok(*out == *value),
-            Ok(false) => Ok(false),
+            Ok(true) => match value {
+                Some(value) => Ok(*out == *value),
+                None => Ok(false),
+            },
+            Ok(false) => Ok(value.is_none()),
             Err(fault) => Err(Refusal::Device(fault)),
         }
     }
@@ -354,9 +363,13 @@ impl<D: Disk> Core<D> {
     /// else none. The step after the last key syncs, writes the manifest and returns `Finished`: three writes and four
     /// syncs. A hash store that a conversion finishes meanwhile stays in front. It never returns `Waiting`.
     ///
-    /// The checks are in this order: `Failed`, `Spent` (the generation, if the step writes the manifest), its reads
-    /// (`Device`) and `NoMemory` (while it gathers slots, and if it writes the manifest), its write or syncs
-    /// (`Device`).
+    /// With the last slot of a hash store and with the last old entry it compares what was read of that store with the
+    /// store's digest. If they differ it is refused, and nothing has changed. On an honest disk they do not.
+    ///
+    /// The checks are in this order: `Failed`, `Spent` (the generation, if the step writes the manifest), its read of
+    /// slots or entries (`Device`), `Damaged` (the digest), the read of a value (`Device`), `NoMemory` (for a row that
+    /// waits, for a key that has a value, and if it writes the manifest), its write or syncs (`Device`). Without memory
+    /// for a row it reads the slot again (`Device`), and is refused with `Damaged` if that shows another row.
     pub fn merge(&mut self, alloc: Global) -> Result<Progress, Refusal<D::Fault>>
         ensures { Does D.Disk self.old self.new Merge (progress_reply result) }
     {
@@ -373,6 +386,7 @@ impl<D: Disk> Core<D> {
             }
             Err(MergeError::Read(fault)) => Err(Refusal::Device(fault)),
             Err(MergeError::Spent) => Err(Refusal::Spent),
+            Err(MergeError::Damaged(place)) => Err(Refusal::Damaged(place)),
             Err(MergeError::NoMemory) => Err(Refusal::NoMemory),
         }
     }
@@ -393,6 +407,23 @@ impl<D: Disk> Core<D> {
         !self.failed && is_work(self.engine.merge_turn())
     }
 
+    /// Whether there is a step of merging to do that goes on with a merge, or that begins one of at least this many hash
+    /// stores. If a conversion waits for a hash region, any number is enough.
+    pub fn may_merge(&self, least: u32) -> bool
+        ensures { result ≡ may_merge self.now least }
+    {
+        if !self.wants_merge() {
+            return false;
+        }
+        if self.engine.is_merging() {
+            return true;
+        }
+        if self.engine.hash_stores() >= least as usize {
+            return true;
+        }
+        awaits_region(self.engine.convert_turn())
+    }
+
     /// Does one event. A get that is out of memory for its value is refused with `NoMemory`.
     pub fn answer(&mut self, alloc: Global, event: &Event) -> Reply<D::Fault>
         requires { HasValueOf self.old.shape.value_len event.now }
@@ -402,7 +433,7 @@ impl<D: Disk> Core<D> {
             Event::Put(key, value) => accepted(self.put(alloc, key, value.as_slice())),
             Event::Delete(key) => accepted(self.delete(alloc, key)),
             Event::Swap(key, old, new) => {
-                swapped(self.swap(alloc, key, old.as_slice(), new.as_slice()))
+                swapped(self.swap(alloc, key, bytes_of(old), bytes_of(new)))
             }
             Event::Flush => match self.flush() {
                 Ok(count) => Reply::Acknowledged(count),

@@ -5,7 +5,7 @@ use crate::kept::{after, goes_on, is_kept};
 use crate::life_lines::Line;
 use crate::lines::{
     ASKED_BEHIND, CONVERTED, CONVERTED_MEANWHILE, CONVERTED_MEANWHILE_TOLD, CONVERTED_TOLD,
-    SWAP_MEANWHILE, of_three_hash_stores,
+    SWAP_MEANWHILE, SWAPS_TOLD, of_three_hash_stores,
 };
 use crate::script::{Printed, ask, repeated_with, replies_of};
 use crate::support::{entries_of, listed, same, same_in, values_of};
@@ -40,17 +40,17 @@ fn each_fails(rt: &impl Abort, alloc: Global, life: &Life, fails: Fails) -> Resu
 }
 
 // The life of these lines and others after them on a new disk of this geometry, which gets these
-// replies and a last one.
+// replies and others after them.
 fn life_fails(
     rt: &impl Abort,
     alloc: Global,
     geometry: Geometry,
     (parts, others): (&[(Line, u8)], &[Line]),
-    (replies, last): (&[(Printed, u8)], Printed),
+    (replies, last): (&[(Printed, u8)], &[Printed]),
     fails: Fails,
 ) -> Result<(), Fail> {
     let lines = repeated_with(alloc, parts, others)?;
-    let printed = repeated_with(alloc, replies, &[last])?;
+    let printed = repeated_with(alloc, replies, last)?;
     let life = Life {
         geometry,
         lines: &lines,
@@ -59,14 +59,14 @@ fn life_fails(
     each_fails(rt, alloc, &life, fails)
 }
 
-// The life is a conversion, followed by a get, a step and a swap.
+// The life is a conversion, followed by a get, a step and three swaps.
 fn conversion_fails(rt: &impl Abort, alloc: Global, fails: Fails) -> Result<(), Fail> {
     life_fails(
         rt,
         alloc,
         small()?,
         (&CONVERTED, &ASKED_BEHIND),
-        (&CONVERTED_TOLD, Printed::Accepted(6)),
+        (&CONVERTED_TOLD, &SWAPS_TOLD),
         fails,
     )
 }
@@ -78,7 +78,7 @@ fn merge_fails(rt: &impl Abort, alloc: Global, fails: Fails) -> Result<(), Fail>
         alloc,
         of_three_hash_stores()?,
         (&CONVERTED_MEANWHILE, &[SWAP_MEANWHILE]),
-        (&CONVERTED_MEANWHILE_TOLD, Printed::Accepted(5)),
+        (&CONVERTED_MEANWHILE_TOLD, &[Printed::Accepted(5)]),
         fails,
     )
 }
@@ -215,11 +215,16 @@ fn each_read_fails(rt: &impl Abort, alloc: Global, life: &Life, reads: u64) -> R
 // An opening makes four reads. All keys have one bucket, so each of the first four puts reads the
 // heads of all rows before its own. The fifth finds the log full. The conversion reads one row for
 // each of the four slots that are not empty. The get reads a row of the active log and two slots.
-// The swap reads these too, and then the head of that row. The list reads two rows, eight slots and
+// The first swap reads these too, and then the head of that row. Each other swap reads the last rows
+// of the active log's two keys, and then their heads. The list reads all four rows, eight slots and
 // four values.
 #[test]
 fn each_read_of_a_conversion_fails(rt: HostRuntime) -> Result<(), Fail> {
-    conversion_fails(&rt, rt.alloc(), Fails::Reads(4 + 6 + 4 + 3 + 4 + 14))
+    conversion_fails(
+        &rt,
+        rt.alloc(),
+        Fails::Reads(4 + 6 + 4 + 3 + 4 + 2 * 4 + 16),
+    )
 }
 
 // Each log has one row, so no put reads. Each of three conversions reads one row. The merge reads
@@ -423,12 +428,12 @@ fn each_change_fails(
     each_stopped_of_a_kind_fails(rt, alloc, life, (Call::Sync, syncs))
 }
 
-// The writes and syncs of the conversion, 42 in all. The opening makes a sync. Five puts and the
-// swap make twelve writes. The flush before the freeze makes one write and two syncs, the clearing
+// The writes and syncs of the conversion, 46 in all. The opening makes a sync. Five puts and three
+// swaps make sixteen writes. The flush before the freeze makes one write and two syncs, the clearing
 // of the next log one of each, and the manifest three of each. The last flush makes one write and
 // two syncs. The eight slots take a write each. The last step makes a sync, and writes the manifest
 // again.
-const OF_A_CONVERSION: (u64, u64) = (12 + 1 + 1 + 3 + 1 + 8 + 3, 1 + 2 + 1 + 3 + 2 + 1 + 3);
+const OF_A_CONVERSION: (u64, u64) = (16 + 1 + 1 + 3 + 1 + 8 + 3, 1 + 2 + 1 + 3 + 2 + 1 + 3);
 
 // The writes and syncs of the merge, 108 in all. The opening makes a sync. Four puts and the swap
 // make ten writes. Each of four freezes makes five writes and six syncs, and each of three
@@ -444,7 +449,7 @@ fn are_calls(rt: &impl Abort, (writes, syncs): (u64, u64), calls: u64) -> Fails 
 
 #[test]
 fn each_change_of_a_conversion_fails(rt: HostRuntime) -> Result<(), Fail> {
-    let fails = are_calls(&rt, OF_A_CONVERSION, 42);
+    let fails = are_calls(&rt, OF_A_CONVERSION, 46);
     conversion_fails(&rt, rt.alloc(), fails)
 }
 

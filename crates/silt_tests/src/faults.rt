@@ -60,10 +60,12 @@ pub(crate) fn is_failed(rt: &impl Abort, alloc: Global, core: &mut Core<FaultDis
         refused(core.get(&key(1), &mut out)),
         refused(core.put(alloc, &key(1), &[0, 2])),
         refused(core.delete(alloc, &key(1))),
-        refused(core.swap(alloc, &key(1), &[0, 5], &[0, 6])),
-        refused(core.swap(alloc, &key(1), &[0, 9], &[0, 6])),
+        refused(core.swap(alloc, &key(1), Some(&[0, 5]), Some(&[0, 6]))),
+        refused(core.swap(alloc, &key(1), Some(&[0, 9]), Some(&[0, 6]))),
+        refused(core.swap(alloc, &key(1), None, Some(&[0, 6]))),
+        refused(core.swap(alloc, &key(1), Some(&[0, 5]), None)),
     ];
-    same(rt, &printed, &[9; 5]);
+    same(rt, &printed, &[9; 7]);
     does_no_work(rt, alloc, core);
 }
 

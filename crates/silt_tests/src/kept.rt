@@ -11,7 +11,7 @@ use std::process::Abort;
 use std::test::Fail;
 
 // The key that a line changes, and its new value, 0 for none. A swap changes nothing if the key has
-// another value.
+// another value than the old one.
 fn change_by(line: Line, values: [u16; 8]) -> Option<(usize, u16)> {
     match line {
         Line::Put(first, last) => Some((first as usize, last)),
@@ -24,8 +24,7 @@ fn change_by(line: Line, values: [u16; 8]) -> Option<(usize, u16)> {
     }
 }
 
-/// The values of the keys 0 to 7, 0 for none, after this many of the commands. No swap in these
-/// tests has the old value 0.
+/// The values of the keys 0 to 7, 0 for none, after this many of the commands.
 pub(crate) fn after(lines: &[Line], mut commands: u64) -> [u16; 8] {
     let mut values = [0; 8];
     for line in lines {

@@ -1,5 +1,5 @@
 // The lines in which the tests write lives, and the events that they represent.
-ghost use Rattle.std.specs.Prelude.{All, IfOk};
+ghost use Rattle.std.specs.Prelude.{◌≡◌, length, All, IfOk, IfSome};
 ghost use Rattle.silt_event.specs.Events.{HasValueOf};
 
 use silt_event::Event;
@@ -8,7 +8,7 @@ use silt_frame::Value;
 use std::alloc::{AllocError, Global};
 
 /// One event of a life. A key is given by its first byte, and a value by the number that its two
-/// bytes make.
+/// bytes make. In a swap 0 stands for no value.
 #[derive(Clone, Copy, Debug, PartialEq, Eq)]
 pub enum Line {
     Put(u8, u16),
@@ -18,6 +18,17 @@ pub enum Line {
     Flush,
     Convert,
     Merge,
+}
+
+// The value that a number in a swap stands for.
+fn value_or_none(alloc: Global, number: u16) -> Result<Option<Value>, AllocError>
+    ensures { IfOk result (λ value. IfSome value (λ bytes. length bytes ≡ 2)) }
+{
+    if number == 0 {
+        return Ok(None);
+    }
+    let bytes = number.to_be_bytes().to_vec(alloc)?;
+    Ok(Some(Value::new(bytes)))
 }
 
 /// The event that a line represents.
@@ -31,9 +42,9 @@ pub fn event(alloc: Global, line: Line) -> Result<Event, AllocError>
         }
         Line::Delete(first) => Ok(Event::Delete(key(first))),
         Line::Swap(first, old, new) => {
-            let old = old.to_be_bytes().to_vec(alloc)?;
-            let new = new.to_be_bytes().to_vec(alloc)?;
-            Ok(Event::Swap(key(first), Value::new(old), Value::new(new)))
+            let old = value_or_none(alloc, old)?;
+            let new = value_or_none(alloc, new)?;
+            Ok(Event::Swap(key(first), old, new))
         }
         Line::Get(first) => Ok(Event::Get(key(first))),
         Line::Flush => Ok(Event::Flush),

@@ -43,8 +43,14 @@ pub(crate) const CONVERTED_TOLD: [(Printed, u8); 10] = [
     (IDLE, 1),
 ];
 
-/// That get and that step, and the swap below.
-pub(crate) const ASKED_BEHIND: [Line; 3] = [Line::Get(2), Line::Convert, SWAP_CONVERTED];
+/// That get and that step, and the swaps below.
+pub(crate) const ASKED_BEHIND: [Line; 5] = [
+    Line::Get(2),
+    Line::Convert,
+    SWAP_CONVERTED,
+    SWAP_FOR_NONE,
+    SWAP_OF_NONE,
+];
 
 /// Two merges over logs of one row: 106 calls. The second put freezes the first log, which becomes
 /// the hash store of the first merge. A delete and another put freeze two more logs, and the second
@@ -102,6 +108,20 @@ pub(crate) const CONVERTED_MEANWHILE_TOLD: [(Printed, u8); 15] = [
 /// calls.
 pub(crate) const SWAP_CONVERTED: Line = Line::Swap(2, 2, 6);
 
+/// A swap of that value for none, and one of none for a value. The same log takes their rows.
+pub(crate) const SWAP_FOR_NONE: Line = Line::Swap(2, 6, 0);
+
+pub(crate) const SWAP_OF_NONE: Line = Line::Swap(2, 0, 7);
+
+pub(crate) const SWAPS_CONVERTED: [Line; 3] = [SWAP_CONVERTED, SWAP_FOR_NONE, SWAP_OF_NONE];
+
+/// The replies to these swaps.
+pub(crate) const SWAPS_TOLD: [Printed; 3] = [
+    Printed::Accepted(6),
+    Printed::Accepted(7),
+    Printed::Accepted(8),
+];
+
 /// A swap after the two merges, of a value in the sorted store. The active log is full and no row
 /// waits. So the swap makes two calls for the gates of the next log, six for the manifest, and two
 /// for the row.
@@ -111,6 +131,9 @@ pub(crate) const SWAP_MERGED: Line = Line::Swap(2, 0x0304, 0x0607);
 /// and its row waits. So the swap makes three calls for the flush, two for the gates of the next
 /// log, six for the manifest, and two for the row.
 pub(crate) const SWAP_MEANWHILE: Line = Line::Swap(1, 3, 5);
+
+/// A swap of the new value for none. Its row freezes one more log, by as many calls.
+pub(crate) const SWAP_MEANWHILE_FOR_NONE: Line = Line::Swap(1, 5, 0);
 
 /// Two logs of one row, and two hash regions.
 pub(crate) fn of_two_hash_stores() -> Result<Geometry, Fail> {

@@ -7,7 +7,8 @@ ghost use Rattle.silt_event.specs.Events.{HasValueOf};
 use crate::kept::after;
 use crate::life_lines::Line;
 use crate::lines::{
-    CONVERTED_MEANWHILE, CONVERTED_MEANWHILE_TOLD, SWAP_MEANWHILE, of_three_hash_stores,
+    CONVERTED_MEANWHILE, CONVERTED_MEANWHILE_TOLD, SWAP_MEANWHILE, SWAP_MEANWHILE_FOR_NONE,
+    of_three_hash_stores,
 };
 use crate::script::{
     Printed, all_events_twice, ask, events_twice, print_reply, repeated_with, run,
@@ -169,8 +170,8 @@ fn made(rt: &impl Abort, alloc: Global, geometry: Geometry) -> Result<Core<MemDi
 }
 
 // Each call succeeds at its first or second try: format, opening, check, the list of the entries,
-// and the events of a life. In this life logs are frozen, converted and merged, and a swap freezes
-// one more.
+// and the events of a life. In this life logs are frozen, converted and merged, and two swaps
+// freeze one more each, the second for a delete's row.
 #[test]
 fn each_call_lacks_memory(rt: HostRuntime) -> Result<(), Fail> {
     let alloc = rt.alloc();
@@ -192,20 +193,22 @@ fn all_lines_done(
     alloc: Global,
     core: &mut Core<MemDisk>,
 ) -> Result<[u16; 8], Fail> {
-    let lines = repeated_twice(alloc, &CONVERTED_MEANWHILE, &[SWAP_MEANWHILE])?;
-    let replies = repeated_twice(alloc, &CONVERTED_MEANWHILE_TOLD, &[Printed::Accepted(5)])?;
+    let swaps = [SWAP_MEANWHILE, SWAP_MEANWHILE_FOR_NONE];
+    let told = [Printed::Accepted(5), Printed::Accepted(6)];
+    let lines = repeated_twice(alloc, &CONVERTED_MEANWHILE, &swaps)?;
+    let replies = repeated_twice(alloc, &CONVERTED_MEANWHILE_TOLD, &told)?;
     all_asked(rt, alloc, core, &lines, &replies)?;
     Ok(after(&lines, u64::MAX))
 }
 
-// A flush acknowledges the five commands of that life, and the store has these values.
+// A flush acknowledges the six commands of that life, and the store has these values.
 fn has_flushed(
     rt: &impl Abort,
     alloc: Global,
     core: &mut Core<MemDisk>,
     values: [u16; 8],
 ) -> Result<(), Fail> {
-    same(rt, &core.flush().ok(), &Some(5));
+    same(rt, &core.flush().ok(), &Some(6));
     lists(rt, alloc, core, values)
 }
 

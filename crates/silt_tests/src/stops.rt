@@ -4,8 +4,8 @@
 use crate::kept::{goes_on, is_kept};
 use crate::life_lines::Line;
 use crate::lines::{
-    CONVERTED, CONVERTED_MEANWHILE, MERGED_TWICE, SWAP_CONVERTED, SWAP_MEANWHILE, SWAP_MERGED,
-    of_three_hash_stores, of_two_hash_stores,
+    CONVERTED, CONVERTED_MEANWHILE, MERGED_TWICE, SWAP_MEANWHILE, SWAP_MEANWHILE_FOR_NONE,
+    SWAP_MERGED, SWAPS_CONVERTED, of_three_hash_stores, of_two_hash_stores,
 };
 use crate::script::{Printed, live, repeated, repeated_with};
 use crate::support::{entries_of, same_in, stopping_first};
@@ -23,13 +23,13 @@ struct Life<'a> {
     calls: u32,
 }
 
-// A long life and a swap after it, and how many calls each of them makes.
+// A long life and swaps after it, and how many calls the life and the swaps make.
 #[derive(Drop)]
 struct Swapped<'a> {
     geometry: Geometry,
     parts: &'a [(Line, u8)],
     calls: u32,
-    swap: Line,
+    swaps: &'a [Line],
     more: u32,
 }
 
@@ -117,7 +117,7 @@ fn sweep(
     Ok(())
 }
 
-// The life without its swap makes exactly its number of calls on a disk of these bytes.
+// The life without its swaps makes exactly its number of calls on a disk of these bytes.
 fn makes_calls(rt: &impl Abort, alloc: Global, life: &Swapped, new: &[u8]) -> Result<(), Fail> {
     let lines = repeated(alloc, life.parts)?;
     let alone = Life {
@@ -131,7 +131,7 @@ fn makes_calls(rt: &impl Abort, alloc: Global, life: &Swapped, new: &[u8]) -> Re
     Ok(())
 }
 
-// Crashes the life with its swap at each call, on a disk of these bytes.
+// Crashes the life with its swaps at each call, on a disk of these bytes.
 fn sweep_swapped(
     rt: &impl Abort,
     alloc: Global,
@@ -139,7 +139,7 @@ fn sweep_swapped(
     new: &[u8],
     fills: &[Fill],
 ) -> Result<(), Fail> {
-    let lines = repeated_with(alloc, life.parts, &[life.swap])?;
+    let lines = repeated_with(alloc, life.parts, life.swaps)?;
     let whole = Life {
         geometry: life.geometry,
         lines: &lines,
@@ -164,8 +164,8 @@ fn conversion_stopped_anywhere(rt: HostRuntime) -> Result<(), Fail> {
         geometry: small()?,
         parts: &CONVERTED,
         calls: 40,
-        swap: SWAP_CONVERTED,
-        more: 2,
+        swaps: &SWAPS_CONVERTED,
+        more: 6,
     };
     sweep_both(&rt, rt.alloc(), &life)
 }
@@ -176,7 +176,7 @@ fn two_merges_stopped_anywhere(rt: HostRuntime) -> Result<(), Fail> {
         geometry: of_two_hash_stores()?,
         parts: &MERGED_TWICE,
         calls: 106,
-        swap: SWAP_MERGED,
+        swaps: &[SWAP_MERGED],
         more: 10,
     };
     sweep_both(&rt, rt.alloc(), &life)
@@ -188,8 +188,8 @@ fn merge_beside_conversions_stopped_anywhere(rt: HostRuntime) -> Result<(), Fail
         geometry: of_three_hash_stores()?,
         parts: &CONVERTED_MEANWHILE,
         calls: 95,
-        swap: SWAP_MEANWHILE,
-        more: 13,
+        swaps: &[SWAP_MEANWHILE, SWAP_MEANWHILE_FOR_NONE],
+        more: 26,
     };
     sweep_both(&rt, rt.alloc(), &life)
 }

@@ -58,8 +58,8 @@ type Read = (Line, Printed, u32);
 // the slots. The active log has 1, the frozen one 0, 6, 7, and the hash store 5, 6, 7, 4. Each
 // candidate takes one read, up to the key's own. The sorted store takes one if an entry begins with
 // the key's first byte. An accepted swap reads one more head, since the row of 1 is a candidate for
-// the place of the new row.
-const READS: [Read; 11] = [
+// the place of the new row. A swap from no value, or to none, reads no more and no less.
+const READS: [Read; 17] = [
     (Line::Swap(1, 11, 21), Printed::Accepted(1), 1 + 1),
     (Line::Swap(1, 1, 21), Printed::Differs, 1),
     (Line::Swap(0, 10, 20), Printed::Accepted(1), 1 + 1 + 1),
@@ -75,20 +75,31 @@ const READS: [Read; 11] = [
     ),
     (Line::Swap(2, 3, 20), Printed::Differs, 1 + 3 + 4 + 1),
     (Line::Swap(8, 8, 20), Printed::Differs, 1 + 3 + 4),
+    (Line::Swap(8, 0, 20), Printed::Accepted(1), 1 + 3 + 4 + 1),
+    (Line::Swap(4, 0, 20), Printed::Accepted(1), 1 + 3 + 4 + 1),
+    (Line::Swap(0, 0, 20), Printed::Differs, 1 + 1),
+    (Line::Swap(0, 10, 0), Printed::Accepted(1), 1 + 1 + 1),
+    (Line::Swap(5, 5, 0), Printed::Accepted(1), 1 + 3 + 1 + 1),
+    (Line::Swap(8, 8, 0), Printed::Differs, 1 + 3 + 4),
 ];
 
 // A key alone in the active log takes one read of its row, and one of that row's head if the swap
-// is accepted. An absent key reads that one candidate.
+// is accepted. An absent key reads that one candidate, for the comparison and for the place.
 const ALONE: [(Line, u8); 2] = [(Line::Put(1, 1), 1), (Line::Flush, 1)];
 
-const READS_ALONE: [Read; 3] = [
+const READS_ALONE: [Read; 5] = [
     (Line::Swap(1, 1, 2), Printed::Accepted(1), 2),
     (Line::Swap(1, 3, 2), Printed::Differs, 1),
     (Line::Swap(2, 3, 2), Printed::Differs, 1),
+    (Line::Swap(1, 1, 0), Printed::Accepted(1), 2),
+    (Line::Swap(2, 0, 2), Printed::Accepted(1), 2),
 ];
 
 // An empty store has nothing to read.
-const READS_OF_NOTHING: [Read; 1] = [(Line::Swap(1, 1, 2), Printed::Differs, 0)];
+const READS_OF_NOTHING: [Read; 2] = [
+    (Line::Swap(1, 1, 2), Printed::Differs, 0),
+    (Line::Swap(1, 0, 2), Printed::Accepted(1), 0),
+];
 
 // The replies to this line, which is asked twice, in a store on a disk of these bytes on which this
 // read fails.
@@ -208,7 +219,7 @@ fn swapped_absent(
     core: &mut Core<FaultDisk>,
 ) -> Result<Option<u64>, u32> {
     assert!(rt; core.geometry().value_len() == 2);
-    swapped(core.swap(alloc, &absent_key(), &[0, 2], &[0, 3]))
+    swapped(core.swap(alloc, &absent_key(), Some(&[0, 2]), Some(&[0, 3])))
 }
 
 // A swap of the absent key on a disk of these bytes makes one read.

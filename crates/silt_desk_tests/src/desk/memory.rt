@@ -6,12 +6,12 @@ ghost use Rattle.std.specs.Prelude.{◌≡◌, [], IfSome};
 ghost use Rattle.silt_desk.specs.Seeing.{seen};
 ghost use Rattle.silt_desk.specs.Traces.{IsHistory};
 
-use crate::desk::{NO_MEMORY, get, look, plain, put, swap};
+use crate::desk::{NO_MEMORY, get, look, plain, put, swap, two_or_none};
 use crate::same;
 use silt_desk::{Desk, DeskId, Kept, NotMade, RecordedCall, Seat};
 use silt_device::Disk;
 use silt_event::{Event, Progress, Refusal, Reply};
-use silt_fixtures::{key, opened, two_bytes};
+use silt_fixtures::{key, opened};
 use silt_store_set::Core;
 use std::alloc::Global;
 use std::marker::Brand;
@@ -49,15 +49,26 @@ fn gets<D: Disk, N: DeskId>(
     is(answer, Some([0, number]))
 }
 
-// A swap of the first value of the fourth key for this one.
+// A swap: the first byte of its key, the old value and the new one.
+type Swap = (u8, Option<[u8; 2]>, Option<[u8; 2]>);
+
+// Four swaps. The first two are of the first value of the fourth key, and the second of these
+// differs. The others give a value to a key that has none, and take it away again.
+const SWAPS: [Swap; 4] = [
+    (4, Some([0, 4]), Some([1, 9])),
+    (4, Some([0, 4]), Some([1, 8])),
+    (6, None, Some([1, 7])),
+    (6, Some([1, 7]), None),
+];
+
 fn swaps<D: Disk, N: DeskId>(
     desk: &mut Desk<D, Kept, N>,
     alloc: Global,
     seat: &mut Seat<N>,
-    new: [u8; 2],
+    (first, old, new): Swap,
     due: Option<u64>,
 ) -> Option<bool> {
-    let answer = swap(desk, alloc, seat, &key(4), [0, 4], new);
+    let answer = swap(desk, alloc, seat, &key(first), old, new);
     is(answer, due)
 }
 
@@ -81,7 +92,7 @@ fn merges<D: Disk, N: DeskId>(
 
 // Whether the call of this turn gets its reply. None if it is out of memory. Five puts come first,
 // the last of which freezes the full log, and a flush. Then come a conversion of nine steps, a merge
-// of thirteen, and five gets. Two swaps of the fourth key come last, and the second one differs.
+// of thirteen, and five gets. The four swaps come last.
 fn ask<D: Disk, N: DeskId>(
     desk: &mut Desk<D, Kept, N>,
     alloc: Global,
@@ -96,8 +107,10 @@ fn ask<D: Disk, N: DeskId>(
         16..=27 => merges(desk, alloc, seat, Progress::Moved),
         28 => merges(desk, alloc, seat, Progress::Finished),
         29..=33 => gets(desk, alloc, seat, turn % 28),
-        34 => swaps(desk, alloc, seat, [1, 9], Some(6)),
-        _ => swaps(desk, alloc, seat, [1, 8], None),
+        34 => swaps(desk, alloc, seat, SWAPS[0], Some(6)),
+        35 => swaps(desk, alloc, seat, SWAPS[1], None),
+        36 => swaps(desk, alloc, seat, SWAPS[2], Some(7)),
+        _ => swaps(desk, alloc, seat, SWAPS[3], Some(8)),
     }
 }
 
@@ -107,6 +120,8 @@ fn did_nothing<D: Disk, N: DeskId>(desk: &Desk<D, Kept, N>, turn: u8) -> bool {
     let (number, found) = match turn {
         34 => (4, (5, Some([0, 4]))),
         35 => (4, (6, Some([1, 9]))),
+        36 => (6, (6, None)),
+        37 => (6, (7, Some([1, 7]))),
         _ => (turn, (u64::from(turn.saturating_sub(1).min(5)), None)),
     };
     look(desk, &key(number)) == Some(found)
@@ -132,7 +147,7 @@ fn ask_all<D: Disk, N: DeskId>(
     alloc: Global,
     seat: &mut Seat<N>,
 ) -> Option<u8> {
-    for turn in 1..36u8 {
+    for turn in 1..38u8 {
         if !ask_again(desk, alloc, seat, turn) {
             return Some(turn);
         }
@@ -163,32 +178,40 @@ fn kept_again<D: Disk>(alloc: Global, core: &Core<D>) -> Option<Kept>
     }
 }
 
-// Whether a call is a swap of the fourth key, from its first value to this one.
-fn is_swap(event: &Event, new_value: [u8; 2]) -> bool {
+// Whether a call is this swap.
+fn is_swap(event: &Event, (first, from, to): Swap) -> bool {
     match event {
         Event::Swap(at, old, new) => {
-            *at == key(4) && two_bytes(old) == [0, 4] && two_bytes(new) == new_value
+            *at == key(first) && two_or_none(old) == from && two_or_none(new) == to
         }
         _ => false,
     }
 }
 
-// Whether this is the accepted swap, or the one that differs.
-fn is_accepted_swap(call: &RecordedCall) -> bool {
-    is_swap(&call.event, [1, 9]) && matches!(call.reply, Reply::Accepted(6))
+// The number of an accepted call, 0 for one that differs.
+fn number_of(call: &RecordedCall) -> Option<u64> {
+    match call.reply {
+        Reply::Accepted(number) => Some(number),
+        Reply::Differs => Some(0),
+        _ => None,
+    }
 }
 
-fn is_other_swap(call: &RecordedCall) -> bool {
-    is_swap(&call.event, [1, 8]) && matches!(call.reply, Reply::Differs)
+// Whether this call is this swap, with this number.
+fn is_call(call: Option<&RecordedCall>, swap: Swap, number: u64) -> bool {
+    match call {
+        Some(call) => is_swap(&call.event, swap) && number_of(call) == Some(number),
+        None => false,
+    }
 }
 
-// Whether the last two recorded calls are the swaps, each with both values.
+// Whether the last four recorded calls are the swaps, each with both values.
 fn has_swaps(trace: &Kept) -> bool {
     let calls = trace.calls();
-    let (Some(first), Some(second)) = (calls.get(33), calls.get(34)) else {
-        return false;
-    };
-    is_accepted_swap(first) && is_other_swap(second)
+    is_call(calls.get(33), SWAPS[0], 6)
+        && is_call(calls.get(34), SWAPS[1], 0)
+        && is_call(calls.get(35), SWAPS[2], 7)
+        && is_call(calls.get(36), SWAPS[3], 8)
 }
 
 // What a desk reports. None if a seat is missing.
@@ -209,7 +232,7 @@ fn is_blank(trace: &Kept) -> bool {
 type Found = Option<(bool, Option<u8>, Option<(u64, u64)>, bool)>;
 
 // The desk records each call that succeeded, once.
-const RECORDED: Found = Some((true, None, Some((35, 6)), true));
+const RECORDED: Found = Some((true, None, Some((37, 8)), true));
 
 fn records_each<D: Disk, N: DeskId>(
     alloc: Global,

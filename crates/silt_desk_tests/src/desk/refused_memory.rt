@@ -54,16 +54,18 @@ fn lacks<A: Drop>(answer: Result<A, u32>) -> bool {
     matches!(answer, Err(NO_MEMORY))
 }
 
-// Which of the seven calls are out of memory.
-fn seven_calls<D: Disk, T: Trace, N: DeskId>(
+// Which of the nine calls are out of memory.
+fn nine_calls<D: Disk, T: Trace, N: DeskId>(
     desk: &mut Desk<D, T, N>,
     alloc: Global,
     seat: &mut Seat<N>,
-) -> [bool; 7] {
+) -> [bool; 9] {
     [
         lacks(put(desk, alloc, seat, &key(1), [1, 2])),
         lacks(get(desk, alloc, seat, &key(1))),
-        lacks(swap(desk, alloc, seat, &key(1), [1, 2], [1, 3])),
+        lacks(swap(desk, alloc, seat, &key(1), Some([1, 2]), Some([1, 3]))),
+        lacks(swap(desk, alloc, seat, &key(1), None, Some([1, 3]))),
+        lacks(swap(desk, alloc, seat, &key(1), Some([1, 2]), None)),
         lacks(plain(desk.delete(alloc, seat, &key(1)))),
         lacks(plain(desk.flush(alloc, seat))),
         lacks(plain(desk.convert(alloc, seat))),
@@ -71,18 +73,18 @@ fn seven_calls<D: Disk, T: Trace, N: DeskId>(
     ]
 }
 
-// Which of the seven calls are out of memory, what a look finds then, and what the desk reports.
-type Found = Option<([bool; 7], Look, Option<(u64, u64)>)>;
+// Which of the nine calls are out of memory, what a look finds then, and what the desk reports.
+type Found = Option<([bool; 9], Look, Option<(u64, u64)>)>;
 
-// All seven calls are refused. A look shows that none of them did anything.
-const REFUSED: Found = Some(([true; 7], Some((0, None)), Some((0, 0))));
+// All nine calls are refused. A look shows that none of them did anything.
+const REFUSED: Found = Some(([true; 9], Some((0, None)), Some((0, 0))));
 
 fn calls_and_settles<D: Disk, T: Trace, N: DeskId>(
     alloc: Global,
     desk: &mut Desk<D, T, N>,
     mut seats: Vec<Seat<N>>,
 ) -> Found {
-    let lacking = seven_calls(desk, alloc, seats.first_mut()?);
+    let lacking = nine_calls(desk, alloc, seats.first_mut()?);
     let looked = look(desk, &key(1));
     Some((lacking, looked, desk.settle(seats).ok()))
 }

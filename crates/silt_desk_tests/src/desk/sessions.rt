@@ -3,7 +3,9 @@ ghost use Rattle.std.specs.Prelude.{◌≡◌};
 
 mod swaps;
 
-use crate::desk::{delete_alone, each_over, get_alone, pop_two, put_alone, seated, settled};
+use crate::desk::{
+    delete_alone, each_over, get_alone, pop_two, put_alone, seated, settled, two_or_none,
+};
 use crossbeam_channel::{Receiver, Sender};
 use silt_desk::{
     Desk, DeskId, Kept, OpenGate, RecordedCall, Seat, Shared, Wake, Wakes, converter, merger,
@@ -245,16 +247,27 @@ fn deleted_again(map: &mut BTreeMap<Key, [u8; 2]>, key: &Key, reply: &Reply<()>)
     true
 }
 
+/// Gives a key this value in the map, or none. Returns whether there is memory.
+fn is_set(map: &mut BTreeMap<Key, [u8; 2]>, key: &Key, value: &Option<Value>) -> bool {
+    match value {
+        Some(value) => is_put(map, key, value),
+        None => {
+            map.remove(key);
+            true
+        }
+    }
+}
+
 /// Repeats a swap. Returns false if it has another reply.
 fn swapped_again(
     map: &mut BTreeMap<Key, [u8; 2]>,
     key: &Key,
-    (old, new): (&Value, &Value),
+    (old, new): (&Option<Value>, &Option<Value>),
     reply: &Reply<()>,
 ) -> bool {
-    let has_old = map.get(key) == Some(&two_bytes(old));
+    let has_old = map.get(key).copied() == two_or_none(old);
     match reply {
-        Reply::Accepted(_) => has_old && is_put(map, key, new),
+        Reply::Accepted(_) => has_old && is_set(map, key, new),
         Reply::Differs => !has_old,
         _ => true,
     }

@@ -45,12 +45,13 @@ const EIGHT_PUTS: &[u8] = b"put 0100000000000000000000000000000000000000 0001\n\
     put 0700000000000000000000000000000000000000 0007\n\
     put 0800000000000000000000000000000000000000 0008\n";
 
-const NINTH_PUT: &[u8] = b"put 0900000000000000000000000000000000000000 0009\n";
+// A ninth key for the store, by a swap from no value.
+const NINTH: &[u8] = b"swap 0900000000000000000000000000000000000000 - 0009\n";
 
 const GETS: &[u8] = b"get 0800000000000000000000000000000000000000\n\
     get 0900000000000000000000000000000000000000\n";
 
-/// A client that sends eight puts, and a ninth one that waits. Meanwhile another one gets two keys, and only then frees
+/// A client that sends eight puts, and a swap that waits. Meanwhile another one gets two keys, and only then frees
 /// the converter.
 #[derive(Drop)]
 struct PutWaits<'a, R> {
@@ -64,7 +65,7 @@ impl<R: Net<Stream = TcpStream> + Clock + Sync> Clients for PutWaits<'_, R> {
         let mut puts = connected(self.rt, addr)?;
         let mut gets = connected(self.rt, addr)?;
         ask_lines(&mut puts, EIGHT_PUTS, got, 8)?;
-        puts.write_all(NINTH_PUT)?;
+        puts.write_all(NINTH)?;
         let _ = reaches(self.rt, self.waits, 1);
         ask_lines(&mut gets, GETS, got, 2)?;
         self.opened.store(1, Ordering::SeqCst);

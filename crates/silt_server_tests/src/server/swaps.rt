@@ -26,17 +26,27 @@ fn put_of(alloc: Global, value: &[u8]) -> Result<Request, AllocError> {
     Ok(Request::Put(key(1), value_of(alloc, value)?))
 }
 
-// A swap of the first key.
+// The value of these bytes, none for no byte.
+fn value_or_none(alloc: Global, bytes: &[u8]) -> Result<Option<Value>, AllocError> {
+    if bytes.is_empty() {
+        return Ok(None);
+    }
+    Ok(Some(value_of(alloc, bytes)?))
+}
+
+// A swap of the first key. No byte stands for no value.
 fn swap_of(alloc: Global, old: &[u8], new: &[u8]) -> Result<Request, AllocError> {
-    let old = value_of(alloc, old)?;
-    let new = value_of(alloc, new)?;
+    let old = value_or_none(alloc, old)?;
+    let new = value_or_none(alloc, new)?;
     Ok(Request::Swap(key(1), old, new))
 }
 
 /// How many requests there are.
-const REQUESTS: usize = 6;
+const REQUESTS: usize = 11;
 
-// A put, a swap that is accepted, one that differs, two with a value of another length, and a flush.
+// A put, a swap that is accepted, one that differs, and two with a value of another length. Then one
+// for no value and one from it, which are accepted, one from it that differs, and two with a value of
+// another length. Last comes a flush.
 fn request_of(alloc: Global, number: usize) -> Result<Request, AllocError> {
     match number {
         0 => put_of(alloc, b"\x00\x01"),
@@ -44,6 +54,11 @@ fn request_of(alloc: Global, number: usize) -> Result<Request, AllocError> {
         2 => swap_of(alloc, b"\x00\x01", b"\x00\x03"),
         3 => swap_of(alloc, b"\x02", b"\x00\x04"),
         4 => swap_of(alloc, b"\x00\x02", b"\x00\x04\x00"),
+        5 => swap_of(alloc, b"\x00\x02", b""),
+        6 => swap_of(alloc, b"", b"\x00\x05"),
+        7 => swap_of(alloc, b"", b"\x00\x06"),
+        8 => swap_of(alloc, b"", b"\x07"),
+        9 => swap_of(alloc, b"\x05", b""),
         _ => Ok(Request::Flush),
     }
 }
@@ -64,11 +79,11 @@ fn job_of(alloc: Global, first: usize, last: usize) -> Result<Job, AllocError> {
     Ok(Job { tasks, replies })
 }
 
-// The six requests in jobs of so many.
-fn six_in_jobs(alloc: Global, most: usize) -> Result<Vec<Job>, AllocError> {
+// All requests in jobs of so many, and a job of none.
+fn all_in_jobs(alloc: Global, most: usize) -> Result<Vec<Job>, AllocError> {
     let step = if most == 0 { 1 } else { most };
     let mut jobs = Vec::new(alloc);
-    for first in (0..7usize).step_by(step) {
+    for first in (0..REQUESTS + 1).step_by(step) {
         jobs.push(job_of(alloc, first, REQUESTS.min(first.saturating_add(step)))?)?;
     }
     Ok(jobs)
@@ -191,7 +206,7 @@ fn serve_on_disk<R: Wait + Clock>(
     Ok(served.ok_or("a desk")?)
 }
 
-// Whether these are the replies to the six requests in jobs of so many, served on this disk.
+// Whether these are the replies to all requests in jobs of so many, served on this disk.
 fn gets_in_jobs<R: Wait + Clock>(
     rt: &R,
     alloc: Global,
@@ -199,18 +214,23 @@ fn gets_in_jobs<R: Wait + Clock>(
     most: usize,
     due: &[Got],
 ) -> Result<bool, Fail> {
-    let jobs = serve_on_disk(rt, alloc, disk, six_in_jobs(alloc, most)?)?;
+    let jobs = serve_on_disk(rt, alloc, disk, all_in_jobs(alloc, most)?)?;
     Ok(are_got(alloc, jobs, due)?)
 }
 
 // The replies, whether each request is a job or some or all are one.
-const DUE: [Got; 6] = [
+const DUE: [Got; REQUESTS] = [
     Got::Accepted(1),
     Got::Accepted(2),
     Got::Differs,
     Got::Nothing,
     Got::Nothing,
-    Got::Acknowledged(2),
+    Got::Accepted(3),
+    Got::Accepted(4),
+    Got::Differs,
+    Got::Nothing,
+    Got::Nothing,
+    Got::Acknowledged(4),
 ];
 
 // Whether the replies to jobs of so many requests are those.
@@ -220,28 +240,33 @@ fn settles_in_jobs<R: Wait + Clock>(rt: &R, alloc: Global, most: usize) -> Resul
 
 #[test]
 fn settles_a_swap(rt: HostRuntime) -> Result<(), Fail> {
-    for most in [1, 4, 6, 7] {
+    for most in [1, 4, 11, 12] {
         assert!(rt; settles_in_jobs(&rt, rt.alloc(), most)?);
     }
     Ok(())
 }
 
-// A disk whose seventh write or sync fails, and all calls after it. The seventh writes the gates in
-// the first flush. Before it come the opening's sync, two writes for each of two rows, and the
+// A disk whose eleventh write or sync fails, and all calls after it. The eleventh writes the gates in
+// the first flush. Before it come the opening's sync, two writes for each of four rows, and the
 // flush's first sync.
 fn failing(alloc: Global) -> Result<MemDisk, Fail> {
     let mut stops = Vec::new(alloc);
     stops.push(Stop {
-        k: 7,
+        k: 11,
         fill: Fill::Old,
     })?;
     Ok(formatted(alloc)?.arm(stops))
 }
 
 // The replies if the flush is refused.
-const UNSETTLED: [Got; 6] = [
+const UNSETTLED: [Got; REQUESTS] = [
     Got::Unsettled(1),
     Got::Unsettled(2),
+    Got::Differs,
+    Got::Nothing,
+    Got::Nothing,
+    Got::Unsettled(3),
+    Got::Unsettled(4),
     Got::Differs,
     Got::Nothing,
     Got::Nothing,

@@ -1,6 +1,6 @@
 use Rattle.std.proofs.Common.{[], arith}
 use Rattle.silt_store_set.proofs.Calls.{core_broke, core_stays, core_went, refused_failed, seen_core}
-use Rattle.silt_store_set.proofs.Merges.{step_broke, step_no_memory, step_spent, step_unread, stepped}
+use Rattle.silt_store_set.proofs.Merges.{step_broke, step_damaged, step_no_memory, step_spent, step_unread, stepped}
 use Rattle.silt_event.specs.declared.event.Event.TheVariants.{Merge}
 use Rattle.silt_store_set.proofs.store_core.Core.merge.Goals as goal
 
@@ -42,6 +42,13 @@ returns-in-Err-NoMemory g c =
     rw (← c.self.view_is, working) (step_no_memory g.D.Disk c.self.inside.disk c.self.inside.engine c.self.inside.count
     (c.self.invariant.stands working) c.merge.new.disk c.merge.new.self err.0 err.1 err.2)
 
+pub returns-in-Err-Damaged : goal.returns-in-Err-Damaged
+returns-in-Err-Damaged g c =
+    let working = c.if-self.false in
+    let err = rw c.in-Err-Damaged.field-0-is at c.in-Err-Damaged.ensures.err in
+    rw (← c.self.view_is, working) (step_damaged g.D.Disk c.self.inside.disk c.self.inside.engine c.self.inside.count
+    (c.self.invariant.stands working) c.merge.new.disk c.merge.new.self c.in-Err-Damaged.place err.0 err.1 err.2 err.3 err.4)
+
 pub invariant_of-self-in-Err-Write : goal.invariant_of-self-in-Err-Write
 invariant_of-self-in-Err-Write g c =
     let err = rw c.in-Err-Write.field-0-is at c.in-Err-Write.ensures.err in
@@ -65,4 +72,9 @@ invariant_of-self-in-Err-Spent g c =
 pub invariant_of-self-in-Err-NoMemory : goal.invariant_of-self-in-Err-NoMemory
 invariant_of-self-in-Err-NoMemory g c =
     let err = rw c.in-Err-NoMemory.field-0-is at c.in-Err-NoMemory.ensures.err in
+    core_stays g.D.Disk.content c.self.inside.disk c.merge.new.disk c.self.inside.engine c.merge.new.self c.self.inside.count c.self.inside.failed c.self.inside.basis c.self.invariant err.0 err.1
+
+pub invariant_of-self-in-Err-Damaged : goal.invariant_of-self-in-Err-Damaged
+invariant_of-self-in-Err-Damaged g c =
+    let err = rw c.in-Err-Damaged.field-0-is at c.in-Err-Damaged.ensures.err in
     core_stays g.D.Disk.content c.self.inside.disk c.merge.new.disk c.self.inside.engine c.merge.new.self c.self.inside.count c.self.inside.failed c.self.inside.basis c.self.invariant err.0 err.1

@@ -1,4 +1,4 @@
-use Rattle.silt_desk_tests.proofs.desk.sessions.swaps.four_threads_count_up.Given as goal
+use Rattle.silt_desk_tests.proofs.desk.sessions.swaps.counted_by.Given as goal
 
 abbrev pub ghosts-counts : goal.ghosts-counts
 ghosts-counts g a = record { calls_name = a.calls.name; accepted_name = a.accepted.name; seats = a.calls.parts }
