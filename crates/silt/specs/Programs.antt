@@ -82,7 +82,7 @@ module _ {N D F E : Type 0} (facts : Ghosts D F) (notes : NotesOf N) (reported_r
       PrintsPlan request (first_planned request bucket_counts) 1 before after × notes.reported_no_plan old new request
   PrintsJob (Serve service) remaining left before after =
       (given : Option D)
-      × PrintsServeFile facts (ReportedUnserved notes.reported_port reported_refusal old new service.port service.file.now)
+      × PrintsServeFile facts (ReportedUnserved notes.reported_port reported_refusal old new service.port service.file.now) service.merge_at
       (Opened service.file.now) (NotOpenedReported NotOpened (reported_error old new) service.file.now) given before after
 
 -- the line that is written if no job was read from the words, and the status

@@ -142,7 +142,12 @@ fn report_unread<N: Notes>(error: WordsError, words: &[String], notes: &mut N)
 // Does a job, and returns the status.
 fn do_job<
     S: DiskSource,
-    H: Net<Listener = TcpListener, Stream = TcpStream> + Clock + Threads + Wait + Sync,
+    H: Net<Listener = TcpListener, Stream = TcpStream>
+        + Clock
+        + Threads
+        + Wait
+        + Sync
+        + StandardStreams,
     R: Read + KeepsError + KeepsLines,
     W: Write + KeepsError + KeepsTally,
     N: Notes + SourceNotes<S::Error> + FaultNotes<<S::Disk as Disk>::Fault>,

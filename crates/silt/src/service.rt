@@ -1,16 +1,19 @@
 // The server on the disk of a path.
-ghost use Rattle.std.specs.Prelude.{◌≡◌, None, Ok, IfOk, IfSome, is_some, true, unwrap_or};
+ghost use Rattle.std.specs.Prelude.{◌≡◌, ◌⊎◌, ◌<◌, ◌≤◌, ◌/◌, None, Ok, IfOk, IfSome, is_some, false, max, true, unwrap_or};
+ghost use Rattle.std.specs.Option.{IsSomeAnd};
 ghost use Rattle.silt_disk.specs.Layout.{Shape};
 ghost use Rattle.silt_store_set.specs.CoreInvariant.{LeavesBegun};
 ghost use Rattle.silt_wire.specs.Statuses.{IsStatus};
 ghost use Rattle.silt_server.specs.Serving.{PrintsNotServed};
-ghost use Rattle.silt.specs.Services.{EndsServe, LeavesServed, ServesFile, PrintsServe, PrintsServeFile, ReportedUnserved};
+ghost use Rattle.silt.specs.Services.{EndsServe, LeavesServed, ServesFile, PrintsFewRegions, PrintsServe, PrintsServeFile, ReportedUnserved};
 ghost use Rattle.silt_jobs.specs.Notes.{NotOpenedReported, ReportedFailures, ReportedRefusal};
 
 use crate::listener::PatientListener;
-use silt_desk::OpenGate;
+use crate::standard_streams::StandardStreams;
+use silt_desk::{Gate, Spot};
 use silt_device::DiskSource;
 use silt_disk::Disk;
+use silt_event::Place;
 use silt_jobs::{FaultNotes, Notes, SourceNotes, Watched, refuse, refuse_opening, report_failures};
 use silt_server::{Limits, refuse_network, serve_on};
 use silt_store_set::{Core, Refusal};
@@ -18,7 +21,7 @@ use silt_words::Service;
 use std::alloc::Global;
 use std::io::{self, Write};
 use std::net::{Net, TcpListener, TcpStream};
-use std::sync::Wait;
+use std::sync::{OnceLock, Wait};
 use std::thread::Threads;
 use std::time::Clock;
 
@@ -30,7 +33,12 @@ use std::time::Clock;
 /// The writer's, and out of memory for the text of a line.
 pub fn serve_file<
     S: DiskSource,
-    H: Net<Listener = TcpListener, Stream = TcpStream> + Clock + Threads + Wait + Sync,
+    H: Net<Listener = TcpListener, Stream = TcpStream>
+        + Clock
+        + Threads
+        + Wait
+        + Sync
+        + StandardStreams,
     W: Write,
     N: Notes + SourceNotes<S::Error> + FaultNotes<<S::Disk as Disk>::Fault>,
 >(
@@ -45,7 +53,7 @@ where
     S::Disk: Watched,
     ensures printed { IfOk result.1 (IsStatus (PrintsServeFile S.Disk.Disk
         (ReportedUnserved N.reported_port (ReportedRefusal N.reported_fault N.reported_damage N.reported_no_store) notes.old notes.new service.now.port service.now.file.now)
-        (S.opened source service.now.file.now)
+        service.now.merge_at (S.opened source service.now.file.now)
         (NotOpenedReported (S.not_opened source) (N.reported_error notes.old notes.new) service.now.file.now) result.0 (W.contents writer.old) (W.contents writer.new))) }
     ensures served { result.1 ≡ Ok 0 → ServesFile S.Disk.Disk
         (ReportedFailures N.reported_failure S.Disk.Watched.kept_read S.Disk.Watched.last_failure notes.old notes.new service.now.file.now)
@@ -67,7 +75,12 @@ where
 // may be long: so a port that is in use is reported at once. Returns the disk and the status.
 fn serve_disk<
     D: Watched,
-    H: Net<Listener = TcpListener, Stream = TcpStream> + Clock + Threads + Wait + Sync,
+    H: Net<Listener = TcpListener, Stream = TcpStream>
+        + Clock
+        + Threads
+        + Wait
+        + Sync
+        + StandardStreams,
     W: Write,
     N: Notes + FaultNotes<D::Fault>,
 >(
@@ -82,18 +95,29 @@ fn serve_disk<
     ensures failed { result.1 ≡ Ok 0 → ReportedFailures N.reported_failure D.kept_read D.last_failure notes.old notes.new service.now.file.now result.0 }
     ensures printed { IfOk result.1 (IsStatus (PrintsServe D.Disk
         (ReportedUnserved N.reported_port (ReportedRefusal N.reported_fault N.reported_damage N.reported_no_store) notes.old notes.new service.now.port service.now.file.now)
-        disk result.0 (W.contents writer.old) (W.contents writer.new))) }
+        service.now.merge_at disk result.0 (W.contents writer.old) (W.contents writer.new))) }
     ensures left { LeavesServed D.Disk disk result.0 }
 {
     let listener = bind(rt, service.port, notes);
     disk.report_at_once();
     match Core::open(alloc, disk) {
         Ok(core) => {
-            let (disk, status) = serve_store(rt, alloc, core, listener, service, writer, notes);
+            let (disk, status) = serve_opened(rt, alloc, core, listener, service, writer, notes);
             report_failures(service.file, &disk, notes);
             (disk, status)
         }
         Err(fault) => refuse_opening(alloc, fault, service.file, writer, notes),
+    }
+}
+
+// Whether a store has fewer hash regions than the hash stores of which a merge is to begin.
+fn has_few_regions<D: Disk>(core: &Core<D>, merge_at: Option<u32>) -> bool
+    ensures few { result ≡ true → IsSomeAnd merge_at (λ least. core.now.shape.hashes < least) }
+    ensures enough { result ≡ false → IfSome merge_at (λ least. least ≤ core.now.shape.hashes) }
+{
+    match merge_at {
+        Some(least) => core.geometry().hashes() < least,
+        None => false,
     }
 }
 
@@ -115,10 +139,51 @@ fn bind<H: Net<Listener = TcpListener, Stream = TcpStream>, N: Notes>(
     }
 }
 
+// Serves an opened store to the connections of a listener, if it has as many hash regions as a merge is to begin with.
+// Returns the store's disk and the status.
+fn serve_opened<
+    D: Disk,
+    H: Net<Listener = TcpListener, Stream = TcpStream>
+        + Clock
+        + Threads
+        + Wait
+        + Sync
+        + StandardStreams,
+    W: Write,
+    N: Notes,
+>(
+    rt: &H,
+    alloc: Global,
+    core: Core<D>,
+    listener: Option<TcpListener>,
+    service: &Service<'_>,
+    writer: &mut W,
+    notes: &mut N,
+) -> (D, io::Result<u8>)
+    ensures served { result.1 ≡ Ok 0 → EndsServe D.Disk service.now.audit result.0 (W.contents writer.old) (W.contents writer.new) }
+    ensures bound { result.1 ≡ Ok 0 → is_some listener ≡ true }
+    ensures printed { IfOk result.1 (IsStatus (PrintsFewRegions service.now.merge_at core result.0 (W.contents writer.old) (W.contents writer.new)
+        ⊎ PrintsNotServed D.Disk (λ port. Unit {0}) core result.0 (W.contents writer.old) (W.contents writer.new))) }
+    ensures left { (shape : Shape) × LeavesBegun (D.content result.0) shape }
+    ensures quiet { result.1 ≡ Ok 0 → notes.new ≡ notes.old }
+{
+    if has_few_regions(&core, service.merge_at) {
+        notes.report_few_regions(service.file, core.geometry().hashes());
+        let status = refuse(alloc, &Refusal::<()>::BadGeometry, writer);
+        return (core.close(), status);
+    }
+    serve_store(rt, alloc, core, listener, service, writer, notes)
+}
+
 // Serves a store to the connections of a listener, if there is one. Returns the store's disk and the status.
 fn serve_store<
     D: Disk,
-    H: Net<Listener = TcpListener, Stream = TcpStream> + Clock + Threads + Wait + Sync,
+    H: Net<Listener = TcpListener, Stream = TcpStream>
+        + Clock
+        + Threads
+        + Wait
+        + Sync
+        + StandardStreams,
     W: Write,
     N: Notes,
 >(
@@ -141,7 +206,13 @@ fn serve_store<
     };
     let listener = PatientListener::new(listener, rt);
     let limits = limits_of(service);
-    let (disk, status) = serve_on(rt, alloc, &listener, core, limits, &OpenGate, writer);
+    let gate = MergeGate {
+        rt,
+        file: service.file,
+        least: least_merged(service.merge_at, core.geometry().hashes()),
+        is_noted: OnceLock::new(),
+    };
+    let (disk, status) = serve_on(rt, alloc, &listener, core, limits, &gate, writer);
     report_listener(service.port, listener.failure(), &status, notes);
     (disk, status)
 }
@@ -160,6 +231,37 @@ fn limits_of(service: &Service<'_>) -> Limits
         idle: service.idle,
         wait: service.wait.unwrap_or(10),
         pipeline: service.pipeline,
+    }
+}
+
+// Of how many hash stores a merge begins, if a store has this many regions for them: half of them, but at least one, if
+// no number is asked for.
+fn least_merged(asked: Option<u32>, hashes: u32) -> u32
+    ensures { result ≡ unwrap_or asked (max (hashes / 2) 1) }
+{
+    asked.unwrap_or((hashes / 2).max(1))
+}
+
+// A gate that is always open. The merger waits for so many hash stores, and the first damage that it finds is noted at once.
+#[derive(Drop)]
+struct MergeGate<'a, H> {
+    rt: &'a H,
+    file: &'a str,
+    least: u32,
+    is_noted: OnceLock<()>,
+}
+
+impl<H: StandardStreams> Gate for MergeGate<'_, H> {
+    fn pass(&self, _spot: Spot) {}
+
+    fn merges_at(&self) -> u32 {
+        self.least
+    }
+
+    fn damaged(&self, _spot: Spot, place: Place) {
+        if self.is_noted.try_set(()).is_ok() {
+            self.rt.note_unmerged(self.file, place);
+        }
     }
 }
 

@@ -5,8 +5,11 @@ ghost use Rattle.silt.specs.declared.standard_streams.SameStreams.{SameStreams a
 
 use crate::file_identity::identity_at;
 use silt_device::FileSystem;
+use silt_event::Place;
+use silt_jobs::{NoteLines, Notes};
 use std::alloc::Global;
 use std::os::fd::{AsRawFd, RawFd};
+use std::rt::Runtime;
 use std::{fmt, io};
 
 /// The device that takes everything and gives nothing.
@@ -104,6 +107,9 @@ pub trait StandardStreams {
     /// Which standard streams are the file of a path.
     fn streams_at(&self, path: &str) -> SameStreams
         ensures { are_file self.now path.now result };
+
+    /// Notes on the standard error, at once, that a merge found this part of the store in a file damaged.
+    fn note_unmerged(&self, file: &str, place: Place);
 }
 
 // Not for any system with files: rattle takes no such bound of `done` for granted in the threads of a server.
@@ -126,5 +132,9 @@ impl StandardStreams for HostRuntime {
                 error: false,
             },
         }
+    }
+
+    fn note_unmerged(&self, file: &str, place: Place) {
+        NoteLines::new(self.stderr()).report_unmerged(file, place);
     }
 }

@@ -11,7 +11,7 @@ use std::time::{Clock, Duration};
 
 // Which background work the store has to do.
 fn work_due<D: Disk, N: DeskId, R: Wait>(rt: &R, shared: &Shared<D, Count, N>) -> Due {
-    shared.read(rt).due()
+    shared.read(rt).due(1)
 }
 
 // Waits until the workers have left no background work to do.
@@ -63,6 +63,7 @@ impl Workers {
             Due {
                 converts: due.converts,
                 merges,
+                begins: merges,
             },
         );
     }

@@ -132,7 +132,7 @@ fn both_workers<D: Disk, N: DeskId + Send + Sync, R: Threads + Wait + Sync>(
 }
 
 // Does one merge for each message, until it is stopped, and wakes the converter after each. The desk's own merger begins
-// the next merge as soon as there is a hash store. Gives its seat back.
+// the next merge without a message, as soon as there are enough hash stores. Gives its seat back.
 fn merge_when_woken<D: Disk, N: DeskId, G: Gate, R: Wait>(
     rt: &R,
     alloc: Global,
@@ -162,7 +162,7 @@ fn merge_to_end<D: Disk, N: DeskId, G: Gate, R: Wait>(
 ) {
     for _ in rt.forever() {
         gate.pass(Spot::Merger);
-        if merge_once(&mut *shared.write(rt), alloc, seat) != Turn::GoOn {
+        if merge_once(&mut *shared.write(rt), alloc, seat, 1) != Turn::GoOn {
             gate.rest(Spot::Merger);
             return;
         }

@@ -1,5 +1,5 @@
 -- Steps of background work, one more at a time.
-use Rattle.std.proofs.Common.{◌≡◌, ◌≢◌, ◌+◌, ◌≤◌, ◌<◌, ◌||◌, ℕ, Bool, true, false, cond, IsTrue, List, [], ◌∷◌, ◌++◌, length, refl, sym, ap, ◌∙◌, subst, arith, inl, inr, Result, Ok, Err}
+use Rattle.std.proofs.Common.{◌≡◌, ◌≢◌, ◌+◌, ◌≤◌, ◌<◌, ◌||◌, ℕ, Bool, true, false, cond, IsTrue, List, [], ◌∷◌, ◌++◌, length, Some, None, refl, sym, ap, ◌∙◌, subst, arith, inl, inr, Result, Ok, Err}
 use Rattle.std.specs.Prelude.{OnErr}
 use Rattle.std.specs.List.{list_any}
 use Rattle.std.proofs.lemmas.List.{length-append}
@@ -191,7 +191,8 @@ module _ {D F : Type 0} (facts : Ghosts D F) where
   room_cause : (mid new : CoreState D) (event : Event) → Cause facts mid new event (Refused NoRoom) → convert_due mid ≢ Idle
   room_cause mid new (Put key value) cause = cause.1.2
   room_cause mid new (Delete key) cause = cause.1.2
-  room_cause mid new (Swap key before after) cause = cause.2.2
+  room_cause mid new (Swap key before (Some value)) cause = cause.1.1.2
+  room_cause mid new (Swap key before None) cause = cause.1.1.2
   room_cause mid new (Get key) cause = absurd cause
   room_cause mid new Flush cause = absurd cause
   room_cause mid new Convert cause = absurd cause

@@ -6,7 +6,7 @@ use Rattle.std.specs.Option.{option_map}
 use Rattle.std.proofs.lemmas.List.{drop_all, drop_more}
 use Rattle.silt_disk.specs.Layout.{Shape}
 use Rattle.silt_words.specs.declared.job.PlanRequest.{PlanRequest}
-use Rattle.silt_jobs.specs.Plans.{PrintsPlan, first_planned, is_needed, is_planned, is_possible, plan_text, shape_planned}
+use Rattle.silt_jobs.specs.Plans.{PrintsPlan, first_planned, is_needed, is_planned, is_possible, memory_of, plan_text, shape_planned}
 
 -- what was chosen, if it is possible
 chosen : (possible : Bool) (shape geometry : Shape) → Some geometry ≡ (if possible then Some shape else None) → (possible ≡ true) × (geometry ≡ shape)
@@ -85,11 +85,11 @@ none_left r whole counts at past rest = ap (option_map (shape_planned r)) (sym (
 -- ---- what is written
 
 pub reports_plan : (r : PlanRequest) (found : Option ℕ) (geometry : Shape) (memory : ℕ) (before after : Option (List ℕ)) → Some geometry ≡ option_map (shape_planned r) found
-    → memory ≡ 1043 * geometry.buckets + 21 * r.keys → Appends before after (plan_text geometry memory) → PrintsPlan r found 0 before after
+    → memory ≡ memory_of r.keys geometry.buckets → Appends before after (plan_text geometry memory) → PrintsPlan r found 0 before after
 reports_plan r (Some buckets) geometry memory before after is takes reported =
     let same : geometry ≡ shape_planned r buckets = cc in (
       refl,
-      subst (λ (s : Shape). Appends before after (plan_text s (1043 * s.buckets + 21 * r.keys))) same
+      subst (λ (s : Shape). Appends before after (plan_text s (memory_of r.keys s.buckets))) same
           (subst (λ (m : ℕ). Appends before after (plan_text geometry m)) takes reported),
     )
 reports_plan r None geometry memory before after is takes reported = absurd (cc)

@@ -1,7 +1,7 @@
 -- What a planned store costs in merging, and in memory at rest.
 use Rattle.std.specs.Prelude.{◌≡◌, ℕ, ◌+◌, ◌*◌, ◌/◌, ◌==◌, nat_lt, ◌||◌, Bool, List, [], ◌∷◌, max, Option, Some, None, if◌then◌else◌}
 use Rattle.silt_words.specs.declared.job.PlanRequest.{PlanRequest}
-use Rattle.silt_jobs.specs.Plans.{bucket_counts, first_planned}
+use Rattle.silt_jobs.specs.Plans.{bucket_counts, first_planned, memory_of}
 use Rattle.silt_jobs.specs.declared.plan_cost.PlanCost.{PlanCost}
 use Rattle.silt_jobs.specs.declared.plan_cost.Remedy.{Remedy}
 use Rattle.silt_jobs.specs.declared.plan_cost.Remedy.TheVariants.{SeveralStores, Memory}
@@ -34,7 +34,7 @@ first_needed most keys (buckets ∷ more) = if needs_buckets most keys buckets t
 
 -- the bytes of memory of a plan with which merging writes at most this many entries for each row
 abbrev pub memory_for : ℕ → ℕ → ℕ
-memory_for most keys = 1043 * first_needed most keys bucket_counts + 21 * keys
+memory_for most keys = memory_of keys (first_needed most keys bucket_counts)
 
 -- The memory with which merging writes at most ten entries for each row, or at most twenty if the most buckets write more than ten.
 abbrev pub more_memory : ℕ → Remedy

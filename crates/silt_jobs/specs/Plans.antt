@@ -16,9 +16,13 @@ shape_planned r buckets =
     let rows = 7 * (buckets / 2) in
     record { value_len = r.value_len; buckets = buckets; log_capacity = rows; logs = 3; hashes = 8; sorted_capacity = r.keys + 11 * rows }
 
--- The most bytes of memory that it needs, while four hash stores are merged: 1,043 a bucket, and 21 a key.
+-- The most bytes of memory that a store of so many keys and buckets needs, while four hash stores are merged: 1,043 a bucket, and three
+-- indexes of the sorted store (the old one, the new one as it grows, and its copy), each of at most one byte a key and 18,504 beside.
+abbrev pub memory_of : ℕ → ℕ → ℕ
+memory_of keys buckets = 1043 * buckets + 3 * keys + 55512
+
 abbrev pub memory_planned : PlanRequest → ℕ → ℕ
-memory_planned r buckets = 1043 * buckets + 21 * r.keys
+memory_planned r buckets = memory_of r.keys buckets
 
 -- the bytes of memory fit under the limit, if there is one
 abbrev pub fits_memory : Option ℕ → ℕ → Bool

@@ -45,6 +45,10 @@ impl<W: Write> Notes for NoteLines<W> {
 
     ghost reported_other = { λ _ _ _. ⊤ };
 
+    ghost reported_few_regions = { λ _ _ _ _. ⊤ };
+
+    ghost reported_unmerged = { λ _ _ _ _. ⊤ };
+
     ghost reported_numbers = { λ _ _ _. ⊤ };
 
     ghost reported_no_plan = { λ _ _ _. ⊤ };
@@ -88,6 +92,17 @@ impl<W: Write> Notes for NoteLines<W> {
             self.writer,
             "silt: {file}: it holds other data; --force overwrites it"
         );
+    }
+
+    fn report_few_regions(&mut self, file: &str, hashes: u32) {
+        let _ = writeln!(
+            self.writer,
+            "silt: --merge-at: {file} has {hashes} hash regions, and no more hash stores"
+        );
+    }
+
+    fn report_unmerged(&mut self, file: &str, place: Place) {
+        let _ = writeln!(self.writer, "silt: {file}: a merge is refused: {place}");
     }
 
     fn report_numbers(&mut self, numbers: &Numbers) {

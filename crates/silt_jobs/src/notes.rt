@@ -39,6 +39,12 @@ pub trait Notes {
     /// A note says that the file of this name has other data, which stays.
     ghost reported_other: { Self → Self → List ℕ → Type 0 };
 
+    /// A note says that the store in the file of this name has this many hash regions, and that a merge begins of no more.
+    ghost reported_few_regions: { Self → Self → List ℕ → ℕ → Type 0 };
+
+    /// A note says that a merge found this part of the store in the file of this name damaged.
+    ghost reported_unmerged: { Self → Self → List ℕ → PlaceOf → Type 0 };
+
     /// A note says which of these numbers is out of its limits.
     ghost reported_numbers: { Self → Self → NumbersOf → Type 0 };
 
@@ -81,6 +87,14 @@ pub trait Notes {
     /// Reports that the file of this name has other data, which stays.
     fn report_other(&mut self, file: &str)
         ensures { reported_other self.old self.new file.now };
+
+    /// Reports that the store in the file of this name has this many hash regions, and that a merge begins of no more.
+    fn report_few_regions(&mut self, file: &str, hashes: u32)
+        ensures { reported_few_regions self.old self.new file.now hashes };
+
+    /// Reports that a merge found this part of the store in the file of this name damaged.
+    fn report_unmerged(&mut self, file: &str, place: Place)
+        ensures { reported_unmerged self.old self.new file.now place };
 
     /// Reports which of these numbers is out of its limits.
     fn report_numbers(&mut self, numbers: &Numbers)

@@ -2,7 +2,7 @@
 ghost use Rattle.std.specs.Prelude.{◌≡◌, ◌≤◌, ◌+◌, ◌*◌, if◌then◌else◌, Ok, Some, None, IfOk, string_bytes};
 ghost use Rattle.std.specs.Option.{option_map};
 ghost use Rattle.silt_jobs.specs.PlanCosts.{ReportsCost};
-ghost use Rattle.silt_jobs.specs.Plans.{PrintsPlan, bucket_counts, first_planned, fits_memory, is_needed, is_possible, number_after, plan_text, shape_planned};
+ghost use Rattle.silt_jobs.specs.Plans.{PrintsPlan, bucket_counts, first_planned, fits_memory, is_needed, is_possible, memory_of, number_after, plan_text, shape_planned};
 
 use crate::notes::Notes;
 use crate::output::write_out;
@@ -126,9 +126,9 @@ fn planned(request: &PlanRequest, buckets: u32) -> Option<Geometry>
 
 /// The bytes of memory that a store of this many buckets takes at most.
 pub(crate) fn memory_planned(keys: u32, buckets: u32) -> u64
-    ensures { result ≡ 1043 * buckets + 21 * keys }
+    ensures { result ≡ memory_of keys buckets }
 {
-    1043 * u64::from(buckets) + 21 * u64::from(keys)
+    1043 * u64::from(buckets) + 3 * u64::from(keys) + 55_512
 }
 
 // Whether this many bytes fit under the limit, if there is one.

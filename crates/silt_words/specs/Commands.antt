@@ -64,8 +64,8 @@ plan_app = with_option (with_value (with_value (new_app (codes "plan")) (codes "
 
 abbrev pub serve_app : App
 serve_app =
-    with_flag (with_option (with_option (with_option (with_option (with_value (with_file (new_app (codes "serve"))) (codes "PORT"))
-    (codes "audit")) (codes "sessions")) (codes "idle")) (codes "wait")) (codes "pipeline")
+    with_flag (with_option (with_option (with_option (with_option (with_option (with_value (with_file (new_app (codes "serve"))) (codes "PORT"))
+    (codes "audit")) (codes "sessions")) (codes "idle")) (codes "wait")) (codes "merge-at")) (codes "pipeline")
 
 -- the program
 abbrev pub silt : App
@@ -106,9 +106,18 @@ option_in rows name = number_given (first_of name rows)
 abbrev pub port_in : List Row → Option ℕ
 port_in rows = option_and_then (λ port. if nat_le port 65535 then Some port else None) (number_in rows (codes "PORT"))
 
+-- whether a number is given that is 0
+abbrev pub gives_zero : Option ℕ → Bool
+gives_zero None = false
+gives_zero (Some number) = number == 0
+
 -- the number of an option that sets a limit: 0 means no limit
 abbrev pub limit_in : List Row → Text → Option (Option ℕ)
 limit_in rows name = option_map (option_and_then (λ limit. if limit == 0 then None else Some limit)) (option_in rows name)
+
+-- the number of an option that counts something: at least 1, or none if the option is not given
+abbrev pub count_in : List Row → Text → Option (Option ℕ)
+count_in rows name = option_and_then (λ given. if gives_zero given then None else Some given) (option_in rows name)
 
 -- whether an option without a value is given
 abbrev pub flag_in : List Row → Text → Bool
@@ -121,9 +130,9 @@ run_options_in rows = record { tend = flag_in rows (codes "tend"); strict = flag
 -- how a file is to be served
 abbrev pub service_in : List Row → Option NamedService
 service_in rows =
-    option_and_then (λ file. option_and_then (λ port. option_and_then (λ audit. option_and_then (λ sessions. option_and_then (λ idle. option_map (λ wait.
-    record { file = file; port = port; audit = audit; sessions = sessions; idle = idle; wait = wait; pipeline = flag_in rows (codes "pipeline") })
-    (option_in rows (codes "wait"))) (limit_in rows (codes "idle"))) (limit_in rows (codes "sessions"))) (option_in rows (codes "audit"))) (port_in rows)) (file_in rows)
+    option_and_then (λ file. option_and_then (λ port. option_and_then (λ audit. option_and_then (λ sessions. option_and_then (λ idle. option_and_then (λ wait. option_map (λ merge_at.
+    record { file = file; port = port; audit = audit; sessions = sessions; idle = idle; wait = wait; merge_at = merge_at; pipeline = flag_in rows (codes "pipeline") })
+    (count_in rows (codes "merge-at"))) (option_in rows (codes "wait"))) (limit_in rows (codes "idle"))) (limit_in rows (codes "sessions"))) (option_in rows (codes "audit"))) (port_in rows)) (file_in rows)
 
 -- what a store is to be planned for
 abbrev pub request_in : List Row → Option PlanRequest

@@ -15,11 +15,21 @@ pub record NamedService : Type 0 where
   pub sessions : Option ℕ
   pub idle : Option ℕ
   pub wait : Option ℕ
+  pub merge_at : Option ℕ
   pub pipeline : Bool
 
 -- what a service is by that text
 abbrev pub named_service : Service → NamedService
-named_service service = record { file = service.file.now; port = service.port; audit = service.audit; sessions = service.sessions; idle = service.idle; wait = service.wait; pipeline = service.pipeline }
+named_service service = record {
+  file = service.file.now;
+  port = service.port;
+  audit = service.audit;
+  sessions = service.sessions;
+  idle = service.idle;
+  wait = service.wait;
+  merge_at = service.merge_at;
+  pipeline = service.pipeline;
+}
 
 -- a job, by the text of its file's name
 pub data Named : Type 0 where

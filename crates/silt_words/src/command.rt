@@ -109,7 +109,8 @@ fn serve<'a>(alloc: Global) -> Result<Command<'a>, AllocError>
     let with_sessions = add_option(with_audit, alloc, "sessions");
     let with_idle = add_option(with_sessions, alloc, "idle");
     let with_wait = add_option(with_idle, alloc, "wait");
-    add_flag(with_wait, alloc, "pipeline")
+    let with_merge_at = add_option(with_wait, alloc, "merge-at");
+    add_flag(with_merge_at, alloc, "pipeline")
 }
 
 // The command with one more below it, if that one was made.

@@ -19,7 +19,7 @@ pub struct Form {
     line: &'static str,
     /// The names of its values, in order.
     pub values: &'static [&'static str],
-    /// Its options, at most five.
+    /// Its options, at most six.
     pub options: &'static [Choice],
     /// The lines that it replies to, in parts.
     input: &'static [&'static str],
@@ -73,6 +73,12 @@ const WAIT: Choice = Choice {
     line: "--wait SECONDS    how long a command waits for room; 10 if left out, 0 refuses at once",
 };
 
+const MERGE_AT: Choice = Choice {
+    name: "--merge-at",
+    has_number: true,
+    line: "--merge-at K      merges once there are K hash stores; half of NH if left out",
+};
+
 const PIPELINE: Choice = Choice {
     name: "--pipeline",
     has_number: false,
@@ -82,7 +88,7 @@ const PIPELINE: Choice = Choice {
 /// The lines that every job with an input replies to.
 const EVENTS: &str = "put KEY VALUE     sets the value of a key
 delete KEY        deletes the value of a key
-swap KEY OLD NEW  sets the value of a key to NEW if it is OLD
+swap KEY OLD NEW  sets the value of a key to NEW if it is OLD; - is no value
 get KEY           prints the value of a key
 flush             makes all accepted commands safe from crashes
 ";
@@ -150,7 +156,7 @@ const FORMS: [Form; 8] = [
         job: "serve",
         line: "silt serve FILE PORT [OPTION]...            replies to the lines of a port's connections",
         values: &["FILE", "PORT"],
-        options: &[AUDIT, SESSIONS, IDLE, WAIT, PIPELINE],
+        options: &[AUDIT, SESSIONS, IDLE, WAIT, MERGE_AT, PIPELINE],
         input: &[EVENTS],
     },
 ];

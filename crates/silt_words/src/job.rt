@@ -35,6 +35,8 @@ pub struct Service<'a> {
     pub idle: Option<u32>,
     /// How many seconds a command waits for room at most. None if the option is left out.
     pub wait: Option<u32>,
+    /// Of how many hash stores, at least one, the merger begins a merge. None if the option is left out.
+    pub merge_at: Option<u32>,
     /// Whether the commands that a connection sent together are done as one batch, with one flush.
     pub pipeline: bool,
 }

@@ -55,6 +55,9 @@ fn why_no_number(name: &str, word: &str) -> &'static str {
         if name == "PORT" {
             return "a port is at most 65535";
         }
+        if name == "--merge-at" && number_of(word.as_bytes()) == Some(0) {
+            return "a merge is of at least one hash store";
+        }
         return "a number has at most ten digits, and is at most 4294967295";
     }
     if !word.is_empty() && word.bytes().all(is_digit_or_separator) {
@@ -134,7 +137,7 @@ struct Walk {
     /// The option whose number is the next word.
     awaited: Option<&'static str>,
     /// Which options of the form were met.
-    met: [bool; 5],
+    met: [bool; 6],
     /// Whether the word `--` was met. After it every word is a value.
     is_past_options: bool,
 }
@@ -145,7 +148,7 @@ impl Walk {
             form,
             place: 0,
             awaited: None,
-            met: [false; 5],
+            met: [false; 6],
             is_past_options: false,
         }
     }
@@ -224,6 +227,7 @@ fn is_value(name: &str, word: &str) -> bool {
     match name {
         "FILE" => true,
         "PORT" => number_of(word.as_bytes()).is_some_and(|port| port <= 65_535),
+        "--merge-at" => number_of(word.as_bytes()).is_some_and(|stores| stores > 0),
         _ => number_of(word.as_bytes()).is_some(),
     }
 }

@@ -1,7 +1,7 @@
 // The words of the command line.
 ghost use Rattle.std.specs.Prelude.{◌≡◌, Some, None, MatchResult, map, option_map, string_bytes};
 ghost use Rattle.clap.specs.Words.{found_of, rows_of, subcommand_rows_of};
-ghost use Rattle.silt_words.specs.Commands.{file_in, flag_in, job_in, job_met, job_named, limit_in, number_in, numbers_in, option_in, port_in, request_in, run_options_in, service_in};
+ghost use Rattle.silt_words.specs.Commands.{count_in, file_in, flag_in, job_in, job_met, job_named, limit_in, number_in, numbers_in, option_in, port_in, request_in, run_options_in, service_in};
 ghost use Rattle.silt_words.specs.Jobs.{named, named_service};
 ghost use Rattle.silt_words.specs.declared.job.WordsError.TheVariants.{Usage};
 
@@ -63,6 +63,16 @@ fn limit_at(matches: &ArgMatches<'_>, name: &str) -> Option<Option<u32>>
     }
 }
 
+// The number of an option that counts something. 0 is no such number.
+fn count_at(matches: &ArgMatches<'_>, name: &str) -> Option<Option<u32>>
+    ensures { result ≡ count_in (rows_of (found_of matches.now)) name.now }
+{
+    match option_at(matches, name)? {
+        Some(0) => None,
+        count => Some(count),
+    }
+}
+
 // Whether an option without a value is given.
 fn is_given(matches: &ArgMatches<'_>, name: &str) -> bool
     ensures { result ≡ flag_in (rows_of (found_of matches.now)) name.now }
@@ -92,6 +102,7 @@ fn service_of<'a>(matches: &ArgMatches<'a>) -> Option<Service<'a>>
         sessions: limit_at(matches, "sessions")?,
         idle: limit_at(matches, "idle")?,
         wait: option_at(matches, "wait")?,
+        merge_at: count_at(matches, "merge-at")?,
         pipeline: is_given(matches, "pipeline"),
     })
 }

@@ -5,14 +5,14 @@ use Rattle.silt.proofs.service.serve_disk.Goals as goal
 
 pub returns-in-Ok-clause-failed : goal.returns-in-Ok-clause-failed
 returns-in-Ok-clause-failed g c = λ is.
-    let quiet = c.serve_store-disk.ensures.quiet is ∙ if_made _ c.bind-listener.ensures.bound (c.serve_store-disk.ensures.bound is) in
+    let quiet = c.serve_opened-disk.ensures.quiet is ∙ if_made _ c.bind-listener.ensures.bound (c.serve_opened-disk.ensures.bound is) in
     rw quiet at c.report_failures.ensures
 
 pub returns-in-Ok-clause-printed : goal.returns-in-Ok-clause-printed
-returns-in-Ok-clause-printed g c = told_weaker c.serve_store-disk.result.1 (λ reported. inr (c.in-Ok.core, rw c.report_at_once.ensures.disk at c.in-Ok.ensures.ok, reported)) c.serve_store-disk.ensures.printed
+returns-in-Ok-clause-printed g c = told_weaker c.serve_opened-disk.result.1 (λ reported. inr (c.in-Ok.core, rw c.report_at_once.ensures.disk at c.in-Ok.ensures.ok, reported)) c.serve_opened-disk.ensures.printed
 
 pub returns-in-Ok-clause-left : goal.returns-in-Ok-clause-left
-returns-in-Ok-clause-left g c = inr c.serve_store-disk.ensures.left
+returns-in-Ok-clause-left g c = inr c.serve_opened-disk.ensures.left
 
 pub returns-in-Err-clause-served : goal.returns-in-Err-clause-served
 returns-in-Err-clause-served g c = never_done _ c.refuse_opening.result.1 c.refuse_opening.ensures.printed

@@ -12,4 +12,5 @@ returns c =
     let stands4 = one_more _ _ (λ old arg new adds. adds.globals) _ _ c.add_option-with_sessions.ensures stands3 in
     let stands5 = one_more _ _ (λ old arg new adds. adds.globals) _ _ c.add_option-with_idle.ensures stands4 in
     let stands6 = one_more _ _ (λ old arg new adds. adds.globals) _ _ c.add_option-with_wait.ensures stands5 in
-    joins_as _ (λ old sub new adds. adds.shape) _ (one_more _ _ (λ old arg new adds. adds.globals) _ _ c.add_flag.ensures stands6)
+    let stands7 = one_more _ _ (λ old arg new adds. adds.globals) _ _ c.add_option-with_merge_at.ensures stands6 in
+    joins_as _ (λ old sub new adds. adds.shape) _ (one_more _ _ (λ old arg new adds. adds.globals) _ _ c.add_flag.ensures stands7)
