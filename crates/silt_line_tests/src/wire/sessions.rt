@@ -423,7 +423,8 @@ impl Answerer for Vast {
 fn ends_where_memory_is_wanted_for_a_line(rt: HostRuntime) -> Result<(), Fail> {
     let puts: &[u8] = b"get =a\nput = 00\nput =b 00\nget =c\n";
     let swaps: &[u8] = b"get =a\nswap = 00 00\nswap =b 00 00\nget =c\n";
-    for lines in [puts, swaps] {
+    let hyphens: &[u8] = b"get =a\nswap = - 00\nswap =b - 00\nget =c\n";
+    for lines in [puts, swaps, hyphens] {
         let mut reader = Cursor::new(lines);
         let mut out = Vec::new(rt.alloc());
         let end = session(rt.alloc(), 1 << 62, &mut reader, &mut out, &mut Vast);

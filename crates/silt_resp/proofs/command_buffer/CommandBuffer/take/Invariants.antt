@@ -1,0 +1,14 @@
+use Rattle.std.proofs.Common.{◌≤◌, false, length, take, ◌-◌}
+use Rattle.silt_resp.specs.Buffers.{HoldsStream, TakesInput}
+use Rattle.silt_resp.specs.Stream.{Stream}
+use Rattle.silt_resp.proofs.command_buffer.CommandBuffer.take.Given as goal
+
+-- the bytes so far end no command
+abbrev pub invariant-loop-done : goal.invariant-loop-done
+invariant-loop-done l = record {
+  within : l.done ≤ length l.bytes;
+  taken : (s : Stream) → HoldsStream l.fn.self s → TakesInput s (take l.done l.bytes) false l.self;
+}
+
+abbrev pub decreases-loop-done : goal.decreases-loop-done
+decreases-loop-done l = length l.bytes - l.done
