@@ -1,6 +1,9 @@
 """Random lines for a store, and the maps that its commands make."""
 import itertools
 
+# What stands for no value in a swap.
+NONE = "-"
+
 
 def names(count):
     """So many key words of lines."""
@@ -20,7 +23,7 @@ class Commands:
     def __init__(self, random, keys, length, burst=0):
         self.random, self.keys, self.length, self.burst = random, keys, length, burst
         self.number = random.randrange(1000)
-        # The last values that were put or swapped in.
+        # The last values that were put or swapped in and not taken away.
         self.latest = {}
 
     def new_value(self, key):
@@ -28,16 +31,26 @@ class Commands:
         self.latest[key] = value_of(self.number, self.length)
         return self.latest[key]
 
+    def no_value(self, key):
+        self.latest.pop(key, None)
+        return NONE
+
     def put(self):
         key = self.random.choice(self.keys)
         return f"put {key} {self.new_value(key)}"
 
     def swap(self):
-        """A swap, for the most part of the value that the key has if the commands before were accepted."""
+        """A swap, for the most part of the value that the key has if the commands before were accepted, or of none."""
         key = self.random.choice(self.keys)
         other = value_of(self.random.randrange(1 << 16), self.length)
-        old = self.latest.get(key, other) if self.random.random() < 0.8 else other
-        return f"swap {key} {old} {self.new_value(key)}"
+        old = self.latest.get(key, NONE) if self.random.random() < 0.8 else self.random.choice((other, NONE))
+        is_last = old != NONE and self.random.random() < 0.2
+        return f"swap {key} {old} {self.no_value(key) if is_last else self.new_value(key)}"
+
+    def delete(self):
+        key = self.random.choice(self.keys)
+        self.no_value(key)
+        return f"delete {key}"
 
     def lines(self, count):
         """At least this many lines."""
@@ -49,7 +62,7 @@ class Commands:
             elif kind < 0.45:
                 made.append(self.swap())
             elif kind < 0.55:
-                made.append(f"delete {self.random.choice(self.keys)}")
+                made.append(self.delete())
             elif kind < 0.70:
                 made.append("flush")
             elif kind < 0.78 or not self.burst:
@@ -64,9 +77,9 @@ def is_command(line):
 
 
 def differs(values, line):
-    """Whether this is a swap, and its key has another value than the old one, or none."""
+    """Whether this is a swap, and its key has another value than the old one. No value is one of them."""
     word, *words = line.split()
-    return word == "swap" and values.get(words[0]) != words[1]
+    return word == "swap" and values.get(words[0], NONE) != words[1]
 
 
 def done(values, command):
@@ -74,7 +87,7 @@ def done(values, command):
     assert not differs(values, command), f"{command} is accepted, and the map is {values}"
     _, key, *words = command.split()
     rest = {its: it for its, it in values.items() if its != key}
-    return {**rest, key: words[-1]} if words else rest
+    return {**rest, key: words[-1]} if words and words[-1] != NONE else rest
 
 
 def tried(values, command):

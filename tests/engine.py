@@ -75,12 +75,13 @@ class Engine:
         self.generation, self.active, self.frozen, self.hashes = 0, Log(0, layout.buckets), [], []
         self.region, self.entries, self.is_spare_closed = 0, [], True
         self.conversion = self.merge = None
-        self.is_absent = False
+        self.is_absent, self.absent_at = False, 0
 
     def answer(self, line):
         """The reply to a line. The device calls that it takes are then in `calls`. If `is_absent`, it
-        looked up a key that has no row and no entry, and may have read one entry more."""
-        self.calls, self.is_absent = [], False
+        looked up a key that has no row and no entry, and may have read one entry more, behind the first
+        `absent_at` calls."""
+        self.calls, self.is_absent, self.absent_at = [], False, 0
         word, *rest = line.split()
         return getattr(self, f"do_{word}")(*rest)
 
@@ -142,10 +143,10 @@ class Engine:
         return self.add(DELETE, key, None)
 
     def do_swap(self, key, old, new):
-        """The look-up of a get, and then all of a put."""
-        if self.do_get(key) != f"value {old}":
+        """The look-up of a get, and then all of a put, or of a delete for no new value."""
+        if self.do_get(key) != ("absent" if old == "-" else f"value {old}"):
             return "differs"
-        return self.do_put(key, new)
+        return self.do_delete(key) if new == "-" else self.do_put(key, new)
 
     def add(self, kind, key, value):
         pair, path = self.layout.buckets_of(key), None
@@ -225,7 +226,7 @@ class Engine:
                 return self.found(row)
         place = next((n for n, (its, _) in enumerate(self.entries) if its == key), None)
         if place is None:
-            self.is_absent = True
+            self.is_absent, self.absent_at = True, len(self.calls)
             return "absent"
         self.calls.append(self.entry_reads()[place])
         return f"value {self.entries[place][1]}"

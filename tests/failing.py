@@ -13,12 +13,12 @@ LINES = (
     ["put =a 0001", "get =a", "put =b 0002", "flush"] + ["convert"] * 9
     + ["swap =a 0001 0003", "swap =a 0001 0004", "flush"] + ["merge"] * 3 + ["convert"] * 9
     + ["get =b", "delete =b", "put =c", "pot =c 0001", "swap =c 0001", "get =b"] + ["convert"] * 9 + ["merge"] * 7
-    + ["swap =a 0003 0006", "swap =b 0002 0006", "put =d 0004", "get =a", "get =b", "get =c", "get =d", "flush",
-       "put =c 0005", "swap =d 0005 0007", "swap =d 0004 0007"])
+    + ["swap =a 0003 -", "swap =b 0002 0006", "swap =a - -", "swap =d - 0004", "get =a", "get =b", "get =c", "get =d", "flush",
+       "put =c 0005", "swap =d 0005 0007", "swap =d 0004 0007", "swap =d - 0007", "swap =d 0004 -", "swap =c - 0007"])
 LIVES = (
     ["put =a 0001", "put =b 0002", "flush", "put =a 0003", "stop 12 mix", "get =a", "get =b"] + ["convert"] * 9
     + ["put =c 0004", "flush", "stop 0 zero"] + ["merge"] * 11
-    + ["get =a", "get =b", "swap =c 0004 0005", "swap =c 0004 0006", "get =c"] + ["convert"] * 9 + ["delete =c", "flush"])
+    + ["get =a", "get =b", "swap =c 0004 0005", "swap =c 0004 0006", "get =c"] + ["convert"] * 9 + ["swap =c 0005 -", "flush"])
 
 DEVICE = "refused 5 Device\n"
 NO_STORE = "refused 1 NotFormatted\n"

@@ -46,7 +46,7 @@ class Maker:
     def __init__(self, random, geometry, full_tables=False):
         self.random, self.geometry, self.full_tables = random, geometry, full_tables
         self.keys = make_keys(random, geometry, full_tables)
-        # The last values that were put or swapped in, by the keys' words.
+        # The last values that were put or swapped in and not taken away, by the keys' words.
         self.latest = {}
         self.turn = 0
         # A list of the kinds of line with their weights: each script has its own.
@@ -68,17 +68,25 @@ class Maker:
         return [b"put " + self.cased(key) + b" " + self.new_value(key)]
 
     def make_swap(self):
-        """A swap, for the most part of the value that the key has if the commands before were taken."""
+        """A swap, for the most part of the value that the key has if the commands before were taken, or of none."""
         key, other = self.random.choice(self.keys), make_value(self.random, self.geometry.v)
-        old = self.latest.get(key, other) if self.random.random() < 0.8 else other
-        return [b"swap " + self.cased(key) + b" " + self.cased(old) + b" " + self.new_value(key)]
+        old = self.latest.get(key, b"-") if self.random.random() < 0.8 else self.random.choice([other, b"-"])
+        is_last = old != b"-" and self.random.random() < 0.2
+        new = self.no_value(key) if is_last else self.new_value(key)
+        return [b"swap " + self.cased(key) + b" " + self.cased(old) + b" " + new]
 
     def new_value(self, key):
         self.latest[key] = make_value(self.random, self.geometry.v)
         return self.cased(self.latest[key])
 
+    def no_value(self, key):
+        self.latest.pop(key, None)
+        return b"-"
+
     def make_delete(self):
-        return [b"delete " + self.cased_key()]
+        key = self.random.choice(self.keys)
+        self.no_value(key)
+        return [b"delete " + self.cased(key)]
 
     def make_get(self):
         return [b"get " + self.cased_key()]
@@ -128,6 +136,9 @@ def odd_lines(random, key, v):
         b"swap " + key + b" " + value, b"swap " + key + b" " + value + b" " + value + b" " + value,
         b"swap " + key + b"  " + value, b"swap " + key + b" " + value + b" " + value + b"\r",
         b"swap " + key + b" " + value + b" " + value[1:], b"swap " + key + b" " + value[1:] + b" " + value, b"swap 0 0 0",
+        b"swap " + key + b" - -", b"swap " + key + b" - " + value, b"swap " + key + b" " + value + b" -\r", b"swap = - -",
+        b"swap " + key + b" - " + value[1:], b"swap " + key + b" -- " + value, b"swap " + key + b" -", b"swap " + key + b" - ",
+        b"put " + key + b" -", b"put - " + value, b"get -", b"delete -", b"-",
         b"x" * 16600, b"x" * 16601, b"x" * 16600 + b"\r", b"x" * 40000, b"get =" + b"a" * 16596, b"stop 0 " + b"o" * 17000,
         b"stop 0 olds", b"stop 0 OLD", b"stop -1 old", b"stop 4294967296 old", b"stop 00000000001 old",
         b"stop 1 old old", b"stop 1", b"stop  old", b"stop x new", b"stop +1 new",

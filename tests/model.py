@@ -626,11 +626,11 @@ class Store:
         return self.take(DELETE, key, bytes(self.geometry.v))
 
     def swap(self, key, old, new):
-        """A put, if the key has the old value."""
+        """A put, or a delete for no new value, if the key has the old value, or has none for no old one."""
         row = self.contents.first_row(key)
-        if not row or row[0] != PUT or row[2] != old:
+        if (row[2] if row and row[0] == PUT else None) != old:
             return "differs"
-        return self.put(key, new)
+        return self.delete(key) if new is None else self.put(key, new)
 
     def take(self, kind, key, value):
         if not self.active_takes(key):
@@ -803,7 +803,13 @@ def read_line(line, length, v):
     if not words:
         return (event.decode(),)
     key, *values = words
-    return event.decode(), read_key(key), *[read_value(it, v) for it in values]
+    key = read_key(key)
+    if event != b"swap":
+        return event.decode(), key, *[read_value(it, v) for it in values]
+    old, new = (None if it == b"-" else read_value(it, v) for it in values)
+    if old is None and new is None:
+        raise Refused(22)
+    return "swap", key, old, new
 
 
 def read_key(word):

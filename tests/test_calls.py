@@ -220,16 +220,31 @@ class Writes(CallCase):
         self.judge([self.put(0, A, "0102"), swap, ("flush", self.rules.flush(0, 0, 2)), (swap[0], []),
                     (f"swap {B} 0000 0304", []), ("flush", [])])
 
+    def test_swaps_from_and_to_no_value(self):
+        """The two writes of a put or of a delete if they are accepted, and else none."""
+        self.store(G)
+        first = f"swap {A} - 0102", self.rules.row(0, 0, PUT, A, "0102")
+        last = f"swap {A} 0102 -", self.rules.row(0, 1, DELETE, A)
+        self.judge([(last[0], []), first, (first[0], []), ("flush", self.rules.flush(0, 0, 1)), (f"swap {A} - -", []), last,
+                    (last[0], []), ("flush", self.rules.flush(0, 1, 1))])
+
     def test_a_swap_that_freezes(self):
         self.store(G)
         due = self.freeze(manifest(1, 1, frozen=[0]), True) + self.rules.row(1, 0, PUT, D, "0005")
         self.judge(self.fill() + [(f"swap {D} 0005 0004", []), (f"swap {D} 0004 0005", due),
                                   ("flush", self.rules.flush(1, 0, 1))])
 
+    def test_swaps_from_and_to_no_value_that_freeze(self):
+        due = self.freeze(manifest(1, 1, frozen=[0]), True)
+        for line, row in ((f"swap {E} - 0005", (PUT, E, "0005")), (f"swap {D} 0004 -", (DELETE, D))):
+            self.store(G)
+            differing = [(f"swap {D} - 0005", []), (f"swap {E} 0005 -", [])]
+            self.judge([*self.fill(), *differing, (line, due + self.rules.row(1, 0, *row)), ("flush", self.rules.flush(1, 0, 1))])
+
     def test_lines_that_write_nothing(self):
         self.store(G)
         self.judge([("flush", []), (f"get {A}", []), ("convert", []), ("merge", []), ("pot", []), (f"put {A} 01", []),
-                    (f"swap {A} 0102 0304", []), (f"swap {A} 0102 03", [])])
+                    (f"swap {A} 0102 0304", []), (f"swap {A} 0102 03", []), (f"swap {A} 0102 -", []), (f"swap {A} - -", [])])
 
     def test_a_freeze_with_rows_waiting(self):
         self.store(G)
@@ -249,7 +264,7 @@ class Writes(CallCase):
         self.store(G)
         puts = [self.put(n, key, "0009", 1) for n, key in enumerate((A, B, C), 1)]
         self.judge(self.frozen_log() + [*puts, (f"put {D} 0009", []), (f"delete {D}", []), (f"swap {D} 0004 0009", []),
-                                        (f"swap {D} 0001 0009", [])])
+                                        (f"swap {D} 0001 0009", []), (f"swap {D} 0004 -", []), (f"swap {LATER} - 0009", [])])
 
     def test_a_conversion(self):
         self.store(G)
@@ -514,20 +529,35 @@ class Reads(CallCase):
             ("flush", []), (f"swap {key(1)} 0003 0004", [self.row(3, 23)]),
             (f"swap {key(1)} 0004 0005", [self.row(3, 23), self.row(3, 21)])])
 
+    def test_swaps_from_and_to_no_value(self):
+        """A missing key costs what a get of it costs, and then what a put costs. A swap to no value costs what any
+        swap of that key does."""
+        self.store(WIDE, self.puts(range(2)) + [f"delete {key(2)}", "flush"])
+        row, head, gone = self.row(1, 23), self.row(1, 21), self.row(2, 23)
+        self.judge_reads([
+            (f"swap {key(1)} - 0003", [row]), (f"swap {key(1)} 0001 -", [row, head]), (f"swap {key(1)} 0001 -", []),
+            (f"swap {key(1)} - 0004", []), (f"swap {key(9)} 0001 -", []), (f"swap {key(9)} - 0001", []),
+            (f"swap {key(2)} 0001 -", [gone]), (f"swap {key(2)} - 0002", [gone, self.row(2, 21)])])
+
     def test_swaps_of_keys_that_share_buckets(self):
         """A swap reads what a get reads, and then what a put reads."""
         first, second, absent = key(3), key(3, 1), key(3, 2)
         self.store(WIDE, [f"put {first} 0001", f"put {second} 0002", "flush"])
         rows, heads = [self.row(0, 23), self.row(1, 23)], [self.row(0, 21), self.row(1, 21)]
         self.judge_reads([(f"swap {absent} 0001 0003", rows), (f"swap {second} 0001 0003", rows),
-                          (f"swap {second} 0002 0003", rows + heads)])
+                          (f"swap {absent} 0001 -", rows), (f"swap {absent} - 0003", rows + heads)])
+        self.store(WIDE, [f"put {first} 0001", f"put {second} 0002", "flush"])
+        self.judge_reads([(f"swap {second} 0002 0003", rows + heads)])
+        self.store(WIDE, [f"put {first} 0001", f"put {second} 0002", "flush"])
+        self.judge_reads([(f"swap {second} - 0003", rows), (f"swap {second} 0002 -", rows + heads)])
 
     def test_swaps_in_a_full_store(self):
         """The charge comes behind the comparison, and before the reads of a put."""
         self.store("2 64 8 4 4 2", [f"put {key(1)} 0001", f"put {key(2)} 0002", "flush"])
         self.layout = Layout.of("2 64 8 4 4 2")
         self.judge_reads([(f"put {key(1)} 0003", []), (f"swap {key(1)} 0001 0003", [self.row(0, 23)]),
-                          (f"swap {key(2)} 0001 0003", [self.row(1, 23)])])
+                          (f"swap {key(2)} 0001 0003", [self.row(1, 23)]), (f"swap {key(3)} - 0003", []),
+                          (f"swap {key(2)} 0002 -", [self.row(1, 23), self.row(1, 21)])])
 
     def frozen(self):
         """Keys 0 to 7 in log 0, which is frozen, and key 8 in log 1."""
@@ -539,7 +569,8 @@ class Reads(CallCase):
         self.judge_reads([(f"get {key(2)}", [self.row(2, 23)]), (f"get {key(8)}", [self.row(0, 23, log=1)]),
                           (f"put {key(3)} 0009", []), (f"delete {key(4)}", []), (f"get {key(20)}", []),
                           (f"swap {key(5)} 0006 0009", [self.row(5, 23)]), (f"swap {key(5)} 0005 0009", [self.row(5, 23)]),
-                          (f"swap {key(20)} 0014 0009", [])])
+                          (f"swap {key(20)} 0014 0009", []), (f"swap {key(6)} - 0009", [self.row(6, 23)]),
+                          (f"swap {key(6)} 0006 -", [self.row(6, 23)]), (f"swap {key(20)} - 0009", [])])
 
     def test_a_conversion(self):
         """One read for each slot with a row, none for the others, and none at its end."""
@@ -553,7 +584,8 @@ class Reads(CallCase):
         self.judge_reads([(f"get {key(2)}", [self.slot(2, 23)]), (f"put {key(3)} 0009", []),
                           (f"delete {key(4)}", []), (f"get {key(20)}", []), (f"get {key(4)}", []),
                           (f"swap {key(4)} 0004 0009", []), (f"swap {key(5)} 0006 0009", [self.slot(5, 23)]),
-                          (f"swap {key(5)} 0005 0009", [self.slot(5, 23)])])
+                          (f"swap {key(5)} 0005 0009", [self.slot(5, 23)]), (f"swap {key(6)} - 0009", [self.slot(6, 23)]),
+                          (f"swap {key(6)} 0006 -", [self.slot(6, 23)])])
 
     def merged(self):
         """And then keys 0 to 7 are entries, in sorted region 1."""
@@ -568,13 +600,15 @@ class Reads(CallCase):
         self.merged()
         gets = [(f"get {key(n)}", [self.entry(n)]) for n in range(8)]
         self.judge_reads([*gets, (f"put {key(3)} 0009", []), (f"delete {key(4)}", []), (f"get {key(4)}", []),
-                          (f"swap {key(5)} 0006 0009", [self.entry(5)]), (f"swap {key(5)} 0005 0009", [self.entry(5)])])
+                          (f"swap {key(5)} 0006 0009", [self.entry(5)]), (f"swap {key(5)} 0005 0009", [self.entry(5)]),
+                          (f"swap {key(6)} - 0009", [self.entry(6)]), (f"swap {key(6)} 0006 -", [self.entry(6)])])
 
     def test_absent_keys_of_a_sorted_store(self):
         """At most one read."""
         self.merged()
         keys = [key(n, n) for n in range(9, 30)] + ["ff" * 20, "00" * 20]
-        lines = [f"get {it}" for it in keys] + [f"swap {it} 0001 0002" for it in keys]
+        lines = [line for it in keys for line in (f"get {it}", f"swap {it} 0001 0002", f"swap {it} 0001 -")]
+        lines += [f"swap {it} - 0001" for it in keys[:4]]
         for line, calls in zip(lines, self.calls_of(lines)[1:], strict=True):
             self.assertLessEqual(len(reads(calls)), 1, line)
 
@@ -622,7 +656,8 @@ class Reads(CallCase):
         self.store(words, [f"put {key(1)} {value}", f"delete {key(2)}", "flush"])
         whole = [self.row(0, 21), (self.row(0, 0)[0] + 21, 493)]
         self.judge_reads([(f"get {key(1)}", whole), (f"get {key(2)}", [self.row(1, 21)]),
-                          (f"swap {key(1)} {'ab' * 492}ac {value}", whole), (f"swap {key(2)} {value} {value}", [self.row(1, 21)])])
+                          (f"swap {key(1)} {'ab' * 492}ac {value}", whole), (f"swap {key(2)} {value} {value}", [self.row(1, 21)]),
+                          (f"swap {key(2)} {value} -", [self.row(1, 21)]), (f"swap {key(1)} - {value}", whole)])
         self.silt("run", "store", text=f"put {key(3)} {value}\nflush\n" + "convert\n" * 257)
         at = self.slot(1, 0)[0]
         self.judge_reads([(f"get {key(1)}", [(at, 21), (at + 21, 493)]), (f"get {key(2)}", [self.slot(2, 21)])])
@@ -658,13 +693,14 @@ class Random(CallCase):
         return made.lines(1)
 
     def answered(self, engine, keys, count):
-        """Lines, each with its reply, its device calls, and the entries that a look-up of an absent
-        key may read."""
+        """Lines, each with its reply, its device calls before and after the place at which a look-up of
+        an absent key may read an entry, and these entries."""
         made, steps = Commands(self.random, keys, engine.layout.values), []
         while len(steps) < count:
             for line in self.some_lines(made, engine):
                 reply = engine.answer(line)
-                steps.append((line, reply, engine.calls, engine.entry_reads() if engine.is_absent else []))
+                parts = engine.calls[:engine.absent_at], engine.calls[engine.absent_at:]
+                steps.append((line, reply, parts, engine.entry_reads() if engine.is_absent else []))
         return steps
 
     def try_lines(self, geometry, keys, count):
@@ -676,10 +712,10 @@ class Random(CallCase):
         self.store(geometry)
         replies, calls = self.record_by_lines([line for line, _, _, _ in steps])
         for n, (step, reply, part) in enumerate(zip(steps, replies[1:], by_line(calls)[1:], strict=True)):
-            line, due_reply, device_calls, entries = step
-            due, got = buffers.make(device_calls), all_calls(part)
+            line, due_reply, parts, entries = step
+            first, last = map(buffers.make, parts)
             self.assertEqual(reply, due_reply, f"line {n}: {line}")
-            self.assertIn(got, [due] + [[*due, it] for it in entries], f"line {n}: {line}")
+            self.assertIn(all_calls(part), [[*first, *last]] + [[*first, it, *last] for it in entries], f"line {n}: {line}")
 
     def test_small_stores(self):
         for _ in range(scaled(16 if PROVED else 4)):

@@ -57,6 +57,7 @@ def lines_after(layout, keys, value):
     gets = [f"get {key}" for key in keys]
     new = [f"put {keys[0]} {value}", "flush", f"delete {keys[1]}", "flush"]
     swaps = [f"swap {key} {value} {'dd' * layout.values}" for key in (keys[0], *keys[:2])]
+    swaps += [f"swap {keys[1]} - {value}", f"swap {keys[1]} {value} -"]
     steps = (layout.slots + 1) * layout.hashes
     work = ["convert"] * steps + ["merge"] * (steps + len(keys) + 1)
     return gets + new + swaps + gets + work * (layout.logs // layout.hashes + 1) + new + gets
@@ -229,8 +230,8 @@ class Runs(CutCase):
 
 
 # The worked lives of test_sweeps.py, on files with room for more: three puts; a put and a delete; puts without a flush; five
-# puts, which freeze a log; swaps; and with a swap behind them a conversion, two merges of which the second drops a delete,
-# and a merge beside two conversions.
+# puts, which freeze a log; swaps, also from and to no value; and with a swap behind them a conversion, two merges of which
+# the second drops a delete, and a merge beside two conversions.
 CONVERT, MERGE = ["convert"] * 9, ["merge"]
 FIVE_PUTS = [f"put =a{it} 000{i}" for i, it in enumerate("abcde")] + ["flush"]
 WORKED = (
@@ -239,7 +240,7 @@ WORKED = (
     ("2 2 4 3 3 64", ["put =aa 0001", "flush", "put =aa 0002", "get =aa", "put =ab 0003"]),
     ("2 2 4 3 3 64", FIVE_PUTS),
     ("2 2 4 3 3 64", ["put =aa 0001", "swap =aa 0001 0002", "flush", "swap =aa 0001 0003", "swap =aa 0002 0004", "delete =aa",
-                      "swap =aa 0004 0005"]),
+                      "swap =aa 0004 0005", "swap =aa - 0006", "swap =aa - 0007", "flush", "swap =aa 0006 -"]),
     ("2 2 4 3 3 64", [*FIVE_PUTS, *CONVERT, "swap =ac 0002 0006"]),
     ("2 2 1 3 2 64", ["put =aa 0102", "put =ab 0304", *CONVERT, *MERGE * 10, "delete =aa", *CONVERT, "put =ac 0506", *CONVERT,
                       *MERGE * 19, "get =aa", "get =ab", "get =ac", "flush", "swap =ab 0304 0607"]),

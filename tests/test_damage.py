@@ -180,8 +180,9 @@ class WorkedDamage(DamageCase):
         # A swap compares first.
         self.path("store").write_bytes(image)
         key = f"01{'0' * 38}"
-        swaps = [f"swap {key} 0001 0002", f"swap {key} 0009 0002"]
-        self.assert_answers([f"put {key} 0001"] * 4 + swaps, [*accepted, "refused 10 Spent", "differs"])
+        swaps = [f"swap {key} 0001 0002", f"swap {key} 0009 0002", f"swap {key} 0001 -", f"swap {key} - 0002"]
+        replies = ["refused 10 Spent", "differs"] * 2
+        self.assert_answers([f"put {key} 0001"] * 4 + swaps, [*accepted, *replies])
 
     def test_five_keys_of_one_bucket(self):
         geometry = "2 2 8 2 2 16"

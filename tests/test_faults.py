@@ -387,7 +387,7 @@ class Others(FaultCase):
             # It cannot see the store that is lost, or not its numbers, or not how many keys.
             self.assertEqual((ended.status, ended.out, self.report(left)), (0, whole.out, empty))
             first = next(it for it in calls if it.name == "pread")
-            seen = rf"silt: store holds a store( of at most 5 keys| \({NUMBERS}\) that is damaged or cannot be read); it is overwritten\n"
+            seen = rf"silt: store holds a store( of at most 4 keys| \({NUMBERS}\) that is damaged or cannot be read); it is overwritten\n"
             self.assertRegex(ended.err, r"\A\Z" if call is first else rf"\A{seen}\Z")
             return
         if call.file == "standard error":

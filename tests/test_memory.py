@@ -201,7 +201,8 @@ class Jobs(MemoryCase):
 # if they have not freed a log yet.
 OF_SERVERS = "2 2 1 6 3 40"
 SESSION = ([f"put {KEYS[n % 4]} {n:04x}" for n in range(1, 9)]
-           + ["flush", "get =a", "swap =a 0008 0009", "swap =a 0008 000a", "get =a", "delete =b", "get =b", "get =d"])
+           + ["flush", "get =a", "swap =a 0008 0009", "swap =a 0008 000a", "get =a", "swap =b 0005 -", "get =b", "swap =b - 000b",
+              "get =d"])
 
 
 class Servers(MemoryCase):
@@ -294,6 +295,7 @@ class Servers(MemoryCase):
 # Tests that pass whichever of their requests is refused: a refused call changes nothing, and is
 # asked again.
 PROGRAMS = {
+    "silt_index_tests": ["memory::a_builder_lacks_memory"],
     "silt_tests": ["memory::each_call_lacks_memory", "memory::a_run_lacks_memory", "memory::a_life_lacks_memory"],
     "silt_desk_tests": ["desk::memory::each_call_is_asked_again", "inbox::a_queue_keeps_the_order"],
     "silt_line_tests": ["wire::sessions::ends_where_memory_is_refused"],
@@ -322,6 +324,9 @@ class Programs(MemoryCase):
                 with self.subTest(test=test, request=number):
                     self.assertEqual(ran.returncode, 0 if has_begun else 101, said)
             self.assertTrue(has_begun, test)
+
+    def test_indexes(self):
+        self.try_program("silt_index_tests")
 
     def test_stores(self):
         self.try_program("silt_tests")

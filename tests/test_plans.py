@@ -38,19 +38,19 @@ class Plans(WatchedCase):
     def test_worked_plans(self):
         """Keys and the length of values, with a limit of memory or without."""
         for words, out in (
-            ("1000000 100", "100 8192 28672 3 8 1315392\ndisk 357920768\nmemory 29544256\n"),
-            ("1000 100", "100 8 28 3 8 1308\ndisk 389120\nmemory 29344\n"),
-            ("0 1", "1 2 7 3 8 77\ndisk 77824\nmemory 2086\n"),
-            ("16000000 32", "32 16384 57344 3 8 16630784\ndisk 1766690816\nmemory 353088512\n"),
-            ("100000 8 --memory 3000000", "8 512 1792 3 8 119712\ndisk 7385088\nmemory 2634016\n"),
-            ("100000 8 --memory 2102086", "8 2 7 3 8 100077\ndisk 5681152\nmemory 2102086\n"),
+            ("1000000 100", "100 8192 28672 3 8 1315392\ndisk 357920768\nmemory 11599768\n"),
+            ("1000 100", "100 8 28 3 8 1308\ndisk 389120\nmemory 66856\n"),
+            ("0 1", "1 2 7 3 8 77\ndisk 77824\nmemory 57598\n"),
+            ("16000000 32", "32 16384 57344 3 8 16630784\ndisk 1766690816\nmemory 65144024\n"),
+            ("100000 8 --memory 1000000", "8 512 1792 3 8 119712\ndisk 7385088\nmemory 889528\n"),
+            ("100000 8 --memory 357598", "8 2 7 3 8 100077\ndisk 5681152\nmemory 357598\n"),
         ):
             ended = self.silt("plan", *words.split())
             self.assertEqual((ended.status, ended.out), (0, out), words)
 
     def test_less_memory(self):
         free, _ = self.planned(1_000_000, 100)
-        bound, _ = self.planned(1_000_000, 100, "--memory", 25_000_000)
+        bound, _ = self.planned(1_000_000, 100, "--memory", 8_000_000)
         self.assertLess(int(bound.split()[1]), int(free.split()[1]))
 
     def test_no_plan(self):
@@ -59,14 +59,14 @@ class Plans(WatchedCase):
             ("16777140 100", "KEYS is 16777140, and may be 0 to 16777139"),
             ("16777216 8", "KEYS is 16777216, and may be 0 to 16777139"),
             ("4294967295 8", "KEYS is 4294967295, and may be 0 to 16777139"),
-            ("16777140 8 --memory 2102085", "KEYS is 16777140, and may be 0 to 16777139"),
+            ("16777140 8 --memory 57597", "KEYS is 16777140, and may be 0 to 16777139"),
             ("1000 4097", "V is 4097, and may be 1 to 4096"),
-            ("4294967295 4097 --memory 2102085", "V is 4097, and may be 1 to 4096"),
+            ("4294967295 4097 --memory 57597", "V is 4097, and may be 1 to 4096"),
             ("1000 0", "V is 0, and may be 1 to 4096"),
             ("100000 0", "V is 0, and may be 1 to 4096"),
-            ("1 0 --memory 2102085", "V is 0, and may be 1 to 4096"),
-            ("1000000 100 --memory 1000", "1000000 keys need 21002086 bytes of memory or more"),
-            ("100000 8 --memory 2102085", "100000 keys need 2102086 bytes of memory or more"),
+            ("1 0 --memory 57597", "V is 0, and may be 1 to 4096"),
+            ("1000000 100 --memory 1000", "1000000 keys need 3057598 bytes of memory or more"),
+            ("100000 8 --memory 357597", "100000 keys need 357598 bytes of memory or more"),
         ):
             self.assert_ends(f"plan {words}", "no plan\n", f"silt: {reason}\n", 1)
 
@@ -107,7 +107,7 @@ class Costs(WatchedCase):
         what = (keys, length, memory, cost.ended)
         self.assertLessEqual(abs(cost.said - cost.entries), Fraction(1, 20), what)
         self.assertLessEqual(abs(cost.rest - cost.at_rest), cost.unit / 2 + 1, what)
-        self.assertLessEqual(cost.at_rest, cost.memory + 18_504, what)
+        self.assertLessEqual(cost.at_rest, cost.memory, what)
         self.assertEqual(cost.warning != "", cost.entries > DEAR, what)
         if cost.warning:
             self.assertRegex(cost.warning, r"\Asilt: .*\n\Z", what)
@@ -136,7 +136,7 @@ class Costs(WatchedCase):
 
     def test_a_limit_of_memory(self):
         """A plan of 28 rows a log: a row costs 1,786 entries."""
-        cost = self.check(200_000, 100, 4_210_000)
+        cost = self.check(200_000, 100, 664_000)
         self.assertEqual((cost.buckets, cost.capacity, cost.said), (8, 28, Fraction("1785.7")))
         self.assertIn("--memory", cost.warning)
 
@@ -175,7 +175,7 @@ class Costs(WatchedCase):
     def test_other_plans(self):
         for _ in range(scaled(20)):
             keys = round(10 ** self.random.uniform(0, 7.22))
-            least = 2086 + 21 * keys
+            least = 57_598 + 3 * keys
             self.check(keys, self.random.choice((1, 8, 100, 4096)), self.random.choice((least, round(least * self.random.uniform(1, 2)))))
 
     def test_no_plan_has_no_cost(self):

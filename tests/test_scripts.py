@@ -41,7 +41,10 @@ def count_swaps(counts, text, printed):
     lines = [line for line, length in model.split_lines(text) if line or length > model.LONGEST_LINE]
     if len(printed) == len(lines) + 1:
         pairs = zip(lines, printed[1:])
-        counts["swapped"] += sum(line.startswith(b"swap") and reply.startswith("accepted") for line, reply in pairs)
+        for line, reply in pairs:
+            if line.startswith(b"swap") and reply.startswith("accepted"):
+                old, new = line.split(b" ")[2:]
+                counts["from none" if old == b"-" else "to none" if new == b"-" else "swapped"] += 1
 
 
 class ScriptCase(Case):
@@ -87,8 +90,8 @@ class Scripts(ScriptCase):
 
     def test_scripts_of_one_long_life(self):
         counts = self.compare(COUNT // 4, [1], 120)
-        missing = [it for it in ("finished", "waiting", "swapped", "refused 7", "refused 8") if not counts[it]]
-        self.assertEqual(missing, [], "no script led to these")
+        wanted = ("finished", "waiting", "swapped", "from none", "to none", "refused 7", "refused 8")
+        self.assertEqual([it for it in wanted if not counts[it]], [], "no script led to these")
 
     def test_scripts_of_many_lives(self):
         counts = self.compare(3 * COUNT // 8, [2, 3, 4, 6], 60)

@@ -59,6 +59,16 @@ class Replies(ServedCase):
         self.check_calls(ended, 13)
         self.assertEqual(self.found("=abc"), ["absent"])
 
+    def test_swaps_from_and_to_no_value(self):
+        lines = ["swap =abc 0102 -", "swap =abc - 0102", "swap =abc - 0304", "get =abc", "swap =abc - -", "swap =abc 0102 -",
+                 "get =abc", "swap =abc - 0506", "flush"]
+        replies, ended = self.answers("".join(line + "\n" for line in lines))
+        self.assertEqual(replies, ["differs", "accepted 1", "differs", "value 0102", "refused 22 BadValue", "accepted 2",
+                                   "absent", "accepted 3", "acknowledged 3"])
+        # 5 commands, those that differ too, a flush behind each, and the flush.
+        self.check_calls(ended, 11)
+        self.assertEqual(self.found("=abc"), ["value 0506"])
+
     def test_other_lines(self):
         lines = [
             ("flush", "acknowledged 0"),
@@ -84,6 +94,17 @@ class Replies(ServedCase):
             ("swap =pear 0102 03zz", "refused 22 BadValue"),
             ("swap =pear 0102 03", "refused 22 BadValue"),
             ("swap =pear 0102 0304", "differs"),
+            ("swap =pear -", "refused 20 BadLine"),
+            ("swap = - -", "refused 21 BadKey"),
+            ("swap =pear - -", "refused 22 BadValue"),
+            ("swap =pear - 03", "refused 22 BadValue"),
+            ("swap =pear -- 0304", "refused 22 BadValue"),
+            ("put =pear -", "refused 22 BadValue"),
+            ("get -", "refused 21 BadKey"),
+            ("swap =pear - 0C0d", "accepted 4"),
+            ("get =pear", "value 0c0d"),
+            ("swap =pear 0c0D -", "accepted 5"),
+            ("get =pear", "absent"),
         ]
         replies, _ = self.answers("".join(line + "\r\n\n\r\n" for line, _ in lines))
         self.assertEqual(replies, [reply for _, reply in lines])
@@ -94,8 +115,8 @@ class Replies(ServedCase):
         replies = [client.ask(f"put {digits(it)} 0001")[0] for it in range(1, 9)]
         self.assertEqual(replies, [f"accepted {it}" for it in range(1, 9)])
         self.assertEqual(client.ask(f"put {digits(9)} 0001", f"put {digits(1)} 0002"), ["refused 7 StoreFull"] * 2)
-        swaps = [f"swap {digits(1)} {old} 0002" for old in ("0001", "0002")]
-        self.assertEqual(client.ask(*swaps), ["refused 7 StoreFull", "differs"])
+        swaps = [f"swap {digits(1)} {old} 0002" for old in ("0001", "0002", "-")] + [f"swap {digits(9)} - 0001"]
+        self.assertEqual(client.ask(*swaps), ["refused 7 StoreFull", "differs", "differs", "refused 7 StoreFull"])
         # A delete is taken as soon as a conversion has made room for its row.
         for _ in self.turns("room for a delete"):
             reply, found = client.ask(f"delete {digits(1)}", f"get {digits(1)}")
@@ -130,8 +151,9 @@ class Options(ServedCase):
         client = self.client(server)
         self.assertEqual([client.ask(f"put {digits(it)} 0001")[0] for it in (1, 2)], ["accepted 1", "accepted 2"])
         lines = [f"put {digits(3)} 0001", "flush", f"delete {digits(1)}", f"swap {digits(1)} 0001 0002",
-                 f"swap {digits(1)} 0003 0002", f"get {digits(1)}", f"get {digits(3)}"]
-        self.assertEqual(client.ask(*lines), ["refused 11 HistoryFull"] * 5 + ["value 0001", "absent"])
+                 f"swap {digits(1)} 0003 0002", f"swap {digits(1)} 0001 -", f"swap {digits(3)} - 0001", f"get {digits(1)}",
+                 f"get {digits(3)}"]
+        self.assertEqual(client.ask(*lines), ["refused 11 HistoryFull"] * 7 + ["value 0001", "absent"])
         client.close()
         self.check_calls(server.ended(), 4)
         self.assertEqual(self.check_whole()["charge"], 2)

@@ -17,7 +17,8 @@ EACH = 200 if PROVED else 80
 # The replies to a command for which a store has no room.
 FULL = ("refused 7 StoreFull", "refused 8 NoRoom")
 WORDS = (b"put", b"delete", b"swap", b"get", b"flush")
-GOOD_LINES = (b"put =key 0304", b"swap =key 0304 0506", b"get =key", b"delete =key", b"flush", b"get " + b"0a" * 20)
+GOOD_LINES = (b"put =key 0304", b"swap =key 0304 0506", b"swap =key - 0304", b"swap =key 0304 -", b"get =key", b"delete =key",
+              b"flush", b"get " + b"0a" * 20)
 
 
 def long_name(number):

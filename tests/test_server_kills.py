@@ -33,16 +33,17 @@ class Writer:
 
     def next_command(self, values):
         """A line, and the command that it makes of these values: a put of a new value, or now and
-        then a delete, a swap that differs, or one that does not."""
+        then a delete, a swap that differs, or one that does not, from or to no value too."""
         self.turn += 1
         key = self.random.choice(list(values))
         now, new = values[key], f"{self.number:02x}{self.turn:06x}"
-        kind = self.random.randrange(6)
-        if kind == 0:
-            return f"delete {key}", ("accepted", key, "absent")
-        if kind == 1:
+        old = "-" if now == "absent" else now.split()[1]
+        kind = self.random.randrange(7)
+        if kind == 0 or kind == 1 and old != "-":
+            return f"delete {key}" if kind == 0 else f"swap {key} {old} -", ("accepted", key, "absent")
+        if kind == 2:
             return f"swap {key} ffffffff {new}", ("differs", key, now)
-        line = f"swap {key} {now.split()[1]} {new}" if kind == 2 and now != "absent" else f"put {key} {new}"
+        line = f"swap {key} {old} {new}" if kind == 3 else f"put {key} {new}"
         return line, ("accepted", key, f"value {new}")
 
     def next_lines(self):

@@ -12,7 +12,7 @@ import sys
 import time
 import unittest
 
-from commands import answer, done, is_command
+from commands import NONE, answer, is_command, tried
 from harness import PROVED, TIME_LIMIT, scaled
 from served import ROOMY, Client, ServedCase
 from test_server_kills import KillCase
@@ -166,13 +166,14 @@ class Final(RoomCase):
         self.check_dump(puts(12)[:8])
 
     def test_a_full_store_and_deletes(self):
-        """A delete needs room alone, so it waits for that, and puts behind it are refused still."""
+        """A delete and a swap to no value need room alone, so they wait for that, and puts behind them are refused still."""
         self.store("2 2 4 2 2 8")
         server = self.serve("--sessions", 1)
-        lines = [*puts(8), "put =other 0000", "delete =key/0", "swap =key/1 0001 0002", "delete =key/2", "get =key/1"]
+        lines = [*puts(8), "put =other 0000", "delete =key/0", "swap =key/1 0001 0002", "swap =key/2 0002 -",
+                 "swap =other - 0000", "get =key/1", "get =key/2"]
         replies = self.load(server, lines)
         self.check_end(server)
-        self.assertEqual(replies[8:], [FULL, "accepted 9", FULL, "accepted 10", "value 0001"])
+        self.assertEqual(replies[8:], [FULL, "accepted 9", FULL, "accepted 10", FULL, "value 0001", "absent"])
 
     def test_a_failed_store(self):
         self.store(TIGHT)
@@ -322,13 +323,13 @@ class Order(RoomCase):
         values, lines = {}, []
         for number in range(count):
             key, kind = f"=key/{self.random.randrange(8)}", self.random.randrange(12)
-            old = values.get(key, "ffff")
+            old = values.get(key, NONE if kind == 1 else "ffff")
             line = (f"delete {key}" if kind == 0 else f"swap {key} {old} {number:04x}" if kind < 3 else
                     f"get {key}" if kind == 3 else "flush" if kind == 4 else self.random.choice(list(BAD_LINES)) if kind == 5 else
                     f"put {key} {number:04x}")
             lines.append(line)
-            if is_command(line) and line not in BAD_LINES and (kind not in (1, 2) or key in values):
-                values = done(values, line)
+            if is_command(line) and line not in BAD_LINES:
+                values = tried(values, line)
         return lines
 
     def check_replies(self, lines, replies):

@@ -1,4 +1,10 @@
-"""A counter at a server: many clients read it and swap in the next number, and no count is lost."""
+"""Swaps of many clients at a server.
+
+A counter: they read it and swap in the next number, and no count is lost. A lock: they take it by a swap
+from no value and release it by a swap to none, and it never has two holders. A set of keys: they all
+insert each of them by a swap from no value, and one of them does.
+"""
+import collections
 import signal
 import threading
 import time
@@ -13,14 +19,40 @@ CLIENTS = 16
 # How often each client counts, and how many counts there are at most before a kill.
 EACH = 200
 KILLS, BEFORE_A_KILL = 6, 800 if PROVED else 200
+# How often each client takes the lock and releases it.
+LOCKED = 100 if PROVED else 25
+# Room for each key's row. So many clients insert so many keys, and send so many lines in one write.
+INSERTED = "4 512 1024 8 16 12000"
+INSERTERS, KEYS, BURST = 8, 10_000 if PROVED else 1_000, 100
+# What a store refuses until the background work makes room.
+NO_ROOM = ("refused 7 StoreFull", "refused 8 NoRoom")
 
 
-class Counter:
-    """A client that counts up. `accepted` has the numbers whose swap was accepted, `cut` the one whose
-    swap had no reply when the connection broke, and `wrong` what no store replies."""
+class Swapper:
+    """A client that swaps. `wrong` has what no store replies."""
 
     def __init__(self):
-        self.accepted, self.cut, self.wrong = [], None, []
+        self.wrong = []
+
+    def ask(self, client, line):
+        """The reply to a line. None if the connection is broken."""
+        try:
+            return client.ask(line)[0]
+        except OSError:
+            return None
+
+    def note(self, is_right, words):
+        if not is_right:
+            self.wrong.append(words)
+
+
+class Counter(Swapper):
+    """A client that counts up. `accepted` has the numbers whose swap was accepted, and `cut` the one whose
+    swap had no reply when the connection broke."""
+
+    def __init__(self):
+        super().__init__()
+        self.accepted, self.cut = [], None
 
     def run(self, client, count):
         """Counts until so many swaps are accepted, or until the connection breaks."""
@@ -38,30 +70,39 @@ class Counter:
             self.cut = None
             least = self.take(reply, now)
 
-    def ask(self, client, line):
-        """The reply to a line. None if the connection is broken."""
-        try:
-            return client.ask(line)[0]
-        except OSError:
-            return None
-
     def take(self, reply, now):
         """Notes the reply to a swap of this number. What the counter is at least, from then on."""
         if reply.startswith("accepted "):
             self.accepted.append(now + 1)
             return now + 1
-        if reply in ("refused 7 StoreFull", "refused 8 NoRoom"):
+        if reply in NO_ROOM:
             time.sleep(0.01)  # the background work makes room
             return now
         self.note(reply == "differs", reply)
         return now + (reply == "differs")
 
-    def note(self, is_right, words):
-        if not is_right:
-            self.wrong.append(words)
+
+class SwapCase(ServedCase):
+    def load(self, server, swappers, *words):
+        """Runs each of these clients in a thread of its own. The threads."""
+        threads = [threading.Thread(target=it.run, args=(self.client(server), *words)) for it in swappers]
+        for thread in threads:
+            thread.start()
+        return threads
+
+    def join_all(self, threads, swappers):
+        """Waits for all clients, which got no wrong reply."""
+        for thread in threads:
+            thread.join()
+        self.assertEqual([it.wrong for it in swappers], [[]] * len(swappers))
+
+    def kill(self, server):
+        """Ends a server as a crash of the process does."""
+        server.send_signal(signal.SIGKILL)
+        self.assertEqual(server.ended().status, -signal.SIGKILL)
 
 
-class Counts(ServedCase):
+class Counts(SwapCase):
     def setUp(self):
         super().setUp()
         self.store(COUNTED, ["put =counter 00000000", "flush"])
@@ -70,17 +111,8 @@ class Counts(ServedCase):
         """The number that a new run finds."""
         return int(self.found("=counter")[0].removeprefix("value "), 16)
 
-    def load(self, server, count):
-        """Clients that count, each in a thread of its own."""
-        counters = [Counter() for _ in range(CLIENTS)]
-        threads = [threading.Thread(target=it.run, args=(self.client(server), count)) for it in counters]
-        for thread in threads:
-            thread.start()
-        return counters, threads
-
     def accepted(self, counters):
         """All numbers whose swap was accepted. Each was swapped in once."""
-        self.assertEqual([it.wrong for it in counters], [[]] * CLIENTS)
         numbers = sorted(number for it in counters for number in it.accepted)
         self.assertEqual(len(numbers), len(set(numbers)), numbers)
         return numbers
@@ -88,9 +120,8 @@ class Counts(ServedCase):
     def count_all(self, begin, each):
         """Each client counts so often, from this number on."""
         server, end = self.serve(), begin + CLIENTS * each
-        counters, threads = self.load(server, each)
-        for thread in threads:
-            thread.join()
+        counters = [Counter() for _ in range(CLIENTS)]
+        self.join_all(self.load(server, counters, each), counters)
         self.assertEqual(self.accepted(counters), list(range(begin + 1, end + 1)))
         self.assertEqual(self.client(server).ask("get =counter"), [f"value {end:08x}"])
         server.kill()
@@ -101,14 +132,12 @@ class Counts(ServedCase):
 
     def count_and_kill(self, begin):
         """A server is killed while its clients count from this number on. The next number."""
-        server = self.serve()
-        counters, threads = self.load(server, BEFORE_A_KILL)
+        server, counters = self.serve(), [Counter() for _ in range(CLIENTS)]
+        threads = self.load(server, counters, BEFORE_A_KILL)
         least = self.random.randrange(1, BEFORE_A_KILL)
         self.wait_until(lambda: sum(len(it.accepted) for it in counters) >= least, f"{least} counts")
-        server.send_signal(signal.SIGKILL)
-        self.assertEqual(server.ended().status, -signal.SIGKILL)
-        for thread in threads:
-            thread.join()
+        self.kill(server)
+        self.join_all(threads, counters)
         self.check_whole()
         return self.judge(begin, self.counted(), counters)
 
@@ -141,6 +170,177 @@ class Counts(ServedCase):
         for _ in range(scaled(KILLS)):
             count = self.count_and_kill(count)
         self.count_all(count, 10)
+
+
+class Holders:
+    """Who holds the lock, as the clients know it: at most one of them."""
+
+    def __init__(self):
+        self.guard, self.holding, self.most = threading.Lock(), [], 0
+
+    def enter(self, number):
+        with self.guard:
+            self.holding.append(number)
+            self.most = max(self.most, len(self.holding))
+
+    def leave(self, number):
+        with self.guard:
+            self.holding.remove(number)
+
+
+class Locker(Swapper):
+    """A client that takes the lock and releases it. Its value is its own. It enters the list of the holders
+    behind the reply to its swap, and leaves the list before it sends the other one."""
+
+    def __init__(self, number, holders, left):
+        super().__init__()
+        self.number, self.value, self.holders, self.left = number, f"{number:08x}", holders, left
+
+    def run(self, client):
+        """Takes and releases until it has done so often enough, or until the connection breaks."""
+        found = self.ask(client, "get =lock")
+        if found is None:
+            return
+        if self.is_held(found == f"value {self.value}") and not self.release(client):
+            return
+        while self.left and self.take(client) and self.release(client):
+            pass
+
+    def is_held(self, is_mine):
+        """Whether this client has the lock, as a new connection finds it. A swap may have been done that had no reply.
+        One that had a reply was done."""
+        if self.number in self.holders.holding:
+            self.note(is_mine, "the lock is lost")
+        elif is_mine:
+            self.holders.enter(self.number)
+        return is_mine
+
+    def take(self, client):
+        """Tries until it has the lock. Returns whether it has."""
+        while reply := self.ask(client, f"swap =lock - {self.value}"):
+            if reply.startswith("accepted "):
+                self.holders.enter(self.number)
+                return True
+            self.note(reply == "differs" or reply in NO_ROOM, reply)
+            time.sleep(0.001)
+        return False
+
+    def release(self, client):
+        """Tries until it has released the lock. Returns whether it has."""
+        self.holders.leave(self.number)
+        while reply := self.ask(client, f"swap =lock {self.value} -"):
+            if reply.startswith("accepted "):
+                self.left -= 1
+                return True
+            self.note(reply in NO_ROOM, reply)
+            time.sleep(0.01)
+        return False
+
+
+class Locks(SwapCase):
+    def setUp(self):
+        super().setUp()
+        self.store(COUNTED)
+        self.holders = Holders()
+
+    def lockers(self, left):
+        return [Locker(it, self.holders, left) for it in range(1, CLIENTS + 1)]
+
+    def lock_all(self, lockers):
+        """Each client takes the lock and releases it as often as it is to. Then nobody has it."""
+        server = self.serve()
+        self.join_all(self.load(server, lockers), lockers)
+        self.assertEqual([it.left for it in lockers], [0] * CLIENTS)
+        self.assertEqual(self.client(server).ask("get =lock"), ["absent"])
+        server.kill()
+        self.assertEqual((self.holders.most, self.holders.holding, self.found("=lock")), (1, [], ["absent"]))
+
+    def lock_and_kill(self, lockers, most):
+        """A server is killed while its clients take and release."""
+        server = self.serve()
+        threads = self.load(server, lockers)
+        left = sum(it.left for it in lockers) - self.random.randrange(1, most)
+        self.wait_until(lambda: sum(it.left for it in lockers) <= left, "locks")
+        self.kill(server)
+        self.join_all(threads, lockers)
+        self.check_whole()
+        self.assertLessEqual(self.holders.most, 1)
+
+    def test_one_holder_across_kills(self):
+        lockers, kills = self.lockers(LOCKED), scaled(KILLS)
+        for _ in range(kills):
+            self.lock_and_kill(lockers, CLIENTS * LOCKED // (kills + 1))
+        self.lock_all(lockers)
+
+    def test_a_second_holder_is_seen(self):
+        """The judge sees a lock that two clients have, one that is lost, and one that no client took."""
+        for first, second in ((1, 2), (2, 1)):
+            self.holders.enter(first)
+            self.holders.enter(second)
+            self.assertEqual(self.holders.most, 2)
+            self.holders.leave(first)
+            self.holders.leave(second)
+        (locker, *_), number = self.lockers(1), 1
+        self.assertFalse(locker.is_held(False))
+        self.assertTrue(locker.is_held(True))
+        self.assertEqual((self.holders.holding, locker.wrong), ([number], []))
+        self.assertFalse(locker.is_held(False))
+        self.assertEqual(locker.wrong, ["the lock is lost"])
+
+
+class Inserter(Swapper):
+    """A client that inserts keys with its number as their value. `accepted` has those whose swap was accepted."""
+
+    def __init__(self, number, keys):
+        super().__init__()
+        self.value, self.keys, self.accepted = f"{number:08x}", keys, []
+
+    def run(self, client):
+        while self.keys:
+            some, self.keys = self.keys[:BURST], self.keys[BURST:]
+            for key, reply in zip(some, client.ask(*(f"swap {key} - {self.value}" for key in some)), strict=True):
+                self.take(key, reply or "nothing")
+
+    def take(self, key, reply):
+        """A key for which there is no room is tried again."""
+        if reply in NO_ROOM:
+            self.keys.append(key)
+        elif reply.startswith("accepted "):
+            self.accepted.append(key)
+        else:
+            self.note(reply == "differs", reply)
+
+
+class Inserts(SwapCase):
+    def setUp(self):
+        super().setUp()
+        self.store(INSERTED)
+
+    def judge(self, keys, inserters):
+        """Each key was inserted once, and has the value of the client that did."""
+        values = {key: f"value {it.value}" for it in inserters for key in it.accepted}
+        counts = collections.Counter(key for it in inserters for key in it.accepted)
+        self.assertEqual(counts, dict.fromkeys(keys, 1))
+        self.assertEqual(self.found(*keys), [values[key] for key in keys])
+
+    def test_each_key_is_inserted_once(self):
+        keys = [f"=key/{it}" for it in range(KEYS)]
+        inserters = [Inserter(it, self.random.sample(keys, KEYS)) for it in range(INSERTERS)]
+        server = self.serve()
+        self.join_all(self.load(server, inserters), inserters)
+        server.kill()
+        self.judge(keys, inserters)
+
+    def test_a_key_that_is_inserted_twice_is_refused(self):
+        """The judge sees that, and a key that nobody inserted."""
+        self.silt("run", "store", text="swap =a - 00000001\nswap =b - 00000002\nflush\n")
+        first, second = Inserter(1, []), Inserter(2, [])
+        first.accepted, second.accepted = ["=a"], ["=b"]
+        self.judge(["=a", "=b"], [first, second])
+        for accepted in (["=a", "=b"], [], ["=c"]):
+            second.accepted = accepted
+            with self.assertRaises(AssertionError):
+                self.judge(["=a", "=b"], [first, second])
 
 
 if __name__ == "__main__":

@@ -6,7 +6,7 @@ import itertools
 import re
 import unittest
 
-from commands import answer, differs, done, is_command, tried
+from commands import NONE, answer, differs, done, is_command, tried
 from harness import PROVED, scaled
 from served import SMALL, ServedCase
 from watch import read_counts, watching
@@ -14,9 +14,10 @@ from watch import read_counts, watching
 KEYS = [f"=key/{it}" for it in range(6)]
 # Eight rows freeze a log of four, which is then converted and merged. The last swap differs.
 LINES = [
-    *(f"put {key} {number:04x}" for number, key in enumerate(KEYS[:5])),
+    *(f"put {key} {number:04x}" for number, key in enumerate(KEYS[:4])),
+    f"swap {KEYS[4]} - 0004",
     f"put {KEYS[0]} 00ff",
-    f"delete {KEYS[1]}",
+    f"swap {KEYS[1]} 0001 -",
     f"swap {KEYS[2]} 0002 00aa",
     f"swap {KEYS[3]} 0002 00bb",
     "flush",
@@ -27,6 +28,11 @@ MOST = 50
 # The errors that a server may report.
 CALL = r"a (read|write|sync)( at \d+)?: Input/output error \(os error 5\)"
 REPORT = rf"(silt: {CALL}; the store takes nothing more until it is opened again\n)?(silt: store: {CALL}\n)*"
+
+
+def told(word):
+    """What a get replies of a value of a swap."""
+    return "absent" if word == NONE else f"value {word}"
 
 
 class Replies:
@@ -58,15 +64,15 @@ class Replies:
             self.case.assertIn(reply, due, what)
 
     def take_swap(self, key, old, new, reply, what):
-        """A swap is a put of a key that has the old value. If it differs, the key has another one, or none."""
-        old = {f"value {old}"}
+        """A swap is a put or a delete of a key that has the old value, or none. If it differs, the key has another one."""
+        old, new = {told(old)}, told(new)
         if reply == "differs":
             self.values[key] = self.values[key] - old
         elif not reply.startswith("refused "):
             self.values[key] = self.values[key] & old
         self.case.assertTrue(self.values[key], what)
         if reply != "differs" and old <= self.values[key]:
-            self.take_command(key, f"value {new}", reply, what)
+            self.take_command(key, new, reply, what)
 
     def take_command(self, key, value, reply, what):
         """A command that was accepted is done. One that a device refused may have been done."""

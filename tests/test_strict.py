@@ -12,8 +12,10 @@ FULL_DISK = "refused 5 Device"
 WELL = {
     "nothing": ("", ""),
     "blank lines": ("\n\r\n\n", ""),
-    "each kind of line": ("put =a 0102\nget =a\nget =b\nswap =a 0000 0304\nswap =a 0102 0304\ndelete =a\nflush\nconvert\nmerge\n",
-                          "accepted 1\nvalue 0102\nabsent\ndiffers\naccepted 2\naccepted 3\nacknowledged 3\nidle\nidle\n"),
+    "each kind of line": ("put =a 0102\nget =a\nget =b\nswap =a 0000 0304\nswap =a 0102 0304\nswap =b - 0506\ndelete =a\n"
+                          "flush\nconvert\nmerge\n",
+                          "accepted 1\nvalue 0102\nabsent\ndiffers\naccepted 2\naccepted 3\naccepted 4\n"
+                          "acknowledged 4\nidle\nidle\n"),
     "a last line that has no end": ("put =a 0102\npot", "accepted 1\n"),
 }
 # Lines of which some are refused.

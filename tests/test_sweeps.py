@@ -22,6 +22,8 @@ FIVE_PUTS = [f"put 0{it} 000{it}" for it in range(1, 6)] + ["flush"]
 # Swaps that compare with a waiting value, a wrong one, a flushed one, and a deleted one.
 SWAPS = ["put 01 0001", "swap 01 0001 0002", "flush", "swap 01 0001 0003", "swap 01 0002 0004", "delete 01",
          "swap 01 0004 0005"]
+# Swaps from no value and to none. The second one and the fourth one differ.
+SWAPS_OF_NONE = ["swap 01 - 0001", "swap 01 - 0002", "flush", "swap 01 0001 -", "swap 01 0001 -", "swap 01 - 0003", "flush"]
 CONVERTED = FIVE_PUTS + CONVERT
 # The second put freezes the first log, which becomes the hash store of the first merge. A delete and another put freeze
 # two more logs, and the second merge takes the hash stores of these. The last put is still in a log.
@@ -62,10 +64,11 @@ def split_at(printed, word):
 
 
 class Sweeps(ScriptCase):
-    def sweep(self, numbers, lines, calls):
-        """Stops the life at each of its calls, at its end, and behind it. It makes exactly so many."""
+    def sweep(self, numbers, lines, calls, first=0):
+        """Stops the life at each of its calls, or at those from the first of these on, at its end, and
+        behind it. It makes exactly so many."""
         geometry, lines = model.Geometry(*map(int, numbers.split())), spelled(lines)
-        stops = [(call, fill) for call in range(calls + 2) for fill in model.FILLS]
+        stops = [(call, fill) for call in range(first, calls + 2) for fill in model.FILLS]
         for call, fill in stops[self.random.randrange(EVERY)::EVERY]:
             self.stop_at(geometry, lines, call, fill, 0 < call <= calls)
 
@@ -90,8 +93,12 @@ class Sweeps(ScriptCase):
         self.assertIn(held, maps_after({}, accepted)[least:], note)
 
     def sweep_swapped(self, numbers, lines, calls, swap, more):
-        """The same of a long life with a swap behind it, which makes so many calls more."""
+        """The same of a long life with a swap behind it, which makes so many calls more. The last calls
+        also with a swap of the same value for none, and of none for a value."""
+        key, old, _ = swap.split()[1:]
         self.sweep(numbers, [*lines, swap], calls + more)
+        for words in (f"{key} {old} -", "06 - 0007"):
+            self.sweep(numbers, [*lines, f"swap {words}"], calls + more, calls)
 
     def test_three_puts(self):
         self.sweep(SMALL, THREE_PUTS, 10)
@@ -107,6 +114,9 @@ class Sweeps(ScriptCase):
 
     def test_swaps(self):
         self.sweep(SMALL, SWAPS, 12)
+
+    def test_swaps_from_and_to_no_value(self):
+        self.sweep(SMALL, SWAPS_OF_NONE, 13)
 
     def test_a_conversion(self):
         self.sweep_swapped(SMALL, *SWAPPED_CONVERSION)
@@ -131,15 +141,21 @@ class Calls(ScriptCase):
 
     def assert_calls_with_swap(self, numbers, lines, calls, swap, more):
         """The calls of the lines alone, with a swap behind them that differs, and with one that is accepted and makes so
-        many calls more."""
+        many calls more, also from and to no value."""
         key, old, new = swap.split()[1:]
         self.assert_calls(numbers, lines, calls)
-        self.assert_calls(numbers, [*lines, f"swap {key} ffff {new}"], calls)
-        self.assert_calls(numbers, [*lines, f"swap {key} {old} {new}"], calls + more)
+        for words in (f"{key} ffff {new}", f"{key} ffff -", f"{key} - {new}", f"06 {old} -"):
+            self.assert_calls(numbers, [*lines, f"swap {words}"], calls)
+        for words in (f"{key} {old} {new}", f"{key} {old} -", f"06 - {new}"):
+            self.assert_calls(numbers, [*lines, f"swap {words}"], calls + more)
 
     def test_swaps(self):
         """A sync, a put's two, a swap's two, a flush's three, a swap's two, a delete's two."""
         self.assert_calls(SMALL, SWAPS, 12)
+
+    def test_swaps_from_and_to_no_value(self):
+        """A sync, a swap's two, a flush's three, two swaps' two each, and a flush's three."""
+        self.assert_calls(SMALL, SWAPS_OF_NONE, 13)
 
     def test_gets_make_no_calls(self):
         self.assert_calls(SMALL, [*FIVE_PUTS, "get 01", "get 05", *CONVERT], 40)

@@ -45,7 +45,7 @@ JOBS = {
 # What the help of a job with an input says of its lines.
 LINES = """put KEY VALUE     sets the value of a key
 delete KEY        deletes the value of a key
-swap KEY OLD NEW  sets the value of a key to NEW if it is OLD
+swap KEY OLD NEW  sets the value of a key to NEW if it is OLD; - is no value
 get KEY           prints the value of a key
 flush             makes all accepted commands safe from crashes
 """
