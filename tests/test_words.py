@@ -28,6 +28,7 @@ PORT  a port of this machine, at most 65535; 0 lets the system choose
 --sessions M      ends after M sessions; 0 has no end
 --idle SECONDS    closes a connection that sends nothing for so long; 0 never does
 --wait SECONDS    how long a command waits for room; 10 if left out, 0 refuses at once
+--merge-at K      merges once there are K hash stores; half of NH if left out
 --pipeline        does the commands that a connection sent together with one flush
 """
 
@@ -40,7 +41,7 @@ JOBS = {
     "dump": ("FILE", ""),
     "plan": ("KEYS V", "--memory"),
     "script": ("V B CAP NL NH S", ""),
-    "serve": ("FILE PORT", "--audit --sessions --idle --wait --pipeline"),
+    "serve": ("FILE PORT", "--audit --sessions --idle --wait --merge-at --pipeline"),
 }
 # What the help of a job with an input says of its lines.
 LINES = """put KEY VALUE     sets the value of a key
@@ -117,6 +118,10 @@ COMPLAINTS = {
     "serve disk 0 --idle": "--idle needs a number behind it",
     "serve disk 0 --wait": "--wait needs a number behind it",
     "serve disk 0 --wait --pipeline": "--wait needs a number behind it",
+    "serve disk 0 --merge-at": "--merge-at needs a number behind it",
+    "serve disk 0 --merge-at 0": "--merge-at cannot be '0': a merge is of at least one hash store",
+    "serve disk 0 --merge-at 2 --merge-at 3": "--merge-at is given twice",
+    "run disk --merge-at 2": "'--merge-at' is no option here",
     "serve disk 0 --wait=": f"--wait cannot be '': {NO_DIGITS}",
     "serve disk 0 --wait 1.5": f"--wait cannot be '1.5': {SEPARATED}",
     "serve disk 0 --wait -1": "--wait needs a number behind it",
