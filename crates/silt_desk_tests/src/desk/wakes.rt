@@ -29,6 +29,7 @@ fn heard_by_both<R: Wait>(
     let due = Due {
         converts: true,
         merges: true,
+        begins: true,
     };
     wakes.go(rt, due);
     wakes.go(rt, due);
@@ -49,23 +50,33 @@ fn both_workers_are_woken_once(rt: HostRuntime) {
 }
 
 // How many messages each worker gets if this work is due.
-fn printed<R: Wait>(rt: &R, alloc: Global, converts: bool, merges: bool) -> Option<[usize; 2]> {
+fn printed<R: Wait>(rt: &R, alloc: Global, due: Due) -> Option<[usize; 2]> {
     let (wakes, to_convert, to_merge) = both(alloc)?;
-    wakes.go(rt, Due { converts, merges });
+    wakes.go(rt, due);
     Some([to_convert.len(), to_merge.len()])
 }
 
-// The same for no work, work of the converter and work of the merger.
-fn printed_each<R: Wait>(rt: &R, alloc: Global) -> [Option<[usize; 2]>; 3] {
+// Work of the converter, and of a merger that begins or waits for more hash stores.
+fn due_of(converts: bool, merges: bool, begins: bool) -> Due {
+    Due {
+        converts,
+        merges,
+        begins,
+    }
+}
+
+// The same for no work, work of the converter, work of the merger, and work for which the merger waits.
+fn printed_each<R: Wait>(rt: &R, alloc: Global) -> [Option<[usize; 2]>; 4] {
     [
-        printed(rt, alloc, false, false),
-        printed(rt, alloc, true, false),
-        printed(rt, alloc, false, true),
+        printed(rt, alloc, due_of(false, false, false)),
+        printed(rt, alloc, due_of(true, false, false)),
+        printed(rt, alloc, due_of(false, true, true)),
+        printed(rt, alloc, due_of(false, true, false)),
     ]
 }
 
 #[test]
 fn a_worker_without_work_is_left_asleep(rt: HostRuntime) {
-    let due = [Some([0, 0]), Some([1, 0]), Some([0, 1])];
+    let due = [Some([0, 0]), Some([1, 0]), Some([0, 1]), Some([0, 0])];
     same(&rt, &printed_each(&rt, rt.alloc()), &due);
 }
