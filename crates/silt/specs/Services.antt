@@ -31,7 +31,7 @@ module _ {D F : Type 0} (facts : Ghosts D F) where
   -- the line says that a store has fewer hash regions than the hash stores of which a merge is to begin
   abbrev pub PrintsFewRegions : Option ℕ → CoreState D → D → Option (List ℕ) → Option (List ℕ) → Type 0
   PrintsFewRegions merge_at core new before after =
-      (new ≡ core.disk) × IsSomeAnd merge_at (λ least. core.shape.hashes < least) × Appends before after (reply_line (Refused BadGeometry))
+      (new ≡ core.disk) × IsSomeAnd merge_at (λ least. core.shape.hashes < least) × Appends before after (reply_line {F = Unit {0}} (Refused BadGeometry))
 
   -- the line says why the store on a disk was not opened, and so does a note; or why the opened store was not served to the end
   abbrev pub PrintsServe : (Refusal F → Type 0) → Option ℕ → D → D → Option (List ℕ) → Option (List ℕ) → Type 0
