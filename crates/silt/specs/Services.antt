@@ -27,12 +27,12 @@ ReportedUnserved {N} reported_port reported old new port file refusal = (mid : N
 abbrev pub EndsServe : {D F : Type 0} → Ghosts D F → Option ℕ → D → Option (List ℕ) → Option (List ℕ) → Type 0
 EndsServe facts audit new before after = IsServed (facts.content new) before after × IfSome audit (λ most. ServesKept facts (λ port. Unit {0}) new before after)
 
-module _ {D F : Type 0} (facts : Ghosts D F) where
-  -- the line says that a store has fewer hash regions than the hash stores of which a merge is to begin
-  abbrev pub PrintsFewRegions : Option ℕ → CoreState D → D → Option (List ℕ) → Option (List ℕ) → Type 0
-  PrintsFewRegions merge_at core new before after =
-      (new ≡ core.disk) × IsSomeAnd merge_at (λ least. core.shape.hashes < least) × Appends before after (reply_line {F = Unit {0}} (Refused BadGeometry))
+-- The line says that a store has fewer hash regions than the hash stores of which a merge is to begin.
+abbrev pub PrintsFewRegions : {D : Type 0} → Option ℕ → CoreState D → D → Option (List ℕ) → Option (List ℕ) → Type 0
+PrintsFewRegions merge_at core new before after =
+    (new ≡ core.disk) × IsSomeAnd merge_at (λ least. core.shape.hashes < least) × Appends before after (reply_line {F = Unit {0}} (Refused BadGeometry))
 
+module _ {D F : Type 0} (facts : Ghosts D F) where
   -- the line says why the store on a disk was not opened, and so does a note; or why the opened store was not served to the end
   abbrev pub PrintsServe : (Refusal F → Type 0) → Option ℕ → D → D → Option (List ℕ) → Option (List ℕ) → Type 0
   PrintsServe reported merge_at old new before after =
