@@ -1,6 +1,6 @@
 """What every part of the suite stands on: the program, its folder, its random numbers, and the watching library.
 
-A part is a module `test_NAME.py` of this folder with classes derived from `Case`. `tests/run` runs it.
+A part is a module `parts/test_NAME.py` with classes derived from `Case`. `tests/run` runs it.
 """
 import os
 import pathlib
@@ -13,7 +13,8 @@ from dataclasses import dataclass
 
 from layout import as_version_1
 
-TESTS = pathlib.Path(__file__).resolve().parent
+HELPERS = pathlib.Path(__file__).resolve().parent
+TESTS = HELPERS.parent
 TOP = TESTS.parent
 # The gate's seed: each run of the gate makes the same random choices.
 DEFAULT_SEED = 20111023
@@ -84,7 +85,7 @@ def watch_library():
     global _library
     if _library is None:
         _library = tempfile.TemporaryDirectory(prefix="silt-watch-")
-        source, made = TESTS / "watch.c", pathlib.Path(_library.name) / "watch.so"
+        source, made = HELPERS / "watch.c", pathlib.Path(_library.name) / "watch.so"
         subprocess.run(["cc", "-O2", "-Wall", "-Werror", "-shared", "-fPIC", "-pthread", "-o", made, source, "-ldl"], check=True)
     return pathlib.Path(_library.name) / "watch.so"
 

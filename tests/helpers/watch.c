@@ -1,6 +1,6 @@
 // A library to preload: it records the calls that a program makes of the system, or lets some fail.
 //
-//     cc -O2 -Wall -Werror -shared -fPIC -pthread -o watch.so tests/watch.c -ldl
+//     cc -O2 -Wall -Werror -shared -fPIC -pthread -o watch.so tests/helpers/watch.c -ldl
 //     SILT_WATCH_LOG=FILE LD_PRELOAD=./watch.so PROGRAM WORDS..
 //
 // It reads these environment variables. CALL is one of `call_names` below. N counts the calls of

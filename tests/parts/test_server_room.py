@@ -1,6 +1,6 @@
 """Writers that wait for room: a server refuses no command that a worker can make room for.
 
-    SILT_TEST_PROGRAM=crates/silt/out/silt python3 tests/test_server_room.py speed
+    SILT_TEST_PROGRAM=crates/silt/out/silt PYTHONPATH=tests/helpers:tests/parts python3 tests/parts/test_server_room.py speed
 
 prints how fast loads are, with waits and without. The tests measure no time: their waits are longer than
 a test may take, or end by what a worker does.
