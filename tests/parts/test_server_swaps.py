@@ -5,6 +5,7 @@ from no value and release it by a swap to none, and it never has two holders. A 
 insert each of them by a swap from no value, and one of them does.
 """
 import collections
+import math
 import signal
 import threading
 import time
@@ -19,8 +20,9 @@ CLIENTS = 16
 # How often each client counts, and how many counts there are at most before a kill.
 EACH = 200
 KILLS, BEFORE_A_KILL = 6, 800 if PROVED else 200
-# How often each client takes the lock and releases it.
+# How often each client takes the lock and releases it, and how often all do before a kill, at most.
 LOCKED = 100 if PROVED else 25
+LOCKED_BEFORE_A_KILL = 2 * LOCKED
 # Room for each key's row. So many clients insert so many keys, and send so many lines in one write.
 INSERTED = "4 512 1024 8 16 12000"
 INSERTERS, KEYS, BURST = 8, 10_000 if PROVED else 1_000, 100
@@ -192,18 +194,22 @@ class Locker(Swapper):
     """A client that takes the lock and releases it. Its value is its own. It enters the list of the holders
     behind the reply to its swap, and leaves the list before it sends the other one."""
 
-    def __init__(self, number, holders, left):
+    def __init__(self, number, holders):
         super().__init__()
-        self.number, self.value, self.holders, self.left = number, f"{number:08x}", holders, left
+        self.number = number
+        self.value = f"{number:08x}"
+        self.holders = holders
+        self.released = 0
 
-    def run(self, client):
-        """Takes and releases until it has done so often enough, or until the connection breaks."""
+    def run(self, client, count):
+        """Takes and releases until it has released so often, or until the connection breaks."""
+        last = self.released + count
         found = self.ask(client, "get =lock")
         if found is None:
             return
         if self.is_held(found == f"value {self.value}") and not self.release(client):
             return
-        while self.left and self.take(client) and self.release(client):
+        while self.released < last and self.take(client) and self.release(client):
             pass
 
     def is_held(self, is_mine):
@@ -230,7 +236,7 @@ class Locker(Swapper):
         self.holders.leave(self.number)
         while reply := self.ask(client, f"swap =lock {self.value} -"):
             if reply.startswith("accepted "):
-                self.left -= 1
+                self.released += 1
                 return True
             self.note(reply in NO_ROOM, reply)
             time.sleep(0.01)
@@ -243,33 +249,34 @@ class Locks(SwapCase):
         self.store(COUNTED)
         self.holders = Holders()
 
-    def lockers(self, left):
-        return [Locker(it, self.holders, left) for it in range(1, CLIENTS + 1)]
+    def lockers(self):
+        return [Locker(it, self.holders) for it in range(1, CLIENTS + 1)]
 
     def lock_all(self, lockers):
-        """Each client takes the lock and releases it as often as it is to. Then nobody has it."""
+        """Each client takes the lock and releases it so often. Then nobody has it."""
         server = self.serve()
-        self.join_all(self.load(server, lockers), lockers)
-        self.assertEqual([it.left for it in lockers], [0] * CLIENTS)
+        due = [it.released + LOCKED for it in lockers]
+        self.join_all(self.load(server, lockers, LOCKED), lockers)
+        self.assertEqual([it.released for it in lockers], due)
         self.assertEqual(self.client(server).ask("get =lock"), ["absent"])
         server.kill()
         self.assertEqual((self.holders.most, self.holders.holding, self.found("=lock")), (1, [], ["absent"]))
 
-    def lock_and_kill(self, lockers, most):
-        """A server is killed while its clients take and release."""
+    def lock_and_kill(self, lockers):
+        """A server is killed while its clients take and release, and no client has an end of its own."""
         server = self.serve()
-        threads = self.load(server, lockers)
-        left = sum(it.left for it in lockers) - self.random.randrange(1, most)
-        self.wait_until(lambda: sum(it.left for it in lockers) <= left, "locks")
+        least = sum(it.released for it in lockers) + self.random.randrange(1, LOCKED_BEFORE_A_KILL)
+        threads = self.load(server, lockers, math.inf)
+        self.wait_until(lambda: sum(it.released for it in lockers) >= least, "locks")
         self.kill(server)
         self.join_all(threads, lockers)
         self.check_whole()
         self.assertLessEqual(self.holders.most, 1)
 
     def test_one_holder_across_kills(self):
-        lockers, kills = self.lockers(LOCKED), scaled(KILLS)
-        for _ in range(kills):
-            self.lock_and_kill(lockers, CLIENTS * LOCKED // (kills + 1))
+        lockers = self.lockers()
+        for _ in range(scaled(KILLS)):
+            self.lock_and_kill(lockers)
         self.lock_all(lockers)
 
     def test_a_second_holder_is_seen(self):
@@ -280,7 +287,8 @@ class Locks(SwapCase):
             self.assertEqual(self.holders.most, 2)
             self.holders.leave(first)
             self.holders.leave(second)
-        (locker, *_), number = self.lockers(1), 1
+        number = 1
+        locker = Locker(number, self.holders)
         self.assertFalse(locker.is_held(False))
         self.assertTrue(locker.is_held(True))
         self.assertEqual((self.holders.holding, locker.wrong), ([number], []))
