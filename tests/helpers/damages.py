@@ -8,16 +8,33 @@ A store may be of either version of the layout. What digests do not cover differ
 """
 import struct
 
-import model
+from layout import (
+    ACTIVE,
+    COUNT,
+    DIGEST,
+    FIRST_LOG,
+    FROZEN,
+    GENERATION,
+    HASH_DIGESTS,
+    HASHES,
+    HEADER_LEN,
+    HEADER_NUMBERS,
+    KEY_LEN,
+    LONG_FORM,
+    OPEN,
+    PUT,
+    ROW_HEAD,
+    SECTOR,
+    SLOT_LEN,
+    SLOTS,
+    SORTED,
+    SORTED_DIGEST,
+    VERSION,
+    Layout,
+)
 
-VERSION = 9
-HEADER_NUMBERS = {"v": 13, "b": 17, "cap": 21, "nl": 25, "nh": 29, "s": 33}
-# Offsets in a manifest slot, whose body begins at 1. Behind it may be digests: of 16 hash stores, and of the sorted store.
-GENERATION, ACTIVE, FROZEN, HASHES, SORTED, COUNT = 1, 9, 13, 45, 113, 117
-HASH_DIGESTS, SORTED_DIGEST, SLOT_END = 121, 441, 461
-DIGEST = 20
-# The bit of a slot's byte 1 that says that there are digests.
-LONG_FORM = 0x80
+# The byte of an open gate.
+OPEN_GATE = OPEN[0]
 
 DAMAGES = {it: [] for it in ("unknown", "header", "length", "slots", "no slot", "logs", "hashes", "sorted", "charge")}
 HARMLESS = []
@@ -57,7 +74,7 @@ def change_byte(image, at, random):
 
 @damage("unknown")
 def header_gate_closed(image, store, random):
-    image[0] = random.choice([0, 0xFF, other_byte(random, model.OPEN)])
+    image[0] = random.choice([0, 0xFF, other_byte(random, OPEN_GATE)])
     return "refused 1 NotFormatted"
 
 
@@ -75,7 +92,7 @@ def other_version(image, store, random):
 
 @damage("unknown")
 def shorter_than_a_header(image, store, random):
-    del image[random.choice([0, 1, 36, random.randrange(37)]) :]
+    del image[random.choice([0, 1, HEADER_LEN - 1, random.randrange(HEADER_LEN)]) :]
     return "refused 1 NotFormatted"
 
 
@@ -114,7 +131,7 @@ def one_byte_long(image, store, random):
 
 @damage("length")
 def header_alone(image, store, random):
-    del image[random.choice([37, 38, 4096, 4097, 12288]) :]
+    del image[random.choice([HEADER_LEN, HEADER_LEN + 1, SLOTS[0], SLOTS[0] + 1, FIRST_LOG]) :]
     return "refused 3 Damaged length"
 
 
@@ -133,7 +150,7 @@ def current_slot(store):
 
 
 def current_at(store):
-    return model.slot_at(current_slot(store))
+    return SLOTS[current_slot(store)]
 
 
 def is_long(image, slot_at):
@@ -142,18 +159,18 @@ def is_long(image, slot_at):
 
 def open_slots(store):
     """The offsets of the open slots."""
-    return [model.slot_at(slot) for slot in (0, 1) if store.slots_open[slot]]
+    return [SLOTS[slot] for slot in (0, 1) if store.slots_open[slot]]
 
 
 def open_slot(image, store, slot):
     """Opens a slot, by a body that is well formed if it is closed, and returns its offset."""
-    at, current = model.slot_at(slot), current_at(store)
-    if image[at] != model.OPEN and at != current:
-        image[at : at + SLOT_END] = image[current : current + SLOT_END]
+    at, current = SLOTS[slot], current_at(store)
+    if image[at] != OPEN_GATE and at != current:
+        image[at : at + SLOT_LEN] = image[current : current + SLOT_LEN]
         form = image[at + GENERATION] & LONG_FORM
         set_number(image, at + GENERATION, abs(store.generation - 1), 8)
         image[at + GENERATION] |= form
-    image[at] = model.OPEN
+    image[at] = OPEN_GATE
     return at
 
 
@@ -235,17 +252,17 @@ bad_slot(
 @damage("slots")
 def short_slots_of_a_new_device(image, store, random):
     """The header of an old device says version 2."""
-    short = [at for at in open_slots(store) if image[at] == model.OPEN and not is_long(image, at)]
+    short = [at for at in open_slots(store) if image[at] == OPEN_GATE and not is_long(image, at)]
     if not short:
         return None
     set_number(image, VERSION, 2)
-    return f"refused 3 Damaged slot {(min(short) - model.slot_at(0)) // model.SECTOR}"
+    return f"refused 3 Damaged slot {(min(short) - SLOTS[0]) // SECTOR}"
 
 
 @damage("no slot")
 def both_slots_closed(image, store, random):
     for slot in (0, 1):
-        image[model.slot_at(slot)] = other_byte(random, model.OPEN)
+        image[SLOTS[slot]] = other_byte(random, OPEN_GATE)
     return "refused 3 Damaged no slot"
 
 
@@ -261,7 +278,7 @@ def write_rows(image, store, log, rows):
     for i, (kind, key, value) in enumerate(rows):
         at = row_place(store, log, i)
         image[at : at + store.geometry.row_length] = bytes([kind]) + key + value
-        image[store.geometry.gates_at(log.region) + i] = model.OPEN
+        image[store.geometry.gates_at(log.region) + i] = OPEN_GATE
 
 
 @damage("logs")
@@ -270,7 +287,7 @@ def row_of_no_kind(image, store, random):
     if log is None:
         return None
     row = random.randrange(len(log.rows))
-    image[row_place(store, log, row)] = random.choice([0, 3, 0xA7, 0xFF, other_byte(random, 1, 2)])
+    image[row_place(store, log, row)] = random.choice([0, 3, OPEN_GATE, 0xFF, other_byte(random, 1, 2)])
     return f"refused 3 Damaged log {log.region} row {row}"
 
 
@@ -280,7 +297,7 @@ def gate_open_over_no_row(image, store, random):
     row = len(log.rows)
     if row == store.geometry.cap:
         return None
-    image[store.geometry.gates_at(log.region) + row] = model.OPEN
+    image[store.geometry.gates_at(log.region) + row] = OPEN_GATE
     image[row_place(store, log, row)] = random.choice([0, 3, 0xFF])
     return f"refused 3 Damaged log {log.region} row {row}"
 
@@ -322,7 +339,7 @@ def slot_of_no_kind(image, store, random):
     if not store.hashes:
         return None
     one, slot = random.choice(store.hashes), random.randrange(store.geometry.slots)
-    image[slot_place(store, one, slot)] = random.choice([3, 0xA7, 0xFF, random.randint(3, 255)])
+    image[slot_place(store, one, slot)] = random.choice([3, OPEN_GATE, 0xFF, random.randint(3, 255)])
     return f"refused 3 Damaged hash {one.region} slot {slot}"
 
 
@@ -364,7 +381,7 @@ def other_value_of_a_hashed_row(image, store, random):
     if not picked:
         return None
     one, slot = picked
-    change_byte(image, slot_place(store, one, slot) + random.randrange(21, store.geometry.row_length), random)
+    change_byte(image, slot_place(store, one, slot) + random.randrange(ROW_HEAD, store.geometry.row_length), random)
     return said(store, one)
 
 
@@ -375,7 +392,7 @@ def other_key_of_a_hashed_row(image, store, random):
     if not picked:
         return None
     one, slot = picked
-    change_byte(image, slot_place(store, one, slot) + 1 + random.randrange(4, 20), random)
+    change_byte(image, slot_place(store, one, slot) + 1 + random.randrange(4, KEY_LEN), random)
     return said(store, one)
 
 
@@ -451,7 +468,7 @@ def say_digests(image, store, hashes, entries):
     """Writes digests behind the body of the current slot, and that they are there."""
     at = current_at(store)
     image[at + GENERATION] |= LONG_FORM
-    image[at + HASH_DIGESTS : at + SLOT_END] = b"".join(hashes).ljust(16 * DIGEST, b"\0") + entries
+    image[at + HASH_DIGESTS : at + SLOT_LEN] = b"".join(hashes).ljust(16 * DIGEST, b"\0") + entries
 
 
 @damage("hashes")
@@ -476,7 +493,7 @@ def equal_entries(image, store, random):
         return None
     entry = random.randrange(1, len(store.sorted.entries))
     at, to = entry_place(store, entry - 1), entry_place(store, entry)
-    image[to : to + 20] = image[at : at + 20]
+    image[to : to + KEY_LEN] = image[at : at + KEY_LEN]
     return f"refused 3 Damaged sorted {entry}"
 
 
@@ -486,7 +503,9 @@ def falling_entries(image, store, random):
         return None
     entry = random.randrange(1, len(store.sorted.entries))
     at, to = entry_place(store, entry - 1), entry_place(store, entry)
-    image[at : at + 20], image[to : to + 20] = image[to : to + 20], image[at : at + 20]
+    lower, upper = image[at : at + KEY_LEN], image[to : to + KEY_LEN]
+    image[at : at + KEY_LEN] = upper
+    image[to : to + KEY_LEN] = lower
     return f"refused 3 Damaged sorted {entry}"
 
 
@@ -496,7 +515,7 @@ def entry_above_all_others(image, store, random):
         return None
     entry = random.randrange(len(store.sorted.entries) - 1)
     at = entry_place(store, entry)
-    image[at : at + 20] = b"\xff" * 20
+    image[at : at + KEY_LEN] = b"\xff" * KEY_LEN
     return f"refused 3 Damaged sorted {entry + 1}"
 
 
@@ -505,7 +524,7 @@ def other_value_of_an_entry(image, store, random):
     if not store.sorted.entries:
         return None
     at = entry_place(store, random.randrange(len(store.sorted.entries)))
-    change_byte(image, at + random.randrange(20, store.geometry.entry_length), random)
+    change_byte(image, at + random.randrange(KEY_LEN, store.geometry.entry_length), random)
     return "refused 3 Damaged sorted digest" if store.layout == 2 else None
 
 
@@ -539,9 +558,9 @@ def zeros_for_the_digest_of_the_entries(image, store, random):
 def charge_above_its_limit(image, store, random):
     """A lower S in the header, for which the device is as long, and no slot has more entries."""
     geometry = store.geometry
-    counts = [get_number(image, model.slot_at(slot) + COUNT) for slot in (0, 1) if store.slots_open[slot]]
+    counts = [get_number(image, SLOTS[slot] + COUNT) for slot in (0, 1) if store.slots_open[slot]]
     low = max(1, *counts, len(store.sorted.entries))
-    fits = [s for s in range(low, store.charge()) if model.Geometry(*geometry.numbers[:5], s).size == geometry.size]
+    fits = [s for s in range(low, store.charge()) if Layout(*geometry.numbers[:5], s).size == geometry.size]
     if not fits:
         return None
     set_number(image, HEADER_NUMBERS["s"], random.choice(fits))
@@ -557,16 +576,16 @@ def set_noise(image, at, end, random):
 
 @harmless
 def noise_behind_the_header(image, store, random):
-    set_noise(image, 37, 4096, random)
+    set_noise(image, HEADER_LEN, SECTOR, random)
 
 
 @harmless
 def noise_behind_the_bodies(image, store, random):
     """Behind a body without digests, and behind the digests of one that has them."""
     for slot in (0, 1):
-        at = model.slot_at(slot)
-        end = SLOT_END if is_long(image, at) else HASH_DIGESTS
-        set_noise(image, at + end, at + 4096, random)
+        at = SLOTS[slot]
+        end = SLOT_LEN if is_long(image, at) else HASH_DIGESTS
+        set_noise(image, at + end, at + SECTOR, random)
 
 
 @harmless
@@ -579,8 +598,8 @@ def noise_past_the_digests(image, store, random):
 
 @harmless
 def noise_in_the_digests_of_the_other_slot(image, store, random):
-    other = model.slot_at(1 - current_slot(store))
-    set_noise(image, other + HASH_DIGESTS, other + 4096, random)
+    other = SLOTS[1 - current_slot(store)]
+    set_noise(image, other + HASH_DIGESTS, other + SECTOR, random)
 
 
 @harmless
@@ -599,23 +618,23 @@ def version_1_over_digests(image, store, random):
 def noise_in_unused_places_of_a_body(image, store, random):
     for slot in (0, 1):
         for at, places in ((FROZEN, 7), (HASHES, 16)):
-            at += model.slot_at(slot)
+            at += SLOTS[slot]
             if (used := get_number(image, at)) <= places:
                 set_noise(image, at + 4 + 4 * used, at + 4 + 4 * places, random)
 
 
 @harmless
 def noise_in_a_closed_slot(image, store, random):
-    other = model.slot_at(1 - current_slot(store))
-    set_noise(image, other, other + 4096, random)
-    image[other] = other_byte(random, model.OPEN)
+    other = SLOTS[1 - current_slot(store)]
+    set_noise(image, other, other + SECTOR, random)
+    image[other] = other_byte(random, OPEN_GATE)
 
 
 @harmless
 def noise_in_closed_gates_and_behind_them(image, store, random):
     geometry, log = store.geometry, store.active
     for row in range(len(log.rows), geometry.cap):
-        image[geometry.gates_at(log.region) + row] = other_byte(random, model.OPEN)
+        image[geometry.gates_at(log.region) + row] = other_byte(random, OPEN_GATE)
         set_noise(image, row_place(store, log, row), row_place(store, log, row + 1), random)
 
 
@@ -623,7 +642,7 @@ def noise_in_closed_gates_and_behind_them(image, store, random):
 def open_gates_past_a_closed_one(image, store, random):
     geometry, log = store.geometry, store.active
     for row in range(len(log.rows) + 1, geometry.cap):
-        image[geometry.gates_at(log.region) + row] = random.choice([model.OPEN, other_byte(random)])
+        image[geometry.gates_at(log.region) + row] = random.choice([OPEN_GATE, other_byte(random)])
         set_noise(image, row_place(store, log, row), row_place(store, log, row + 1), random)
 
 
@@ -631,15 +650,15 @@ def open_gates_past_a_closed_one(image, store, random):
 def gate_closed_among_the_rows(image, store, random):
     log = random.choice([store.active, *store.frozen])
     row = random.randrange(store.geometry.cap)
-    image[store.geometry.gates_at(log.region) + row] = other_byte(random, model.OPEN)
+    image[store.geometry.gates_at(log.region) + row] = other_byte(random, OPEN_GATE)
 
 
 @harmless
 def other_values(image, store, random):
     for log in (store.active, *store.frozen):
         for i, row in enumerate(log.rows):
-            if row[0] == model.PUT:
-                set_noise(image, row_place(store, log, i) + 21, row_place(store, log, i + 1), random)
+            if row[0] == PUT:
+                set_noise(image, row_place(store, log, i) + ROW_HEAD, row_place(store, log, i + 1), random)
 
 
 @harmless
@@ -649,9 +668,9 @@ def noise_where_no_digest_is_said(image, store, random):
         return
     for one in store.hashes:
         for slot, row in enumerate(one.slots):
-            set_noise(image, slot_place(store, one, slot) + (21 if row else 1), slot_place(store, one, slot + 1), random)
+            set_noise(image, slot_place(store, one, slot) + (ROW_HEAD if row else 1), slot_place(store, one, slot + 1), random)
     for entry in range(len(store.sorted.entries)):
-        set_noise(image, entry_place(store, entry) + 20, entry_place(store, entry + 1), random)
+        set_noise(image, entry_place(store, entry) + KEY_LEN, entry_place(store, entry + 1), random)
 
 
 @harmless

@@ -4,7 +4,7 @@ It is written from docs/layout.md and docs/architecture.md, for lines of run alo
 store that is opened empty. Device calls are as in test_calls: writes (an offset and bytes),
 SYNC, and reads (an offset and a length).
 """
-from layout import CLOSED, DELETE, OPEN, PUT, SECTOR, key_bytes, manifest
+from layout import CLOSED, DELETE, OPEN, PUT, ROW_HEAD, closing_place, key_bytes, manifest, slot_of
 
 SYNC = ("fdatasync",)
 TURNS = 128
@@ -115,11 +115,11 @@ class Engine:
     def write_manifest(self):
         """The next generation, of the stores as they now are."""
         self.generation += 1
-        slot = SECTOR * (1 + self.generation % 2)
+        slot = slot_of(self.generation)
         frozen, hashes = [it.region for it in self.frozen], [(it, self.slots_bytes(slots)) for it, slots in self.hashes]
         entries = [self.entry_bytes(*it) for it in self.entries]
         body = manifest(self.generation, self.active.region, frozen, hashes, self.region, entries)
-        self.write(slot + 4095 * self.is_spare_closed, CLOSED)
+        self.write(closing_place(slot, self.is_spare_closed), CLOSED)
         self.sync()
         self.write(slot + 1, body)
         self.sync()
@@ -151,15 +151,15 @@ class Engine:
     def add(self, kind, key, value):
         pair, path = self.layout.buckets_of(key), None
         if len(self.active.rows) < self.layout.rows:
-            slot = self.look_up(self.active, key, 21)
+            slot = self.look_up(self.active, key, ROW_HEAD)
             path = self.active.table.plan(pair) if slot is None else [slot]
         if path is None:
             if not self.freeze():
                 return "refused 8 NoRoom"
             path = self.active.table.plan(pair)
         place, row = len(self.active.rows), self.layout.row(kind, key, value)
-        self.write(self.body_at(self.active, place), row[:21])
-        self.write(self.body_at(self.active, place) + 21, row[21:])
+        self.write(self.body_at(self.active, place), row[:ROW_HEAD])
+        self.write(self.body_at(self.active, place) + ROW_HEAD, row[ROW_HEAD:])
         self.active.table.place(path, pair, place)
         self.active.rows.append((kind, key, value))
         self.accepted += 1
@@ -311,7 +311,7 @@ class Engine:
             row, region, slot = merge.waiting.pop(key)
             value = row[2] if row[0] == PUT else None
             if value:
-                self.read(self.slot_at(region, slot) + 21, self.layout.values)
+                self.read(self.slot_at(region, slot) + ROW_HEAD, self.layout.values)
         if value:
             at = self.layout.sorted_region(1 - self.region) + len(merge.made) * self.layout.entry_len
             self.write(at, self.entry_bytes(key, value))

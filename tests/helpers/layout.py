@@ -1,11 +1,44 @@
 """Where the parts of a store lie in its file, and the bytes of rows, entries and manifests, as
-docs/layout.md has them."""
+docs/layout.md has them.
+
+All offsets of a device are here. `model.py` alone has its own, since it is the other witness: what it
+and the program say of a device is compared, and a slip in this module would not be seen there.
+"""
 import hashlib
 from dataclasses import dataclass
 
 SECTOR = 4096
-OPEN, CLOSED = b"\xa7", b"\x00"
-PUT, DELETE = 1, 2
+OPEN = b"\xa7"
+CLOSED = b"\x00"
+PUT = 1
+DELETE = 2
+KEY_LEN = 20
+# The kind and the key of a row, in front of its value.
+ROW_HEAD = 1 + KEY_LEN
+DIGEST = 20
+
+# The header: its version, and where it has each of the six numbers.
+VERSION = 9
+HEADER_NUMBERS = {"v": 13, "b": 17, "cap": 21, "nl": 25, "nh": 29, "s": 33}
+HEADER_LEN = 37
+
+# The offsets of the two manifest slots, and what a slot has behind its gate. First comes the body.
+SLOTS = (SECTOR, 2 * SECTOR)
+GENERATION = 1
+ACTIVE = 9
+FROZEN = 13
+HASHES = 45
+SORTED = 113
+COUNT = 117
+# Then there may be digests: of sixteen hash stores, and of the sorted store.
+HASH_DIGESTS = 121
+SORTED_DIGEST = 441
+SLOT_LEN = 461
+# The bit of a slot's byte 1 that says that there are digests.
+LONG_FORM = 0x80
+
+# What is in front of all regions.
+FIRST_LOG = 3 * SECTOR
 
 
 def up(count):
@@ -39,14 +72,14 @@ class Layout:
 
     @property
     def row_len(self):
-        return 21 + self.values
+        return ROW_HEAD + self.values
 
     @property
     def entry_len(self):
-        return 20 + self.values
+        return KEY_LEN + self.values
 
     def gates(self, log):
-        return 3 * SECTOR + log * (up(self.rows) + up(self.rows * self.row_len))
+        return FIRST_LOG + log * (up(self.rows) + up(self.rows * self.row_len))
 
     def bodies(self, log):
         return self.gates(log) + up(self.rows)
@@ -78,7 +111,7 @@ class Layout:
 
     def place(self, at):
         """The name of the part of the file that has this offset."""
-        edges = ((SECTOR, "header"), (3 * SECTOR, "manifest"), (self.gates(self.logs), "log"),
+        edges = ((SECTOR, "header"), (FIRST_LOG, "manifest"), (self.gates(self.logs), "log"),
                  (self.hash_region(self.hashes), "hash"), (self.size, "sorted"))
         return next(name for end, name in edges if at < end)
 
@@ -92,22 +125,39 @@ def sha1(data):
     return hashlib.sha1(data).digest()
 
 
+def slot_of(generation):
+    """The offset of the manifest slot that has this generation."""
+    return SLOTS[generation % 2]
+
+
+def closing_place(slot, is_closed):
+    """Where one zero is written before a slot gets another body: over its gate, or, if that is closed already, over the
+    last byte of its sector."""
+    return slot + SECTOR - 1 if is_closed else slot
+
+
 def manifest(generation, active, frozen=(), hashes=(), region=0, entries=()):
     """The 460 bytes behind a manifest's gate. Of each hash store come its region and the bytes of its
     slots, and of each sorted entry its bytes."""
-    regions, digests = [it for it, _ in hashes], [sha1(slots) for _, slots in hashes]
-    body = (((1 << 63) + generation).to_bytes(8, "big") + active.to_bytes(4, "big") + ids(list(frozen), 7)
-            + ids(regions, 16) + region.to_bytes(4, "big") + len(entries).to_bytes(4, "big"))
-    return body + b"".join(digests).ljust(320, b"\0") + sha1(b"".join(entries))
+    body = [
+        ((LONG_FORM << 56) + generation).to_bytes(8, "big"),
+        active.to_bytes(4, "big"),
+        ids(list(frozen), 7),
+        ids([it for it, _ in hashes], 16),
+        region.to_bytes(4, "big"),
+        len(entries).to_bytes(4, "big"),
+    ]
+    digests = b"".join(sha1(slots) for _, slots in hashes)
+    return b"".join(body) + digests.ljust(16 * DIGEST, b"\0") + sha1(b"".join(entries))
 
 
 def as_version_1(image):
     """The same store as a device of version 1 that no manifest was written to since: its open slots
     have no digests."""
     made = bytearray(image)
-    made[12] = 1
-    for slot in (SECTOR, 2 * SECTOR):
+    made[VERSION:VERSION + 4] = (1).to_bytes(4, "big")
+    for slot in SLOTS:
         if made[slot:slot + 1] == OPEN:
-            made[slot + 1] &= 0x7F
-            made[slot + 121:slot + 461] = bytes(340)
+            made[slot + GENERATION] &= ~LONG_FORM
+            made[slot + HASH_DIGESTS:slot + SLOT_LEN] = bytes(SLOT_LEN - HASH_DIGESTS)
     return bytes(made)

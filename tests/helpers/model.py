@@ -3,6 +3,10 @@
 It is written from the rules of layout, lines and replies alone, and keeps whole rows where the
 program keeps tags and places. It knows both versions of the layout. Nothing here calls the program.
 
+It stands apart and imports no other helper, though `layout.py` has the same places: the two were worked
+out of docs/layout.md independently, and tests compare them by the program's files. An offset that both
+took from one place could be wrong in both.
+
     run_script(geometry, data)     what `silt script` prints for these bytes of standard input
     Device(image)                  a device with shown and settled bytes, and pending ranges
     open_store(device)             an open store; `answer_lines` gives its replies

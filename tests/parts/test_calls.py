@@ -10,11 +10,28 @@ On a device of version 1 the same calls are due: the classes with `OfVersion1` r
 from commands import Commands
 from engine import SYNC, Engine
 from harness import PROVED, scaled
-from layout import CLOSED, DELETE, OPEN, PUT, SECTOR, Layout, manifest
+from layout import (
+    CLOSED,
+    DELETE,
+    HEADER_LEN,
+    KEY_LEN,
+    OPEN,
+    PUT,
+    ROW_HEAD,
+    SLOT_LEN,
+    SLOTS,
+    Layout,
+    closing_place,
+    manifest,
+    slot_of,
+)
 from watch import WatchedCase
 
 # How many buffers a disk in a file has, and how many bytes fit one.
-BUFFERS, ROOM = 3, 65536
+BUFFERS = 3
+ROOM = 65536
+# What each opening and each check reads first: the header and the two manifest slots.
+HEAD = [(0, HEADER_LEN), (SLOTS[0], SLOT_LEN), (SLOTS[1], SLOT_LEN)]
 G = "2 2 4 2 2 8"
 # Keys whose two buckets are both bucket 0 of two. The first bucket of LATER is bucket 1.
 A, B, C, D, E = (f"{n:02}".ljust(40, "0") for n in range(1, 6))
@@ -84,7 +101,7 @@ class Rules:
 
     def row(self, log, place, kind, key, value=None):
         at, row = self.layout.bodies(log) + place * self.layout.row_len, self.layout.row(kind, key, value)
-        return [(at, row[:21]), (at + 21, row[21:])]
+        return [(at, row[:ROW_HEAD]), (at + ROW_HEAD, row[ROW_HEAD:])]
 
     def flush(self, log, first, count):
         return [SYNC, (self.layout.gates(log) + first, OPEN * count), SYNC]
@@ -94,8 +111,8 @@ class Rules:
 
     def manifest(self, body, is_closed):
         """The writes of a manifest's body, into a slot whose gate is closed already or not."""
-        slot = SECTOR * (1 + body[7] % 2)
-        return [(slot + (4095 if is_closed else 0), CLOSED), SYNC, (slot + 1, body), SYNC, (slot, OPEN), SYNC]
+        slot = slot_of(body[7])
+        return [(closing_place(slot, is_closed), CLOSED), SYNC, (slot + 1, body), SYNC, (slot, OPEN), SYNC]
 
     def slot(self, region, slot, row=None):
         """A slot of a conversion, which without a row gets zeros."""
@@ -120,7 +137,7 @@ class Rules:
 
     def empty_store(self):
         """What formatting writes."""
-        return ([(0, CLOSED), SYNC, (2 * SECTOR, CLOSED)] + self.prepare(0) + self.manifest(manifest(0, 0), False)
+        return ([(0, CLOSED), SYNC, (SLOTS[1], CLOSED)] + self.prepare(0) + self.manifest(manifest(0, 0), False)
                 + [(1, self.layout.header), SYNC, (0, OPEN), SYNC])
 
 
@@ -392,7 +409,7 @@ class Jobs(CallCase):
         self.store(G, [f"put {A} 0001", "flush"])
         calls = self.opened(self.calls_of([])[0], 0o2, 6)
         self.assertEqual(changes(calls), [("fsync", "store"), SYNC])
-        self.assertEqual(reads(calls), [(0, 37), (4096, 461), (8192, 461), (12288, 4), (16384, 21)])
+        self.assertEqual(reads(calls), [*HEAD, (12288, 4), (16384, ROW_HEAD)])
         self.assertEqual([it.name for it in calls[:3]], ["fsync", "fdatasync", "pread"])
 
     def test_an_opening_that_seals(self):
@@ -419,8 +436,8 @@ class Jobs(CallCase):
         length and synced."""
         due = Buffers().make(Rules(G).empty_store())
         # Of a store it reads the header, what a check reads, and the header again for its numbers.
-        check = [(0, 37), (4096, 461), (8192, 461), (12288, 4)]
-        for looks in ([], [(0, 37), (0, 37), *check]):
+        check = [*HEAD, (12288, 4)]
+        for looks in ([], [*2 * HEAD[:1], *check]):
             ended, calls = self.recorded("format", "store", *G.split())
             self.assertEqual(ended.out, "formatted 45056\n")
             rest = self.opened(calls, 0o102, 6)
@@ -440,7 +457,7 @@ class Jobs(CallCase):
         self.store(G, [f"put {A} 0001", "flush"])
         calls = self.opened(self.recorded("check", "store")[1], 0o0, 5)
         self.assertEqual(changes(calls), [])
-        self.assertEqual(reads(calls), [(0, 37), (4096, 461), (8192, 461), (12288, 4), (16384, 21), (0, 37)])
+        self.assertEqual(reads(calls), [*HEAD, (12288, 4), (16384, ROW_HEAD), HEAD[0]])
 
     def test_a_run_that_tends(self):
         """A put that freezes finds the log frozen before converted: its steps come before the next
@@ -507,7 +524,7 @@ class Reads(CallCase):
             (f"get {key(0)}", [self.row(0, 23)]), (f"get {key(9)}", []),
             (f"put {key(5)} 0001", []), (f"delete {key(6)}", []),
             (f"get {key(5)}", []), (f"put {key(5)} 0002", []), (f"delete {key(5)}", []), (f"get {key(5)}", []),
-            (f"put {key(1)} 0002", [self.row(1, 21)]), (f"delete {key(0)}", [self.row(0, 21)]), ("flush", []),
+            (f"put {key(1)} 0002", [self.row(1, ROW_HEAD)]), (f"delete {key(0)}", [self.row(0, ROW_HEAD)]), ("flush", []),
             (f"get {key(0)}", [self.row(7, 23)])])
 
     def test_keys_that_share_buckets(self):
@@ -516,34 +533,34 @@ class Reads(CallCase):
         self.store(WIDE, [f"put {first} 0001", f"put {second} 0002", "flush"])
         both = [self.row(0, 23), self.row(1, 23)]
         self.judge_reads([(f"get {first}", both[:1]), (f"get {second}", both), (f"get {absent}", both),
-                          (f"put {absent} 0003", [self.row(0, 21), self.row(1, 21)])])
+                          (f"put {absent} 0003", [self.row(0, ROW_HEAD), self.row(1, ROW_HEAD)])])
 
     def test_swaps_of_the_active_log(self):
         """A key of the active log costs two reads, its row and the head of a put. A buffered one costs
         none, an absent one none either. A swap that differs reads the row alone."""
         self.store(WIDE, self.puts(range(2)) + ["flush"])
-        row, head = self.row(1, 23), self.row(1, 21)
+        row, head = self.row(1, 23), self.row(1, ROW_HEAD)
         self.judge_reads([
             (f"swap {key(1)} 0002 0003", [row]), (f"swap {key(1)} 0001 0003", [row, head]),
             (f"swap {key(1)} 0001 0004", []), (f"swap {key(1)} 0003 0004", []), (f"swap {key(9)} 0000 0001", []),
             ("flush", []), (f"swap {key(1)} 0003 0004", [self.row(3, 23)]),
-            (f"swap {key(1)} 0004 0005", [self.row(3, 23), self.row(3, 21)])])
+            (f"swap {key(1)} 0004 0005", [self.row(3, 23), self.row(3, ROW_HEAD)])])
 
     def test_swaps_from_and_to_no_value(self):
         """A missing key costs what a get of it costs, and then what a put costs. A swap to no value costs what any
         swap of that key does."""
         self.store(WIDE, self.puts(range(2)) + [f"delete {key(2)}", "flush"])
-        row, head, gone = self.row(1, 23), self.row(1, 21), self.row(2, 23)
+        row, head, gone = self.row(1, 23), self.row(1, ROW_HEAD), self.row(2, 23)
         self.judge_reads([
             (f"swap {key(1)} - 0003", [row]), (f"swap {key(1)} 0001 -", [row, head]), (f"swap {key(1)} 0001 -", []),
             (f"swap {key(1)} - 0004", []), (f"swap {key(9)} 0001 -", []), (f"swap {key(9)} - 0001", []),
-            (f"swap {key(2)} 0001 -", [gone]), (f"swap {key(2)} - 0002", [gone, self.row(2, 21)])])
+            (f"swap {key(2)} 0001 -", [gone]), (f"swap {key(2)} - 0002", [gone, self.row(2, ROW_HEAD)])])
 
     def test_swaps_of_keys_that_share_buckets(self):
         """A swap reads what a get reads, and then what a put reads."""
         first, second, absent = key(3), key(3, 1), key(3, 2)
         self.store(WIDE, [f"put {first} 0001", f"put {second} 0002", "flush"])
-        rows, heads = [self.row(0, 23), self.row(1, 23)], [self.row(0, 21), self.row(1, 21)]
+        rows, heads = [self.row(0, 23), self.row(1, 23)], [self.row(0, ROW_HEAD), self.row(1, ROW_HEAD)]
         self.judge_reads([(f"swap {absent} 0001 0003", rows), (f"swap {second} 0001 0003", rows),
                           (f"swap {absent} 0001 -", rows), (f"swap {absent} - 0003", rows + heads)])
         self.store(WIDE, [f"put {first} 0001", f"put {second} 0002", "flush"])
@@ -557,7 +574,7 @@ class Reads(CallCase):
         self.layout = Layout.of("2 64 8 4 4 2")
         self.judge_reads([(f"put {key(1)} 0003", []), (f"swap {key(1)} 0001 0003", [self.row(0, 23)]),
                           (f"swap {key(2)} 0001 0003", [self.row(1, 23)]), (f"swap {key(3)} - 0003", []),
-                          (f"swap {key(2)} 0002 -", [self.row(1, 23), self.row(1, 21)])])
+                          (f"swap {key(2)} 0002 -", [self.row(1, 23), self.row(1, ROW_HEAD)])])
 
     def frozen(self):
         """Keys 0 to 7 in log 0, which is frozen, and key 8 in log 1."""
@@ -618,7 +635,7 @@ class Reads(CallCase):
         self.frozen()
         self.silt("run", "store", text="convert\n" * 257)
         slots = [("merge", [(self.layout.hash_region(0), 256 * 23)])] + [("merge", [])] * 255
-        values = [("merge", [(self.slot(n, 0)[0] + 21, 2)]) for n in range(8)]
+        values = [("merge", [(self.slot(n, 0)[0] + ROW_HEAD, 2)]) for n in range(8)]
         self.judge_reads([*slots, *values, ("merge", [])])
 
     def test_a_merge_with_old_entries(self):
@@ -628,8 +645,8 @@ class Reads(CallCase):
         self.silt("run", "store", text="\n".join(lines) + "\nflush\n" + "convert\n" * 257)
         got = self.calls_of(["merge"] * (256 + 14))[1:]
         self.assertEqual([reads(it) for it in got[:256]], [[(self.layout.hash_region(0), 256 * 23)]] + [[]] * 255)
-        due = [[self.entry(0, 8 * 22)]] + [[]] * 2 + [[(self.slot(3, 0)[0] + 21, 2)]] + [[]] * 4
-        due += [[(self.slot(n, 0)[0] + 21, 2)] for n in (8, 10, 11, 12, 13, 14)]
+        due = [[self.entry(0, 8 * 22)]] + [[]] * 2 + [[(self.slot(3, 0)[0] + ROW_HEAD, 2)]] + [[]] * 4
+        due += [[(self.slot(n, 0)[0] + ROW_HEAD, 2)] for n in (8, 10, 11, 12, 13, 14)]
         self.assertEqual([reads(it) for it in got[256:]], due + [[]] * (14 - len(due)))
 
     def test_an_opening(self):
@@ -640,13 +657,12 @@ class Reads(CallCase):
         lines += [f"put {key(20)} 0001", "flush", ""]
         self.silt("run", "store", text="\n".join(lines))
         calls = self.calls_of([])[0]
-        head = [(0, 37), (4096, 461), (8192, 461)]
-        active = [(self.layout.gates(0), 8), self.row(0, 21)]
-        frozen = [(self.layout.gates(1), 8)] + [self.row(n, 21, log=1) for n in range(8)]
-        self.assertEqual(reads(calls), head + active + frozen + [self.entry(0, 8 * 22)])
+        active = [(self.layout.gates(0), 8), self.row(0, ROW_HEAD)]
+        frozen = [(self.layout.gates(1), 8)] + [self.row(n, ROW_HEAD, log=1) for n in range(8)]
+        self.assertEqual(reads(calls), HEAD + active + frozen + [self.entry(0, 8 * 22)])
         self.silt("run", "store", text="convert\n" * 257)
         slots = [(self.layout.hash_region(0), 256 * 23)]
-        self.assertEqual(reads(self.calls_of([])[0]), head + active + slots + [self.entry(0, 8 * 22)])
+        self.assertEqual(reads(self.calls_of([])[0]), HEAD + active + slots + [self.entry(0, 8 * 22)])
 
     def test_long_values(self):
         """A row or an entry of more than 512 bytes takes two reads: its head, and the value of a
@@ -654,16 +670,16 @@ class Reads(CallCase):
         words = "493 64 2 4 4 64"
         self.layout, value = Layout.of(words), "ab" * 493
         self.store(words, [f"put {key(1)} {value}", f"delete {key(2)}", "flush"])
-        whole = [self.row(0, 21), (self.row(0, 0)[0] + 21, 493)]
-        self.judge_reads([(f"get {key(1)}", whole), (f"get {key(2)}", [self.row(1, 21)]),
-                          (f"swap {key(1)} {'ab' * 492}ac {value}", whole), (f"swap {key(2)} {value} {value}", [self.row(1, 21)]),
-                          (f"swap {key(2)} {value} -", [self.row(1, 21)]), (f"swap {key(1)} - {value}", whole)])
+        whole = [self.row(0, ROW_HEAD), (self.row(0, 0)[0] + ROW_HEAD, 493)]
+        self.judge_reads([(f"get {key(1)}", whole), (f"get {key(2)}", [self.row(1, ROW_HEAD)]),
+                          (f"swap {key(1)} {'ab' * 492}ac {value}", whole), (f"swap {key(2)} {value} {value}", [self.row(1, ROW_HEAD)]),
+                          (f"swap {key(2)} {value} -", [self.row(1, ROW_HEAD)]), (f"swap {key(1)} - {value}", whole)])
         self.silt("run", "store", text=f"put {key(3)} {value}\nflush\n" + "convert\n" * 257)
         at = self.slot(1, 0)[0]
-        self.judge_reads([(f"get {key(1)}", [(at, 21), (at + 21, 493)]), (f"get {key(2)}", [self.slot(2, 21)])])
+        self.judge_reads([(f"get {key(1)}", [(at, ROW_HEAD), (at + ROW_HEAD, 493)]), (f"get {key(2)}", [self.slot(2, ROW_HEAD)])])
         self.silt("run", "store", text="merge\n" * (256 + 3))
         at = self.entry(0)[0]
-        self.judge_reads([(f"get {key(1)}", [(at, 20), (at + 20, 493)])])
+        self.judge_reads([(f"get {key(1)}", [(at, KEY_LEN), (at + KEY_LEN, 493)])])
 
 
 class ReadsOfVersion1(Reads):

@@ -1,6 +1,7 @@
 """Dumps: each entry of a store as a line that puts it, in the order of the keys, and the way back."""
 import model
 from harness import PROVED, scaled
+from layout import CLOSED, OPEN, Layout
 from test_damage import DamageCase
 
 COUNT = scaled(40 if PROVED else 8)
@@ -51,10 +52,12 @@ class Dumps(DamageCase):
         self.assert_dumped(lines, "200 values")
 
     def test_a_dump_closes_no_stale_gate(self):
-        self.store("2 2 4 2 2 8", ["put =a 0001", "put =b 0002", "flush"])
+        geometry = "2 2 4 2 2 8"
+        self.store(geometry, ["put =a 0001", "put =b 0002", "flush"])
         image = bytearray(self.image())
-        image[12288 + 2] = 0xA7  # the commit byte of the third row, behind which lie zeros
-        image[12288 + 1] = 0x00
+        gates = Layout.of(geometry).gates(0)
+        # The commit byte of the third row is open, behind which lie zeros, and that of the second one is not.
+        image[gates + 1:gates + 3] = CLOSED + OPEN
         self.path("store").write_bytes(image)
         expected = lines_of(entries_of(model.examine(bytes(image))))
         self.assert_dumped(expected, "a stale gate")

@@ -18,6 +18,7 @@ from dataclasses import dataclass
 from commands import answer, is_command, maps_after
 from failing import DEVICE, EVERY, GEOMETRY, LINES, LIVES, NO_STORE, Job, JobCase
 from harness import NUMBERS, PROGRAM, TIME_LIMIT, Ended
+from layout import CLOSED, OPEN, Layout
 from notes import input_of, notes_of_lines
 from watch import WatchedCase, read_counts, read_record, watching
 
@@ -203,8 +204,10 @@ class Runs(FaultCase):
 
     def test_an_opening_that_seals(self):
         """The write and the sync that close what a crash left open."""
-        content = bytearray(self.store("2 2 4 2 2 8", ["put =a 0001", "flush"]).read_bytes())
-        content[12288:12292] = b"\xa7\x00\xa7\xa7"
+        geometry = "2 2 4 2 2 8"
+        content = bytearray(self.store(geometry, ["put =a 0001", "flush"]).read_bytes())
+        gates = Layout.of(geometry).gates(0)
+        content[gates:gates + 4] = OPEN + CLOSED + 2 * OPEN
         job = Job(["run", "store"], ["put =b 0002", "put =a 0003", "flush", "get =a"], bytes(content))
         self.try_all(job, self.judge_sealed, WRITES + SYNCS + READS)
 

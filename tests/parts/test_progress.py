@@ -10,14 +10,15 @@ import tty
 import unittest
 
 from harness import PROVED
-from layout import as_version_1
+from layout import COUNT, KEY_LEN, OPEN, SLOTS, Layout, as_version_1
 from watch import WatchedCase, read_record, watching
 
 # A read counts with its bytes, but with so many at least.
-STEP, LEAST = 1 << 24, 256
+STEP = 1 << 24
+LEAST = 256
 # One log of many rows. The file has 14,430,208 bytes.
 MANY_ROWS = "1 32768 131072 2 1 131072"
-GATES, ROWS, ROW = 12288, 12288 + 131072, 22
+ROWS = Layout.of(MANY_ROWS)
 ERRORS = "standard error"
 SLOW = unittest.skipUnless(PROVED, "a build with checks takes long for this")
 # What a long opening of it shows, and what ends that.
@@ -32,20 +33,21 @@ class Progress(WatchedCase):
         self.store(MANY_ROWS)
         self.keys = [self.random.randbytes(20) for _ in range(count)]
         with self.path("store").open("r+b") as file:
-            file.seek(GATES)
-            file.write(b"\xa7" * count)
-            file.seek(ROWS)
+            file.seek(ROWS.gates(0))
+            file.write(OPEN * count)
+            file.seek(ROWS.bodies(0))
             file.write(b"".join(b"\x01" + key + b"\x07" for key in self.keys))
 
     def make_entries(self, count, length):
         """A store with so many sorted entries, and values of this length. An opening reads many together."""
-        self.store(f"{length} 2 4 2 2 {count}")
+        geometry = f"{length} 2 4 2 2 {count}"
+        self.store(geometry)
+        layout = Layout.of(geometry)
         image = bytearray(as_version_1(self.path("store").read_bytes()))
-        image[4213:4217] = count.to_bytes(4, "big")
-        begin = len(image) - 2 * -(-count * (20 + length) // 4096) * 4096
+        image[SLOTS[0] + COUNT:SLOTS[0] + COUNT + 4] = count.to_bytes(4, "big")
         for number in range(count):
-            at = begin + number * (20 + length)
-            image[at:at + 20] = number.to_bytes(20, "big")
+            at = layout.sorted_region(0) + number * layout.entry_len
+            image[at:at + KEY_LEN] = number.to_bytes(KEY_LEN, "big")
         self.path("store").write_bytes(image)
 
     def on_terminal(self, *words, text="", replies=None):
@@ -112,10 +114,11 @@ class Progress(WatchedCase):
     def test_a_finding_at_the_end_of_a_long_opening(self):
         """The line ends before what is wrong is reported."""
         self.make_rows(66_000)
+        at = ROWS.bodies(0) + 65_990 * ROWS.row_len
         with self.path("store").open("r+b") as file:
-            file.seek(ROWS + 65_990 * ROW)
+            file.seek(at)
             file.write(b"\x03")
-        note = f"silt: store: a row of a log is damaged, at byte {ROWS + 65_990 * ROW}\n"
+        note = f"silt: store: a row of a log is damaged, at byte {at}\n"
         status, out, shown = self.on_terminal("run", "store")
         self.assertEqual((status, out), (1, "refused 3 Damaged log 0 row 65990\n"))
         self.assertEqual(shown, LINE + LINE + END + note)

@@ -12,7 +12,7 @@ import unittest
 
 import model
 from harness import PROGRAM, PROVED, TOP
-from layout import as_version_1
+from layout import ACTIVE, DIGEST, GENERATION, HASH_DIGESTS, HEADER_LEN, LONG_FORM, SECTOR, SLOT_LEN, SLOTS, SORTED_DIGEST, as_version_1, slot_of
 from lines import join_lines
 from served import ServedCase
 from test_damage import DamageCase
@@ -22,8 +22,6 @@ EVERY = 1 if PROVED else 7
 G = "2 2 4 2 2 8"
 # Room for two hash stores and a sorted store beside them.
 WIDE = "2 2 4 3 3 32"
-# Where a slot has its digests, and how long they are.
-HASHED, SORTED, END, LENGTH = 121, 441, 461, 20
 MAGIC_AND_VERSION = "a753494c54464c5348000000"
 
 
@@ -66,8 +64,8 @@ class VersionCase(DamageCase, ServedCase):
     def assert_form(self, version, is_long):
         """The header's version, and whether each slot is open and long: None if it is closed."""
         image, forms = self.image(), []
-        for at in (4096, 8192):
-            forms.append(image[at + 1] >= 0x80 if image[at] == model.OPEN else None)
+        for at in SLOTS:
+            forms.append(image[at + GENERATION] >= LONG_FORM if image[at] == model.OPEN else None)
         self.assertEqual((image[:13].hex(), forms), (f"{MAGIC_AND_VERSION}{version:02x}", is_long))
 
     def run_lines(self, lines):
@@ -85,7 +83,7 @@ class Digests(VersionCase):
         super().setUp()
         self.sound = self.image_of(WIDE, TWO_STORES)
         self.store_of = model.examine(self.sound)
-        self.slot = model.slot_at(self.store_of.generation % 2)
+        self.slot = slot_of(self.store_of.generation)
 
     def changed(self, at):
         image = bytearray(self.sound)
@@ -98,8 +96,8 @@ class Digests(VersionCase):
         self.assert_whole(self.sound, 2)
 
     def test_each_byte_of_each_digest(self):
-        for begin, place in ((HASHED, "hash 1"), (HASHED + LENGTH, "hash 0"), (SORTED, "sorted")):
-            for at in range(begin, begin + LENGTH):
+        for begin, place in ((HASH_DIGESTS, "hash 1"), (HASH_DIGESTS + DIGEST, "hash 0"), (SORTED_DIGEST, "sorted")):
+            for at in range(begin, begin + DIGEST):
                 self.assert_refused(self.changed(self.slot + at), f"refused 3 Damaged {place} digest", f"byte {at}")
 
     def test_each_byte_that_digests_cover(self):
@@ -119,39 +117,39 @@ class Digests(VersionCase):
 
     def test_bytes_past_the_count(self):
         """The places of fourteen hash stores that are not named, and what is behind all digests."""
-        places = [*range(HASHED + 2 * LENGTH, SORTED)][self.random.randrange(EVERY)::EVERY]
-        places += [END, END + 1, 4094, 4095]
+        places = [*range(HASH_DIGESTS + 2 * DIGEST, SORTED_DIGEST)][self.random.randrange(EVERY)::EVERY]
+        places += [SLOT_LEN, SLOT_LEN + 1, SECTOR - 2, SECTOR - 1]
         for at in places:
             self.path("store").write_bytes(self.changed(self.slot + at))
             self.assertEqual(self.check_report().status, 0, f"byte {at}")
         image = bytearray(self.sound)
-        for begin, end in ((HASHED + 2 * LENGTH, SORTED), (END, 4096)):
+        for begin, end in ((HASH_DIGESTS + 2 * DIGEST, SORTED_DIGEST), (SLOT_LEN, SECTOR)):
             image[self.slot + begin:self.slot + end] = self.random.randbytes(end - begin)
         self.assert_whole(image, 2)
         # The next manifest has zeros there.
         self.run_lines([*puts(range(13, 17)), "flush", *MERGE])
 
     def test_digests_of_the_other_slot(self):
-        image, other = bytearray(self.sound), 3 * 4096 - self.slot
+        image, other = bytearray(self.sound), sum(SLOTS) - self.slot
         self.assertEqual(image[other], model.OPEN)
-        image[other + HASHED:other + END] = self.random.randbytes(END - HASHED)
+        image[other + HASH_DIGESTS:other + SLOT_LEN] = self.random.randbytes(SLOT_LEN - HASH_DIGESTS)
         self.assert_whole(image, 2)
 
     def test_swapped_digests(self):
-        image, at = bytearray(self.sound), self.slot + HASHED
-        image[at:at + LENGTH], image[at + LENGTH:at + 2 * LENGTH] = image[at + LENGTH:at + 2 * LENGTH], image[at:at + LENGTH]
+        image, at = bytearray(self.sound), self.slot + HASH_DIGESTS
+        image[at:at + DIGEST], image[at + DIGEST:at + 2 * DIGEST] = image[at + DIGEST:at + 2 * DIGEST], image[at:at + DIGEST]
         self.assert_refused(image, "refused 3 Damaged hash 1 digest", "two digests swapped")
 
     def test_slots_come_before_the_digest_of_their_store(self):
-        image = self.changed(self.slot + HASHED)
+        image = self.changed(self.slot + HASH_DIGESTS)
         image[self.store_of.geometry.hash_at(1) + 7 * 23] = 3
         self.assert_refused(image, "refused 3 Damaged hash 1 slot 7", "the last slot and the digest of one store")
 
     def test_a_digest_comes_before_the_slots_of_the_next_store(self):
-        image = self.changed(self.slot + HASHED)
+        image = self.changed(self.slot + HASH_DIGESTS)
         image[self.store_of.geometry.hash_at(0)] = 3
         self.assert_refused(image, "refused 3 Damaged hash 1 digest", "a digest, and a slot of the older store")
-        image = self.changed(self.slot + HASHED + LENGTH)
+        image = self.changed(self.slot + HASH_DIGESTS + DIGEST)
         image[self.store_of.geometry.hash_at(1) + 7 * 23] = 3
         self.assert_refused(image, "refused 3 Damaged hash 1 slot 7", "a slot, and the digest of the older store")
 
@@ -161,12 +159,12 @@ class Digests(VersionCase):
         self.assert_refused(image, "refused 3 Damaged sorted digest", "a value of an entry")
         image[begin + 3 * 22] = 0
         self.assert_refused(image, "refused 3 Damaged sorted 3", "the last entry and the digest")
-        image[self.slot + HASHED + LENGTH] ^= 1
+        image[self.slot + HASH_DIGESTS + DIGEST] ^= 1
         self.assert_refused(image, "refused 3 Damaged hash 0 digest", "a digest of a hash store before them")
 
     def test_logs_come_first(self):
         """No digest covers a log."""
-        image = self.changed(self.slot + HASHED)
+        image = self.changed(self.slot + HASH_DIGESTS)
         log = self.store_of.active
         self.assertEqual(len(log.rows), 1)
         image[self.store_of.geometry.rows_at(log.region)] = 3
@@ -178,9 +176,9 @@ class Digests(VersionCase):
         """Standard error names the region whose digest is another one."""
         geometry, region = self.store_of.geometry, self.store_of.sorted.region
         for at, what, place in (
-            (HASHED, "a hash store has another digest than the manifest says", geometry.hash_at(1)),
-            (HASHED + LENGTH, "a hash store has another digest than the manifest says", geometry.hash_at(0)),
-            (SORTED, "the sorted store has another digest than the manifest says", geometry.sorted_at(region)),
+            (HASH_DIGESTS, "a hash store has another digest than the manifest says", geometry.hash_at(1)),
+            (HASH_DIGESTS + DIGEST, "a hash store has another digest than the manifest says", geometry.hash_at(0)),
+            (SORTED_DIGEST, "the sorted store has another digest than the manifest says", geometry.sorted_at(region)),
         ):
             self.path("store").write_bytes(self.changed(self.slot + at))
             for job in ("check", "run", "tend", "dump"):
@@ -188,7 +186,7 @@ class Digests(VersionCase):
                 self.assertEqual((ended.status, ended.err), (1, f"silt: store: {what}, at byte {place}\n"), ended)
 
     def test_a_server_refuses_it(self):
-        self.path("store").write_bytes(self.changed(self.slot + SORTED))
+        self.path("store").write_bytes(self.changed(self.slot + SORTED_DIGEST))
         ended = self.begin("store", 0).ended()
         self.assertEqual((ended.status, ended.out), (1, "refused 3 Damaged sorted digest\n"))
 
@@ -284,7 +282,7 @@ class OldDevices(VersionCase):
     def test_the_last_generation(self):
         """A slot with the last generation, in both forms: it is no other one without the bit."""
         image = self.image_of(G, [])
-        image[8192:8192 + END] = image[4096:4096 + END]
+        image[SLOTS[1]:SLOTS[1] + SLOT_LEN] = image[SLOTS[0]:SLOTS[0] + SLOT_LEN]
         image[8193:8201] = b"\xff" * 8
         lines = [*puts(range(1, 6)), "flush"]
         refused = [*(f"accepted {it}" for it in range(1, 5)), "refused 10 Spent", "acknowledged 4"]
@@ -302,15 +300,15 @@ class Forms(VersionCase):
         sound = self.image_of(G, CONVERTED)
         for slot in (0, 1):
             image = bytearray(sound)
-            image[model.slot_at(slot) + 1] &= 0x7F
+            image[SLOTS[slot] + GENERATION] &= ~LONG_FORM
             self.assert_refused(image, f"refused 3 Damaged slot {slot}", "no digests")
-        image[4097] &= 0x7F
+        image[SLOTS[0] + GENERATION] &= ~LONG_FORM
         self.assert_refused(image, "refused 3 Damaged slot 0", "no digests in both")
 
     def test_a_closed_short_slot(self):
         """What is behind a closed gate does not count."""
         image = self.image_of(G, CONVERTED)
-        image[8192:8194] = b"\x00\x00"
+        image[SLOTS[1]:SLOTS[1] + 2] = b"\x00\x00"
         self.assert_whole(image, 2)
 
     def test_version_1_over_digests(self):
@@ -319,7 +317,7 @@ class Forms(VersionCase):
         self.assert_whole(image, 2)
         image[8193] &= 0x7F
         self.assert_whole(image, 2, "the other slot is short")
-        image[4097 + HASHED] ^= 1
+        image[SLOTS[0] + 1 + HASH_DIGESTS] ^= 1
         self.assert_refused(image, "refused 3 Damaged hash 0 digest", "digests are compared under version 1 too")
 
     def test_version_2_over_short_slots(self):
@@ -333,10 +331,10 @@ class Forms(VersionCase):
     def test_zeros_for_digests(self):
         """Byte 4,097 of an old device: the highest bit of its generation."""
         image = self.image_of(G, [], version=1)
-        image[4097] = 0x80
+        image[SLOTS[0] + GENERATION] = LONG_FORM
         self.assert_refused(image, "refused 3 Damaged sorted digest", "an empty store")
         image = self.image_of(G, CONVERTED, version=1)
-        image[4097] = 0x80
+        image[SLOTS[0] + GENERATION] = LONG_FORM
         self.assert_refused(image, "refused 3 Damaged hash 0 digest", "a hash store")
 
     def test_other_versions(self):
@@ -347,7 +345,7 @@ class Forms(VersionCase):
                 self.assert_refused(image, "refused 1 NotFormatted", f"version {version}")
 
     def test_the_header_of_a_new_device(self):
-        self.assertEqual(self.image_of(G, [])[:37].hex(), "a753494c54464c534800000002000000020000000200000004000000020000000200000008")
+        self.assertEqual(self.image_of(G, [])[:HEADER_LEN].hex(), "a753494c54464c534800000002000000020000000200000004000000020000000200000008")
         self.assert_form(2, [True, None])
 
 
@@ -382,7 +380,7 @@ class Worked(VersionCase):
     def test_a_merge_of_an_old_device(self):
         self.image_of(G, CONVERTED, version=1)
         self.assertEqual(self.answers(MERGE), ["moved"] * 12 + ["finished"])
-        self.assertEqual(self.image()[8192:8201].hex(), "a78000000000000003")
+        self.assertEqual(self.image()[SLOTS[1]:SLOTS[1] + ACTIVE].hex(), "a78000000000000003")
         self.assertEqual(self.check_report().lines[-3:], ["sorted entries 4", "charge 5", "layout 2"])
 
     def test_a_value_of_a_sorted_entry(self):
