@@ -3,7 +3,6 @@
 A `Server` is a running `silt serve`. A `Client` is one connection to it. `ServedCase` starts both,
 and ends them with the test.
 """
-import contextlib
 import os
 import pathlib
 import select
@@ -39,6 +38,7 @@ class Client:
         self.socket = socket.create_connection((address, port), timeout=limit)
         self.socket.setsockopt(socket.IPPROTO_TCP, socket.TCP_NODELAY, 1)
         self.received = bytearray()
+        self.broke = None
 
     def send(self, *lines):
         """Sends these lines in one write."""
@@ -48,10 +48,11 @@ class Client:
         self.socket.sendall(data)
 
     def receive(self):
-        """Receives some bytes, and returns whether there were any. A reset counts as an end."""
+        """Receives some bytes, and returns whether there were any. A reset counts as an end, and is kept in `broke`."""
         try:
             data = self.socket.recv(1 << 16)
-        except (ConnectionResetError, BrokenPipeError):
+        except (ConnectionResetError, BrokenPipeError) as broke:
+            self.broke = broke
             data = b""
         self.received += data
         return data != b""
@@ -95,18 +96,23 @@ class Client:
         return text.splitlines()
 
     def exchange(self, lines):
-        """Sends these lines in one write and ends the input, and reads meanwhile. All replies."""
+        """Sends these lines in one write and ends the input, and reads meanwhile. All replies. The server has to read all
+        lines and to end the connection by itself: one that breaks is an error."""
         sending = threading.Thread(target=self.send_all, args=(lines,))
         sending.start()
         replies = self.rest()
         sending.join()
+        if self.broke:
+            raise ConnectionError(f"{len(replies)} replies to {len(lines)} lines, and then: {self.broke!r}")
         return replies
 
     def send_all(self, lines):
-        """Sends these lines, and ends the input. The server may close the connection before."""
-        with contextlib.suppress(OSError):
+        """Sends these lines, and ends the input. An error is kept in `broke`."""
+        try:
             self.send(*lines)
             self.end_input()
+        except OSError as broke:
+            self.broke = broke
 
     def close(self):
         self.socket.close()
