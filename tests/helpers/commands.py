@@ -7,7 +7,9 @@ NONE = "-"
 
 def names(count):
     """So many key words of lines."""
-    return ["=" + "".join(it) for it in itertools.islice(itertools.product("abcdefgh", repeat=2), count)]
+    return [
+        "=" + "".join(it) for it in itertools.islice(itertools.product("abcdefgh", repeat=2), count)
+    ]
 
 
 def value_of(number, length):
@@ -21,7 +23,10 @@ class Commands:
     Steps in the background come in bursts, of at most so many."""
 
     def __init__(self, random, keys, length, burst=0):
-        self.random, self.keys, self.length, self.burst = random, keys, length, burst
+        self.random = random
+        self.keys = keys
+        self.length = length
+        self.burst = burst
         self.number = random.randrange(1000)
         # The last values that were put or swapped in and not taken away.
         self.latest = {}
@@ -40,10 +45,15 @@ class Commands:
         return f"put {key} {self.new_value(key)}"
 
     def swap(self):
-        """A swap, for the most part of the value that the key has if the commands before were accepted, or of none."""
+        """A swap, for the most part of the value that the key has if the commands before were
+        accepted, or of none."""
         key = self.random.choice(self.keys)
         other = value_of(self.random.randrange(1 << 16), self.length)
-        old = self.latest.get(key, NONE) if self.random.random() < 0.8 else self.random.choice((other, NONE))
+        old = (
+            self.latest.get(key, NONE)
+            if self.random.random() < 0.8
+            else self.random.choice((other, NONE))
+        )
         is_last = old != NONE and self.random.random() < 0.2
         return f"swap {key} {old} {self.no_value(key) if is_last else self.new_value(key)}"
 
@@ -68,7 +78,9 @@ class Commands:
             elif kind < 0.78 or not self.burst:
                 made.append(f"get {self.random.choice(self.keys)}")
             else:
-                made += [self.random.choice(("convert", "merge"))] * self.random.randint(1, self.burst)
+                made += [self.random.choice(("convert", "merge"))] * self.random.randint(
+                    1, self.burst
+                )
         return made
 
 
@@ -77,7 +89,8 @@ def is_command(line):
 
 
 def differs(values, line):
-    """Whether this is a swap, and its key has another value than the old one. No value is one of them."""
+    """Whether this is a swap, and its key has another value than the old one. No value is one of
+    them."""
     word, *words = line.split()
     return word == "swap" and values.get(words[0], NONE) != words[1]
 

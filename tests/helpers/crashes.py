@@ -25,7 +25,8 @@ class Cut:
 def cuts(before, calls, file):
     """The moments at which a crash may stop the writes and syncs of a file that was this before:
     within each of these calls, and after the last."""
-    settled, pending = bytearray(before), []
+    settled = bytearray(before)
+    pending = []
     for number, call in enumerate(calls):
         if call.file != file or call.name not in CHANGES:
             continue
@@ -66,7 +67,8 @@ def some_bytes(random, pending):
 
 def first_bytes(random, pending):
     """The writes in order, up to some byte."""
-    left, kept = random.randint(0, sum(len(data) for _, data in pending)), []
+    left = random.randint(0, sum(len(data) for _, data in pending))
+    kept = []
     for at, data in pending:
         kept.append((at, data[:left]))
         left -= min(left, len(data))
@@ -76,7 +78,8 @@ def first_bytes(random, pending):
 def last_bytes(random, pending):
     """The writes from some byte on: those that came later have reached the device, and those
     before not."""
-    left, kept = random.randint(0, sum(len(data) for _, data in pending)), []
+    left = random.randint(0, sum(len(data) for _, data in pending))
+    kept = []
     for at, data in reversed(pending):
         begin = max(0, len(data) - left)
         kept.insert(0, (at + begin, data[begin:]))
@@ -97,16 +100,30 @@ def garbage(random, pending):
 
 
 # How the pending bytes are torn. What was written whole, and not at all, are among them.
-TEARS = (lambda random, pending: [], lambda random, pending: pending, some_writes, some_sectors, some_bytes,
-         first_bytes, last_bytes, filled, garbage)
+TEARS = (
+    lambda random, pending: [],
+    lambda random, pending: pending,
+    some_writes,
+    some_sectors,
+    some_bytes,
+    first_bytes,
+    last_bytes,
+    filled,
+    garbage,
+)
 
 
 def fills(cut):
-    """The files that the crash leaves with each fill of a stop: at the pending places are the old bytes, the new ones,
-    zeros, ones, or the new ones at even places."""
+    """The files that the crash leaves with each fill of a stop: at the pending places are the old
+    bytes, the new ones, zeros, ones, or the new ones at even places."""
     whole = [part for it in cut.pending for part in parts_of(it, 1)]
-    torn = {"old": [], "new": whole, "zero": [(at, b"\0") for at, _ in whole], "ones": [(at, b"\xff") for at, _ in whole],
-            "mix": [(at, byte) for at, byte in whole if at % 2 == 0]}
+    torn = {
+        "old": [],
+        "new": whole,
+        "zero": [(at, b"\0") for at, _ in whole],
+        "ones": [(at, b"\xff") for at, _ in whole],
+        "mix": [(at, byte) for at, byte in whole if at % 2 == 0],
+    }
     for name, parts in torn.items():
         made = bytearray(cut.settled)
         settle(made, parts)

@@ -1,8 +1,8 @@
 """What may be wrong with a store's bytes, and what may differ and is not wrong.
 
 A damage changes the image of a sound store, and returns the refusal that has to come, or None where
-the store has nothing to be damaged so. `DAMAGES` has them by group, in the order in which an opening
-looks: of two damages of different groups, the one of the earlier group decides.
+the store has nothing to be damaged so. `DAMAGES` has them by group, in the order in which an
+opening looks: of two damages of different groups, the one of the earlier group decides.
 
 A store may be of either version of the layout. What digests do not cover differs without damage.
 """
@@ -36,7 +36,20 @@ from layout import (
 # The byte of an open gate.
 OPEN_GATE = OPEN[0]
 
-DAMAGES = {it: [] for it in ("unknown", "header", "length", "slots", "no slot", "logs", "hashes", "sorted", "charge")}
+DAMAGES = {
+    it: []
+    for it in (
+        "unknown",
+        "header",
+        "length",
+        "slots",
+        "no slot",
+        "logs",
+        "hashes",
+        "sorted",
+        "charge",
+    )
+}
 HARMLESS = []
 
 
@@ -164,7 +177,8 @@ def open_slots(store):
 
 def open_slot(image, store, slot):
     """Opens a slot, by a body that is well formed if it is closed, and returns its offset."""
-    at, current = SLOTS[slot], current_at(store)
+    at = SLOTS[slot]
+    current = current_at(store)
     if image[at] != OPEN_GATE and at != current:
         image[at : at + SLOT_LEN] = image[current : current + SLOT_LEN]
         form = image[at + GENERATION] & LONG_FORM
@@ -218,14 +232,21 @@ def no_digests(image, at, geometry, random):
 
 
 bad_slot("no_digests", no_digests)
-bad_slot("the_other_slot's_generation", lambda image, at, g, random: image.__setitem__(at + 8, image[at + 8] ^ 1))
+bad_slot(
+    "the_other_slot's_generation",
+    lambda image, at, g, random: image.__setitem__(at + 8, image[at + 8] ^ 1),
+)
 bad_slot(
     "an_active_log_too_many",
-    lambda image, at, g, random: set_number(image, at + ACTIVE, random.choice([g.nl, 8, 256, 2**32 - 1])),
+    lambda image, at, g, random: set_number(
+        image, at + ACTIVE, random.choice([g.nl, 8, 256, 2**32 - 1])
+    ),
 )
 bad_slot(
     "too_many_frozen_logs",
-    lambda image, at, g, random: set_number(image, at + FROZEN, random.choice([g.nl, 8, 256, 2**32 - 1])),
+    lambda image, at, g, random: set_number(
+        image, at + FROZEN, random.choice([g.nl, 8, 256, 2**32 - 1])
+    ),
 )
 bad_slot("a_frozen_log_too_many", lambda image, at, g, random: set_ids(image, at + FROZEN, [g.nl]))
 bad_slot(
@@ -235,7 +256,9 @@ bad_slot(
 bad_slot("a_log_frozen_twice", repeated_frozen_log)
 bad_slot(
     "too_many_hash_stores",
-    lambda image, at, g, random: set_number(image, at + HASHES, random.choice([g.nh + 1, 17, 256, 2**32 - 1])),
+    lambda image, at, g, random: set_number(
+        image, at + HASHES, random.choice([g.nh + 1, 17, 256, 2**32 - 1])
+    ),
 )
 bad_slot("a_hash_store_too_many", lambda image, at, g, random: set_ids(image, at + HASHES, [g.nh]))
 bad_slot("a_hash_store_twice", repeated_hash_store)
@@ -245,7 +268,9 @@ bad_slot(
 )
 bad_slot(
     "too_many_entries",
-    lambda image, at, g, random: set_number(image, at + COUNT, random.choice([g.s + 1, 2**24 + 1, 2**32 - 1])),
+    lambda image, at, g, random: set_number(
+        image, at + COUNT, random.choice([g.s + 1, 2**24 + 1, 2**32 - 1])
+    ),
 )
 
 
@@ -287,7 +312,9 @@ def row_of_no_kind(image, store, random):
     if log is None:
         return None
     row = random.randrange(len(log.rows))
-    image[row_place(store, log, row)] = random.choice([0, 3, OPEN_GATE, 0xFF, other_byte(random, 1, 2)])
+    image[row_place(store, log, row)] = random.choice(
+        [0, 3, OPEN_GATE, 0xFF, other_byte(random, 1, 2)]
+    )
     return f"refused 3 Damaged log {log.region} row {row}"
 
 
@@ -311,7 +338,9 @@ def crowded(image, store, random):
     if store.geometry.cap < count:
         return None
     keys = [struct.pack(">HHB15x", *pair, i) for i in range(count)]
-    write_rows(image, store, log, [(random.choice([1, 2]), key, bytes(store.geometry.v)) for key in keys])
+    write_rows(
+        image, store, log, [(random.choice([1, 2]), key, bytes(store.geometry.v)) for key in keys]
+    )
     return "refused 4 Crowded"
 
 
@@ -330,7 +359,8 @@ def slot_place(store, one, slot):
 
 def copy_slot(image, store, one, source, target):
     length = store.geometry.row_length
-    at, to = slot_place(store, one, source), slot_place(store, one, target)
+    at = slot_place(store, one, source)
+    to = slot_place(store, one, target)
     image[to : to + length] = image[at : at + length]
 
 
@@ -338,8 +368,11 @@ def copy_slot(image, store, one, source, target):
 def slot_of_no_kind(image, store, random):
     if not store.hashes:
         return None
-    one, slot = random.choice(store.hashes), random.randrange(store.geometry.slots)
-    image[slot_place(store, one, slot)] = random.choice([3, OPEN_GATE, 0xFF, random.randint(3, 255)])
+    one = random.choice(store.hashes)
+    slot = random.randrange(store.geometry.slots)
+    image[slot_place(store, one, slot)] = random.choice(
+        [3, OPEN_GATE, 0xFF, random.randint(3, 255)]
+    )
     return f"refused 3 Damaged hash {one.region} slot {slot}"
 
 
@@ -365,13 +398,16 @@ def key_in_two_slots(image, store, random):
         return None
     one, source = picked
     own = store.geometry.buckets(one.slots[source][1])
-    target = random.choice([i for i in range(store.geometry.slots) if i // 4 in own and i != source])
+    target = random.choice(
+        [i for i in range(store.geometry.slots) if i // 4 in own and i != source]
+    )
     copy_slot(image, store, one, source, target)
     return f"refused 3 Damaged hash {one.region} slot {max(source, target)}"
 
 
 def said(store, one):
-    """The refusal of a hash store that has another digest than the manifest says. One without digests says nothing."""
+    """The refusal of a hash store that has another digest than the manifest says. One without
+    digests says nothing."""
     return f"refused 3 Damaged hash {one.region} digest" if store.layout == 2 else None
 
 
@@ -381,7 +417,11 @@ def other_value_of_a_hashed_row(image, store, random):
     if not picked:
         return None
     one, slot = picked
-    change_byte(image, slot_place(store, one, slot) + random.randrange(ROW_HEAD, store.geometry.row_length), random)
+    change_byte(
+        image,
+        slot_place(store, one, slot) + random.randrange(ROW_HEAD, store.geometry.row_length),
+        random,
+    )
     return said(store, one)
 
 
@@ -398,7 +438,8 @@ def other_key_of_a_hashed_row(image, store, random):
 
 @damage("hashes")
 def put_for_a_delete_and_back(image, store, random):
-    """In a store without digests the charge is another one. It may then be too great, so such a store stays as it is."""
+    """In a store without digests the charge is another one. It may then be too great, so such a
+    store stays as it is."""
     picked = pick_row(store, random)
     if not picked or store.layout == 1:
         return None
@@ -413,7 +454,9 @@ def noise_behind_the_kind_of_an_empty_slot(image, store, random):
     if not found:
         return None
     one, slot = random.choice(found)
-    change_byte(image, slot_place(store, one, slot) + random.randrange(1, store.geometry.row_length), random)
+    change_byte(
+        image, slot_place(store, one, slot) + random.randrange(1, store.geometry.row_length), random
+    )
     return said(store, one)
 
 
@@ -437,7 +480,9 @@ def digests_of_hash_stores_swapped(image, store, random):
         return None
     places = random.sample(range(len(store.hashes)), 2)
     first, second = (hash_digest_at(store, it) for it in places)
-    image[first : first + DIGEST], image[second : second + DIGEST] = image[second : second + DIGEST], image[first : first + DIGEST]
+    image[first : first + DIGEST], image[second : second + DIGEST] = (
+        image[second : second + DIGEST], image[first : first + DIGEST]
+    )
     return said(store, store.hashes[min(places)])
 
 
@@ -457,7 +502,8 @@ def bad_slot_and_other_digest(image, store, random):
     """Of one hash store its slots are looked at first."""
     if not store.hashes or store.layout == 1:
         return None
-    place, slot = random.randrange(len(store.hashes)), random.randrange(store.geometry.slots)
+    place = random.randrange(len(store.hashes))
+    slot = random.randrange(store.geometry.slots)
     one = store.hashes[place]
     change_byte(image, hash_digest_at(store, place), random)
     image[slot_place(store, one, slot)] = 3
@@ -492,7 +538,8 @@ def equal_entries(image, store, random):
     if len(store.sorted.entries) < 2:
         return None
     entry = random.randrange(1, len(store.sorted.entries))
-    at, to = entry_place(store, entry - 1), entry_place(store, entry)
+    at = entry_place(store, entry - 1)
+    to = entry_place(store, entry)
     image[to : to + KEY_LEN] = image[at : at + KEY_LEN]
     return f"refused 3 Damaged sorted {entry}"
 
@@ -502,8 +549,10 @@ def falling_entries(image, store, random):
     if len(store.sorted.entries) < 2:
         return None
     entry = random.randrange(1, len(store.sorted.entries))
-    at, to = entry_place(store, entry - 1), entry_place(store, entry)
-    lower, upper = image[at : at + KEY_LEN], image[to : to + KEY_LEN]
+    at = entry_place(store, entry - 1)
+    to = entry_place(store, entry)
+    lower = image[at : at + KEY_LEN]
+    upper = image[to : to + KEY_LEN]
     image[at : at + KEY_LEN] = upper
     image[to : to + KEY_LEN] = lower
     return f"refused 3 Damaged sorted {entry}"
@@ -560,7 +609,11 @@ def charge_above_its_limit(image, store, random):
     geometry = store.geometry
     counts = [get_number(image, SLOTS[slot] + COUNT) for slot in (0, 1) if store.slots_open[slot]]
     low = max(1, *counts, len(store.sorted.entries))
-    fits = [s for s in range(low, store.charge()) if Layout(*geometry.numbers[:5], s).size == geometry.size]
+    fits = [
+        s
+        for s in range(low, store.charge())
+        if Layout(*geometry.numbers[:5], s).size == geometry.size
+    ]
     if not fits:
         return None
     set_number(image, HEADER_NUMBERS["s"], random.choice(fits))
@@ -593,7 +646,12 @@ def noise_past_the_digests(image, store, random):
     """In the places of hash stores that the manifest does not name."""
     for at in open_slots(store):
         if is_long(image, at):
-            set_noise(image, at + HASH_DIGESTS + DIGEST * get_number(image, at + HASHES), at + SORTED_DIGEST, random)
+            set_noise(
+                image,
+                at + HASH_DIGESTS + DIGEST * get_number(image, at + HASHES),
+                at + SORTED_DIGEST,
+                random,
+            )
 
 
 @harmless
@@ -632,7 +690,8 @@ def noise_in_a_closed_slot(image, store, random):
 
 @harmless
 def noise_in_closed_gates_and_behind_them(image, store, random):
-    geometry, log = store.geometry, store.active
+    geometry = store.geometry
+    log = store.active
     for row in range(len(log.rows), geometry.cap):
         image[geometry.gates_at(log.region) + row] = other_byte(random, OPEN_GATE)
         set_noise(image, row_place(store, log, row), row_place(store, log, row + 1), random)
@@ -640,7 +699,8 @@ def noise_in_closed_gates_and_behind_them(image, store, random):
 
 @harmless
 def open_gates_past_a_closed_one(image, store, random):
-    geometry, log = store.geometry, store.active
+    geometry = store.geometry
+    log = store.active
     for row in range(len(log.rows) + 1, geometry.cap):
         image[geometry.gates_at(log.region) + row] = random.choice([OPEN_GATE, other_byte(random)])
         set_noise(image, row_place(store, log, row), row_place(store, log, row + 1), random)
@@ -658,17 +718,25 @@ def other_values(image, store, random):
     for log in (store.active, *store.frozen):
         for i, row in enumerate(log.rows):
             if row[0] == PUT:
-                set_noise(image, row_place(store, log, i) + ROW_HEAD, row_place(store, log, i + 1), random)
+                set_noise(
+                    image, row_place(store, log, i) + ROW_HEAD, row_place(store, log, i + 1), random
+                )
 
 
 @harmless
 def noise_where_no_digest_is_said(image, store, random):
-    """In a store without digests: the values of hashed rows and entries, and what empty slots have behind their kind."""
+    """In a store without digests: the values of hashed rows and entries, and what empty slots have
+    behind their kind."""
     if store.layout == 2:
         return
     for one in store.hashes:
         for slot, row in enumerate(one.slots):
-            set_noise(image, slot_place(store, one, slot) + (ROW_HEAD if row else 1), slot_place(store, one, slot + 1), random)
+            set_noise(
+                image,
+                slot_place(store, one, slot) + (ROW_HEAD if row else 1),
+                slot_place(store, one, slot + 1),
+                random,
+            )
     for entry in range(len(store.sorted.entries)):
         set_noise(image, entry_place(store, entry) + KEY_LEN, entry_place(store, entry + 1), random)
 
@@ -676,7 +744,12 @@ def noise_where_no_digest_is_said(image, store, random):
 @harmless
 def noise_behind_the_slots(image, store, random):
     for one in store.hashes:
-        set_noise(image, slot_place(store, one, store.geometry.slots), store.geometry.hash_at(one.region + 1), random)
+        set_noise(
+            image,
+            slot_place(store, one, store.geometry.slots),
+            store.geometry.hash_at(one.region + 1),
+            random,
+        )
 
 
 @harmless
@@ -684,10 +757,18 @@ def noise_in_regions_that_are_not_named(image, store, random):
     geometry = store.geometry
     logs = {it.region for it in (store.active, *store.frozen)}
     hashes = {it.region for it in store.hashes}
-    ends = [(geometry.gates_at(it), geometry.gates_at(it + 1)) for it in range(geometry.nl) if it not in logs]
-    ends += [(geometry.hash_at(it), geometry.hash_at(it + 1)) for it in range(geometry.nh) if it not in hashes]
+    ends = [
+        (geometry.gates_at(it), geometry.gates_at(it + 1))
+        for it in range(geometry.nl) if it not in logs
+    ]
+    ends += [
+        (geometry.hash_at(it), geometry.hash_at(it + 1))
+        for it in range(geometry.nh) if it not in hashes
+    ]
     other = 1 - store.sorted.region
     ends += [(geometry.sorted_at(other), geometry.sorted_at(other + 1))]
-    ends += [(entry_place(store, len(store.sorted.entries)), geometry.sorted_at(store.sorted.region + 1))]
+    ends += [
+        (entry_place(store, len(store.sorted.entries)), geometry.sorted_at(store.sorted.region + 1))
+    ]
     for at, end in ends:
         set_noise(image, at, end, random)

@@ -66,22 +66,35 @@ class Table:
 
 class Log:
     def __init__(self, region, buckets):
-        self.region, self.rows, self.settled, self.table = region, [], 0, Table(buckets)
+        self.region = region
+        self.rows = []
+        self.settled = 0
+        self.table = Table(buckets)
 
 
 class Engine:
     def __init__(self, layout):
-        self.layout, self.calls, self.accepted = layout, [], 0
-        self.generation, self.active, self.frozen, self.hashes = 0, Log(0, layout.buckets), [], []
-        self.region, self.entries, self.is_spare_closed = 0, [], True
+        self.layout = layout
+        self.calls = []
+        self.accepted = 0
+        self.generation = 0
+        self.active = Log(0, layout.buckets)
+        self.frozen = []
+        self.hashes = []
+        self.region = 0
+        self.entries = []
+        self.is_spare_closed = True
         self.conversion = self.merge = None
-        self.is_absent, self.absent_at = False, 0
+        self.is_absent = False
+        self.absent_at = 0
 
     def answer(self, line):
-        """The reply to a line. The device calls that it takes are then in `calls`. If `is_absent`, it
-        looked up a key that has no row and no entry, and may have read one entry more, behind the first
-        `absent_at` calls."""
-        self.calls, self.is_absent, self.absent_at = [], False, 0
+        """The reply to a line. The device calls that it takes are then in `calls`. If `is_absent`,
+        it looked up a key that has no row and no entry, and may have read one entry more, behind
+        the first `absent_at` calls."""
+        self.calls = []
+        self.is_absent = False
+        self.absent_at = 0
         word, *rest = line.split()
         return getattr(self, f"do_{word}")(*rest)
 
@@ -116,7 +129,8 @@ class Engine:
         """The next generation, of the stores as they now are."""
         self.generation += 1
         slot = slot_of(self.generation)
-        frozen, hashes = [it.region for it in self.frozen], [(it, self.slots_bytes(slots)) for it, slots in self.hashes]
+        frozen = [it.region for it in self.frozen]
+        hashes = [(it, self.slots_bytes(slots)) for it, slots in self.hashes]
         entries = [self.entry_bytes(*it) for it in self.entries]
         body = manifest(self.generation, self.active.region, frozen, hashes, self.region, entries)
         self.write(closing_place(slot, self.is_spare_closed), CLOSED)
@@ -149,7 +163,8 @@ class Engine:
         return self.do_delete(key) if new == "-" else self.do_put(key, new)
 
     def add(self, kind, key, value):
-        pair, path = self.layout.buckets_of(key), None
+        pair = self.layout.buckets_of(key)
+        path = None
         if len(self.active.rows) < self.layout.rows:
             slot = self.look_up(self.active, key, ROW_HEAD)
             path = self.active.table.plan(pair) if slot is None else [slot]
@@ -157,7 +172,8 @@ class Engine:
             if not self.freeze():
                 return "refused 8 NoRoom"
             path = self.active.table.plan(pair)
-        place, row = len(self.active.rows), self.layout.row(kind, key, value)
+        place = len(self.active.rows)
+        row = self.layout.row(kind, key, value)
         self.write(self.body_at(self.active, place), row[:ROW_HEAD])
         self.write(self.body_at(self.active, place) + ROW_HEAD, row[ROW_HEAD:])
         self.active.table.place(path, pair, place)
@@ -226,14 +242,16 @@ class Engine:
                 return self.found(row)
         place = next((n for n, (its, _) in enumerate(self.entries) if its == key), None)
         if place is None:
-            self.is_absent, self.absent_at = True, len(self.calls)
+            self.is_absent = True
+            self.absent_at = len(self.calls)
             return "absent"
         self.calls.append(self.entry_reads()[place])
         return f"value {self.entries[place][1]}"
 
     def entry_reads(self):
         """The reads of each entry."""
-        at, count = self.layout.sorted_region(self.region), self.layout.entry_len
+        at = self.layout.sorted_region(self.region)
+        count = self.layout.entry_len
         return [("pread", at + n * count, count) for n in range(len(self.entries))]
 
     def found(self, row):
@@ -259,7 +277,8 @@ class Engine:
         return "finished"
 
     def convert_slot(self, region, slots):
-        log, row = self.frozen[-1], None
+        log = self.frozen[-1]
+        row = None
         entry = log.table.slots[len(slots)]
         if entry:
             self.read(self.body_at(log, entry[1]), self.layout.row_len)
@@ -282,7 +301,8 @@ class Engine:
             return self.decide(merge)
         self.merge = None
         del self.hashes[len(self.hashes) - len(merge.stores):]
-        self.region, self.entries = 1 - self.region, merge.made
+        self.region = 1 - self.region
+        self.entries = merge.made
         self.sync()
         self.write_manifest()
         return "finished"
@@ -292,7 +312,10 @@ class Engine:
         region, slots = merge.stores[store]
         most = PIECE // self.layout.row_len
         if slot % most == 0:
-            self.read(self.slot_at(region, slot), min(most, self.layout.slots - slot) * self.layout.row_len)
+            self.read(
+                self.slot_at(region, slot),
+                min(most, self.layout.slots - slot) * self.layout.row_len,
+            )
         if slots[slot]:
             merge.waiting.setdefault(slots[slot][1], (slots[slot], region, slot))
         merge.gathered += 1
@@ -300,7 +323,8 @@ class Engine:
 
     def decide(self, merge):
         """The lowest key that waits or is an old entry."""
-        passed, most = len(self.entries) - len(merge.old), PIECE // self.layout.entry_len
+        passed = len(self.entries) - len(merge.old)
+        most = PIECE // self.layout.entry_len
         if merge.old and passed % most == 0 and merge.is_ahead != passed:
             merge.is_ahead = passed
             self.read(self.layout.sorted_region(self.region) + passed * self.layout.entry_len,
@@ -313,7 +337,9 @@ class Engine:
             if value:
                 self.read(self.slot_at(region, slot) + ROW_HEAD, self.layout.values)
         if value:
-            at = self.layout.sorted_region(1 - self.region) + len(merge.made) * self.layout.entry_len
+            at = (
+                self.layout.sorted_region(1 - self.region) + len(merge.made) * self.layout.entry_len
+            )
             self.write(at, self.entry_bytes(key, value))
             merge.made.append((key, value))
         return "moved"
@@ -323,5 +349,9 @@ class Merge:
     """A merge of these hash stores, newest first, and of these entries."""
 
     def __init__(self, stores, entries):
-        self.stores, self.old, self.made = list(stores), list(entries), []
-        self.gathered, self.waiting, self.is_ahead = 0, {}, None
+        self.stores = list(stores)
+        self.old = list(entries)
+        self.made = []
+        self.gathered = 0
+        self.waiting = {}
+        self.is_ahead = None

@@ -1,4 +1,5 @@
-"""What every part of the suite stands on: the program, its folder, its random numbers, and the watching library.
+"""What every part of the suite stands on: the program, its folder, its random numbers, and the
+watching library.
 
 A part is a module `parts/test_NAME.py` with classes derived from `Case`. `tests/run` runs it.
 """
@@ -34,7 +35,8 @@ def setting(name, default):
 PROGRAM = pathlib.Path(setting("PROGRAM", TOP / "crates/silt/out/silt"))
 SEED = int(setting("SEED", DEFAULT_SEED))
 LONG = setting("LONG", "") != ""
-# Whether the program is the proved one. A build for trying has a memory checker of its own, so no request for memory can be refused there.
+# Whether the program is the proved one. A build for trying has a memory checker of its own, so no
+# request for memory can be refused there.
 PROVED = setting("UNPROVED", "") == ""
 
 
@@ -44,10 +46,13 @@ def scaled(count):
 
 
 def mounting(case):
-    """The words in front of a program that mounts file systems of its own. Leaves the test out where that is not allowed."""
+    """The words in front of a program that mounts file systems of its own. Leaves the test out
+    where that is not allowed."""
     words = ["unshare", "--mount"]
     try:
-        ran = subprocess.run([*words, "mount", "-t", "tmpfs", "tmpfs", "/mnt"], capture_output=True, text=True)
+        ran = subprocess.run(
+            [*words, "mount", "-t", "tmpfs", "tmpfs", "/mnt"], capture_output=True, text=True
+        )
     except FileNotFoundError as missing:
         case.skipTest(f"no file system can be mounted here: {missing}")
     if ran.returncode:
@@ -56,7 +61,8 @@ def mounting(case):
 
 
 def closing(*numbers):
-    """What a child calls before it becomes the program, which then begins without these descriptors."""
+    """What a child calls before it becomes the program, which then begins without these
+    descriptors."""
     def close():
         for number in numbers:
             os.close(number)
@@ -66,7 +72,8 @@ def closing(*numbers):
 
 @dataclass
 class Ended:
-    """How a run of the program ended: its status (a negative number is a signal), its output and its error output."""
+    """How a run of the program ended: its status (a negative number is a signal), its output and
+    its error output."""
 
     status: int
     out: str
@@ -81,12 +88,29 @@ _library = None
 
 
 def watch_library():
-    """The library of watch.c, which records or refuses calls of the program. It is compiled once a process."""
+    """The library of watch.c, which records or refuses calls of the program. It is compiled once a
+    process."""
     global _library
     if _library is None:
         _library = tempfile.TemporaryDirectory(prefix="silt-watch-")
-        source, made = HELPERS / "watch.c", pathlib.Path(_library.name) / "watch.so"
-        subprocess.run(["cc", "-O2", "-Wall", "-Werror", "-shared", "-fPIC", "-pthread", "-o", made, source, "-ldl"], check=True)
+        source = HELPERS / "watch.c"
+        made = pathlib.Path(_library.name) / "watch.so"
+        subprocess.run(
+            [
+                "cc",
+                "-O2",
+                "-Wall",
+                "-Werror",
+                "-shared",
+                "-fPIC",
+                "-pthread",
+                "-o",
+                made,
+                source,
+                "-ldl",
+            ],
+            check=True,
+        )
     return pathlib.Path(_library.name) / "watch.so"
 
 
@@ -108,9 +132,17 @@ class Case(unittest.TestCase):
         return self.folder / name
 
     def start(self, *words, env=None, **how):
-        """Starts the program with these words in the test's folder. The caller reads and ends it."""
-        how = {"stdin": subprocess.PIPE, "stdout": subprocess.PIPE, "stderr": subprocess.PIPE, "cwd": self.folder} | how
-        return subprocess.Popen([*self.starter, PROGRAM, *map(str, words)], env={**os.environ, **(env or {})}, **how)
+        """Starts the program with these words in the test's folder. The caller reads and ends
+        it."""
+        how = {
+            "stdin": subprocess.PIPE,
+            "stdout": subprocess.PIPE,
+            "stderr": subprocess.PIPE,
+            "cwd": self.folder,
+        } | how
+        return subprocess.Popen(
+            [*self.starter, PROGRAM, *map(str, words)], env={**os.environ, **(env or {})}, **how
+        )
 
     def silt(self, *words, text="", env=None, limit=TIME_LIMIT):
         """Runs the program with these words and this standard input to its end."""
@@ -118,20 +150,26 @@ class Case(unittest.TestCase):
             return self.finish(running, text, limit)
 
     def finish(self, running, text="", limit=TIME_LIMIT):
-        """Gives a started program the rest of its standard input, and reads what it prints to its end."""
+        """Gives a started program the rest of its standard input, and reads what it prints to its
+        end."""
         try:
-            out, err = running.communicate(text if isinstance(text, bytes) else text.encode(), timeout=limit)
+            out, err = running.communicate(
+                text if isinstance(text, bytes) else text.encode(), timeout=limit
+            )
         except subprocess.TimeoutExpired:
             running.kill()
             self.fail(f"silt {' '.join(map(str, running.args[1:]))} did not end in {limit} seconds")
-        return Ended(running.returncode, *((it or b"").decode(errors="replace") for it in (out, err)))
+        return Ended(
+            running.returncode, *((it or b"").decode(errors="replace") for it in (out, err))
+        )
 
     def assert_ends(self, call, out, err="", status=0, text=""):
         """The program ends so: it is called with the words of a text, and reads another one."""
         self.assertEqual(self.silt(*call.split(), text=text), Ended(status, out, err), call)
 
     def store(self, geometry, lines=(), name="store"):
-        """Makes a store of this geometry ('2 2 4 2 2 8') in the test's folder, and runs these lines on it. Returns its path.
+        """Makes a store of this geometry ('2 2 4 2 2 8') in the test's folder, and runs these lines
+        on it. Returns its path.
 
         A store of version 1 is then as a program left it that knew no digests."""
         made = self.silt("format", name, *geometry.split(), "--force")
@@ -152,6 +190,7 @@ class Case(unittest.TestCase):
         return self.silt("check", name)
 
     def assert_checked(self, checked, name="store"):
-        """A check found the store whole: beside its report it named the six numbers and the charge."""
+        """A check found the store whole: beside its report it named the six numbers and the
+        charge."""
         self.assertEqual(checked.status, 0, checked)
         self.assertRegex(checked.err, rf"\Asilt: {name}: {NUMBERS}; charge \d+ of \d+\n\Z")

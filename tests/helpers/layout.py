@@ -1,8 +1,8 @@
 """Where the parts of a store lie in its file, and the bytes of rows, entries and manifests, as
 docs/layout.md has them.
 
-All offsets of a device are here. `model.py` alone has its own, since it is the other witness: what it
-and the program say of a device is compared, and a slip in this module would not be seen there.
+All offsets of a device are here. `model.py` alone has its own, since it is the other witness: what
+it and the program say of a device is compared, and a slip in this module would not be seen there.
 """
 import hashlib
 from dataclasses import dataclass
@@ -102,12 +102,18 @@ class Layout:
 
     def row(self, kind, word, value=None):
         """A row: its kind, its key and its value in digits, zeros for a delete."""
-        return bytes([kind]) + key_bytes(word) + (bytes.fromhex(value) if value else bytes(self.values))
+        return (
+            bytes([kind])
+            + key_bytes(word)
+            + (bytes.fromhex(value) if value else bytes(self.values))
+        )
 
     def buckets_of(self, word):
         """The two buckets of a key."""
         key = key_bytes(word)
-        return int.from_bytes(key[:2], "big") % self.buckets, int.from_bytes(key[2:4], "big") % self.buckets
+        return int.from_bytes(key[:2], "big") % self.buckets, int.from_bytes(
+            key[2:4], "big"
+        ) % self.buckets
 
     def place(self, at):
         """The name of the part of the file that has this offset."""
@@ -118,7 +124,9 @@ class Layout:
 
 def ids(numbers, room):
     """A count and the numbers, newest first, with zeros in the places that are left."""
-    return b"".join(it.to_bytes(4, "big") for it in [len(numbers), *numbers] + [0] * (room - len(numbers)))
+    return b"".join(
+        it.to_bytes(4, "big") for it in [len(numbers), *numbers] + [0] * (room - len(numbers))
+    )
 
 
 def sha1(data):
@@ -131,14 +139,14 @@ def slot_of(generation):
 
 
 def closing_place(slot, is_closed):
-    """Where one zero is written before a slot gets another body: over its gate, or, if that is closed already, over the
-    last byte of its sector."""
+    """Where one zero is written before a slot gets another body: over its gate, or, if that is
+    closed already, over the last byte of its sector."""
     return slot + SECTOR - 1 if is_closed else slot
 
 
 def manifest(generation, active, frozen=(), hashes=(), region=0, entries=()):
-    """The 460 bytes behind a manifest's gate. Of each hash store come its region and the bytes of its
-    slots, and of each sorted entry its bytes."""
+    """The 460 bytes behind a manifest's gate. Of each hash store come its region and the bytes of
+    its slots, and of each sorted entry its bytes."""
     body = [
         ((LONG_FORM << 56) + generation).to_bytes(8, "big"),
         active.to_bytes(4, "big"),

@@ -26,14 +26,19 @@ def make_keys(random, geometry, full_tables):
     if kind == "names":
         return [b"=" + random.choice([b"a", b"key-", b"~!"]) + b"%d" % i for i in range(count)]
     few = [random.randrange(geometry.b) for _ in range(1 if kind == "one pair" else 2)]
-    return [make_key(random, geometry, few if kind != "any" else range(geometry.b)) for _ in range(count)]
+    return [
+        make_key(random, geometry, few if kind != "any" else range(geometry.b))
+        for _ in range(count)
+    ]
 
 
 def make_key(random, geometry, buckets):
     """A key whose two buckets are among the given ones."""
     halves = [random.choice(buckets) + geometry.b * random.randrange(3) for _ in range(2)]
     head = b"".join(it.to_bytes(2, "big") for it in halves)
-    return (head + bytes([random.randrange(256)]) + bytes(14) + bytes([random.randrange(3)])).hex().encode()
+    return (
+        head + bytes([random.randrange(256)]) + bytes(14) + bytes([random.randrange(3)])
+    ).hex().encode()
 
 
 def make_value(random, v):
@@ -44,7 +49,9 @@ class Maker:
     """Makes lines for a store of one geometry. To fill tables it puts its keys in turn."""
 
     def __init__(self, random, geometry, full_tables=False):
-        self.random, self.geometry, self.full_tables = random, geometry, full_tables
+        self.random = random
+        self.geometry = geometry
+        self.full_tables = full_tables
         self.keys = make_keys(random, geometry, full_tables)
         # The last values that were put or swapped in and not taken away, by the keys' words.
         self.latest = {}
@@ -55,7 +62,8 @@ class Maker:
         self.weights = [40, *some, *(random.choice([0, 2, 6]) for _ in range(3)), 3]
 
     def lines(self, count):
-        """About so many lines, as bytes without line ends. Steps in the background come in bursts."""
+        """About so many lines, as bytes without line ends. Steps in the background come in
+        bursts."""
         made = []
         while len(made) < count:
             kind = self.random.choices(self.kinds, self.weights)[0]
@@ -64,13 +72,23 @@ class Maker:
 
     def make_put(self):
         self.turn += 1
-        key = self.keys[self.turn % len(self.keys)] if self.full_tables else self.random.choice(self.keys)
+        key = (
+            self.keys[self.turn % len(self.keys)]
+            if self.full_tables
+            else self.random.choice(self.keys)
+        )
         return [b"put " + self.cased(key) + b" " + self.new_value(key)]
 
     def make_swap(self):
-        """A swap, for the most part of the value that the key has if the commands before were taken, or of none."""
-        key, other = self.random.choice(self.keys), make_value(self.random, self.geometry.v)
-        old = self.latest.get(key, b"-") if self.random.random() < 0.8 else self.random.choice([other, b"-"])
+        """A swap, for the most part of the value that the key has if the commands before were
+        taken, or of none."""
+        key = self.random.choice(self.keys)
+        other = make_value(self.random, self.geometry.v)
+        old = (
+            self.latest.get(key, b"-")
+            if self.random.random() < 0.8
+            else self.random.choice([other, b"-"])
+        )
         is_last = old != b"-" and self.random.random() < 0.2
         new = self.no_value(key) if is_last else self.new_value(key)
         return [b"swap " + self.cased(key) + b" " + self.cased(old) + b" " + new]
@@ -96,11 +114,18 @@ class Maker:
 
     def make_convert(self):
         whole = self.geometry.slots + 1
-        return [b"convert"] * self.random.choice([1, 3, whole, whole, self.random.randint(1, 2 * whole)])
+        return [b"convert"] * self.random.choice(
+            [1, 3, whole, whole, self.random.randint(1, 2 * whole)]
+        )
 
     def make_merge(self):
-        whole = self.geometry.slots * self.random.randint(1, self.geometry.nh) + self.random.randint(1, 12)
-        return [b"merge"] * self.random.choice([1, 5, whole, whole, self.random.randint(1, 2 * whole)])
+        whole = (
+            self.geometry.slots * self.random.randint(1, self.geometry.nh)
+            + self.random.randint(1, 12)
+        )
+        return [b"merge"] * self.random.choice(
+            [1, 5, whole, whole, self.random.randint(1, 2 * whole)]
+        )
 
     def make_round(self):
         """As many puts as freeze a log, a whole conversion, and perhaps a merge."""
@@ -122,26 +147,81 @@ class Maker:
 def odd_lines(random, key, v):
     """Lines that are not good, and some good ones in an unusual form."""
     value = make_value(random, v)
-    word = random.choice([b"put", b"delete", b"swap", b"get", b"flush", b"convert", b"merge", b"stop"])
+    word = random.choice(
+        [b"put", b"delete", b"swap", b"get", b"flush", b"convert", b"merge", b"stop"]
+    )
     noise = bytes(random.choice(b"abget 0=\r\t\x00\xff") for _ in range(random.randint(1, 12)))
     return [
-        b"", b"\r", b" ", b"\r\r", noise,
-        word, word.upper(), word + b" ", b" " + word, word + b"  " + key, word + b" " + key + b" " + key,
-        b"put " + key + b" " + value + b" ", b"put  " + key + b" " + value, b"put " + key, b"flush " + key,
-        b"put " + key + b"\t" + value, b"get " + key + b"\r",
-        b"get " + b"0" * 39, b"get " + b"0" * 41, b"get " + b"0" * 39 + b"g", b"get ", b"get =",
-        b"get =\x7f", b"get =a\xc3\xa4", b"get =" + b"a" * 8000, b"get =" + b"a" * 8001, b"delete 0x" + b"0" * 38,
-        b"put " + key + b" " + value[1:], b"put " + key + b" " + value + b"0", b"put " + key + b" " + value + b"00",
-        b"put " + key + b" ", b"put " + key + b" g" + value[1:], b"put 0 0", b"put =b -" + value[1:],
-        b"swap " + key + b" " + value, b"swap " + key + b" " + value + b" " + value + b" " + value,
-        b"swap " + key + b"  " + value, b"swap " + key + b" " + value + b" " + value + b"\r",
-        b"swap " + key + b" " + value + b" " + value[1:], b"swap " + key + b" " + value[1:] + b" " + value, b"swap 0 0 0",
-        b"swap " + key + b" - -", b"swap " + key + b" - " + value, b"swap " + key + b" " + value + b" -\r", b"swap = - -",
-        b"swap " + key + b" - " + value[1:], b"swap " + key + b" -- " + value, b"swap " + key + b" -", b"swap " + key + b" - ",
-        b"put " + key + b" -", b"put - " + value, b"get -", b"delete -", b"-",
-        b"x" * 16600, b"x" * 16601, b"x" * 16600 + b"\r", b"x" * 40000, b"get =" + b"a" * 16596, b"stop 0 " + b"o" * 17000,
-        b"stop 0 olds", b"stop 0 OLD", b"stop -1 old", b"stop 4294967296 old", b"stop 00000000001 old",
-        b"stop 1 old old", b"stop 1", b"stop  old", b"stop x new", b"stop +1 new",
+        b"",
+        b"\r",
+        b" ",
+        b"\r\r",
+        noise,
+        word,
+        word.upper(),
+        word + b" ",
+        b" " + word,
+        word + b"  " + key,
+        word + b" " + key + b" " + key,
+        b"put " + key + b" " + value + b" ",
+        b"put  " + key + b" " + value,
+        b"put " + key,
+        b"flush " + key,
+        b"put " + key + b"\t" + value,
+        b"get " + key + b"\r",
+        b"get " + b"0" * 39,
+        b"get " + b"0" * 41,
+        b"get " + b"0" * 39 + b"g",
+        b"get ",
+        b"get =",
+        b"get =\x7f",
+        b"get =a\xc3\xa4",
+        b"get =" + b"a" * 8000,
+        b"get =" + b"a" * 8001,
+        b"delete 0x" + b"0" * 38,
+        b"put " + key + b" " + value[1:],
+        b"put " + key + b" " + value + b"0",
+        b"put " + key + b" " + value + b"00",
+        b"put " + key + b" ",
+        b"put " + key + b" g" + value[1:],
+        b"put 0 0",
+        b"put =b -" + value[1:],
+        b"swap " + key + b" " + value,
+        b"swap " + key + b" " + value + b" " + value + b" " + value,
+        b"swap " + key + b"  " + value,
+        b"swap " + key + b" " + value + b" " + value + b"\r",
+        b"swap " + key + b" " + value + b" " + value[1:],
+        b"swap " + key + b" " + value[1:] + b" " + value,
+        b"swap 0 0 0",
+        b"swap " + key + b" - -",
+        b"swap " + key + b" - " + value,
+        b"swap " + key + b" " + value + b" -\r",
+        b"swap = - -",
+        b"swap " + key + b" - " + value[1:],
+        b"swap " + key + b" -- " + value,
+        b"swap " + key + b" -",
+        b"swap " + key + b" - ",
+        b"put " + key + b" -",
+        b"put - " + value,
+        b"get -",
+        b"delete -",
+        b"-",
+        b"x" * 16600,
+        b"x" * 16601,
+        b"x" * 16600 + b"\r",
+        b"x" * 40000,
+        b"get =" + b"a" * 16596,
+        b"stop 0 " + b"o" * 17000,
+        b"stop 0 olds",
+        b"stop 0 OLD",
+        b"stop -1 old",
+        b"stop 4294967296 old",
+        b"stop 00000000001 old",
+        b"stop 1 old old",
+        b"stop 1",
+        b"stop  old",
+        b"stop x new",
+        b"stop +1 new",
     ]
 
 
@@ -151,7 +231,11 @@ def make_stop(random, device):
     Most stop one of its calls, and some tear a write over several gates.
     """
     calls = len(device.calls)
-    torn = [i for i, it in enumerate(device.calls, 1) if it and len(it[1]) > 1 and set(it[1]) == {model.OPEN}]
+    torn = [
+        i
+        for i, it in enumerate(device.calls, 1)
+        if it and len(it[1]) > 1 and set(it[1]) == {model.OPEN}
+    ]
     if torn and random.random() < 0.3:
         return f"stop {random.choice(torn)} {random.choice(['mix', 'mix', 'new', 'ones'])}".encode()
     late = max(random.randint(1, calls) for _ in range(2)) if calls else 1

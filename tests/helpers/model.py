@@ -3,9 +3,9 @@
 It is written from the rules of layout, lines and replies alone, and keeps whole rows where the
 program keeps tags and places. It knows both versions of the layout. Nothing here calls the program.
 
-It stands apart and imports no other helper, though `layout.py` has the same places: the two were worked
-out of docs/layout.md independently, and tests compare them by the program's files. An offset that both
-took from one place could be wrong in both.
+It stands apart and imports no other helper, though `layout.py` has the same places: the two were
+worked out of docs/layout.md independently, and tests compare them by the program's files. An offset
+that both took from one place could be wrong in both.
 
     run_script(geometry, data)     what `silt script` prints for these bytes of standard input
     Device(image)                  a device with shown and settled bytes, and pending ranges
@@ -262,7 +262,8 @@ class Log:
 
 @dataclass
 class HashStore:
-    """A hash region: for each slot its row, or None. The digest is that of the bytes of all slots."""
+    """A hash region: for each slot its row, or None. The digest is that of the bytes of all
+    slots."""
 
     region: int
     slots: list
@@ -321,7 +322,8 @@ def digest(data):
 
 @dataclass(frozen=True)
 class Digests:
-    """The digests of the hash stores that a manifest names, newest first, and of its sorted store."""
+    """The digests of the hash stores that a manifest names, newest first, and of its sorted
+    store."""
 
     hashes: tuple
     sorted: bytes
@@ -366,12 +368,15 @@ def decode_digests(data, hash_count):
 def decode_body(data, slot, geometry, version):
     """The body of an open slot, or None where it is not well formed."""
     field, active, frozen_count, *rest = struct.unpack(">Q28I", data[:BODY_LENGTH])
-    frozen, hash_count, hashes = rest[:7], rest[7], rest[8:24]
+    frozen = rest[:7]
+    hash_count = rest[7]
+    hashes = rest[8:24]
     sorted_region, count = rest[24:]
     is_long, generation = divmod(field, LONG_FORM)
     if frozen_count > geometry.nl - 1 or hash_count > geometry.nh:
         return None
-    logs, hashes = [active, *frozen[:frozen_count]], hashes[:hash_count]
+    logs = [active, *frozen[:frozen_count]]
+    hashes = hashes[:hash_count]
     good = (
         (is_long or version == 1)
         and generation % 2 == slot
@@ -415,7 +420,9 @@ def examine(image):
     hashes = [examine_hash(image, geometry, *it) for it in zip(body.hashes, said.hashes)]
     entries = examine_sorted(image, geometry, body, said.sorted)
     layout = 2 if body.digests else 1
-    contents = Contents(geometry, layout, body.generation, active, frozen, hashes, entries, slots_open)
+    contents = Contents(
+        geometry, layout, body.generation, active, frozen, hashes, entries, slots_open
+    )
     if contents.charge() > geometry.s:
         raise Refused(3, "charge")
     return contents
@@ -452,7 +459,11 @@ def examine_slots(image, version, geometry):
 
 
 def row_at(image, at, geometry):
-    return (image[at], bytes(image[at + 1 : at + 21]), bytes(image[at + 21 : at + geometry.row_length]))
+    return (
+        image[at],
+        bytes(image[at + 1 : at + 21]),
+        bytes(image[at + 21 : at + geometry.row_length]),
+    )
 
 
 def examine_log(image, geometry, region):
@@ -473,7 +484,8 @@ def examine_log(image, geometry, region):
 def examine_hash(image, geometry, region, said):
     """A hash store, whose digest has to be the one that is said, if one is."""
     at = geometry.hash_at(region)
-    slots, seen = [], set()
+    slots = []
+    seen = set()
     for i in range(geometry.slots):
         row = row_at(image, at + i * geometry.row_length, geometry)
         if row[0] == 0:
@@ -491,10 +503,15 @@ def examine_hash(image, geometry, region, said):
 
 def examine_sorted(image, geometry, body, said):
     """The sorted store, whose digest has to be the one that is said, if one is."""
-    begin, entries = geometry.sorted_at(body.sorted), []
+    begin = geometry.sorted_at(body.sorted)
+    entries = []
     for i in range(body.count):
         at = begin + i * geometry.entry_length
-        entry = (PUT, bytes(image[at : at + 20]), bytes(image[at + 20 : at + geometry.entry_length]))
+        entry = (
+            PUT,
+            bytes(image[at : at + 20]),
+            bytes(image[at + 20 : at + geometry.entry_length]),
+        )
         if entries and entry[1] <= entries[-1][1]:
             raise Refused(3, f"sorted {i}")
         entries.append(entry)
@@ -566,7 +583,8 @@ def open_store(device):
 
 def seal(device, geometry, log):
     """Closes the gates past a log's first closed one, where any of them is open."""
-    at, end = geometry.gates_at(log.region) + len(log.rows) + 1, geometry.gates_at(log.region) + geometry.cap
+    at = geometry.gates_at(log.region) + len(log.rows) + 1
+    end = geometry.gates_at(log.region) + geometry.cap
     if OPEN in device.shown[at:end]:
         device.write(at, bytes(end - at))
         device.sync()
@@ -597,7 +615,9 @@ class Store:
     """An open store. `answer` does one event and gives its reply."""
 
     def __init__(self, device, contents):
-        self.device, self.contents, self.geometry = device, contents, contents.geometry
+        self.device = device
+        self.contents = contents
+        self.geometry = contents.geometry
         self.accepted = 0
         self.failed = False
         self.conversion = self.merging = None
@@ -630,7 +650,8 @@ class Store:
         return self.take(DELETE, key, bytes(self.geometry.v))
 
     def swap(self, key, old, new):
-        """A put, or a delete for no new value, if the key has the old value, or has none for no old one."""
+        """A put, or a delete for no new value, if the key has the old value, or has none for no old
+        one."""
         row = self.contents.first_row(key)
         if (row[2] if row and row[0] == PUT else None) != old:
             return "differs"
@@ -639,7 +660,8 @@ class Store:
     def take(self, kind, key, value):
         if not self.active_takes(key):
             self.freeze()
-        log, geometry = self.contents.active, self.geometry
+        log = self.contents.active
+        geometry = self.geometry
         at = geometry.rows_at(log.region) + len(log.rows) * geometry.row_length
         self.device.write(at, bytes([kind]) + key)
         self.device.write(at + 21, value)
@@ -698,7 +720,15 @@ class Store:
         slot = now.generation % 2
         frozen, hashes = (tuple(it.region for it in some) for some in (now.frozen, now.hashes))
         count = len(now.sorted.entries)
-        body = Body(now.generation, now.active.region, frozen, hashes, now.sorted.region, count, now.digests())
+        body = Body(
+            now.generation,
+            now.active.region,
+            frozen,
+            hashes,
+            now.sorted.region,
+            count,
+            now.digests(),
+        )
         write_manifest(self.device, body, now.slots_open[slot])
         now.slots_open[slot], now.layout = True, 2
 
@@ -720,7 +750,8 @@ class Store:
         return "moved"
 
     def convert_slot(self):
-        work, length = self.conversion, self.geometry.row_length
+        work = self.conversion
+        length = self.geometry.row_length
         slot = len(work.written)
         key = work.log.table.keys[slot]
         data = bytes(length)
@@ -732,7 +763,8 @@ class Store:
 
     def finish_conversion(self):
         self.refuse_last_generation()
-        work, now = self.conversion, self.contents
+        work = self.conversion
+        now = self.contents
         self.device.sync()
         now.frozen.pop()
         rows = [key and work.log.last_row(key) for key in work.log.table.keys]
@@ -768,13 +800,17 @@ class Store:
 
     def decide_row(self, work, row):
         if row[0] == PUT:
-            at = self.geometry.sorted_at(work.region) + len(work.entries) * self.geometry.entry_length
+            at = (
+                self.geometry.sorted_at(work.region)
+                + len(work.entries) * self.geometry.entry_length
+            )
             self.device.write(at, row[1] + row[2])
             work.entries.append(row)
 
     def finish_merge(self):
         self.refuse_last_generation()
-        work, now = self.merging, self.contents
+        work = self.merging
+        now = self.contents
         self.device.sync()
         now.hashes = now.hashes[: -work.taken]
         entries = b"".join(key + value for _, key, value in work.entries)
@@ -835,7 +871,8 @@ def read_stop(line, length):
     found = re.fullmatch(rb"stop ([0-9]{1,10}) ([a-z]+)", line)
     if not found or length > LONGEST_LINE:
         return None
-    call, fill = int(found[1]), found[2].decode()
+    call = int(found[1])
+    fill = found[2].decode()
     return (call, fill) if call < 2**32 and fill in FILLS else None
 
 
@@ -880,7 +917,8 @@ def run_script(geometry, data):
     """What a script prints, line by line."""
     if not geometry.in_limits():
         return [Refused(2).text]
-    image, printed = formatted_image(geometry), []
+    image = formatted_image(geometry)
+    printed = []
     for lines, stop_at, fill in split_lives(data):
         said, device, _ = run_life(image, lines, stop_at)
         printed += said

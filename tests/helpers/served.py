@@ -48,7 +48,8 @@ class Client:
         self.socket.sendall(data)
 
     def receive(self):
-        """Receives some bytes, and returns whether there were any. A reset counts as an end, and is kept in `broke`."""
+        """Receives some bytes, and returns whether there were any. A reset counts as an end, and is
+        kept in `broke`."""
         try:
             data = self.socket.recv(1 << 16)
         except (ConnectionResetError, BrokenPipeError) as broke:
@@ -92,18 +93,22 @@ class Client:
         """All replies until the server closes the connection."""
         while self.receive():
             pass
-        text, self.received = self.received.decode(), bytearray()
+        text = self.received.decode()
+        self.received = bytearray()
         return text.splitlines()
 
     def exchange(self, lines):
-        """Sends these lines in one write and ends the input, and reads meanwhile. All replies. The server has to read all
-        lines and to end the connection by itself: one that breaks is an error."""
+        """Sends these lines in one write and ends the input, and reads meanwhile. All replies. The
+        server has to read all lines and to end the connection by itself: one that breaks is an
+        error."""
         sending = threading.Thread(target=self.send_all, args=(lines,))
         sending.start()
         replies = self.rest()
         sending.join()
         if self.broke:
-            raise ConnectionError(f"{len(replies)} replies to {len(lines)} lines, and then: {self.broke!r}")
+            raise ConnectionError(
+                f"{len(replies)} replies to {len(lines)} lines, and then: {self.broke!r}"
+            )
         return replies
 
     def send_all(self, lines):
@@ -140,7 +145,9 @@ class Server:
         by = time.monotonic() + TIME_LIMIT
         while self.printed.count(b"\n") <= number:
             if not select.select([self.process.stdout], [], [], max(0, by - time.monotonic()))[0]:
-                self.case.fail(f"the server printed {self.printed}, and nothing more in {TIME_LIMIT} seconds")
+                self.case.fail(
+                    f"the server printed {self.printed}, and nothing more in {TIME_LIMIT} seconds"
+                )
             data = os.read(self.process.stdout.fileno(), 1 << 16)
             if not data:
                 return None

@@ -19,7 +19,8 @@ from harness import Case, watch_library
 HEAD = struct.Struct("<B3xiiIqqqI4x")
 STREAMS = {0: "standard input", 1: "standard output", 2: "standard error"}
 # Calls that put bytes into a stream or a socket, and those that take bytes out.
-OUT, IN = ("write", "send"), ("read", "recv")
+OUT = ("write", "send")
+IN = ("read", "recv")
 
 
 @dataclass
@@ -49,7 +50,8 @@ class Call:
 
 
 def watching(case, log=None, counts=None, **plans):
-    """The environment of a watched run. The plans are fail, short, drop and slow: a word or a list."""
+    """The environment of a watched run. The plans are fail, short, drop and slow: a word or a
+    list."""
     env = {"LD_PRELOAD": str(watch_library())}
     for name, path in (("LOG", log), ("COUNTS", counts)):
         if path:
@@ -61,7 +63,10 @@ def watching(case, log=None, counts=None, **plans):
 
 def read_counts(path):
     """How often the program made each call, by name."""
-    return {name: int(number) for name, number in map(str.split, pathlib.Path(path).read_text().splitlines())}
+    return {
+        name: int(number)
+        for name, number in map(str.split, pathlib.Path(path).read_text().splitlines())
+    }
 
 
 def read_raw(path):
@@ -78,16 +83,23 @@ def read_raw(path):
 
 def read_record(path):
     """The calls in their order. Each names the file that its number meant when it was made."""
-    files, calls, sockets = dict(STREAMS), [], itertools.count(1)
+    files = dict(STREAMS)
+    calls = []
+    sockets = itertools.count(1)
     for name, (fd, error, thread, at, asked, result), data in read_raw(path):
         if name == "result":
             latest = next(it for it in reversed(calls) if it.thread == thread and it.name in OUT)
-            latest.result, latest.error = result, errno.errorcode.get(error, "")
+            latest.result = result
+            latest.error = errno.errorcode.get(error, "")
             continue
         if result >= 0 and name in ("open", "accept"):
             files[result] = data.decode() if name == "open" else f"socket {next(sockets)}"
-        file = data.decode() if name == "open" else files.get(result if name == "accept" else fd, "")
-        calls.append(Call(name, file, fd, at, asked, result, errno.errorcode.get(error, ""), thread, data))
+        file = (
+            data.decode() if name == "open" else files.get(result if name == "accept" else fd, "")
+        )
+        calls.append(
+            Call(name, file, fd, at, asked, result, errno.errorcode.get(error, ""), thread, data)
+        )
     return calls
 
 

@@ -39,10 +39,12 @@ LATER = "0001".ljust(40, "0")
 
 
 class Buffers:
-    """The calls of the system that device calls become. The buffer that was used last is the first."""
+    """The calls of the system that device calls become. The buffer that was used last is the
+    first."""
 
     def __init__(self):
-        self.calls, self.held = [], [(0, b"")] * BUFFERS
+        self.calls = []
+        self.held = [(0, b"")] * BUFFERS
 
     def go_out(self):
         """The last buffer is written out, and the first is an empty one."""
@@ -56,8 +58,10 @@ class Buffers:
         and it overlaps none before it."""
         for n, (start, held) in enumerate(self.held):
             begins = at == start + len(held) or not held
-            apart = all(not held or not other or start + len(held) <= first or first + len(other) <= start
-                        for first, other in self.held[:n])
+            apart = all(
+                not held or not other or start + len(held) <= first or first + len(other) <= start
+                for first, other in self.held[:n]
+            )
             if begins and len(held) + count <= ROOM and apart:
                 return n
         return None
@@ -100,7 +104,8 @@ class Rules:
         self.layout = Layout.of(words)
 
     def row(self, log, place, kind, key, value=None):
-        at, row = self.layout.bodies(log) + place * self.layout.row_len, self.layout.row(kind, key, value)
+        at = self.layout.bodies(log) + place * self.layout.row_len
+        row = self.layout.row(kind, key, value)
         return [(at, row[:ROW_HEAD]), (at + ROW_HEAD, row[ROW_HEAD:])]
 
     def flush(self, log, first, count):
@@ -112,7 +117,14 @@ class Rules:
     def manifest(self, body, is_closed):
         """The writes of a manifest's body, into a slot whose gate is closed already or not."""
         slot = slot_of(body[7])
-        return [(closing_place(slot, is_closed), CLOSED), SYNC, (slot + 1, body), SYNC, (slot, OPEN), SYNC]
+        return [
+            (closing_place(slot, is_closed), CLOSED),
+            SYNC,
+            (slot + 1, body),
+            SYNC,
+            (slot, OPEN),
+            SYNC,
+        ]
 
     def slot(self, region, slot, row=None):
         """A slot of a conversion, which without a row gets zeros."""
@@ -137,8 +149,12 @@ class Rules:
 
     def empty_store(self):
         """What formatting writes."""
-        return ([(0, CLOSED), SYNC, (SLOTS[1], CLOSED)] + self.prepare(0) + self.manifest(manifest(0, 0), False)
-                + [(1, self.layout.header), SYNC, (0, OPEN), SYNC])
+        return (
+            [(0, CLOSED), SYNC, (SLOTS[1], CLOSED)]
+            + self.prepare(0)
+            + self.manifest(manifest(0, 0), False)
+            + [(1, self.layout.header), SYNC, (0, OPEN), SYNC]
+        )
 
 
 def changes(calls):
@@ -215,7 +231,13 @@ class Writes(CallCase):
         """Log 0 is frozen, and the first row of log 1 is settled."""
         first = manifest(1, 1, frozen=[0])
         put = self.rules.row(1, 0, PUT, E, "0005")
-        return self.fill() + [(f"put {E} 0005", self.freeze(first, True) + put), ("flush", self.rules.flush(1, 0, 1))]
+        return (
+            self.fill()
+            + [
+                (f"put {E} 0005", self.freeze(first, True) + put),
+                ("flush", self.rules.flush(1, 0, 1)),
+            ]
+        )
 
     def hash_store(self):
         """And then log 0 is converted."""
@@ -223,27 +245,55 @@ class Writes(CallCase):
 
     def test_puts_and_flushes(self):
         self.store(G)
-        self.judge([self.put(0, A, "0102"), ("flush", self.rules.flush(0, 0, 1)), ("flush", []),
-                    self.put(1, B, "0304"), self.put(2, C, "0506"), ("flush", self.rules.flush(0, 1, 2))])
+        self.judge(
+            [
+                self.put(0, A, "0102"),
+                ("flush", self.rules.flush(0, 0, 1)),
+                ("flush", []),
+                self.put(1, B, "0304"),
+                self.put(2, C, "0506"),
+                ("flush", self.rules.flush(0, 1, 2)),
+            ]
+        )
 
     def test_a_delete(self):
         self.store(G)
-        self.judge([(f"delete {A}", self.rules.row(0, 0, DELETE, A)), ("flush", self.rules.flush(0, 0, 1))])
+        self.judge(
+            [(f"delete {A}", self.rules.row(0, 0, DELETE, A)), ("flush", self.rules.flush(0, 0, 1))]
+        )
 
     def test_a_swap(self):
         """The two writes of a put if it is accepted, and else none."""
         self.store(G)
         swap = f"swap {A} 0102 0304", self.rules.row(0, 1, PUT, A, "0304")
-        self.judge([self.put(0, A, "0102"), swap, ("flush", self.rules.flush(0, 0, 2)), (swap[0], []),
-                    (f"swap {B} 0000 0304", []), ("flush", [])])
+        self.judge(
+            [
+                self.put(0, A, "0102"),
+                swap,
+                ("flush", self.rules.flush(0, 0, 2)),
+                (swap[0], []),
+                (f"swap {B} 0000 0304", []),
+                ("flush", []),
+            ]
+        )
 
     def test_swaps_from_and_to_no_value(self):
         """The two writes of a put or of a delete if they are accepted, and else none."""
         self.store(G)
         first = f"swap {A} - 0102", self.rules.row(0, 0, PUT, A, "0102")
         last = f"swap {A} 0102 -", self.rules.row(0, 1, DELETE, A)
-        self.judge([(last[0], []), first, (first[0], []), ("flush", self.rules.flush(0, 0, 1)), (f"swap {A} - -", []), last,
-                    (last[0], []), ("flush", self.rules.flush(0, 1, 1))])
+        self.judge(
+            [
+                (last[0], []),
+                first,
+                (first[0], []),
+                ("flush", self.rules.flush(0, 0, 1)),
+                (f"swap {A} - -", []),
+                last,
+                (last[0], []),
+                ("flush", self.rules.flush(0, 1, 1)),
+            ]
+        )
 
     def test_a_swap_that_freezes(self):
         self.store(G)
@@ -253,20 +303,44 @@ class Writes(CallCase):
 
     def test_swaps_from_and_to_no_value_that_freeze(self):
         due = self.freeze(manifest(1, 1, frozen=[0]), True)
-        for line, row in ((f"swap {E} - 0005", (PUT, E, "0005")), (f"swap {D} 0004 -", (DELETE, D))):
+        for line, row in (
+            (f"swap {E} - 0005", (PUT, E, "0005")),
+            (f"swap {D} 0004 -", (DELETE, D)),
+        ):
             self.store(G)
             differing = [(f"swap {D} - 0005", []), (f"swap {E} 0005 -", [])]
-            self.judge([*self.fill(), *differing, (line, due + self.rules.row(1, 0, *row)), ("flush", self.rules.flush(1, 0, 1))])
+            self.judge(
+                [
+                    *self.fill(),
+                    *differing,
+                    (line, due + self.rules.row(1, 0, *row)),
+                    ("flush", self.rules.flush(1, 0, 1)),
+                ]
+            )
 
     def test_lines_that_write_nothing(self):
         self.store(G)
-        self.judge([("flush", []), (f"get {A}", []), ("convert", []), ("merge", []), ("pot", []), (f"put {A} 01", []),
-                    (f"swap {A} 0102 0304", []), (f"swap {A} 0102 03", []), (f"swap {A} 0102 -", []), (f"swap {A} - -", [])])
+        self.judge(
+            [
+                ("flush", []),
+                (f"get {A}", []),
+                ("convert", []),
+                ("merge", []),
+                ("pot", []),
+                (f"put {A} 01", []),
+                (f"swap {A} 0102 0304", []),
+                (f"swap {A} 0102 03", []),
+                (f"swap {A} 0102 -", []),
+                (f"swap {A} - -", []),
+            ]
+        )
 
     def test_a_freeze_with_rows_waiting(self):
         self.store(G)
         due = self.rules.flush(0, 0, 4) + self.freeze(manifest(1, 1, frozen=[0]), True)
-        self.judge(self.fill()[:-1] + [(f"put {E} 0005", due + self.rules.row(1, 0, PUT, E, "0005"))])
+        self.judge(
+            self.fill()[:-1] + [(f"put {E} 0005", due + self.rules.row(1, 0, PUT, E, "0005"))]
+        )
 
     def test_a_freeze_with_none_waiting(self):
         self.store(G)
@@ -280,8 +354,18 @@ class Writes(CallCase):
     def test_no_room_and_a_full_store(self):
         self.store(G)
         puts = [self.put(n, key, "0009", 1) for n, key in enumerate((A, B, C), 1)]
-        self.judge(self.frozen_log() + [*puts, (f"put {D} 0009", []), (f"delete {D}", []), (f"swap {D} 0004 0009", []),
-                                        (f"swap {D} 0001 0009", []), (f"swap {D} 0004 -", []), (f"swap {LATER} - 0009", [])])
+        self.judge(
+            self.frozen_log()
+            + [
+                *puts,
+                (f"put {D} 0009", []),
+                (f"delete {D}", []),
+                (f"swap {D} 0004 0009", []),
+                (f"swap {D} 0001 0009", []),
+                (f"swap {D} 0004 -", []),
+                (f"swap {LATER} - 0009", []),
+            ]
+        )
 
     def test_a_conversion(self):
         self.store(G)
@@ -305,9 +389,16 @@ class Writes(CallCase):
         """Of each key the last row, in the key's slot; a delete is a row."""
         self.store(G)
         row = self.rules.layout.row
-        puts = [self.put(0, A, "0001"), self.put(1, LATER, "0002"), self.put(2, A, "0003"),
-                (f"delete {LATER}", self.rules.row(0, 3, DELETE, LATER)), ("flush", self.rules.flush(0, 0, 4))]
-        freeze = self.freeze(manifest(1, 1, frozen=[0]), True) + self.rules.row(1, 0, PUT, E, "0005")
+        puts = [
+            self.put(0, A, "0001"),
+            self.put(1, LATER, "0002"),
+            self.put(2, A, "0003"),
+            (f"delete {LATER}", self.rules.row(0, 3, DELETE, LATER)),
+            ("flush", self.rules.flush(0, 0, 4)),
+        ]
+        freeze = (
+            self.freeze(manifest(1, 1, frozen=[0]), True) + self.rules.row(1, 0, PUT, E, "0005")
+        )
         slots = {0: row(PUT, A, "0003"), 4: row(DELETE, LATER)}
         self.judge([*puts, (f"put {E} 0005", freeze), ("flush", self.rules.flush(1, 0, 1)),
                     *self.convert(slots, self.converted(slots), False)])
@@ -315,7 +406,8 @@ class Writes(CallCase):
     def merge(self, entries, body, gathered=8, region=1):
         """All steps of a merge: slots that are gathered, keys with their values or None, and the
         manifest."""
-        steps, place = [("merge", [])] * gathered, 0
+        steps = [("merge", [])] * gathered
+        place = 0
         for key, value in entries:
             steps.append(("merge", self.rules.entry(region, place, key, value) if value else []))
             place += value is not None
@@ -324,7 +416,10 @@ class Writes(CallCase):
     def merged(self):
         """And then the hash store is merged into sorted region 1."""
         entries = [(A, "0001"), (B, "0002"), (C, "0003"), (D, "0004")]
-        return self.hash_store() + self.merge(entries, manifest(3, 1, region=1, entries=self.rules.entries(entries)))
+        return (
+            self.hash_store()
+            + self.merge(entries, manifest(3, 1, region=1, entries=self.rules.entries(entries)))
+        )
 
     def test_a_merge(self):
         self.store(G)
@@ -348,11 +443,22 @@ class Writes(CallCase):
         old = self.rules.entries([(A, "0001"), (B, "0002"), (C, "0003"), (D, "0004")])
         freeze = self.freeze(manifest(4, 0, frozen=[1], region=1, entries=old), False, log=0)
         lines.append((f"put {D} 0009", freeze + self.rules.row(0, 0, PUT, D, "0009")))
-        slots = {0: row(PUT, E, "0005"), 1: row(DELETE, B), 2: row(PUT, C, "0007"), 4: row(PUT, LATER, "0008")}
+        slots = {
+            0: row(PUT, E, "0005"),
+            1: row(DELETE, B),
+            2: row(PUT, C, "0007"),
+            4: row(PUT, LATER, "0008"),
+        }
         body = manifest(5, 0, hashes=[self.rules.hash_store(0, slots)], region=1, entries=old)
         entries = [(LATER, "0008"), (A, "0001"), (B, None), (C, "0007"), (D, "0004"), (E, "0005")]
-        self.judge(self.merged() + lines + self.convert(slots, body, False)
-                   + self.merge(entries, manifest(6, 0, region=0, entries=self.rules.entries(entries)), region=0))
+        self.judge(
+            self.merged()
+            + lines
+            + self.convert(slots, body, False)
+            + self.merge(
+                entries, manifest(6, 0, region=0, entries=self.rules.entries(entries)), region=0
+            )
+        )
 
     def test_a_conversion_beside_a_merge(self):
         """Their steps by turns are one write each, at the sync, and the hash store that comes stays
@@ -365,9 +471,12 @@ class Writes(CallCase):
         # key A.
         rows = {0: self.rules.layout.row(PUT, B, "0002")}
         old = self.rules.hash_store(0, {0: self.rules.layout.row(PUT, A, "0001")})
-        new, entries = self.rules.hash_store(1, rows), [(A, "0001")]
+        new = self.rules.hash_store(1, rows)
+        entries = [(A, "0001")]
         converts = self.convert(rows, manifest(4, 0, hashes=[new, old]), False, region=1)
-        merges = self.merge(entries, manifest(5, 0, hashes=[new], region=1, entries=self.rules.entries(entries)))
+        merges = self.merge(
+            entries, manifest(5, 0, hashes=[new], region=1, entries=self.rules.entries(entries))
+        )
         self.judge([*merges[:8], *converts[:4], merges[8], *converts[4:], merges[9]])
 
     def test_more_than_the_buffers_take(self):
@@ -386,7 +495,10 @@ class Writes(CallCase):
         for number in (2, 3):
             self.store(G)
             with self.assertRaises(AssertionError):
-                self.judge([self.put(0, A, "0102"), ("flush", self.rules.flush(0, 0, 1))], drop=f"fdatasync:{number}")
+                self.judge(
+                    [self.put(0, A, "0102"), ("flush", self.rules.flush(0, 0, 1))],
+                    drop=f"fdatasync:{number}",
+                )
 
 
 class WritesOfVersion1(Writes):
@@ -397,8 +509,8 @@ class Jobs(CallCase):
     """What the jobs of the program call, from the opening of the file on."""
 
     def opened(self, calls, flags, lock, file="store"):
-        """Judges that the null device is opened for streams that may be closed, and then the file so,
-        and that it is locked before anything else is done. Returns the rest."""
+        """Judges that the null device is opened for streams that may be closed, and then the file
+        so, and that it is locked before anything else is done. Returns the rest."""
         null, first, second, *rest = [it for it in calls if it.file == file or it.name == "open"]
         self.assertEqual((null.name, null.file, null.asked & 0o103), ("open", "/dev/null", 0o2))
         self.assertEqual((first.name, first.file, first.asked & 0o103), ("open", file, flags))
@@ -420,7 +532,9 @@ class Jobs(CallCase):
         content[12288:12292] = OPEN + CLOSED + OPEN + b"\x01"
         path.write_bytes(content)
         calls = self.opened(self.calls_of([])[0], 0o2, 6)
-        self.assertEqual(changes(calls), [("fsync", "store"), SYNC, ("pwrite", 12290, bytes(2)), SYNC])
+        self.assertEqual(
+            changes(calls), [("fsync", "store"), SYNC, ("pwrite", 12290, bytes(2)), SYNC]
+        )
         self.assertEqual(calls[-3].name, "pread", "the gates are closed after the last read")
 
     def test_an_opening_with_other_closed_gates(self):
@@ -442,7 +556,10 @@ class Jobs(CallCase):
             self.assertEqual(ended.out, "formatted 45056\n")
             rest = self.opened(calls, 0o102, 6)
             folder = [it for it in calls if it.file == "."]
-            self.assertEqual(changes(folder + rest), [("fsync", "."), ("ftruncate", "store"), ("fsync", "store"), *due])
+            self.assertEqual(
+                changes(folder + rest),
+                [("fsync", "."), ("ftruncate", "store"), ("fsync", "store"), *due],
+            )
             self.assertEqual([it.at for it in calls if it.name == "ftruncate"], [45056])
             names = [it.name for it in calls]
             self.assertLess(names.index("fsync"), names.index("ftruncate"))
@@ -466,20 +583,27 @@ class Jobs(CallCase):
         puts = [f"put {key} 0001" for key in (A, B, C, D, E)]
         _, plain = self.record_by_lines([*puts, *["convert"] * 9, f"get {A}"])
         self.store(G)
-        ended, tended = self.recorded("run", "store", "--tend", text="".join(f"{it}\n" for it in [*puts, f"get {A}"]))
+        ended, tended = self.recorded(
+            "run", "store", "--tend", text="".join(f"{it}\n" for it in [*puts, f"get {A}"])
+        )
         self.assertEqual(ended.lines[-1], "value 0001")
         self.assertEqual(changes(tended), changes(plain))
 
     def test_a_script_touches_no_file(self):
         ended, calls = self.recorded("script", *G.split(), text="put =a 0001\nflush\nget =a\n")
         self.assertEqual(ended.lines[-1], "value 0001")
-        self.assertEqual([it.file for it in calls if it.name in ("open", "pwrite", "fsync", "fdatasync")], ["/dev/null"])
+        self.assertEqual(
+            [it.file for it in calls if it.name in ("open", "pwrite", "fsync", "fdatasync")],
+            ["/dev/null"],
+        )
 
     def test_replies_come_after_the_last_sync(self):
         self.store(G)
         ended, calls = self.recorded("run", "store", text="put =abc 0102\nflush\n")
         names = [it.name for it in calls if it.file in ("store", "standard output")]
-        self.assertEqual(names[-7:], ["write", "pwrite", "fdatasync", "pwrite", "fdatasync", "write", "close"])
+        self.assertEqual(
+            names[-7:], ["write", "pwrite", "fdatasync", "pwrite", "fdatasync", "write", "close"]
+        )
 
 
 class JobsOfVersion1(Jobs):
@@ -520,47 +644,86 @@ class Reads(CallCase):
         """A candidate costs one read: its head for a put, its row for a get. A buffered one
         costs none."""
         self.store(WIDE, self.puts(range(2)) + ["flush"])
-        self.judge_reads([
-            (f"get {key(0)}", [self.row(0, 23)]), (f"get {key(9)}", []),
-            (f"put {key(5)} 0001", []), (f"delete {key(6)}", []),
-            (f"get {key(5)}", []), (f"put {key(5)} 0002", []), (f"delete {key(5)}", []), (f"get {key(5)}", []),
-            (f"put {key(1)} 0002", [self.row(1, ROW_HEAD)]), (f"delete {key(0)}", [self.row(0, ROW_HEAD)]), ("flush", []),
-            (f"get {key(0)}", [self.row(7, 23)])])
+        self.judge_reads(
+            [
+                (f"get {key(0)}", [self.row(0, 23)]),
+                (f"get {key(9)}", []),
+                (f"put {key(5)} 0001", []),
+                (f"delete {key(6)}", []),
+                (f"get {key(5)}", []),
+                (f"put {key(5)} 0002", []),
+                (f"delete {key(5)}", []),
+                (f"get {key(5)}", []),
+                (f"put {key(1)} 0002", [self.row(1, ROW_HEAD)]),
+                (f"delete {key(0)}", [self.row(0, ROW_HEAD)]),
+                ("flush", []),
+                (f"get {key(0)}", [self.row(7, 23)]),
+            ]
+        )
 
     def test_keys_that_share_buckets(self):
         """Each candidate before the key's own costs a read, and so does each of an absent key."""
-        first, second, absent = key(3), key(3, 1), key(3, 2)
+        first = key(3)
+        second = key(3, 1)
+        absent = key(3, 2)
         self.store(WIDE, [f"put {first} 0001", f"put {second} 0002", "flush"])
         both = [self.row(0, 23), self.row(1, 23)]
-        self.judge_reads([(f"get {first}", both[:1]), (f"get {second}", both), (f"get {absent}", both),
-                          (f"put {absent} 0003", [self.row(0, ROW_HEAD), self.row(1, ROW_HEAD)])])
+        self.judge_reads(
+            [
+                (f"get {first}", both[:1]),
+                (f"get {second}", both),
+                (f"get {absent}", both),
+                (f"put {absent} 0003", [self.row(0, ROW_HEAD), self.row(1, ROW_HEAD)]),
+            ]
+        )
 
     def test_swaps_of_the_active_log(self):
-        """A key of the active log costs two reads, its row and the head of a put. A buffered one costs
-        none, an absent one none either. A swap that differs reads the row alone."""
+        """A key of the active log costs two reads, its row and the head of a put. A buffered one
+        costs none, an absent one none either. A swap that differs reads the row alone."""
         self.store(WIDE, self.puts(range(2)) + ["flush"])
-        row, head = self.row(1, 23), self.row(1, ROW_HEAD)
-        self.judge_reads([
-            (f"swap {key(1)} 0002 0003", [row]), (f"swap {key(1)} 0001 0003", [row, head]),
-            (f"swap {key(1)} 0001 0004", []), (f"swap {key(1)} 0003 0004", []), (f"swap {key(9)} 0000 0001", []),
-            ("flush", []), (f"swap {key(1)} 0003 0004", [self.row(3, 23)]),
-            (f"swap {key(1)} 0004 0005", [self.row(3, 23), self.row(3, ROW_HEAD)])])
+        row = self.row(1, 23)
+        head = self.row(1, ROW_HEAD)
+        self.judge_reads(
+            [
+                (f"swap {key(1)} 0002 0003", [row]),
+                (f"swap {key(1)} 0001 0003", [row, head]),
+                (f"swap {key(1)} 0001 0004", []),
+                (f"swap {key(1)} 0003 0004", []),
+                (f"swap {key(9)} 0000 0001", []),
+                ("flush", []),
+                (f"swap {key(1)} 0003 0004", [self.row(3, 23)]),
+                (f"swap {key(1)} 0004 0005", [self.row(3, 23), self.row(3, ROW_HEAD)]),
+            ]
+        )
 
     def test_swaps_from_and_to_no_value(self):
-        """A missing key costs what a get of it costs, and then what a put costs. A swap to no value costs what any
-        swap of that key does."""
+        """A missing key costs what a get of it costs, and then what a put costs. A swap to no value
+        costs what any swap of that key does."""
         self.store(WIDE, self.puts(range(2)) + [f"delete {key(2)}", "flush"])
-        row, head, gone = self.row(1, 23), self.row(1, ROW_HEAD), self.row(2, 23)
-        self.judge_reads([
-            (f"swap {key(1)} - 0003", [row]), (f"swap {key(1)} 0001 -", [row, head]), (f"swap {key(1)} 0001 -", []),
-            (f"swap {key(1)} - 0004", []), (f"swap {key(9)} 0001 -", []), (f"swap {key(9)} - 0001", []),
-            (f"swap {key(2)} 0001 -", [gone]), (f"swap {key(2)} - 0002", [gone, self.row(2, ROW_HEAD)])])
+        row = self.row(1, 23)
+        head = self.row(1, ROW_HEAD)
+        gone = self.row(2, 23)
+        self.judge_reads(
+            [
+                (f"swap {key(1)} - 0003", [row]),
+                (f"swap {key(1)} 0001 -", [row, head]),
+                (f"swap {key(1)} 0001 -", []),
+                (f"swap {key(1)} - 0004", []),
+                (f"swap {key(9)} 0001 -", []),
+                (f"swap {key(9)} - 0001", []),
+                (f"swap {key(2)} 0001 -", [gone]),
+                (f"swap {key(2)} - 0002", [gone, self.row(2, ROW_HEAD)]),
+            ]
+        )
 
     def test_swaps_of_keys_that_share_buckets(self):
         """A swap reads what a get reads, and then what a put reads."""
-        first, second, absent = key(3), key(3, 1), key(3, 2)
+        first = key(3)
+        second = key(3, 1)
+        absent = key(3, 2)
         self.store(WIDE, [f"put {first} 0001", f"put {second} 0002", "flush"])
-        rows, heads = [self.row(0, 23), self.row(1, 23)], [self.row(0, ROW_HEAD), self.row(1, ROW_HEAD)]
+        rows = [self.row(0, 23), self.row(1, 23)]
+        heads = [self.row(0, ROW_HEAD), self.row(1, ROW_HEAD)]
         self.judge_reads([(f"swap {absent} 0001 0003", rows), (f"swap {second} 0001 0003", rows),
                           (f"swap {absent} 0001 -", rows), (f"swap {absent} - 0003", rows + heads)])
         self.store(WIDE, [f"put {first} 0001", f"put {second} 0002", "flush"])
@@ -572,9 +735,15 @@ class Reads(CallCase):
         """The charge comes behind the comparison, and before the reads of a put."""
         self.store("2 64 8 4 4 2", [f"put {key(1)} 0001", f"put {key(2)} 0002", "flush"])
         self.layout = Layout.of("2 64 8 4 4 2")
-        self.judge_reads([(f"put {key(1)} 0003", []), (f"swap {key(1)} 0001 0003", [self.row(0, 23)]),
-                          (f"swap {key(2)} 0001 0003", [self.row(1, 23)]), (f"swap {key(3)} - 0003", []),
-                          (f"swap {key(2)} 0002 -", [self.row(1, 23), self.row(1, ROW_HEAD)])])
+        self.judge_reads(
+            [
+                (f"put {key(1)} 0003", []),
+                (f"swap {key(1)} 0001 0003", [self.row(0, 23)]),
+                (f"swap {key(2)} 0001 0003", [self.row(1, 23)]),
+                (f"swap {key(3)} - 0003", []),
+                (f"swap {key(2)} 0002 -", [self.row(1, 23), self.row(1, ROW_HEAD)]),
+            ]
+        )
 
     def frozen(self):
         """Keys 0 to 7 in log 0, which is frozen, and key 8 in log 1."""
@@ -583,11 +752,21 @@ class Reads(CallCase):
     def test_keys_of_a_frozen_log(self):
         """A put asks the active log alone."""
         self.frozen()
-        self.judge_reads([(f"get {key(2)}", [self.row(2, 23)]), (f"get {key(8)}", [self.row(0, 23, log=1)]),
-                          (f"put {key(3)} 0009", []), (f"delete {key(4)}", []), (f"get {key(20)}", []),
-                          (f"swap {key(5)} 0006 0009", [self.row(5, 23)]), (f"swap {key(5)} 0005 0009", [self.row(5, 23)]),
-                          (f"swap {key(20)} 0014 0009", []), (f"swap {key(6)} - 0009", [self.row(6, 23)]),
-                          (f"swap {key(6)} 0006 -", [self.row(6, 23)]), (f"swap {key(20)} - 0009", [])])
+        self.judge_reads(
+            [
+                (f"get {key(2)}", [self.row(2, 23)]),
+                (f"get {key(8)}", [self.row(0, 23, log=1)]),
+                (f"put {key(3)} 0009", []),
+                (f"delete {key(4)}", []),
+                (f"get {key(20)}", []),
+                (f"swap {key(5)} 0006 0009", [self.row(5, 23)]),
+                (f"swap {key(5)} 0005 0009", [self.row(5, 23)]),
+                (f"swap {key(20)} 0014 0009", []),
+                (f"swap {key(6)} - 0009", [self.row(6, 23)]),
+                (f"swap {key(6)} 0006 -", [self.row(6, 23)]),
+                (f"swap {key(20)} - 0009", []),
+            ]
+        )
 
     def test_a_conversion(self):
         """One read for each slot with a row, none for the others, and none at its end."""
@@ -598,11 +777,20 @@ class Reads(CallCase):
     def test_keys_of_a_hash_store(self):
         self.frozen()
         self.silt("run", "store", text="convert\n" * 257)
-        self.judge_reads([(f"get {key(2)}", [self.slot(2, 23)]), (f"put {key(3)} 0009", []),
-                          (f"delete {key(4)}", []), (f"get {key(20)}", []), (f"get {key(4)}", []),
-                          (f"swap {key(4)} 0004 0009", []), (f"swap {key(5)} 0006 0009", [self.slot(5, 23)]),
-                          (f"swap {key(5)} 0005 0009", [self.slot(5, 23)]), (f"swap {key(6)} - 0009", [self.slot(6, 23)]),
-                          (f"swap {key(6)} 0006 -", [self.slot(6, 23)])])
+        self.judge_reads(
+            [
+                (f"get {key(2)}", [self.slot(2, 23)]),
+                (f"put {key(3)} 0009", []),
+                (f"delete {key(4)}", []),
+                (f"get {key(20)}", []),
+                (f"get {key(4)}", []),
+                (f"swap {key(4)} 0004 0009", []),
+                (f"swap {key(5)} 0006 0009", [self.slot(5, 23)]),
+                (f"swap {key(5)} 0005 0009", [self.slot(5, 23)]),
+                (f"swap {key(6)} - 0009", [self.slot(6, 23)]),
+                (f"swap {key(6)} 0006 -", [self.slot(6, 23)]),
+            ]
+        )
 
     def merged(self):
         """And then keys 0 to 7 are entries, in sorted region 1."""
@@ -616,15 +804,28 @@ class Reads(CallCase):
         """One read, of the entry at the one place at which the key can be."""
         self.merged()
         gets = [(f"get {key(n)}", [self.entry(n)]) for n in range(8)]
-        self.judge_reads([*gets, (f"put {key(3)} 0009", []), (f"delete {key(4)}", []), (f"get {key(4)}", []),
-                          (f"swap {key(5)} 0006 0009", [self.entry(5)]), (f"swap {key(5)} 0005 0009", [self.entry(5)]),
-                          (f"swap {key(6)} - 0009", [self.entry(6)]), (f"swap {key(6)} 0006 -", [self.entry(6)])])
+        self.judge_reads(
+            [
+                *gets,
+                (f"put {key(3)} 0009", []),
+                (f"delete {key(4)}", []),
+                (f"get {key(4)}", []),
+                (f"swap {key(5)} 0006 0009", [self.entry(5)]),
+                (f"swap {key(5)} 0005 0009", [self.entry(5)]),
+                (f"swap {key(6)} - 0009", [self.entry(6)]),
+                (f"swap {key(6)} 0006 -", [self.entry(6)]),
+            ]
+        )
 
     def test_absent_keys_of_a_sorted_store(self):
         """At most one read."""
         self.merged()
         keys = [key(n, n) for n in range(9, 30)] + ["ff" * 20, "00" * 20]
-        lines = [line for it in keys for line in (f"get {it}", f"swap {it} 0001 0002", f"swap {it} 0001 -")]
+        lines = [
+            line
+            for it in keys
+            for line in (f"get {it}", f"swap {it} 0001 0002", f"swap {it} 0001 -")
+        ]
         lines += [f"swap {it} - 0001" for it in keys[:4]]
         for line, calls in zip(lines, self.calls_of(lines)[1:], strict=True):
             self.assertLessEqual(len(reads(calls)), 1, line)
@@ -641,11 +842,19 @@ class Reads(CallCase):
     def test_a_merge_with_old_entries(self):
         """The old entries by one read. One that stays and a delete cost none of their own."""
         self.merged()
-        lines = [f"delete {key(0)}", f"put {key(3)} 0009"] + self.puts(range(10, 15)) + ["flush", f"put {key(20)} 0001"]
+        lines = (
+            [f"delete {key(0)}", f"put {key(3)} 0009"]
+            + self.puts(range(10, 15))
+            + ["flush", f"put {key(20)} 0001"]
+        )
         self.silt("run", "store", text="\n".join(lines) + "\nflush\n" + "convert\n" * 257)
         got = self.calls_of(["merge"] * (256 + 14))[1:]
-        self.assertEqual([reads(it) for it in got[:256]], [[(self.layout.hash_region(0), 256 * 23)]] + [[]] * 255)
-        due = [[self.entry(0, 8 * 22)]] + [[]] * 2 + [[(self.slot(3, 0)[0] + ROW_HEAD, 2)]] + [[]] * 4
+        self.assertEqual(
+            [reads(it) for it in got[:256]], [[(self.layout.hash_region(0), 256 * 23)]] + [[]] * 255
+        )
+        due = (
+            [[self.entry(0, 8 * 22)]] + [[]] * 2 + [[(self.slot(3, 0)[0] + ROW_HEAD, 2)]] + [[]] * 4
+        )
         due += [[(self.slot(n, 0)[0] + ROW_HEAD, 2)] for n in (8, 10, 11, 12, 13, 14)]
         self.assertEqual([reads(it) for it in got[256:]], due + [[]] * (14 - len(due)))
 
@@ -662,21 +871,36 @@ class Reads(CallCase):
         self.assertEqual(reads(calls), HEAD + active + frozen + [self.entry(0, 8 * 22)])
         self.silt("run", "store", text="convert\n" * 257)
         slots = [(self.layout.hash_region(0), 256 * 23)]
-        self.assertEqual(reads(self.calls_of([])[0]), HEAD + active + slots + [self.entry(0, 8 * 22)])
+        self.assertEqual(
+            reads(self.calls_of([])[0]), HEAD + active + slots + [self.entry(0, 8 * 22)]
+        )
 
     def test_long_values(self):
         """A row or an entry of more than 512 bytes takes two reads: its head, and the value of a
         put."""
         words = "493 64 2 4 4 64"
-        self.layout, value = Layout.of(words), "ab" * 493
+        self.layout = Layout.of(words)
+        value = "ab" * 493
         self.store(words, [f"put {key(1)} {value}", f"delete {key(2)}", "flush"])
         whole = [self.row(0, ROW_HEAD), (self.row(0, 0)[0] + ROW_HEAD, 493)]
-        self.judge_reads([(f"get {key(1)}", whole), (f"get {key(2)}", [self.row(1, ROW_HEAD)]),
-                          (f"swap {key(1)} {'ab' * 492}ac {value}", whole), (f"swap {key(2)} {value} {value}", [self.row(1, ROW_HEAD)]),
-                          (f"swap {key(2)} {value} -", [self.row(1, ROW_HEAD)]), (f"swap {key(1)} - {value}", whole)])
+        self.judge_reads(
+            [
+                (f"get {key(1)}", whole),
+                (f"get {key(2)}", [self.row(1, ROW_HEAD)]),
+                (f"swap {key(1)} {'ab' * 492}ac {value}", whole),
+                (f"swap {key(2)} {value} {value}", [self.row(1, ROW_HEAD)]),
+                (f"swap {key(2)} {value} -", [self.row(1, ROW_HEAD)]),
+                (f"swap {key(1)} - {value}", whole),
+            ]
+        )
         self.silt("run", "store", text=f"put {key(3)} {value}\nflush\n" + "convert\n" * 257)
         at = self.slot(1, 0)[0]
-        self.judge_reads([(f"get {key(1)}", [(at, ROW_HEAD), (at + ROW_HEAD, 493)]), (f"get {key(2)}", [self.slot(2, ROW_HEAD)])])
+        self.judge_reads(
+            [
+                (f"get {key(1)}", [(at, ROW_HEAD), (at + ROW_HEAD, 493)]),
+                (f"get {key(2)}", [self.slot(2, ROW_HEAD)]),
+            ]
+        )
         self.silt("run", "store", text="merge\n" * (256 + 3))
         at = self.entry(0)[0]
         self.judge_reads([(f"get {key(1)}", [(at, KEY_LEN), (at + KEY_LEN, 493)])])
@@ -688,18 +912,26 @@ class ReadsOfVersion1(Reads):
 
 def all_calls(calls):
     """The reads, writes and syncs of the store's file."""
-    made = {"pread": lambda it: ("pread", it.at, it.asked), "pwrite": lambda it: ("pwrite", it.at, it.data)}
-    return [made.get(it.name, lambda _: SYNC)(it) for it in calls if it.name in (*made, "fdatasync")]
+    made = {
+        "pread": lambda it: ("pread", it.at, it.asked),
+        "pwrite": lambda it: ("pwrite", it.at, it.data),
+    }
+    return [
+        made.get(it.name, lambda _: SYNC)(it) for it in calls if it.name in (*made, "fdatasync")
+    ]
 
 
 class Random(CallCase):
-    """Random lines: each reply, and all device calls of each, as the rules have them, on devices of both
-    versions."""
+    """Random lines: each reply, and all device calls of each, as the rules have them, on devices of
+    both versions."""
 
     def keys(self, count, buckets):
         """Keys. Many share their buckets if there are few of these."""
         heads = [self.random.randrange(buckets) for _ in range(2 * count)]
-        return [f"{heads[2 * n]:04x}{heads[2 * n + 1]:04x}{self.random.getrandbits(128):032x}" for n in range(count)]
+        return [
+            f"{heads[2 * n]:04x}{heads[2 * n + 1]:04x}{self.random.getrandbits(128):032x}"
+            for n in range(count)
+        ]
 
     def some_lines(self, made, engine):
         """A line, or steps of what there is to do in the background."""
@@ -709,9 +941,10 @@ class Random(CallCase):
         return made.lines(1)
 
     def answered(self, engine, keys, count):
-        """Lines, each with its reply, its device calls before and after the place at which a look-up of
-        an absent key may read an entry, and these entries."""
-        made, steps = Commands(self.random, keys, engine.layout.values), []
+        """Lines, each with its reply, its device calls before and after the place at which a
+        look-up of an absent key may read an entry, and these entries."""
+        made = Commands(self.random, keys, engine.layout.values)
+        steps = []
         while len(steps) < count:
             for line in self.some_lines(made, engine):
                 reply = engine.answer(line)
@@ -720,23 +953,36 @@ class Random(CallCase):
         return steps
 
     def try_lines(self, geometry, keys, count):
-        """Lines on a new store. A look-up of an absent key may read one entry, of which the rules do
-        not say which."""
-        layout, buffers = Layout.of(geometry), Buffers()
+        """Lines on a new store. A look-up of an absent key may read one entry, of which the rules
+        do not say which."""
+        layout = Layout.of(geometry)
+        buffers = Buffers()
         steps = self.answered(Engine(layout), self.keys(keys, layout.buckets), count)
         self.version = self.random.choice((1, 2))
         self.store(geometry)
         replies, calls = self.record_by_lines([line for line, _, _, _ in steps])
-        for n, (step, reply, part) in enumerate(zip(steps, replies[1:], by_line(calls)[1:], strict=True)):
+        for n, (step, reply, part) in enumerate(
+            zip(steps, replies[1:], by_line(calls)[1:], strict=True)
+        ):
             line, due_reply, parts, entries = step
             first, last = map(buffers.make, parts)
             self.assertEqual(reply, due_reply, f"line {n}: {line}")
-            self.assertIn(all_calls(part), [[*first, *last]] + [[*first, it, *last] for it in entries], f"line {n}: {line}")
+            self.assertIn(
+                all_calls(part),
+                [[*first, *last]] + [[*first, it, *last] for it in entries],
+                f"line {n}: {line}",
+            )
 
     def test_small_stores(self):
         for _ in range(scaled(16 if PROVED else 4)):
-            words = (2, self.random.choice((2, 4)), self.random.randint(1, 8), self.random.randint(2, 5),
-                     self.random.randint(1, 3), self.random.choice((12, 64)))
+            words = (
+                2,
+                self.random.choice((2, 4)),
+                self.random.randint(1, 8),
+                self.random.randint(2, 5),
+                self.random.randint(1, 3),
+                self.random.choice((12, 64)),
+            )
             self.try_lines(" ".join(map(str, words)), self.random.choice((6, 12, 30)), 500)
 
     def test_full_tables(self):

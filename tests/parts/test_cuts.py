@@ -17,7 +17,9 @@ from notes import notes_of_lines
 from watch import WatchedCase, read_record, watching
 
 # How many cuts this part makes of runs, of servers and of formattings, and how many of one life.
-OF_RUNS, OF_SERVERS, OF_FORMATS = (scaled(it) for it in ((1600, 400, 100) if PROVED else (160, 40, 20)))
+OF_RUNS, OF_SERVERS, OF_FORMATS = (
+    scaled(it) for it in ((1600, 400, 100) if PROVED else (160, 40, 20))
+)
 OF_A_LIFE = 12
 # A build with checks tries every so many cuts of the worked lives.
 EVERY = 1 if PROVED else 9
@@ -33,9 +35,12 @@ class Lived:
     leave of them."""
 
     def __init__(self, lines, replies, calls):
-        self.lines, self.replies, self.calls = lines, replies[1:], calls
+        self.lines = lines
+        self.replies = replies[1:]
+        self.calls = calls
         self.accepted = [line for line, it in zip(lines, self.replies) if it.startswith("accepted")]
-        self.read, self.replied = [0], [-1]
+        self.read = [0]
+        self.replied = [-1]
         for it in calls:
             ends = it.data.count(b"\n")
             self.read.append(self.read[-1] + ends * (it.file == "standard input"))
@@ -70,7 +75,9 @@ class CutCase(WatchedCase):
         if self.random.random() < 0.7:
             replies, calls = self.record_by_lines(lines, **plans)
         else:
-            ended, calls = self.recorded("run", "store", text="".join(it + "\n" for it in lines), **plans)
+            ended, calls = self.recorded(
+                "run", "store", text="".join(it + "\n" for it in lines), **plans
+            )
             replies = ended.lines
         self.assertEqual((replies[0], len(replies)), ("opened", len(lines) + 1))
         return Lived(lines, replies, calls)
@@ -96,11 +103,14 @@ class CutCase(WatchedCase):
         return held
 
     def dumped(self, keys):
-        """The whole map of the file. A key that none of these words means is there in its digits."""
+        """The whole map of the file. A key that none of these words means is there in its
+        digits."""
         ended = self.silt("dump", "cut")
         self.assertEqual((ended.status, ended.err), (0, ""), ended)
         words = {key_bytes(it).hex(): it for it in keys}
-        return {words.get(key, key): value for _, key, value in (line.split() for line in ended.lines)}
+        return {
+            words.get(key, key): value for _, key, value in (line.split() for line in ended.lines)
+        }
 
     def follow(self, lines, replies, values):
         """Judges the replies to these lines of a store of this map."""
@@ -110,7 +120,8 @@ class CutCase(WatchedCase):
             if differs(values, line):
                 self.assertEqual(reply, "differs", line)
             elif is_command(line) and not reply.startswith("refused"):
-                accepted, values = accepted + 1, done(values, line)
+                accepted = accepted + 1
+                values = done(values, line)
                 self.assertEqual(reply, f"accepted {accepted}")
             elif is_command(line):
                 self.assertIn(reply, ("refused 7 StoreFull", "refused 8 NoRoom"), line)
@@ -140,7 +151,9 @@ class CutCase(WatchedCase):
             allowed = maps_after(base, commands)[least:most + 1]
             self.assertIn(held, allowed, f"after {least} to {most} commands")
         except AssertionError as why:
-            raise AssertionError(f"a crash at call {cut.number}, {len(cut.pending)} writes pending: {why}") from None
+            raise AssertionError(
+                f"a crash at call {cut.number}, {len(cut.pending)} writes pending: {why}"
+            ) from None
         return held
 
 
@@ -167,13 +180,16 @@ class Runs(CutCase):
         """Lives one after the other, each on a file that a crash left, until there are enough
         cuts of each kind. A file of version 1 has digests or none."""
         self.path("store").unlink(missing_ok=True)
-        layout, seen = Layout.of(geometry), collections.Counter()
+        layout = Layout.of(geometry)
+        seen = collections.Counter()
         left = self.store(geometry).read_bytes(), {}
         while seen["cut"] < count or not all(seen[part] for part in PARTS):
             if version == 1 and self.random.random() < 0.5:
                 left = as_version_1(left[0]), left[1]
             left = self.try_life(layout, *left, seen)
-            self.assertLess(seen["cut"], 3 * count + 20 * OF_A_LIFE, f"pending parts of the file: {seen}")
+            self.assertLess(
+                seen["cut"], 3 * count + 20 * OF_A_LIFE, f"pending parts of the file: {seen}"
+            )
 
     def test_small_rows(self):
         self.try_lives(GEOMETRIES[0])
@@ -202,12 +218,16 @@ class Runs(CutCase):
         layout = Layout.of(GEOMETRIES[0])
         before = self.store(GEOMETRIES[0]).read_bytes()
         for _ in range(max(4, OF_RUNS // 8 // OF_A_LIFE)):
-            lines = Commands(self.random, KEYS, layout.values, burst=layout.slots + len(KEYS) + 2).lines(100)
+            lines = Commands(
+                self.random, KEYS, layout.values, burst=layout.slots + len(KEYS) + 2
+            ).lines(100)
             of_versions = []
             for content in (as_version_1(before), before):
                 self.path("store").write_bytes(content)
                 calls = self.record_by_lines(lines)[1]
-                of_versions.append([(it.name, it.at, it.asked, it.data) for it in calls if it.file == "store"])
+                of_versions.append(
+                    [(it.name, it.at, it.asked, it.data) for it in calls if it.file == "store"]
+                )
             self.assertEqual(*of_versions)
             before = self.path("store").read_bytes()
 
@@ -215,7 +235,9 @@ class Runs(CutCase):
         before = self.store(GEOMETRIES[0]).read_bytes()
         with self.assertRaises(AssertionError):
             for _ in range(10):
-                self.try_life(Layout.of(GEOMETRIES[0]), before, {}, collections.Counter(), drop="fdatasync")
+                self.try_life(
+                    Layout.of(GEOMETRIES[0]), before, {}, collections.Counter(), drop="fdatasync"
+                )
 
     def test_a_reply_before_its_sync_is_refused(self):
         """The judge sees a run whose replies go out before the syncs that they rest on."""
@@ -226,31 +248,82 @@ class Runs(CutCase):
         at = next(cut for cut in cuts(before, early, "store"))
         self.assertEqual(life.owed(at.number)[0], 5)
         with self.assertRaises(AssertionError):
-            self.judge(at, at.settled, Layout.of(GEOMETRIES[0]), {}, life.accepted, life.owed(at.number))
+            self.judge(
+                at, at.settled, Layout.of(GEOMETRIES[0]), {}, life.accepted, life.owed(at.number)
+            )
 
 
-# The worked lives of test_sweeps.py, on files with room for more: three puts; a put and a delete; puts without a flush; five
-# puts, which freeze a log; swaps, also from and to no value; and with a swap behind them a conversion, two merges of which
-# the second drops a delete, and a merge beside two conversions.
-CONVERT, MERGE = ["convert"] * 9, ["merge"]
+# The worked lives of test_sweeps.py, on files with room for more: three puts; a put and a delete;
+# puts without a flush; five puts, which freeze a log; swaps, also from and to no value; and with a
+# swap behind them a conversion, two merges of which the second drops a delete, and a merge beside
+# two conversions.
+CONVERT = ["convert"] * 9
+MERGE = ["merge"]
 FIVE_PUTS = [f"put =a{it} 000{i}" for i, it in enumerate("abcde")] + ["flush"]
 WORKED = (
     ("2 2 4 3 3 64", ["put =aa 0001", "put =ab 0002", "put =ac 0003", "flush"]),
     ("2 2 4 3 3 64", ["put =aa 0001", "flush", "delete =aa", "flush"]),
     ("2 2 4 3 3 64", ["put =aa 0001", "flush", "put =aa 0002", "get =aa", "put =ab 0003"]),
     ("2 2 4 3 3 64", FIVE_PUTS),
-    ("2 2 4 3 3 64", ["put =aa 0001", "swap =aa 0001 0002", "flush", "swap =aa 0001 0003", "swap =aa 0002 0004", "delete =aa",
-                      "swap =aa 0004 0005", "swap =aa - 0006", "swap =aa - 0007", "flush", "swap =aa 0006 -"]),
+    (
+        "2 2 4 3 3 64",
+        [
+            "put =aa 0001",
+            "swap =aa 0001 0002",
+            "flush",
+            "swap =aa 0001 0003",
+            "swap =aa 0002 0004",
+            "delete =aa",
+            "swap =aa 0004 0005",
+            "swap =aa - 0006",
+            "swap =aa - 0007",
+            "flush",
+            "swap =aa 0006 -",
+        ],
+    ),
     ("2 2 4 3 3 64", [*FIVE_PUTS, *CONVERT, "swap =ac 0002 0006"]),
-    ("2 2 1 3 2 64", ["put =aa 0102", "put =ab 0304", *CONVERT, *MERGE * 10, "delete =aa", *CONVERT, "put =ac 0506", *CONVERT,
-                      *MERGE * 19, "get =aa", "get =ab", "get =ac", "flush", "swap =ab 0304 0607"]),
-    ("2 2 1 3 3 64", ["put =aa 0001", "put =ab 0002", *CONVERT, "put =aa 0003", *MERGE * 3, *CONVERT, "put =ab 0004", *CONVERT,
-                      *MERGE * 7, "get =aa", "get =ab", "swap =aa 0003 0005"]),
+    (
+        "2 2 1 3 2 64",
+        [
+            "put =aa 0102",
+            "put =ab 0304",
+            *CONVERT,
+            *MERGE * 10,
+            "delete =aa",
+            *CONVERT,
+            "put =ac 0506",
+            *CONVERT,
+            *MERGE * 19,
+            "get =aa",
+            "get =ab",
+            "get =ac",
+            "flush",
+            "swap =ab 0304 0607",
+        ],
+    ),
+    (
+        "2 2 1 3 3 64",
+        [
+            "put =aa 0001",
+            "put =ab 0002",
+            *CONVERT,
+            "put =aa 0003",
+            *MERGE * 3,
+            *CONVERT,
+            "put =ab 0004",
+            *CONVERT,
+            *MERGE * 7,
+            "get =aa",
+            "get =ab",
+            "swap =aa 0003 0005",
+        ],
+    ),
 )
 
 
 class Worked(CutCase):
-    """Each cut of the worked lives with each fill, and torn at random. No line of them is refused."""
+    """Each cut of the worked lives with each fill, and torn at random. No line of them is
+    refused."""
 
     def try_each_cut(self, geometry, lines):
         layout = Layout.of(geometry)
@@ -260,7 +333,9 @@ class Worked(CutCase):
         self.assertEqual([it for it in life.replies if it.startswith("refused")], [])
         every = list(cuts(before, life.calls, "store"))
         for cut in every[self.random.randrange(EVERY)::EVERY]:
-            contents = {content: name for name, content in fills(cut)} | {image(self.random, cut): "torn"}
+            contents = {content: name for name, content in fills(cut)} | {
+                image(self.random, cut): "torn"
+            }
             for content, name in contents.items():
                 with self.subTest(call=cut.number, fill=name, version=self.version):
                     self.judge(cut, content, layout, {}, life.accepted, life.owed(cut.number))
@@ -277,9 +352,27 @@ class WorkedOfVersion1(Worked):
 # A flush, a freeze with none waiting, and a conversion. The numbers are of the syncs that no later
 # one stands for: a flush's two, a manifest's before its gate is opened, the closing of an open
 # gate.
-LINES = (["put =aa 0001", "put =ab 0002", "put =ac 0003", "put =ad 0004", "flush", "put =ae 0005", "flush"]
-         + ["convert"] * 9)
-NEEDED = {2: "rows", 3: "gates", 6: "a body", 8: "rows", 9: "gates", 11: "the closing", 12: "a body"}
+LINES = (
+    [
+        "put =aa 0001",
+        "put =ab 0002",
+        "put =ac 0003",
+        "put =ad 0004",
+        "flush",
+        "put =ae 0005",
+        "flush",
+    ]
+    + ["convert"] * 9
+)
+NEEDED = {
+    2: "rows",
+    3: "gates",
+    6: "a body",
+    8: "rows",
+    9: "gates",
+    11: "the closing",
+    12: "a body",
+}
 
 
 class Needed(CutCase):
@@ -295,11 +388,13 @@ class Needed(CutCase):
         return found
 
     def test_each_needed_sync(self):
-        layout, before = Layout.of(GEOMETRIES[0]), self.store(GEOMETRIES[0]).read_bytes()
+        layout = Layout.of(GEOMETRIES[0])
+        before = self.store(GEOMETRIES[0]).read_bytes()
         for number, name in NEEDED.items():
             self.path("store").write_bytes(before)
             replies, calls = self.record_by_lines(LINES, drop=f"fdatasync:{number}")
-            life, cut = Lived(LINES, replies, calls), self.window(before, calls, number)
+            life = Lived(LINES, replies, calls)
+            cut = self.window(before, calls, number)
             with self.subTest(sync=number, of=name), self.assertRaises(AssertionError):
                 for _ in range(300):
                     content = image(self.random, cut)
@@ -308,10 +403,13 @@ class Needed(CutCase):
     def test_a_row_that_is_torn(self):
         """A gate that is open before its row, as a program would leave it that opens gates
         first."""
-        layout, before = Layout.of(GEOMETRIES[0]), self.store(GEOMETRIES[0]).read_bytes()
+        layout = Layout.of(GEOMETRIES[0])
+        before = self.store(GEOMETRIES[0]).read_bytes()
         self.path("store").write_bytes(before)
         life = Lived(LINES, *self.record_by_lines(LINES))
-        gates = next(n for n, it in enumerate(life.calls) if it.name == "pwrite" and it.at == layout.gates(0))
+        gates = next(
+            n for n, it in enumerate(life.calls) if it.name == "pwrite" and it.at == layout.gates(0)
+        )
         cut = next(it for it in cuts(before, life.calls, "store") if it.number == gates)
         torn = bytearray(image(self.random, cut))
         torn[layout.gates(0):layout.gates(0) + 4] = b"\xa7" * 4
@@ -347,7 +445,8 @@ class Served:
     leave of them."""
 
     def __init__(self, calls):
-        self.calls, commands = calls, {}
+        self.calls = calls
+        commands = {}
         sockets = {it.file for it in calls if it.file.startswith("socket")}
         for session in (Session(calls, it) for it in sorted(sockets)):
             for (read, line), (sent, reply) in zip(session.lines, session.replies):
@@ -356,7 +455,8 @@ class Served:
         in_order = [commands[n] for n in sorted(commands)]
         self.is_whole = sorted(commands) == list(range(1, len(commands) + 1))
         self.accepted = [line for line, _, _ in in_order]
-        self.reads, self.sends = [read for _, read, _ in in_order], [sent for _, _, sent in in_order]
+        self.reads = [read for _, read, _ in in_order]
+        self.sends = [sent for _, _, sent in in_order]
 
     def owed(self, number):
         """A reply that was begun has to hold. A command may hold from when its line was read."""
@@ -368,7 +468,9 @@ class Served:
 class Servers(CutCase):
     def client(self, port, lines):
         """Sends some lines at a time, and waits for their replies."""
-        with socket.create_connection(("127.0.0.1", port), timeout=60) as link, link.makefile("rb") as replies:
+        with socket.create_connection(("127.0.0.1", port), timeout=60) as link, link.makefile(
+            "rb"
+        ) as replies:
             while lines:
                 count = min(len(lines), self.random.randint(1, 6))
                 link.sendall("".join(it + "\n" for it in lines[:count]).encode())
@@ -379,11 +481,16 @@ class Servers(CutCase):
     def served(self, layout, before, clients=4, **plans):
         """A recorded server under some clients, whose values differ."""
         self.path("store").write_bytes(before)
-        with self.start("serve", "store", 0, "--sessions", clients, env=watching(self, log="record", **plans)) as run:
+        with self.start(
+            "serve", "store", 0, "--sessions", clients, env=watching(self, log="record", **plans)
+        ) as run:
             run.stdout.readline()
             port = int(run.stdout.readline().split()[1])
             made = Commands(self.random, KEYS, layout.values)
-            threads = [threading.Thread(target=self.client, args=(port, made.lines(40))) for _ in range(clients)]
+            threads = [
+                threading.Thread(target=self.client, args=(port, made.lines(40)))
+                for _ in range(clients)
+            ]
             for thread in threads:
                 thread.start()
             out, err = run.communicate(timeout=60)
@@ -391,7 +498,8 @@ class Servers(CutCase):
         return Served(read_record(self.path("record")))
 
     def try_server(self, geometry, count, **plans):
-        layout, base = Layout.of(geometry), {}
+        layout = Layout.of(geometry)
+        base = {}
         before = self.store(geometry).read_bytes()
         while count > 0:
             before = self.random.choice((before, as_version_1(before)))
@@ -400,7 +508,9 @@ class Servers(CutCase):
             for cut in self.some_cuts(layout, before, life.calls, OF_A_LIFE):
                 content = image(self.random, cut)
                 held = self.judge(cut, content, layout, base, life.accepted, life.owed(cut.number))
-            before, base, count = content, held, count - OF_A_LIFE
+            before = content
+            base = held
+            count = count - OF_A_LIFE
 
     def test_a_server_under_clients(self):
         self.try_server("2 4 8 4 2 100", OF_SERVERS // 2)
@@ -423,7 +533,8 @@ class Formats(CutCase):
 
     def try_format(self, geometry, before):
         """Records a formatting of a file of this content, and judges cuts of it."""
-        words, old = geometry.split(), before and self.report(before)
+        words = geometry.split()
+        old = before and self.report(before)
         if before is not None:
             self.path("store").write_bytes(before)
         ended, calls = self.recorded("format", "store", *words, "--force")

@@ -15,7 +15,8 @@ from test_stores import FileCase
 COUNT = scaled(40 if PROVED else 8)
 # How many pairs of damages are planted in each store.
 PAIRS = 30
-# The versions of rich stores: new devices, old ones, and old ones to which manifests were written since.
+# The versions of rich stores: new devices, old ones, and old ones to which manifests were written
+# since.
 VERSIONS = ("new", "old", "changed")
 
 
@@ -23,19 +24,25 @@ def make_rich_geometry(random):
     """A geometry with room for all kinds of stores at once."""
     b = random.choice([2, 2, 4, 8])
     cap = random.choice([random.randint(2, 8), random.randint(5, 8), min(4 * b, 10)])
-    nl, nh = random.randint(2, 4), random.randint(1, 3)
-    return model.Geometry(random.randint(1, 4), b, cap, nl, nh, 6 * cap + nl * cap + random.randint(0, 9))
+    nl = random.randint(2, 4)
+    nh = random.randint(1, 3)
+    return model.Geometry(
+        random.randint(1, 4), b, cap, nl, nh, 6 * cap + nl * cap + random.randint(0, 9)
+    )
 
 
 def rich_lines(random, geometry):
-    """Lines after which the store has entries, hash stores, frozen logs, and rows in its log. They come
-    in two parts: what follows the last conversion is a part of its own."""
+    """Lines after which the store has entries, hash stores, frozen logs, and rows in its log. They
+    come in two parts: what follows the last conversion is a part of its own."""
     maker = Maker(random, geometry, full_tables=True)
     maker.keys = [b"=%d" % i for i in range(5 * geometry.cap)]
     convert = [b"convert"] * (geometry.slots + 1)
 
     def commands(count):
-        return [(maker.make_put() if random.random() < 0.8 else maker.make_delete())[0] for _ in range(count)]
+        return [
+            (maker.make_put() if random.random() < 0.8 else maker.make_delete())[0]
+            for _ in range(count)
+        ]
 
     lines = commands(geometry.cap + 1) + convert
     lines += [b"merge"] * (geometry.slots + geometry.cap + 1)
@@ -59,8 +66,10 @@ class DamageCase(FileCase):
         self.versions = itertools.cycle(VERSIONS)
 
     def make_rich_store(self):
-        """Makes a store, and returns its bytes and what the model finds there. The versions take turns."""
-        geometry, version = make_rich_geometry(self.random), next(self.versions)
+        """Makes a store, and returns its bytes and what the model finds there. The versions take
+        turns."""
+        geometry = make_rich_geometry(self.random)
+        version = next(self.versions)
         self.path("store").unlink(missing_ok=True)
         self.store(geometry.words)
         first, second = rich_lines(self.random, geometry)
@@ -79,7 +88,9 @@ class DamageCase(FileCase):
         for call, text in (("check", ""), ("run", "get =a\nput =a 00\nflush\n")):
             ran = self.silt(call, "store", text=text)
             self.assertEqual((ran.out, ran.status), (expected + "\n", 1), f"{call}, {note}")
-            self.assertEqual(self.image(), bytes(image), f"{note}: a refused {call} changed the file")
+            self.assertEqual(
+                self.image(), bytes(image), f"{note}: a refused {call} changed the file"
+            )
 
 
 class Damage(DamageCase):
@@ -92,7 +103,9 @@ class Damage(DamageCase):
                 expected = kind(image, store, self.random)
                 if expected:
                     planted.add(kind)
-                    self.assert_refused(image, expected, f"{kind.__name__} in {store.geometry.words}")
+                    self.assert_refused(
+                        image, expected, f"{kind.__name__} in {store.geometry.words}"
+                    )
         missing = [it.__name__ for group in DAMAGES.values() for it in group if it not in planted]
         self.assertEqual(missing, [], "damages that no store had")
 
@@ -162,7 +175,9 @@ class WorkedDamage(DamageCase):
         self.assert_refused(image, "refused 3 Damaged sorted 1", "")
 
     def test_row_of_kind_3(self):
-        self.assert_refused(self.crafted((12288, "a7"), (16384, "03")), "refused 3 Damaged log 0 row 0", "")
+        self.assert_refused(
+            self.crafted((12288, "a7"), (16384, "03")), "refused 3 Damaged log 0 row 0", ""
+        )
 
     def test_zero_bytes(self):
         self.assert_refused(b"", "refused 1 NotFormatted", "")
@@ -180,7 +195,12 @@ class WorkedDamage(DamageCase):
         # A swap compares first.
         self.path("store").write_bytes(image)
         key = f"01{'0' * 38}"
-        swaps = [f"swap {key} 0001 0002", f"swap {key} 0009 0002", f"swap {key} 0001 -", f"swap {key} - 0002"]
+        swaps = [
+            f"swap {key} 0001 0002",
+            f"swap {key} 0009 0002",
+            f"swap {key} 0001 -",
+            f"swap {key} - 0002",
+        ]
         replies = ["refused 10 Spent", "differs"] * 2
         self.assert_answers([f"put {key} 0001"] * 4 + swaps, [*accepted, *replies])
 
@@ -188,7 +208,9 @@ class WorkedDamage(DamageCase):
         geometry = "2 2 8 2 2 16"
         image = self.crafted((12288, "a7" * 5), (16384, self.rows(5)), geometry=geometry)
         self.assert_refused(image, "refused 4 Crowded", "")
-        self.path("store").write_bytes(self.crafted((12288, "a7" * 4), (16384, self.rows(4)), geometry=geometry))
+        self.path("store").write_bytes(
+            self.crafted((12288, "a7" * 4), (16384, self.rows(4)), geometry=geometry)
+        )
         self.assertEqual(self.silt("run", "store").out, "opened\n")
 
     def test_slot_of_kind_3(self):
@@ -222,17 +244,27 @@ class WorkedDamage(DamageCase):
     def test_nine_puts(self):
         """Eight entries and a row of the log, where eight are the limit."""
         entries = "".join(f"0{i}".ljust(40, "0") + "0001" for i in range(1, 9))
-        image = self.crafted((4096 + 117, "00000008"), (36864, entries), (12288, "a7"), (16384, self.rows(1)))
+        image = self.crafted(
+            (4096 + 117, "00000008"), (36864, entries), (12288, "a7"), (16384, self.rows(1))
+        )
         self.assert_refused(image, "refused 3 Damaged charge", "")
         image[12288] = 0
         self.path("store").write_bytes(image)
-        self.assertEqual(self.check_report().lines[-3:], ["sorted entries 8", "charge 8", "layout 1"])
+        self.assertEqual(
+            self.check_report().lines[-3:], ["sorted entries 8", "charge 8", "layout 1"]
+        )
 
 
-# A new store of `2 2 4 2 2 8` with these bytes in place is refused so, and this is said of it. Fields of slot 0: the
-# active log at 4105, the hash stores at 4141, the sorted store's region at 4209, the number of its entries at 4213.
-LOG_1 = ((4105, "00000001"), (20480, "a7a7a7a7"), (24576, "".join(f"010{it}{38 * '0'}0001" for it in (1, 2, 3))))
-HASH_0, HASH_1 = (4141, "0000000100000000"), (4141, "0000000100000001")
+# A new store of `2 2 4 2 2 8` with these bytes in place is refused so, and this is said of it.
+# Fields of slot 0: the active log at 4105, the hash stores at 4141, the sorted store's region at
+# 4209, the number of its entries at 4213.
+LOG_1 = (
+    (4105, "00000001"),
+    (20480, "a7a7a7a7"),
+    (24576, "".join(f"010{it}{38 * '0'}0001" for it in (1, 2, 3))),
+)
+HASH_0 = (4141, "0000000100000000")
+HASH_1 = (4141, "0000000100000001")
 SORTED_1 = (4209, "00000001")
 ENTRIES_3 = ((4213, "00000003"), (40960 + 22, "01"), (40960 + 44, "01"))
 PLACES = {
@@ -244,11 +276,26 @@ PLACES = {
     (*LOG_1, (24645, "03")): ("log 1 row 3", "a row of a log is damaged, at byte 24645"),
     (HASH_0, (28695, "03")): ("hash 0 slot 1", "a slot of a hash store is damaged, at byte 28695"),
     (HASH_1, (32929, "03")): ("hash 1 slot 7", "a slot of a hash store is damaged, at byte 32929"),
-    (HASH_0,): ("hash 0 digest", "a hash store has another digest than the manifest says, at byte 28672"),
-    (HASH_1,): ("hash 1 digest", "a hash store has another digest than the manifest says, at byte 32768"),
-    ((4213, "00000001"),): ("sorted digest", "the sorted store has another digest than the manifest says, at byte 36864"),
-    (SORTED_1, (4213, "00000001")): ("sorted digest", "the sorted store has another digest than the manifest says, at byte 40960"),
-    (SORTED_1, (4213, "00000002")): ("sorted 1", "an entry of the sorted store is damaged, at byte 40982"),
+    (HASH_0,): (
+        "hash 0 digest",
+        "a hash store has another digest than the manifest says, at byte 28672",
+    ),
+    (HASH_1,): (
+        "hash 1 digest",
+        "a hash store has another digest than the manifest says, at byte 32768",
+    ),
+    ((4213, "00000001"),): (
+        "sorted digest",
+        "the sorted store has another digest than the manifest says, at byte 36864",
+    ),
+    (SORTED_1, (4213, "00000001")): (
+        "sorted digest",
+        "the sorted store has another digest than the manifest says, at byte 40960",
+    ),
+    (SORTED_1, (4213, "00000002")): (
+        "sorted 1",
+        "an entry of the sorted store is damaged, at byte 40982",
+    ),
     (SORTED_1, *ENTRIES_3): ("sorted 2", "an entry of the sorted store is damaged, at byte 41004"),
 }
 
@@ -274,7 +321,13 @@ class Places(DamageCase):
     def test_the_first_of_several(self):
         """Each comes before those that were there."""
         image = self.store(self.GEOMETRY).read_bytes()
-        for changes in (((4213, "00000001"),), (HASH_1,), ((12288, "a7"),), ((8192, "a7"),), ((17, "00000003"),)):
+        for changes in (
+            ((4213, "00000001"),),
+            (HASH_1,),
+            ((12288, "a7"),),
+            ((8192, "a7"),),
+            ((17, "00000003"),),
+        ):
             image = changed(image, *changes)
             place, said = PLACES[changes]
             self.assert_said(image, f"3 Damaged {place}", said)
@@ -282,9 +335,19 @@ class Places(DamageCase):
     def test_the_whole(self):
         """A length and a charge have no offset. A file without a store may get one by a format."""
         sound = self.store(self.GEOMETRY).read_bytes()
-        self.assert_said(sound[:-1], "3 Damaged length", "it has another length than its header says")
+        self.assert_said(
+            sound[:-1], "3 Damaged length", "it has another length than its header says"
+        )
         entries = "".join(f"0{it}".ljust(40, "0") + "0001" for it in range(1, 9))
-        image = changed(as_version_1(sound), (4213, "00000008"), (36864, entries), (12288, "a7"), (16384, f"0101{38 * '0'}0001"))
+        image = changed(
+            as_version_1(sound),
+            (4213, "00000008"),
+            (36864, entries),
+            (12288, "a7"),
+            (16384, f"0101{38 * '0'}0001"),
+        )
         self.assert_said(image, "3 Damaged charge", "it holds more rows than it may")
         for image in (changed(sound[:-1], (0, "00")), b"", bytes(45056)):
-            self.assert_said(image, "1 NotFormatted", "it is not a silt store; make one with silt format")
+            self.assert_said(
+                image, "1 NotFormatted", "it is not a silt store; make one with silt format"
+            )

@@ -17,11 +17,9 @@ does not make, the test makes one. Ports are replaced by free ones.
 """
 import itertools
 import os
-import pathlib
 import re
 import shutil
 import signal
-import socket
 import subprocess
 import sys
 import unittest
@@ -84,14 +82,18 @@ class Command:
 
 def blocks_of(document):
     """The fenced blocks of a document."""
-    blocks, open_block, section = [], None, 0
+    blocks = []
+    open_block = None
+    section = 0
     for number, line in enumerate(document.read_text().splitlines(), 1):
         if line.startswith("```"):
             if open_block:
                 blocks.append(open_block)
                 open_block = None
             else:
-                open_block = Block(f"{document.relative_to(TOP)}:{number}", section, line.strip("`").strip())
+                open_block = Block(
+                    f"{document.relative_to(TOP)}:{number}", section, line.strip("`").strip()
+                )
         elif open_block:
             open_block.lines.append(line)
         elif line.startswith("#"):
@@ -102,7 +104,10 @@ def blocks_of(document):
 def commands_in(block):
     """The commands of one block."""
     if not any(line.startswith("$ ") for line in block.lines):
-        return [Command(block.place, block.section, it, may_be_shown_below=False) for it in bare_commands_in(block)]
+        return [
+            Command(block.place, block.section, it, may_be_shown_below=False)
+            for it in bare_commands_in(block)
+        ]
     commands = []
     for line in block.lines:
         if line.startswith("$ "):
@@ -143,7 +148,9 @@ def shows_below(command, block):
 
 def pattern_of(lines):
     """A regular expression of the output that these lines show."""
-    return "".join(r"(?:.*\n)*" if line in ("..", "...") else re.escape(line) + r"\n" for line in lines)
+    return "".join(
+        r"(?:.*\n)*" if line in ("..", "...") else re.escape(line) + r"\n" for line in lines
+    )
 
 
 def end_group(number):
@@ -173,7 +180,9 @@ class Shell(Case):
         env = {**os.environ, "PATH": f"{self.path('bin')}:{os.environ['PATH']}", "LC_ALL": "C"}
         self.path("script").write_text(script)
         how = {"stdin": subprocess.DEVNULL, "stdout": subprocess.PIPE, "stderr": subprocess.DEVNULL}
-        with subprocess.Popen(["bash", "script"], cwd=self.folder, env=env, start_new_session=True, **how) as running:
+        with subprocess.Popen(
+            ["bash", "script"], cwd=self.folder, env=env, start_new_session=True, **how
+        ) as running:
             try:
                 return running.communicate(timeout=limit)[0].decode(errors="replace")
             except subprocess.TimeoutExpired:
@@ -187,7 +196,9 @@ class Documents(Shell):
 
     def with_free_ports(self, commands):
         """The same commands, with a free port in place of each port of a server."""
-        ports = {it for command in commands for it in re.findall(r"\bserve \S+ ([1-9]\d*)", command.text)}
+        ports = {
+            it for command in commands for it in re.findall(r"\bserve \S+ ([1-9]\d*)", command.text)
+        }
         for port in ports:
             free = str(free_port())
             for command in commands:
@@ -197,7 +208,8 @@ class Documents(Shell):
 
     def stores_to_make(self, commands):
         """Commands that make the stores which the document uses and does not make."""
-        known, making = set(), []
+        known = set()
+        making = []
         for command in commands:
             for name in re.findall(r"\b\w+\.silt\b", command.text):
                 if name not in known and f"format {name}" not in command.text:
@@ -209,7 +221,11 @@ class Documents(Shell):
         """A script that runs these commands, each with its output and statuses in its own files."""
         script = [PROLOGUE, *self.stores_to_make(commands)]
         for number, command in enumerate(commands):
-            script.append(f"{{ {command.text}\necho ${{PIPESTATUS[*]}} >status.{number}\n}} >out.{number} 2>&1")
+            script.append(
+                f"{{ {command.text}\n"
+                f"echo ${{PIPESTATUS[*]}} >status.{number}\n"
+                f"}} >out.{number} 2>&1"
+            )
             if command.text.endswith("&"):
                 script.append(f"lines_come out.{number} {len(command.shown)}")
         return "\n".join([*script, "kill $(jobs -p) 2>/dev/null", "true"])
@@ -227,13 +243,16 @@ class Documents(Shell):
         commands = self.with_free_ports(commands)
         self.shell(self.script_of(commands))
         for number, command in enumerate(commands):
-            printed, what = self.path(f"out.{number}").read_text(errors="replace"), f"{command.place}: {command.text}"
+            printed = self.path(f"out.{number}").read_text(errors="replace")
+            what = f"{command.place}: {command.text}"
             if not re.fullmatch(self.due(command), printed):
                 self.assertEqual(printed.splitlines(), command.shown, what)
                 self.fail(f"{what} printed\n{printed}")
             statuses = self.path(f"status.{number}").read_text().split()
             if not command.shown:
-                self.assertLessEqual(set(statuses), {"0", CLOSED_PIPE}, f"{what} printed\n{printed}")
+                self.assertLessEqual(
+                    set(statuses), {"0", CLOSED_PIPE}, f"{what} printed\n{printed}"
+                )
         return len(commands)
 
     def test_readme(self):
@@ -256,7 +275,9 @@ class Examples(Shell):
     def calls(self):
         """The call of each example, by its name."""
         text = (TOP / "examples/README.md").read_text()
-        return {name: call for call, name in re.findall(r"`([^`\n]*examples/(\w+)\.(?:txt|sh))`", text)}
+        return {
+            name: call for call, name in re.findall(r"`([^`\n]*examples/(\w+)\.(?:txt|sh))`", text)
+        }
 
     def test_all_are_listed(self):
         names = {it.stem for it in (TOP / "examples").iterdir() if it.suffix in (".txt", ".sh")}
@@ -269,7 +290,11 @@ class Examples(Shell):
             self.assertEqual(printed, (TOP / f"examples/{name}.out").read_text(), call)
 
     def test_the_comparison_of_all(self):
-        blocks = [it for it in blocks_of(TOP / "examples/README.md") if any(".out" in line for line in it.lines)]
+        blocks = [
+            it
+            for it in blocks_of(TOP / "examples/README.md")
+            if any(".out" in line for line in it.lines)
+        ]
         self.assertEqual(len(blocks), 1)
         printed = self.shell("\n".join(blocks[0].lines))
         self.assertEqual(sorted(printed.splitlines()), sorted(f"{it} ok" for it in self.calls()))
@@ -280,7 +305,9 @@ class Library(unittest.TestCase):
 
     def test_its_program(self):
         shown = next(it for it in blocks_of(TOP / "docs/library.md") if it.language == "rust")
-        self.assertEqual("\n".join([*shown.lines, ""]), (TOP / "crates/silt_example/src/main.rt").read_text())
+        self.assertEqual(
+            "\n".join([*shown.lines, ""]), (TOP / "crates/silt_example/src/main.rt").read_text()
+        )
 
 
 class Parsing(unittest.TestCase):
@@ -298,7 +325,9 @@ class Parsing(unittest.TestCase):
             ("", ["./silt one", "", "./silt two"], ["./silt one", "./silt two"]),
             ("", ["opened", "./silt two"], []),
         ):
-            self.assertEqual([it.text for it in commands_in(Block("here", 0, language, lines))], commands)
+            self.assertEqual(
+                [it.text for it in commands_in(Block("here", 0, language, lines))], commands
+            )
 
     def test_lines_that_are_left_out(self):
         shown = pattern_of(["a.", "..", "d"])

@@ -1,4 +1,5 @@
-"""Dumps: each entry of a store as a line that puts it, in the order of the keys, and the way back."""
+"""Dumps: each entry of a store as a line that puts it, in the order of the keys, and the way
+back."""
 import model
 from harness import PROVED, scaled
 from layout import CLOSED, OPEN, Layout
@@ -56,7 +57,8 @@ class Dumps(DamageCase):
         self.store(geometry, ["put =a 0001", "put =b 0002", "flush"])
         image = bytearray(self.image())
         gates = Layout.of(geometry).gates(0)
-        # The commit byte of the third row is open, behind which lie zeros, and that of the second one is not.
+        # The commit byte of the third row is open, behind which lie zeros, and that of the second
+        # one is not.
         image[gates + 1:gates + 3] = CLOSED + OPEN
         self.path("store").write_bytes(image)
         expected = lines_of(entries_of(model.examine(bytes(image))))

@@ -50,14 +50,31 @@ class Fault:
         return f"{os.strerror(number)} (os error {number})"
 
 
-STREAMS = [Fault("read", "EIO"), Fault("read", "EINTR"), Fault("read"), Fault("write", "EIO"), Fault("write", "ENOSPC"),
-           Fault("write", "EINTR"), Fault("write")]
+STREAMS = [
+    Fault("read", "EIO"),
+    Fault("read", "EINTR"),
+    Fault("read"),
+    Fault("write", "EIO"),
+    Fault("write", "ENOSPC"),
+    Fault("write", "EINTR"),
+    Fault("write"),
+]
 READS = [Fault("pread", "EIO"), Fault("pread", "EINTR"), Fault("pread")]
-WRITES = [Fault("pwrite", "EIO"), Fault("pwrite", "ENOSPC", "+"), Fault("pwrite", "EINTR"), Fault("pwrite")]
+WRITES = [
+    Fault("pwrite", "EIO"),
+    Fault("pwrite", "ENOSPC", "+"),
+    Fault("pwrite", "EINTR"),
+    Fault("pwrite"),
+]
 SYNCS = [Fault("fdatasync", "EIO"), Fault("fdatasync", "ENOSPC", "+"), Fault("fdatasync", "EINTR"),
          Fault("fsync", "EIO"), Fault("fsync", "EINTR")]
-OPENS = [Fault("open", "EACCES"), Fault("open", "EMFILE"), Fault("open", "EINTR"), Fault("ftruncate", "ENOSPC"),
-         Fault("ftruncate", "EINTR")]
+OPENS = [
+    Fault("open", "EACCES"),
+    Fault("open", "EMFILE"),
+    Fault("open", "EINTR"),
+    Fault("ftruncate", "ENOSPC"),
+    Fault("ftruncate", "EINTR"),
+]
 
 
 IN_USE = "the file is in use, and is free when the other program ends"
@@ -68,14 +85,22 @@ class FaultCase(JobCase):
         """Runs the job with each fault at each call in turn, and judges each run. Other calls
         may be short always."""
         self.put_back(job.before)
-        whole = self.silt(*job.words, text=job.text, env=watching(self, counts="counts", short=short))
-        at_end, counts, tried = self.left(), read_counts(self.path("counts")), 0
+        whole = self.silt(
+            *job.words, text=job.text, env=watching(self, counts="counts", short=short)
+        )
+        at_end = self.left()
+        counts = read_counts(self.path("counts"))
+        tried = 0
         for fault in faults:
             begin = self.random.randint(1, min(EVERY, max(1, counts[fault.call])))
             for number in range(begin, counts[fault.call] + 1, EVERY):
                 self.put_back(job.before)
-                ended, calls = self.recorded(*job.words, text=job.text, **{"short": short} | fault.plan(number))
-                with self.subTest(job=job.words[0], call=fault.call, number=number, error=fault.error):
+                ended, calls = self.recorded(
+                    *job.words, text=job.text, **{"short": short} | fault.plan(number)
+                )
+                with self.subTest(
+                    job=job.words[0], call=fault.call, number=number, error=fault.error
+                ):
                     if fault.is_none:
                         self.assertEqual((ended, self.left()), (whole, at_end))
                     elif self.failed_file(fault, calls) == "/dev/null":
@@ -87,7 +112,9 @@ class FaultCase(JobCase):
 
     def failed_call(self, fault, calls):
         """The number of the call that failed first."""
-        return next(n for n, it in enumerate(calls) if it.name == fault.call and it.error == fault.error)
+        return next(
+            n for n, it in enumerate(calls) if it.name == fault.call and it.error == fault.error
+        )
 
     def failed_file(self, fault, calls):
         """The file of the call that failed first."""
@@ -103,7 +130,11 @@ class FaultCase(JobCase):
         if call.name in ("read", "write"):
             return f"silt: {re.escape(fault.text)}\n"
         # A buffered write goes out with a later write or sync, and that one is named.
-        where = {"pread": f"a read at {call.at}: ", "pwrite": r"(a sync|a write at \d+): ", "fdatasync": "a sync: "}
+        where = {
+            "pread": f"a read at {call.at}: ",
+            "pwrite": r"(a sync|a write at \d+): ",
+            "fdatasync": "a sync: ",
+        }
         return f"silt: store: {where.get(call.name, '')}{re.escape(fault.text)}\n"
 
     def judge_reason(self, fault, call, ended):
@@ -121,7 +152,8 @@ class Runs(FaultCase):
     """A run with freezes, conversions and merges."""
 
     def judge_run(self, job, fault, whole, ended, calls):
-        left, at = self.left(), self.failed_call(fault, calls)
+        left = self.left()
+        at = self.failed_call(fault, calls)
         if calls[at].file == "standard error":
             self.judge_note(whole, ended)
             return
@@ -145,20 +177,25 @@ class Runs(FaultCase):
 
     def judge_replies(self, job, fault, whole, ended, is_open):
         """Judges what was answered. The commands that may have been accepted, in their order."""
-        lines, due = job.lines, whole.lines[1:]
+        lines = job.lines
+        due = whole.lines[1:]
         if fault.call in ("read", "write"):
             self.judge_early(fault, whole, ended)
         elif not is_open:
             self.assertEqual((ended.status, ended.out), (1, DEVICE))
         else:
             lines, due = self.judge_line(job, fault, whole, ended)
-        return [line for line, reply in zip(lines, due) if is_command(line) and reply.startswith("accepted")]
+        return [
+            line
+            for line, reply in zip(lines, due) if is_command(line) and reply.startswith("accepted")
+        ]
 
     def judge_line(self, job, fault, whole, ended):
         """One line is refused: all others are as if it had not been asked, or the store has
         failed."""
         self.assertEqual(ended.status, 0)
-        got, due = ended.lines[1:], whole.lines[1:]
+        got = ended.lines[1:]
+        due = whole.lines[1:]
         at = next(n for n, (one, other) in enumerate(zip(got, due)) if one != other)
         self.assertEqual(got[at], "refused 5 Device")
         others = job.lines[:at] + job.lines[at + 1:]
@@ -208,18 +245,23 @@ class Runs(FaultCase):
         content = bytearray(self.store(geometry, ["put =a 0001", "flush"]).read_bytes())
         gates = Layout.of(geometry).gates(0)
         content[gates:gates + 4] = OPEN + CLOSED + 2 * OPEN
-        job = Job(["run", "store"], ["put =b 0002", "put =a 0003", "flush", "get =a"], bytes(content))
+        job = Job(
+            ["run", "store"], ["put =b 0002", "put =a 0003", "flush", "get =a"], bytes(content)
+        )
         self.try_all(job, self.judge_sealed, WRITES + SYNCS + READS)
 
     def judge_sealed(self, job, fault, whole, ended, calls):
         """As any run, on a map that has one key already."""
-        left, at = self.left(), self.failed_call(fault, calls)
+        left = self.left()
+        at = self.failed_call(fault, calls)
         is_open = any(it.file == "standard output" for it in calls[:at])
         self.judge_notes(fault, ended, calls, at, is_open)
         commands = self.judge_replies(job, fault, whole, ended, is_open)
         self.assertRegex(self.report(left), r"\Ageneration ")
         found = self.silt("run", "store", text="get =a\nget =b\n").lines[1:]
-        least = max([int(it.split()[1]) for it in ended.lines if it.startswith("acknowledged")], default=0)
+        least = max(
+            [int(it.split()[1]) for it in ended.lines if it.startswith("acknowledged")], default=0
+        )
         maps = maps_after({"=a": "0001"}, commands)[least:]
         self.assertIn(found, [[answer(values, key) for key in ("=a", "=b")] for values in maps])
 
@@ -236,15 +278,19 @@ class Runs(FaultCase):
 
 
 class Pieces(WatchedCase):
-    """Standard input in pieces, each read interrupted first, and streams that fail in the middle, letter for letter."""
+    """Standard input in pieces, each read interrupted first, and streams that fail in the middle,
+    letter for letter."""
 
     def run_in_pieces(self, words, text, size, error=""):
-        """Runs the program on a text that comes in pieces of so many bytes. It may fail behind the last one."""
+        """Runs the program on a text that comes in pieces of so many bytes. It may fail behind the
+        last one."""
         pieces = [text[at:at + size] for at in range(0, len(text), size)]
         fail = [f"read:{2 * number + 1}:EINTR" for number in range(len(pieces) + 1)]
         fail += [f"read:{2 * len(pieces) + 2}:{error}"] * bool(error)
         source, sink = os.pipe2(os.O_DIRECT)  # each read returns what one write wrote
-        with self.start(*words.split(), stdin=source, env=watching(self, log="record", fail=fail)) as running:
+        with self.start(
+            *words.split(), stdin=source, env=watching(self, log="record", fail=fail)
+        ) as running:
             os.close(source)
             with contextlib.suppress(BrokenPipeError), open(sink, "wb", 0) as into:
                 for piece in pieces:
@@ -261,44 +307,81 @@ class Pieces(WatchedCase):
         for size in (1, 2, 7, 64):
             self.path("store").unlink(missing_ok=True)
             self.store(SMALL)
-            self.assertEqual(self.run_in_pieces(f"script {SMALL}", text, size), Ended(0, out, ""), size)
+            self.assertEqual(
+                self.run_in_pieces(f"script {SMALL}", text, size), Ended(0, out, ""), size
+            )
             self.assertEqual(self.run_in_pieces("run store", text, size), Ended(0, out, rest), size)
 
     def test_a_reader_that_fails(self):
-        """A script is read whole before its first life begins. A run has replied to the lines that came."""
+        """A script is read whole before its first life begins. A run has replied to the lines that
+        came."""
         self.store(SMALL)
-        text, reset = b"put =abc 0102\nflush\nget", "silt: Connection reset by peer (os error 104)\n"
-        self.assertEqual(self.run_in_pieces(f"script {SMALL}", text, 9, "ECONNRESET"), Ended(1, "", reset))
+        text = b"put =abc 0102\nflush\nget"
+        reset = "silt: Connection reset by peer (os error 104)\n"
+        self.assertEqual(
+            self.run_in_pieces(f"script {SMALL}", text, 9, "ECONNRESET"), Ended(1, "", reset)
+        )
         out = "opened\naccepted 1\nacknowledged 1\n"
         rest = "silt: the last line has no line feed, and is not answered\n"
-        self.assertEqual(self.run_in_pieces("run store", text, 9, "ECONNRESET"), Ended(1, out, reset + rest))
+        self.assertEqual(
+            self.run_in_pieces("run store", text, 9, "ECONNRESET"), Ended(1, out, reset + rest)
+        )
         ended = self.run_in_pieces("run store", b"get =abc\nflush\n", 64, "EIO")
-        self.assertEqual(ended, Ended(1, "opened\nvalue 0102\nacknowledged 0\n", "silt: Input/output error (os error 5)\n"))
+        self.assertEqual(
+            ended,
+            Ended(
+                1, "opened\nvalue 0102\nacknowledged 0\n", "silt: Input/output error (os error 5)\n"
+            ),
+        )
 
     def check_writer(self, words, text, out, rooms):
-        """The writer takes so many bytes, and then fails. If the pipe is closed, nothing is said."""
+        """The writer takes so many bytes, and then fails. If the pipe is closed, nothing is
+        said."""
         for room in rooms:
-            for error, said in (("EPIPE", ""), ("ENOSPC", "silt: No space left on device (os error 28)\n")):
+            for error, said in (
+                ("EPIPE", ""),
+                ("ENOSPC", "silt: No space left on device (os error 28)\n"),
+            ):
                 env = watching(self, short="write:1+", fail=f"write:{room + 1}:{error}")
-                self.assertEqual(self.silt(*words.split(), text=text, env=env), Ended(1, out[:room], said), (room, error))
+                self.assertEqual(
+                    self.silt(*words.split(), text=text, env=env),
+                    Ended(1, out[:room], said),
+                    (room, error),
+                )
 
     def test_a_writer_that_fails(self):
-        self.check_writer(f"script {SMALL}", "put =abc 0102\nget =abc\n", "opened\naccepted 1\nvalue 0102\n",
-                          (0, 6, 7, 8, 17, 18, 28))
+        self.check_writer(
+            f"script {SMALL}",
+            "put =abc 0102\nget =abc\n",
+            "opened\naccepted 1\nvalue 0102\n",
+            (0, 6, 7, 8, 17, 18, 28),
+        )
         self.store(SMALL, ["put =abc 0102", "flush"])
-        self.check_writer("run store", "get =abc\nflush\n", "opened\nvalue 0102\nacknowledged 0\n", (0, 6, 7, 17))
+        self.check_writer(
+            "run store", "get =abc\nflush\n", "opened\nvalue 0102\nacknowledged 0\n", (0, 6, 7, 17)
+        )
 
     def test_a_full_device_and_a_closed_pipe(self):
         full = "silt: No space left on device (os error 28)\n"
         for place, said in (("/dev/full", full), (None, "")):
             self.path("store").unlink(missing_ok=True)
             self.store(SMALL, ["put =a 0102", "flush"])
-            for words in ("run store", "tend store", "check store", "dump store", f"script {SMALL}"):
+            for words in (
+                "run store",
+                "tend store",
+                "check store",
+                "dump store",
+                f"script {SMALL}",
+            ):
                 self.assertEqual(self.run_into(place, words), Ended(1, "", said), (words, place))
             store = "a store (V 2, B 2, CAP 4, NL 2, NH 2, S 8) of at most 1 keys"
             for force, note in (("", f"silt: store: it holds {store}; --force overwrites it\n"),
                                 (" --force", f"silt: store holds {store}; it is overwritten\n")):
-                self.assertEqual(self.run_into(place, f"format store {SMALL}{force}"), Ended(1, "", note + said), place)
+                self.assertEqual(
+                    self.run_into(place, f"format store {SMALL}{force}"),
+                    Ended(1, "", note + said),
+                    place,
+                )
 
     def run_into(self, place, words):
         """Runs the program with its standard output at a place, or in a pipe that is closed."""
@@ -321,13 +404,17 @@ class WorkedFaults(WatchedCase):
         text = "get =a\nput =a 0102\nput =b 0102\nput =c 0102\nflush\n"
         ended, _ = self.recorded("run", "store", text=text, fail="pwrite:1+:EBADF")
         out = "opened\nabsent\naccepted 1\nrefused 5 Device\nrefused 9 Failed\nrefused 9 Failed\n"
-        err = ("silt: 1 line refused 5 Device, first line 3\n"
-               "silt: 2 lines refused 9 Failed, first line 4; an earlier write or sync failed, and running again opens the "
-               "store anew\nsilt: store: a write at 16384: Bad file descriptor (os error 9)\n")
+        err = (
+            "silt: 1 line refused 5 Device, first line 3\n"
+            "silt: 2 lines refused 9 Failed, first line 4; an earlier write or sync failed, and "
+            "running again opens the "
+            "store anew\nsilt: store: a write at 16384: Bad file descriptor (os error 9)\n"
+        )
         self.assertEqual(ended, Ended(0, out, err))
 
     def test_a_failed_read(self):
-        """The file is cut short while it is open. The first failed read is reported, and behind the replies."""
+        """The file is cut short while it is open. The first failed read is reported, and behind the
+        replies."""
         self.store(SMALL, ["put =a 0102", "put =b 0304", "flush"])
         with self.start("run", "store") as running:
             self.assertEqual(running.stdout.readline(), b"opened\n")
@@ -342,7 +429,9 @@ class WorkedFaults(WatchedCase):
         """The next run works."""
         self.store(SMALL)
         ended, _ = self.recorded("run", "store", text="flush\n", fail="fdatasync:1:EIO")
-        self.assertEqual(ended, Ended(1, DEVICE, "silt: store: a sync: Input/output error (os error 5)\n"))
+        self.assertEqual(
+            ended, Ended(1, DEVICE, "silt: store: a sync: Input/output error (os error 5)\n")
+        )
         self.assert_ends("run store", "opened\nacknowledged 0\n", text="flush\n")
 
 
@@ -370,7 +459,11 @@ class Others(FaultCase):
 
     def test_a_check(self):
         job = Job(["check", "store"], [], self.used())
-        faults = [it for it in STREAMS if it.call == "write"] + READS + [it for it in OPENS if it.call == "open"]
+        faults = (
+            [it for it in STREAMS if it.call == "write"]
+            + READS
+            + [it for it in OPENS if it.call == "open"]
+        )
         self.try_all(job, self.judge_check, faults)
 
     def judge_script(self, job, fault, whole, ended, calls):
@@ -390,7 +483,10 @@ class Others(FaultCase):
             # It cannot see the store that is lost, or not its numbers, or not how many keys.
             self.assertEqual((ended.status, ended.out, self.report(left)), (0, whole.out, empty))
             first = next(it for it in calls if it.name == "pread")
-            seen = rf"silt: store holds a store( of at most 4 keys| \({NUMBERS}\) that is damaged or cannot be read); it is overwritten\n"
+            seen = (
+                rf"silt: store holds a store( of at most 4 keys| \({NUMBERS}\) that is damaged or "
+                r"cannot be read); it is overwritten\n"
+            )
             self.assertRegex(ended.err, r"\A\Z" if call is first else rf"\A{seen}\Z")
             return
         if call.file == "standard error":
@@ -398,7 +494,9 @@ class Others(FaultCase):
             self.assertEqual((ended.status, ended.out, self.report(left)), (0, whole.out, empty))
             self.assertTrue(whole.err.startswith(ended.err))
             return
-        self.assertRegex(ended.err, rf"\A(silt: store holds a store .*\n)?{self.reason(fault, call)}\Z")
+        self.assertRegex(
+            ended.err, rf"\A(silt: store holds a store .*\n)?{self.reason(fault, call)}\Z"
+        )
         if fault.call == "write":
             self.judge_early(fault, whole, ended)
             self.assertEqual(self.report(left), empty)
@@ -415,7 +513,9 @@ class Others(FaultCase):
         return self.report(self.left())
 
     def test_a_format_of_a_new_file(self):
-        self.try_all(Job(["format", "store", *GEOMETRY.split()]), self.judge_format, self.of_a_format())
+        self.try_all(
+            Job(["format", "store", *GEOMETRY.split()]), self.judge_format, self.of_a_format()
+        )
 
     def test_a_format_of_a_store(self):
         job = Job(["format", "store", *GEOMETRY.split(), "--force"], [], self.used())
@@ -444,13 +544,16 @@ class Files(FaultCase):
         self.assertEqual((ended.status, ended.out, ended.err), (1, DEVICE, f"silt: {reason}\n"))
 
     def test_files_that_cannot_be_opened(self):
-        missing, folder = "No such file or directory (os error 2)", "Is a directory (os error 21)"
+        missing = "No such file or directory (os error 2)"
+        folder = "Is a directory (os error 21)"
         self.path("folder").mkdir()
         for name in ("none", "folder/none"):
             for job in ("run", "tend", "check", "dump"):
                 self.refused(job, name, reason=f"{name}: {missing}")
             self.refused("serve", name, 0, reason=f"{name}: {missing}")
-            self.refused("format", f"{name}/store", *GEOMETRY.split(), reason=f"{name}/store: {missing}")
+            self.refused(
+                "format", f"{name}/store", *GEOMETRY.split(), reason=f"{name}/store: {missing}"
+            )
             self.assertFalse(self.path(name).exists())
         for job in ("run", "tend"):
             self.refused(job, "folder", reason=f"folder: {folder}")
@@ -478,7 +581,10 @@ class Files(FaultCase):
         with self.path("store").open("rb") as reader:
             fcntl.flock(reader, fcntl.LOCK_SH)
             checked = self.silt("check", "store")
-            self.assertEqual((checked.status, checked.err), (0, "silt: store: V 2, B 2, CAP 4, NL 2, NH 2, S 8; charge 0 of 8\n"))
+            self.assertEqual(
+                (checked.status, checked.err),
+                (0, "silt: store: V 2, B 2, CAP 4, NL 2, NH 2, S 8; charge 0 of 8\n"),
+            )
             self.assertEqual(self.silt("dump", "store"), Ended(0, "", ""))
             for job in ("run", "tend"):
                 self.refused(job, "store", reason=f"store: {IN_USE}")
@@ -490,15 +596,24 @@ class Files(FaultCase):
             signal.signal(signal.SIGXFSZ, signal.SIG_IGN if is_ignored else signal.SIG_DFL)
             resource.setrlimit(resource.RLIMIT_FSIZE, (limit, limit))
 
-        ran = subprocess.run([PROGRAM, *job.words], input=job.text.encode(), cwd=self.folder, preexec_fn=prepare,
-                             restore_signals=False, capture_output=True, timeout=TIME_LIMIT)
+        ran = subprocess.run(
+            [PROGRAM, *job.words],
+            input=job.text.encode(),
+            cwd=self.folder,
+            preexec_fn=prepare,
+            restore_signals=False,
+            capture_output=True,
+            timeout=TIME_LIMIT,
+        )
         return Ended(ran.returncode, ran.stdout.decode(), ran.stderr.decode())
 
     def test_a_limit_of_the_file(self):
         """Writes beyond a length fail: EFBIG, or a signal that ends the program."""
         job = Job(["run", "store"], LINES, self.store(GEOMETRY).read_bytes())
         whole = self.plain(job)
-        commands = [line for line, reply in zip(LINES, whole.lines[1:]) if reply.startswith("accepted")]
+        commands = [
+            line for line, reply in zip(LINES, whole.lines[1:]) if reply.startswith("accepted")
+        ]
         for limit in (4096, 12290, 16400, 20480, 24700, 28700, 40960 + 30):
             for is_ignored in (True, False):
                 self.put_back(job.before)
@@ -510,9 +625,14 @@ class Files(FaultCase):
         if is_ignored or ended.status >= 0:
             self.assertEqual(ended.status, 0)
             lines = re.escape(notes_of_lines(job.text.encode(), ended.out))
-            self.assertRegex(ended.err, rf"\A{lines}silt: store: a (sync|write at \d+): File too large \(os error 27\)\n\Z")
+            self.assertRegex(
+                ended.err,
+                rf"\A{lines}silt: store: a (sync|write at \d+): File too large \(os error 27\)\n\Z",
+            )
             after = ended.lines[ended.lines.index("refused 5 Device") + 1:]
-            self.assertEqual({it for it in after if not it.startswith("refused 2")}, {"refused 9 Failed"})
+            self.assertEqual(
+                {it for it in after if not it.startswith("refused 2")}, {"refused 9 Failed"}
+            )
         else:
             self.assertEqual(-ended.status, signal.SIGXFSZ)
         self.judge_file(self.left(), commands, ended.lines)

@@ -9,17 +9,21 @@ from layout import Layout, manifest
 from test_damage import DamageCase
 
 # Geometries: small, with logs of eight rows, and with logs of one row.
-SMALL, EIGHT, ONE = "2 2 4 2 2 8", "2 2 8 2 2 16", "2 2 1 2 2 4"
+SMALL = "2 2 4 2 2 8"
+EIGHT = "2 2 8 2 2 16"
+ONE = "2 2 1 2 2 4"
 
 UNKNOWN = "refused 1 NotFormatted"
 HEADER = "refused 3 Damaged header"
 LENGTH = "refused 3 Damaged length"
 NO_SLOT = "refused 3 Damaged no slot"
-SLOT_0, SLOT_1 = "refused 3 Damaged slot 0", "refused 3 Damaged slot 1"
+SLOT_0 = "refused 3 Damaged slot 0"
+SLOT_1 = "refused 3 Damaged slot 1"
 CHARGE = "refused 3 Damaged charge"
 CROWDED = "refused 4 Crowded"
 SORTED_DIGEST = "refused 3 Damaged sorted digest"
-NEWEST, OLDER = "refused 3 Damaged hash 1 digest", "refused 3 Damaged hash 0 digest"
+NEWEST = "refused 3 Damaged hash 1 digest"
+OLDER = "refused 3 Damaged hash 0 digest"
 
 
 def log(region, row):
@@ -34,8 +38,18 @@ def entry(number):
     return f"refused 3 Damaged sorted {number}"
 
 
-def report(layout=1, generation=0, active=0, active_rows=0, frozen=0, frozen_rows=0, hashes=0, hash_rows=0,
-           entries=0, charge=0):
+def report(
+    layout=1,
+    generation=0,
+    active=0,
+    active_rows=0,
+    frozen=0,
+    frozen_rows=0,
+    hashes=0,
+    hash_rows=0,
+    entries=0,
+    charge=0,
+):
     """The lines of a check that finds nothing wrong."""
     return [f"generation {generation}", f"active log {active} rows {active_rows}",
             f"frozen logs {frozen} rows {frozen_rows}", f"hash stores {hashes} rows {hash_rows}",
@@ -80,7 +94,8 @@ class FindingCase(DamageCase):
             self.assert_found(with_bytes(whole, *changes), found, f"case {number}")
 
     def assert_in_turn(self, image, turns):
-        """Bytes are changed one after the other. Each time the finding that comes first is reported."""
+        """Bytes are changed one after the other. Each time the finding that comes first is
+        reported."""
         for at, byte, found in turns:
             image = with_bytes(image, [(at, byte)])
             self.assert_found(image, found, f"{byte} at {at}")
@@ -114,7 +129,8 @@ BYTES = [
     (33, 2, HEADER),
     (28, 3, LENGTH),
     (32, 1, LENGTH),
-    # manifest slot 0: gate, generation, active log, count of frozen logs, count of hash stores, sorted region and count
+    # manifest slot 0: gate, generation, active log, count of frozen logs, count of hash stores,
+    # sorted region and count
     (4096, 0x00, NO_SLOT),
     # the bit that says that digests follow; they are zeros
     (4097, 0x80, SORTED_DIGEST),
@@ -150,7 +166,8 @@ BYTES = [
     (36, 2, report(**TWO_ROWS)),
 ]
 
-# Devices of this length: the first bytes of that one and a byte more. Two of them have another number of buckets.
+# Devices of this length: the first bytes of that one and a byte more. Two of them have another
+# number of buckets.
 CUTS = [
     (0, [], UNKNOWN),
     (36, [], UNKNOWN),
@@ -186,21 +203,29 @@ class TwoRows(FindingCase):
             self.assert_found(with_bytes(self.whole, [(at, byte)]), found, f"{byte} at {at}")
 
     def test_other_lengths(self):
-        """Shorter than a header, or of another length than the header says. Bad numbers come before the length."""
+        """Shorter than a header, or of another length than the header says. Bad numbers come before
+        the length."""
         for length, changes, found in CUTS:
-            self.assert_found(with_bytes((self.whole + b"\0")[:length], changes), found, f"length {length}")
+            self.assert_found(
+                with_bytes((self.whole + b"\0")[:length], changes), found, f"length {length}"
+            )
 
     def test_the_first_damage(self):
         self.assert_in_turn(self.whole, IN_TURN)
 
 
-# A store of two buckets and logs of eight rows, with something in each part. The active log has the keys 1 to 4,
-# which fill a bucket, and after a closed gate key 5 of the same bucket. Log 1 is frozen and has key 0. Hash store 0
-# has the keys 0 and 1, and a mark in slot 4. Hash store 1 is older and empty. There are three sorted entries.
+# A store of two buckets and logs of eight rows, with something in each part. The active log has the
+# keys 1 to 4, which fill a bucket, and after a closed gate key 5 of the same bucket. Log 1 is
+# frozen and has key 0. Hash store 0 has the keys 0 and 1, and a mark in slot 4. Hash store 1 is
+# older and empty. There are three sorted entries.
 WHOLE = [
     (4112, 1), (4116, 1),
     (12288, 0xA7), (12289, 0xA7), (12290, 0xA7), (12291, 0xA7),
-    (16384, 1), (16385, 1), (16407, 1), (16408, 2), (16430, 1), (16431, 3), (16453, 1), (16454, 4), (16476, 1), (16477, 5),
+    (16384, 1), (16385, 1),
+    (16407, 1), (16408, 2),
+    (16430, 1), (16431, 3),
+    (16453, 1), (16454, 4),
+    (16476, 1), (16477, 5),
     (20480, 0xA7), (24576, 1),
     (4144, 2), (4152, 1),
     (28672, 1), (28695, 1), (28696, 1), (28764, 2), (28766, 1),
@@ -208,7 +233,9 @@ WHOLE = [
     # values, which no opening reads
     (16406, 9), (28694, 9), (28717, 9), (36885, 9), (36907, 9),
 ]
-OF_WHOLE = report(active_rows=4, frozen=1, frozen_rows=1, hashes=2, hash_rows=3, entries=3, charge=10)
+OF_WHOLE = report(
+    active_rows=4, frozen=1, frozen_rows=1, hashes=2, hash_rows=3, entries=3, charge=10
+)
 
 # One finding each, in the order in which an opening looks for them.
 PLANTS = [
@@ -254,31 +281,53 @@ class EachPart(FindingCase):
         self.assert_found(self.whole, OF_WHOLE)
 
     def test_the_first_of_each_two(self):
-        """Each damage is found alone, and of each two damages the first in the order is reported."""
+        """Each damage is found alone, and of each two damages the first in the order is
+        reported."""
         for number, (first, found) in enumerate(PLANTS):
             for second, _ in PLANTS[number:]:
-                self.assert_found(with_bytes(self.whole, first, second), found, f"{first} and {second}")
+                self.assert_found(
+                    with_bytes(self.whole, first, second), found, f"{first} and {second}"
+                )
 
     def test_no_slot_is_open(self):
         """Then neither slot 0 nor what the slots name is looked at."""
         for number, (plant, found) in enumerate(PLANTS):
             comes_before = number <= IN_HEADER or found == SLOT_1
-            self.assert_found(with_bytes(self.whole, plant, CLOSED), found if comes_before else NO_SLOT, f"{plant}")
+            self.assert_found(
+                with_bytes(self.whole, plant, CLOSED),
+                found if comes_before else NO_SLOT,
+                f"{plant}",
+            )
 
     def test_one_byte_short(self):
         """Only damage of the header is found before that."""
         for number, (plant, found) in enumerate(PLANTS):
-            self.assert_found(with_bytes(self.whole[:-1], plant), found if number < IN_HEADER else LENGTH, f"{plant}")
+            self.assert_found(
+                with_bytes(self.whole[:-1], plant),
+                found if number < IN_HEADER else LENGTH,
+                f"{plant}",
+            )
 
 
-# The gates of log 0 are at 12,288 and its bodies at 16,384, 23 bytes each; those of log 1 at 20,480 and 24,576. Log 0
-# has a put and a delete, and log 1, which is frozen, a put.
-THREE_ROWS = [(4112, 1), (4116, 1), (12288, 0xA7), (12289, 0xA7), (16384, 1), (16407, 2), (16408, 7), (20480, 0xA7), (24576, 1)]
+# The gates of log 0 are at 12,288 and its bodies at 16,384, 23 bytes each; those of log 1 at 20,480
+# and 24,576. Log 0 has a put and a delete, and log 1, which is frozen, a put.
+THREE_ROWS = [
+    (4112, 1),
+    (4116, 1),
+    (12288, 0xA7),
+    (12289, 0xA7),
+    (16384, 1),
+    (16407, 2),
+    (16408, 7),
+    (20480, 0xA7),
+    (24576, 1),
+]
 OF_THREE_ROWS = {"active_rows": 2, "frozen": 1, "frozen_rows": 1}
-# The rows of a log end at the first closed gate. A row after that does not count, though its gate is open.
+# The rows of a log end at the first closed gate. A row after that does not count, though its gate
+# is open.
 CUT_OFF = [(12288, 0xA7), (12290, 0xA7), (16384, 1), (16407, 3), (16430, 3)]
-# The slots of hash store 0 begin at 28,672, with 23 bytes each, and the first four of them are bucket 0. That bucket
-# has two puts, and slot 4 has a delete of a key of bucket 1.
+# The slots of hash store 0 begin at 28,672, with 23 bytes each, and the first four of them are
+# bucket 0. That bucket has two puts, and slot 4 has a delete of a key of bucket 1.
 HASHED_ROWS = [(4144, 1), (28672, 1), (28695, 1), (28696, 1), (28764, 2), (28766, 1)]
 ROWS = [
     ([THREE_ROWS], report(**OF_THREE_ROWS, charge=2)),
@@ -289,31 +338,40 @@ ROWS = [
 # Hash store 1, whose slots begin at 32,768, is the newest. Hash store 0 comes after it.
 TWO_HASHED = [(4144, 2), (4148, 1)]
 BOTH_DAMAGED = [(28672, 3), (32929, 3)]
-# Each of the eight slots of hash store 1 has a put. Its key begins with the number of the slot and belongs into that
-# slot's bucket.
+# Each of the eight slots of hash store 1 has a put. Its key begins with the number of the slot and
+# belongs into that slot's bucket.
 EIGHT_HASHED = [(32768 + 23 * slot, 1) for slot in range(8)]
 EIGHT_HASHED += [(32769 + 23 * slot, slot) for slot in range(8)]
 EIGHT_HASHED += [(32770 + 23 * slot, slot // 4) for slot in range(8)]
 # A put, and a delete, in slot 3 of hash store 0.
-PUT_HASHED, DELETE_HASHED = [(28741, 1), (28742, 3)], [(28741, 2)]
-# The store may have as many as eight puts. With one more in the older hash store there are too many, but a delete
-# there does not count.
+PUT_HASHED = [(28741, 1), (28742, 3)]
+DELETE_HASHED = [(28741, 2)]
+# The store may have as many as eight puts. With one more in the older hash store there are too
+# many, but a delete there does not count.
 HASHED = [
     ([TWO_HASHED, BOTH_DAMAGED], hashed(1, 7)),
     ([TWO_HASHED, BOTH_DAMAGED, [(4148, 0), (4152, 1)]], hashed(0, 0)),
     ([TWO_HASHED, EIGHT_HASHED], report(hashes=2, hash_rows=8, charge=8)),
     ([TWO_HASHED, EIGHT_HASHED, PUT_HASHED], CHARGE),
-    ([TWO_HASHED, EIGHT_HASHED, PUT_HASHED, DELETE_HASHED], report(hashes=2, hash_rows=9, charge=8)),
+    (
+        [TWO_HASHED, EIGHT_HASHED, PUT_HASHED, DELETE_HASHED],
+        report(hashes=2, hash_rows=9, charge=8),
+    ),
 ]
 
-# The entries of sorted region 0 begin at 36,864 and those of region 1 at 40,960, with 22 bytes each: a key and its
-# value. The first two keys differ in their first byte, the last two in their last one.
+# The entries of sorted region 0 begin at 36,864 and those of region 1 at 40,960, with 22 bytes
+# each: a key and its value. The first two keys differ in their first byte, the last two in their
+# last one.
 THREE_ENTRIES = [(4216, 3), (36864, 1), (36886, 2), (36908, 2), (36927, 1)]
 # The manifest names sorted region 1. Its three entries rise, and those of region 0 do not.
-OTHER_REGION, OTHER_ENTRIES = [(4212, 1)], [(40982, 1), (41004, 2), (36886, 0)]
+OTHER_REGION = [(4212, 1)]
+OTHER_ENTRIES = [(40982, 1), (41004, 2), (36886, 0)]
 SORTED = [
     ([THREE_ENTRIES], report(entries=3, charge=3)),
-    ([THREE_ENTRIES, THREE_ROWS, HASHED_ROWS], report(**OF_THREE_ROWS, hashes=1, hash_rows=3, entries=3, charge=7)),
+    (
+        [THREE_ENTRIES, THREE_ROWS, HASHED_ROWS],
+        report(**OF_THREE_ROWS, hashes=1, hash_rows=3, entries=3, charge=7),
+    ),
     ([[(4216, 1)]], report(entries=1, charge=1)),
     ([THREE_ENTRIES, OTHER_REGION], entry(1)),
     ([THREE_ENTRIES, OTHER_REGION, OTHER_ENTRIES], report(entries=3, charge=3)),
@@ -321,9 +379,11 @@ SORTED = [
 
 # Eight entries whose keys rise in their first byte.
 EIGHT_ENTRIES = [(4216, 8)] + [(36864 + 22 * number, number) for number in range(1, 8)]
-PUT_LOGGED, DELETE_LOGGED = [(12288, 0xA7), (16384, 1)], [(16384, 2)]
-# An entry is damaged if its key is not above the one before it, and the first such entry is reported. Eight entries
-# fill the store, so a put in the log is too many, and a delete is not. Damaged entries come before the number of puts.
+PUT_LOGGED = [(12288, 0xA7), (16384, 1)]
+DELETE_LOGGED = [(16384, 2)]
+# An entry is damaged if its key is not above the one before it, and the first such entry is
+# reported. Eight entries fill the store, so a put in the log is too many, and a delete is not.
+# Damaged entries come before the number of puts.
 RISING = [
     ([THREE_ENTRIES, [(36864, 5), (36886, 4), (36908, 3)]], entry(1)),
     ([THREE_ENTRIES, [(36927, 0)]], entry(2)),
@@ -344,8 +404,8 @@ TURNS = [
         (16384, 3, log(0, 0)),
         (12288, 0xFF, log(1, 0)),
     ]),
-    # a row of an unknown kind, then one in another bucket than its key's, then one with the key of an earlier slot.
-    # The logs are looked at before that.
+    # a row of an unknown kind, then one in another bucket than its key's, then one with the key of
+    # an earlier slot. The logs are looked at before that.
     ([HASHED_ROWS], [
         (36, 1, CHARGE),
         (28833, 3, hashed(0, 7)),
@@ -355,8 +415,8 @@ TURNS = [
         (28787, 1, hashed(0, 5)),
         (12288, 0xA7, log(0, 0)),
     ]),
-    # two keys are equal, whatever their values; then one is below the key before it; then an earlier one is. The hash
-    # stores and the logs are looked at before that.
+    # two keys are equal, whatever their values; then one is below the key before it; then an
+    # earlier one is. The hash stores and the logs are looked at before that.
     ([HASHED_ROWS, THREE_ENTRIES], [
         (36927, 0, entry(2)),
         (36928, 9, entry(2)),
@@ -382,7 +442,8 @@ class Crafted(FindingCase):
             self.assert_each(whole, cases)
 
     def test_one_damage(self):
-        """Slot 1 of generation 0, two entries of one key, a row of kind 3, the last byte missing, all bytes zeros."""
+        """Slot 1 of generation 0, two entries of one key, a row of kind 3, the last byte missing,
+        all bytes zeros."""
         whole = self.new(SMALL)
         self.assert_each(whole, [([[(8192, 0xA7)]], SLOT_1), ([[(4216, 2)]], entry(1)),
                                  ([[(12288, 0xA7), (16384, 3)]], log(0, 0))])
@@ -397,7 +458,9 @@ class Crafted(FindingCase):
     def test_a_crowded_log(self):
         whole = self.new(EIGHT)
         self.assert_found(with_bytes(whole, FIVE_ROWS), CROWDED)
-        self.assert_found(with_bytes(whole, FIVE_ROWS, [(12292, 0)]), report(active_rows=4, charge=4))
+        self.assert_found(
+            with_bytes(whole, FIVE_ROWS, [(12292, 0)]), report(active_rows=4, charge=4)
+        )
 
 
 class NewStore(FindingCase):
@@ -409,25 +472,46 @@ class NewStore(FindingCase):
         numbers = "000000020000000200000004000000020000000200000008"
         self.assertEqual(whole[:37].hex(), "a753494c54464c534800000002" + numbers)
         self.assertEqual(whole[4096:4557], b"\xa7" + manifest(0, 0))
-        self.assertEqual([at for at in (*range(37, 4096), *range(4557, len(whole))) if whole[at]], [])
+        self.assertEqual(
+            [at for at in (*range(37, 4096), *range(4557, len(whole))) if whole[at]], []
+        )
         self.assert_found(whole, report(layout=2))
 
 
-# A store with logs of one row. Key 1 was merged into sorted region 1. Key 2 is in hash store 0, and key 3 in hash store
-# 1, the newest. Key 4 waits in log 1. Slot 1 of the manifest is current, with generation 7. In generation 6 log 0 is
-# frozen in place of hash store 1.
-CONVERT, MERGE = ["convert"] * 9, ["merge"] * 10
-THREE_STORES = [f"put {key(1)} 0001", f"put {key(2)} 0002", *CONVERT, *MERGE, f"put {key(3)} 0003", *CONVERT,
-                f"put {key(4)} 0004", *CONVERT]
+# A store with logs of one row. Key 1 was merged into sorted region 1. Key 2 is in hash store 0, and
+# key 3 in hash store 1, the newest. Key 4 waits in log 1. Slot 1 of the manifest is current, with
+# generation 7. In generation 6 log 0 is frozen in place of hash store 1.
+CONVERT = ["convert"] * 9
+MERGE = ["merge"] * 10
+THREE_STORES = [
+    f"put {key(1)} 0001",
+    f"put {key(2)} 0002",
+    *CONVERT,
+    *MERGE,
+    f"put {key(3)} 0003",
+    *CONVERT,
+    f"put {key(4)} 0004",
+    *CONVERT,
+]
 IN_STORES = {"generation": 7, "active": 1, "hashes": 2, "hash_rows": 2, "entries": 1, "charge": 3}
-OF_STORES, OF_OLD_STORES = report(2, **IN_STORES), report(1, **IN_STORES)
-# Changes of one byte each: in the value of an entry, of a row of the older hash store, and of a row of the newest one.
-ENTRY, OLDER_ROW, NEWEST_ROW = [(40981, 9)], [(28694, 9)], [(32790, 9)]
+OF_STORES = report(2, **IN_STORES)
+OF_OLD_STORES = report(1, **IN_STORES)
+# Changes of one byte each: in the value of an entry, of a row of the older hash store, and of a row
+# of the newest one.
+ENTRY = [(40981, 9)]
+OLDER_ROW = [(28694, 9)]
+NEWEST_ROW = [(32790, 9)]
 # Slots of an unknown kind: the first one of the older hash store, and the second one of each.
-OLDER_SLOT_0, OLDER_SLOT_1, NEWEST_SLOT_1 = [(28672, 3)], [(28695, 3)], [(32791, 3)]
-# The header has version 1. The current slot says that no digests follow, and so does the other slot.
-OLD, SHORT, OTHER_SHORT = [(12, 1)], [(8193, 0x00)], [(4097, 0x00)]
-# A digest is compared after the slots or entries of its own store are looked at, and before the next store.
+OLDER_SLOT_0 = [(28672, 3)]
+OLDER_SLOT_1 = [(28695, 3)]
+NEWEST_SLOT_1 = [(32791, 3)]
+# The header has version 1. The current slot says that no digests follow, and so does the other
+# slot.
+OLD = [(12, 1)]
+SHORT = [(8193, 0x00)]
+OTHER_SHORT = [(4097, 0x00)]
+# A digest is compared after the slots or entries of its own store are looked at, and before the
+# next store.
 OF_DIGESTS = [
     ([], OF_STORES),
     ([OLDER_ROW], OLDER),
@@ -442,8 +526,9 @@ OF_DIGESTS = [
     ([ENTRY, [(36, 1)]], SORTED_DIGEST),
     ([[(36, 1)]], CHARGE),
 ]
-# On a device of version 2 each open slot has digests. On one of version 1 it may have none. Then none is compared,
-# whatever is there, and the layout that is reported follows from the current slot.
+# On a device of version 2 each open slot has digests. On one of version 1 it may have none. Then
+# none is compared, whatever is there, and the layout that is reported follows from the current
+# slot.
 OF_VERSIONS = [
     ([SHORT], SLOT_1),
     ([OTHER_SHORT], SLOT_0),
@@ -454,10 +539,23 @@ OF_VERSIONS = [
     ([OLD, SHORT, NEWEST_ROW, OLDER_ROW, ENTRY], OF_OLD_STORES),
     ([OLD, SHORT, OLDER_SLOT_0], hashed(0, 0)),
     # the current slot is closed
-    ([[(8192, 0)]], report(2, generation=6, active=1, frozen=1, frozen_rows=1, hashes=1, hash_rows=1, entries=1, charge=3)),
+    (
+        [[(8192, 0)]],
+        report(
+            2,
+            generation=6,
+            active=1,
+            frozen=1,
+            frozen_rows=1,
+            hashes=1,
+            hash_rows=1,
+            entries=1,
+            charge=3,
+        ),
+    ),
 ]
-# The same device without digests. If a slot then says that it has digests, they are zeros. They are compared only if
-# the slot is current.
+# The same device without digests. If a slot then says that it has digests, they are zeros. They are
+# compared only if the slot is current.
 OF_VERSION_1 = [
     ([], OF_OLD_STORES),
     ([NEWEST_ROW, OLDER_ROW, ENTRY], OF_OLD_STORES),
@@ -465,10 +563,17 @@ OF_VERSION_1 = [
     ([[(8193, 0x80)]], NEWEST),
     ([[(12, 2)]], SLOT_0),
 ]
-# The digests of the current slot: where each field begins, its length, and what is found if one of its bytes is
-# another. Nothing compares the digests past the two hash stores, nor those of the other slot.
-FIELDS = [(8313, 20, NEWEST), (8333, 20, OLDER), (8353, 280, OF_STORES), (8633, 20, SORTED_DIGEST), (8653, 3, OF_STORES),
-          (4217, 340, OF_STORES)]
+# The digests of the current slot: where each field begins, its length, and what is found if one of
+# its bytes is another. Nothing compares the digests past the two hash stores, nor those of the
+# other slot.
+FIELDS = [
+    (8313, 20, NEWEST),
+    (8333, 20, OLDER),
+    (8353, 280, OF_STORES),
+    (8633, 20, SORTED_DIGEST),
+    (8653, 3, OF_STORES),
+    (4217, 340, OF_STORES),
+]
 
 
 class WithDigests(FindingCase):
@@ -489,11 +594,16 @@ class WithDigests(FindingCase):
             for at in range(begin, begin + count):
                 image = with_bytes(self.whole, [(at, self.whole[at] ^ 1)])
                 self.path("store").write_bytes(image)
-                self.assertEqual(self.check_report().lines, [found] if isinstance(found, str) else found, f"byte {at}")
+                self.assertEqual(
+                    self.check_report().lines,
+                    [found] if isinstance(found, str) else found,
+                    f"byte {at}",
+                )
 
     def test_exchanged_digests(self):
         """That of the newest hash store is compared first."""
-        newest, older = self.whole[8313:8333], self.whole[8333:8353]
+        newest = self.whole[8313:8333]
+        older = self.whole[8333:8353]
         self.assert_found(self.whole[:8313] + older + newest + self.whole[8353:], NEWEST)
 
 
@@ -514,8 +624,18 @@ class Frozen(FindingCase):
         self.new(EIGHT, [*puts, "flush"])
         replies = self.silt("run", "store", text="".join(line + "\n" for line in gets)).lines
         self.assertEqual(replies, ["opened", *(f"value 00{it[4]:02x}" for it in keys)])
-        self.assertEqual(self.check_report().lines, report(2, generation=1, active=1, active_rows=1, frozen=1,
-                                                           frozen_rows=frozen_rows, charge=frozen_rows + 1))
+        self.assertEqual(
+            self.check_report().lines,
+            report(
+                2,
+                generation=1,
+                active=1,
+                active_rows=1,
+                frozen=1,
+                frozen_rows=frozen_rows,
+                charge=frozen_rows + 1,
+            ),
+        )
 
     def test_five_keys_of_one_bucket(self):
         """The fifth finds no place."""
@@ -535,12 +655,15 @@ class LongestValues(FindingCase):
 
     def test_a_value_of_4096_bytes(self):
         """It is found by a get and by a dump, also after the store is opened again."""
-        value, name = "07" * 4096, key(1)
+        value = "07" * 4096
+        name = key(1)
         self.new("4096 2 4 2 2 8")
         self.assertEqual(Layout.of("4096 2 4 2 2 8").size, len(self.image()))
         ran = self.silt("run", "store", text=f"put {name} {value}\nflush\nget {name}\n")
         self.assertEqual(ran.lines, ["opened", "accepted 1", "acknowledged 1", f"value {value}"])
-        self.assertEqual(self.silt("run", "store", text=f"get {name}\n").lines, ["opened", f"value {value}"])
+        self.assertEqual(
+            self.silt("run", "store", text=f"get {name}\n").lines, ["opened", f"value {value}"]
+        )
         self.assertEqual(self.silt("dump", "store").lines, [f"put {name} {value}"])
 
 

@@ -52,7 +52,10 @@ class MemoryCase(JobCase):
         whole = self.ended(job, counts="counts")
         last = self.requests()
         self.assertGreater(last, 50)
-        for onwards, numbers in (("", range(1, last + 1)), ("+", range(self.random.randint(1, 4), last + 1, 4))):
+        for onwards, numbers in (
+            ("", range(1, last + 1)),
+            ("+", range(self.random.randint(1, 4), last + 1, 4)),
+        ):
             for number in numbers:
                 ended = self.ended(job, **self.plan(number, onwards))
                 with self.subTest(job=job.words[0], request=f"{number}{onwards}"):
@@ -77,38 +80,50 @@ class MemoryCase(JobCase):
         """As a job, or one line is refused. The numbers of the lines that were not done."""
         if self.is_job(whole, ended):
             return []
-        got, due = ended.out.splitlines(), whole.out.splitlines()
+        got = ended.out.splitlines()
+        due = whole.out.splitlines()
         at = next((n for n, (one, other) in enumerate(zip(got, due)) if one != other), None)
         self.assertIsNotNone(at, ended)
         self.assertEqual((ended.status, got[at] + "\n"), (whole.status, NO_MEMORY))
         left_out = lines_of_replies(job.lines)[at]
-        other = self.plain(job, [line for n, line in enumerate(job.lines) if n not in left_out]).lines
+        other = self.plain(
+            job, [line for n, line in enumerate(job.lines) if n not in left_out]
+        ).lines
         self.assertEqual(got[at + 1:], other[at + (due[at] == "opened"):])
         return left_out
 
 
 # What a format says of the old store if the look at it lacks memory, by force and without.
-UNREAD = re.compile(r"silt: store holds a store \(.*\) that is damaged or cannot be read; it is overwritten\n")
-UNREAD_KEPT = re.compile(r"silt: store: it holds a store \(.*\) that is damaged or cannot be read; --force overwrites it\n")
+UNREAD = re.compile(
+    r"silt: store holds a store \(.*\) that is damaged or cannot be read; it is overwritten\n"
+)
+UNREAD_KEPT = re.compile(
+    r"silt: store: it holds a store \(.*\) that is damaged or cannot be read; "
+    r"--force overwrites it\n"
+)
 
 
 class Jobs(MemoryCase):
     def judge_run(self, job, whole, ended, onwards):
         """What was answered, and what the next run finds: a command may be done whose reply was
         lost, but one alone."""
-        left, replies = self.left(), ended.lines[1:]
+        left = self.left()
+        replies = ended.lines[1:]
         if not onwards:
             self.judge_lines(job, whole, ended)
         if ended.status and ended.out.startswith("opened\n"):
             self.assertTrue(ended.err.startswith("silt: out of memory\n"), ended)
             self.broken_off += 1
         accepted = [line for line, reply in zip(job.lines, replies) if reply.startswith("accepted")]
-        lost = [line for line, reply in zip(job.lines, whole.lines[1:]) if reply.startswith("accepted")]
+        lost = [
+            line for line, reply in zip(job.lines, whole.lines[1:]) if reply.startswith("accepted")
+        ]
         lost = [line for line in job.lines[len(replies):][:1] if line in lost]
         self.judge_file(left, accepted + lost, ended.lines)
 
     def test_a_run(self):
-        before, self.broken_off = self.store(GEOMETRY).read_bytes(), 0
+        before = self.store(GEOMETRY).read_bytes()
+        self.broken_off = 0
         self.try_all(Job(["run", "store"], LINES, before), self.judge_run)
         self.assertGreater(self.broken_off, 0)
 
@@ -120,7 +135,8 @@ class Jobs(MemoryCase):
 
     def test_words(self):
         """If there is no memory for the words, that is reported, and no file is opened."""
-        before, refused = self.store(GEOMETRY).read_bytes(), 0
+        before = self.store(GEOMETRY).read_bytes()
+        refused = 0
         for ended, calls in self.recorded_all("run", "store"):
             opened = {it.file for it in calls if it.name == "open"}
             if opened == {"/dev/null"}:
@@ -134,7 +150,8 @@ class Jobs(MemoryCase):
 
     def test_lines_of_a_script(self):
         """If there is no memory for a line, the reading ends, and no life begins."""
-        text, refused = "get =a\nno line\nput =b 00\nget =c\n", set()
+        text = "get =a\nno line\nput =b 00\nget =c\n"
+        refused = set()
         for ended, calls in self.recorded_all("script", "1", *GEOMETRY.split()[1:], text=text):
             reads = [it for it in calls if it.name == "read"]
             if 0 < len(reads) <= len(text):
@@ -158,10 +175,12 @@ class Jobs(MemoryCase):
         self.try_all(Job(["check", "store"], [], before), self.judge_check)
 
     def judge_format(self, job, whole, ended, onwards):
-        """The file is no store, an empty one or the old one. The next formatting makes an empty store
-        of it."""
+        """The file is no store, an empty one or the old one. The next formatting makes an empty
+        store of it."""
         left = self.left()
-        is_unread = (ended.status, ended.out) == (whole.status, whole.out) and UNREAD.fullmatch(ended.err)
+        is_unread = (
+            (ended.status, ended.out) == (whole.status, whole.out) and UNREAD.fullmatch(ended.err)
+        )
         self.assertTrue(is_unread or self.is_job(whole, ended), ended)
         if left is not None:
             self.assertIn(self.report(left), [self.empty, NO_STORE, self.report(job.before)])
@@ -200,9 +219,20 @@ class Jobs(MemoryCase):
 # Each put of this session freezes a log, and both workers have something to do. A put finds no room
 # if they have not freed a log yet.
 OF_SERVERS = "2 2 1 6 3 40"
-SESSION = ([f"put {KEYS[n % 4]} {n:04x}" for n in range(1, 9)]
-           + ["flush", "get =a", "swap =a 0008 0009", "swap =a 0008 000a", "get =a", "swap =b 0005 -", "get =b", "swap =b - 000b",
-              "get =d"])
+SESSION = (
+    [f"put {KEYS[n % 4]} {n:04x}" for n in range(1, 9)]
+    + [
+        "flush",
+        "get =a",
+        "swap =a 0008 0009",
+        "swap =a 0008 000a",
+        "get =a",
+        "swap =b 0005 -",
+        "get =b",
+        "swap =b - 000b",
+        "get =d",
+    ]
+)
 
 
 class Servers(MemoryCase):
@@ -212,7 +242,9 @@ class Servers(MemoryCase):
         replies = []
         for _ in range(4):
             try:
-                with socket.create_connection(("127.0.0.1", port), timeout=TIME_LIMIT) as link, link.makefile("rb") as answers:
+                with socket.create_connection(
+                    ("127.0.0.1", port), timeout=TIME_LIMIT
+                ) as link, link.makefile("rb") as answers:
                     while len(replies) < len(SESSION):
                         link.sendall(SESSION[len(replies)].encode() + b"\n")
                         replies.append(self.reply(answers))
@@ -231,7 +263,9 @@ class Servers(MemoryCase):
     def serve(self, **plans):
         """A server with one session: what it printed, and the replies, none if it did not
         listen."""
-        with self.start("serve", "store", 0, "--sessions", 1, env=watching(self, **plans)) as running:
+        with self.start(
+            "serve", "store", 0, "--sessions", 1, env=watching(self, **plans)
+        ) as running:
             first, second = (running.stdout.readline().decode() for _ in range(2))
             replies = self.talk(int(second.split()[1])) if second.startswith("listening") else []
             try:
@@ -250,7 +284,8 @@ class Servers(MemoryCase):
             elif reply in (None, "refused 6 NoMemory", "refused 8 NoRoom"):
                 continue
             elif is_command(line):
-                values, unknown = self.judge_command(line, reply, self.maps(values, unknown)), []
+                values = self.judge_command(line, reply, self.maps(values, unknown))
+                unknown = []
             elif line == "flush":
                 self.assertRegex(reply, r"\Aacknowledged \d+\Z")
             elif not unknown:
@@ -296,7 +331,11 @@ class Servers(MemoryCase):
 # asked again.
 PROGRAMS = {
     "silt_index_tests": ["memory::a_builder_lacks_memory"],
-    "silt_tests": ["memory::each_call_lacks_memory", "memory::a_run_lacks_memory", "memory::a_life_lacks_memory"],
+    "silt_tests": [
+        "memory::each_call_lacks_memory",
+        "memory::a_run_lacks_memory",
+        "memory::a_life_lacks_memory",
+    ],
     "silt_desk_tests": ["desk::memory::each_call_is_asked_again", "inbox::a_queue_keeps_the_order"],
     "silt_line_tests": ["wire::sessions::ends_where_memory_is_refused"],
 }
@@ -307,8 +346,13 @@ BEFORE = ("error: AllocError\n", 'error: "formats"\n', 'error: "opens"\n')
 
 class Programs(MemoryCase):
     def run_test(self, program, test, **plans):
-        return subprocess.run([program, test], env=watching(self, **plans), cwd=self.folder, timeout=60,
-                              capture_output=True)
+        return subprocess.run(
+            [program, test],
+            env=watching(self, **plans),
+            cwd=self.folder,
+            timeout=60,
+            capture_output=True,
+        )
 
     def try_program(self, crate):
         program = TOP / f"crates/{crate}/out/{crate}_tests"

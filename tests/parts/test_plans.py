@@ -9,7 +9,10 @@ from watch import WatchedCase
 
 # What a row may cost in merging before `plan` warns, and what the way out brings.
 DEAR, CHEAP = 20, 10
-COST = re.compile(r"silt: merging writes ([\d,]+\.\d) entries for each row; at rest the store takes about ([\d.]+) (kB|MB) of memory\n")
+COST = re.compile(
+    r"silt: merging writes ([\d,]+\.\d) entries for each row; "
+    r"at rest the store takes about ([\d.]+) (kB|MB) of memory\n"
+)
 UNITS = {"kB": 1000, "MB": 1_000_000}
 SEVERAL = "split them over several stores"
 
@@ -21,7 +24,9 @@ class Plans(WatchedCase):
         """The numbers of a plan, and what it says that they take."""
         ended = self.silt("plan", *words)
         self.assertEqual(ended.status, 0, ended)
-        return re.search(r"^(?:.*\s)?(\d+ \d+ \d+ \d+ \d+ \d+)$", ended.out, re.M).group(1), ended.out
+        return re.search(r"^(?:.*\s)?(\d+ \d+ \d+ \d+ \d+ \d+)$", ended.out, re.M).group(
+            1
+        ), ended.out
 
     def test_a_store_by_plan(self):
         for keys, length in ((1, 1), (10, 2), (300, 8), (2000, 8)):
@@ -30,7 +35,9 @@ class Plans(WatchedCase):
             made = self.silt("format", "store", *numbers.split(), "--force")
             self.assertEqual(made.status, 0, made)
             self.assertIn(made.out.split()[1], text.replace(",", ""))
-            lines = [f"put =key{n} {value_of(n, length) if length > 1 else '07'}" for n in range(keys)]
+            lines = [
+                f"put =key{n} {value_of(n, length) if length > 1 else '07'}" for n in range(keys)
+            ]
             for _ in range(3):
                 ended = self.silt("run", "store", "--tend", text="\n".join([*lines, "flush", ""]))
                 self.assertEqual([it for it in ended.lines if it.startswith("refused")], [])
@@ -79,17 +86,21 @@ class Cost:
         self.ended = case.silt("plan", *words)
         case.assertEqual(self.ended.status, 0, (words, self.ended))
         self.keys = keys
-        _, self.buckets, self.capacity, self.logs, self.hashes, self.most = map(int, self.ended.lines[0].split())
+        _, self.buckets, self.capacity, self.logs, self.hashes, self.most = map(
+            int, self.ended.lines[0].split()
+        )
         self.memory = int(self.ended.lines[2].removeprefix("memory "))
         found = COST.match(self.ended.err)
         case.assertIsNotNone(found, self.ended.err)
-        self.said, self.rest = Fraction(found[1].replace(",", "")), Fraction(found[2]) * UNITS[found[3]]
+        self.said = Fraction(found[1].replace(",", ""))
+        self.rest = Fraction(found[2]) * UNITS[found[3]]
         self.unit = Fraction(UNITS[found[3]], 10)
         self.warning = self.ended.err[found.end():]
 
     @property
     def entries(self):
-        """Merging writes all keys once for the rows of k = NH / 2 logs (docs/choosing.md, "What it takes")."""
+        """Merging writes all keys once for the rows of k = NH / 2 logs (docs/choosing.md, "What it
+        takes")."""
         return Fraction(self.keys, self.hashes // 2 * self.capacity)
 
     @property
@@ -99,7 +110,8 @@ class Cost:
 
 
 class Costs(WatchedCase):
-    """What merging writes for each row, and the memory at rest. Merging that is dear has a warning and a way out."""
+    """What merging writes for each row, and the memory at rest. Merging that is dear has a warning
+    and a way out."""
 
     def check(self, keys, length, memory=None):
         """Compares the notes of a plan with the formulas of docs/choosing.md. Returns its cost."""
@@ -131,7 +143,8 @@ class Costs(WatchedCase):
         self.assertGreater(Cost(self, cost.keys, length, bytes_named - 1).entries, most, what)
 
     def may_be_cheap(self, keys, length):
-        """Whether there is a plan for so many keys, with any memory, that writes ten entries a row at most."""
+        """Whether there is a plan for so many keys, with any memory, that writes ten entries a row
+        at most."""
         return Cost(self, keys, length, 4_294_967_295).entries <= CHEAP
 
     def test_a_limit_of_memory(self):
@@ -157,16 +170,21 @@ class Costs(WatchedCase):
             self.assertIn(SEVERAL, self.check(keys, 8).warning, keys)
 
     def test_the_warning_begins_above_twenty(self):
-        """Logs of 3.5 times B rows, and four of them between two merges: 20 entries a row are 280 keys a bucket."""
+        """Logs of 3.5 times B rows, and four of them between two merges: 20 entries a row are 280
+        keys a bucket."""
         for buckets in (2, 64, 4096):
-            keys, memory = 280 * buckets, 4_294_967_295
+            keys = 280 * buckets
+            memory = 4_294_967_295
             for count, warns in ((keys, False), (keys + 1, True)):
                 limit = self.limit(count, buckets)
                 cost = self.check(count, 8, limit)
-                self.assertEqual((cost.buckets, cost.warning != ""), (buckets, warns), (count, limit))
+                self.assertEqual(
+                    (cost.buckets, cost.warning != ""), (buckets, warns), (count, limit)
+                )
 
     def limit(self, keys, buckets):
-        """The memory of the plan for so many keys with so many buckets, by the plans with less and less memory."""
+        """The memory of the plan for so many keys with so many buckets, by the plans with less and
+        less memory."""
         memory = 4_294_967_295
         while (cost := Cost(self, keys, 8, memory)).buckets > buckets:
             memory = cost.memory - 1
@@ -176,12 +194,18 @@ class Costs(WatchedCase):
         for _ in range(scaled(20)):
             keys = round(10 ** self.random.uniform(0, 7.22))
             least = 57_598 + 3 * keys
-            self.check(keys, self.random.choice((1, 8, 100, 4096)), self.random.choice((least, round(least * self.random.uniform(1, 2)))))
+            self.check(
+                keys,
+                self.random.choice((1, 8, 100, 4096)),
+                self.random.choice((least, round(least * self.random.uniform(1, 2)))),
+            )
 
     def test_no_plan_has_no_cost(self):
         for words in ("16777140 100", "1000 4097", "1000000 100 --memory 1000"):
             ended = self.silt("plan", *words.split())
-            self.assertEqual((ended.status, ended.out, len(ended.err.splitlines())), (1, "no plan\n", 1), ended)
+            self.assertEqual(
+                (ended.status, ended.out, len(ended.err.splitlines())), (1, "no plan\n", 1), ended
+            )
             self.assertNotIn("merging writes", ended.err)
 
 

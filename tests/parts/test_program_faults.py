@@ -29,7 +29,12 @@ class FailedStores(ServedCase):
 
     def test_a_run_says_so_at_its_end(self):
         ended = self.silt("run", "store", text="put =a 0102\nflush\nflush\n", env=self.env)
-        err = ("silt: 1 line refused 5 Device, first line 2\n"
-               "silt: 1 line refused 9 Failed, first line 3; an earlier write or sync failed, and running again opens the "
-               f"store anew\nsilt: store: {WRITE}\n")
-        self.assertEqual(ended, Ended(0, "opened\naccepted 1\nrefused 5 Device\nrefused 9 Failed\n", err))
+        err = (
+            "silt: 1 line refused 5 Device, first line 2\n"
+            "silt: 1 line refused 9 Failed, first line 3; an earlier write or sync failed, and "
+            "running again opens the "
+            f"store anew\nsilt: store: {WRITE}\n"
+        )
+        self.assertEqual(
+            ended, Ended(0, "opened\naccepted 1\nrefused 5 Device\nrefused 9 Failed\n", err)
+        )

@@ -1,7 +1,7 @@
 """The line that shows on a terminal how far a long opening is.
 
-It is written again after reads of 16 MiB, or of 65,536 heads of rows. It ends before any other note or
-reply, and after that there is none.
+It is written again after reads of 16 MiB, or of 65,536 heads of rows. It ends before any other note
+or reply, and after that there is none.
 """
 import concurrent.futures
 import os
@@ -39,7 +39,8 @@ class Progress(WatchedCase):
             file.write(b"".join(b"\x01" + key + b"\x07" for key in self.keys))
 
     def make_entries(self, count, length):
-        """A store with so many sorted entries, and values of this length. An opening reads many together."""
+        """A store with so many sorted entries, and values of this length. An opening reads many
+        together."""
         geometry = f"{length} 2 4 2 2 {count}"
         self.store(geometry)
         layout = Layout.of(geometry)
@@ -51,8 +52,8 @@ class Progress(WatchedCase):
         self.path("store").write_bytes(image)
 
     def on_terminal(self, *words, text="", replies=None):
-        """Runs the program with its standard error on a terminal, to its end or until it has printed so many replies.
-        Its status, its output, and what the terminal shows."""
+        """Runs the program with its standard error on a terminal, to its end or until it has
+        printed so many replies. Its status, its output, and what the terminal shows."""
         terminal, inner = pty.openpty()
         tty.setraw(inner)
         with concurrent.futures.ThreadPoolExecutor(1) as pool, open(terminal, "rb", 0) as screen:
@@ -67,28 +68,41 @@ class Progress(WatchedCase):
             return running.returncode, out, shown.result()
 
     def check_times(self):
-        """The line was written right behind each read that made it due, and before the next one. Behind the first reply,
-        or another note, there is none. Returns what all reads count, and what those before the first reply count."""
+        """The line was written right behind each read that made it due, and before the next one.
+        Behind the first reply, or another note, there is none. Returns what all reads count, and
+        what those before the first reply count."""
         cost = read = 0
-        due, said, size, opened = [], "", self.path("store").stat().st_size, None
+        due = []
+        said = ""
+        size = self.path("store").stat().st_size
+        opened = None
         for call in read_record(self.path("record")):
             if call.file == ERRORS:
                 said += call.moved.decode()
             elif call.name == "write" and opened is None:
                 opened = cost
             elif call.name == "pread":
-                self.assertEqual(said.count("\rsilt: opening: "), len(due) + (opened is not None and due != []))
-                before, cost, read = cost, cost + max(call.result, LEAST), read + call.result
+                self.assertEqual(
+                    said.count("\rsilt: opening: "), len(due) + (opened is not None and due != [])
+                )
+                before = cost
+                cost = cost + max(call.result, LEAST)
+                read = read + call.result
                 if cost // STEP > before // STEP and opened is None:
-                    due.append(f"\rsilt: opening: {read >> 20} MiB read of a file of {size >> 20} MiB")
+                    due.append(
+                        f"\rsilt: opening: {read >> 20} MiB read of a file of {size >> 20} MiB"
+                    )
         self.assertTrue(said.startswith("".join(due)), said)
         return cost, opened
 
     def test_a_long_opening(self):
         """Each job shows it that opens a store."""
         self.make_rows(66_000)
-        jobs = [("run store", "opened\n", None), ("tend store", "opened\nconverted 0 steps, merged 0 steps\n", None),
-                ("serve store 0", "opened\n", 1)]
+        jobs = [
+            ("run store", "opened\n", None),
+            ("tend store", "opened\nconverted 0 steps, merged 0 steps\n", None),
+            ("serve store 0", "opened\n", 1),
+        ]
         for words, out, replies in jobs if PROVED else jobs[:1]:
             _, printed, shown = self.on_terminal(*words.split(), replies=replies)
             self.assertEqual((printed, shown), (out, LINE + LINE + END), words)
@@ -99,7 +113,9 @@ class Progress(WatchedCase):
         """It reads the rows once more, before it prints the first one."""
         self.make_rows(66_000)
         status, out, shown = self.on_terminal("dump", "store")
-        self.assertEqual((status, out), (0, "".join(f"put {key.hex()} 07\n" for key in sorted(self.keys))))
+        self.assertEqual(
+            (status, out), (0, "".join(f"put {key.hex()} 07\n" for key in sorted(self.keys)))
+        )
         self.assertTrue(shown.startswith(LINE) and shown.endswith(END), shown)
         self.check_times()
 
@@ -107,7 +123,9 @@ class Progress(WatchedCase):
         """It shows the line too, and then what a check says."""
         self.make_rows(66_000)
         status, out, shown = self.on_terminal("check", "store")
-        numbers = "silt: store: V 1, B 32768, CAP 131072, NL 2, NH 1, S 131072; charge 66000 of 131072\n"
+        numbers = (
+            "silt: store: V 1, B 32768, CAP 131072, NL 2, NH 1, S 131072; charge 66000 of 131072\n"
+        )
         self.assertEqual((status, shown), (0, LINE + LINE + END + numbers))
         self.check_times()
 
@@ -124,10 +142,13 @@ class Progress(WatchedCase):
         self.assertEqual(shown, LINE + LINE + END + note)
 
     def test_a_short_opening(self):
-        """It shows nothing, and neither do the reads of gets, which would have made the line due."""
+        """It shows nothing, and neither do the reads of gets, which would have made the line
+        due."""
         self.make_rows(65_000)
         lines = "".join(f"get {key.hex()}\n" for key in self.keys[:40])
-        self.assertEqual(self.on_terminal("run", "store", text=lines), (0, "opened\n" + "value 07\n" * 40, ""))
+        self.assertEqual(
+            self.on_terminal("run", "store", text=lines), (0, "opened\n" + "value 07\n" * 40, "")
+        )
         cost, opened = self.check_times()
         self.assertTrue(STEP - 40 * LEAST < opened < STEP < cost, (opened, cost))
 

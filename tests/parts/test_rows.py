@@ -29,7 +29,9 @@ def spell_out(text):
     for line in text.splitlines():
         line, times = re.fullmatch(r"(.*?)(?: x (\d+))?", line).groups()
         line = re.sub(r"\b([0-9a-f]+)\.\.", lambda it: it[1].ljust(40, "0"), line)
-        line = re.sub(r"\{(\\\w+|.)\*(\d+)\}", lambda it: ESCAPED.get(it[1], it[1]) * int(it[2]), line)
+        line = re.sub(
+            r"\{(\\\w+|.)\*(\d+)\}", lambda it: ESCAPED.get(it[1], it[1]) * int(it[2]), line
+        )
         made += [line + "\n"] * int(times or 1)
     return "".join(made).encode()
 
@@ -56,7 +58,9 @@ def read_rows(path):
     lines = path.read_text().splitlines()
     heads = [it.split()[1:] for it in lines if it.startswith("# ")]
     text = "\n".join(it for it in lines if not it.startswith("# "))
-    out, report = (spell_out(read_optional(path.with_suffix(it))).decode() for it in (".out", ".report"))
+    out, report = (
+        spell_out(read_optional(path.with_suffix(it))).decode() for it in (".out", ".report")
+    )
     status = int(read_optional(path.with_suffix(".status")) or 0)
     choices = [[(it[1], value) for value in it[2:]] for it in heads if it[0] == "each"]
     for chosen in itertools.product(*choices):
@@ -134,7 +138,9 @@ class RowsOfTheModel(Case):
 
 def add_test(row):
     for kind in (Rows, RowsOfTheModel, *[RowsOfVersion1] * (row.call == "run")):
-        setattr(kind, f"test_{row.name}", lambda self, row=row: getattr(self, f"do_{row.call}")(row))
+        setattr(
+            kind, f"test_{row.name}", lambda self, row=row: getattr(self, f"do_{row.call}")(row)
+        )
 
 
 for file in sorted(ROWS.glob("*.txt")):

@@ -7,8 +7,19 @@ from lines import Maker, join_lines, make_geometry, make_stop
 
 COUNT = scaled(3000 if PROVED else 300)
 # Replies that a batch of scripts must have seen, or its scripts are too tame.
-SEEN = ["accepted", "acknowledged", "value", "absent", "differs", "idle", "waiting", "moved", "finished", "opened",
-        "stopped"]
+SEEN = [
+    "accepted",
+    "acknowledged",
+    "value",
+    "absent",
+    "differs",
+    "idle",
+    "waiting",
+    "moved",
+    "finished",
+    "opened",
+    "stopped",
+]
 SEEN_REFUSALS = [5, 7, 8, 9, 20, 21, 22, 23]
 
 
@@ -16,7 +27,8 @@ def make_script(random, lives, length, full_tables=False):
     """A geometry and the bytes of a script. A stop is placed by the calls that the model makes."""
     geometry = make_geometry(random, full_tables)
     maker = Maker(random, geometry, full_tables)
-    image, text = model.formatted_image(geometry), b""
+    image = model.formatted_image(geometry)
+    text = b""
     for _ in range(lives - 1):
         data = join_lines(maker.lines(random.randint(0, length)))
         lines = list(model.split_lines(data))
@@ -38,7 +50,9 @@ def count_words(counts, printed):
 
 def count_swaps(counts, text, printed):
     """Counts the accepted swaps of a script of one life, in which each line has one reply."""
-    lines = [line for line, length in model.split_lines(text) if line or length > model.LONGEST_LINE]
+    lines = [
+        line for line, length in model.split_lines(text) if line or length > model.LONGEST_LINE
+    ]
     if len(printed) == len(lines) + 1:
         pairs = zip(lines, printed[1:])
         for line, reply in pairs:
@@ -52,7 +66,9 @@ class ScriptCase(Case):
         """Runs so many scripts, and returns how often each reply came."""
         counts = collections.Counter()
         for number in range(count):
-            geometry, text = make_script(self.random, self.random.choice(lives), length, full_tables)
+            geometry, text = make_script(
+                self.random, self.random.choice(lives), length, full_tables
+            )
             expected = model.run_script(geometry, text)
             ran = self.silt("script", *geometry.numbers, text=text)
             if ran.lines != expected or ran.status or ran.err:
@@ -74,7 +90,8 @@ class ScriptCase(Case):
         first = next((i for i, (one, other) in enumerate(pairs) if one != other), len(expected))
         self.fail(
             f"script {number}, silt script {geometry.words}: status {ran.status}, {ran.err!r}\n"
-            f"reply {first}: expected {expected[first:first + 3]}, got {ran.lines[first:first + 3]}\n"
+            f"reply {first}: expected {expected[first:first + 3]}, "
+            f"got {ran.lines[first:first + 3]}\n"
             f"the script: {text!r}"
         )
 
@@ -90,7 +107,15 @@ class Scripts(ScriptCase):
 
     def test_scripts_of_one_long_life(self):
         counts = self.compare(COUNT // 4, [1], 120)
-        wanted = ("finished", "waiting", "swapped", "from none", "to none", "refused 7", "refused 8")
+        wanted = (
+            "finished",
+            "waiting",
+            "swapped",
+            "from none",
+            "to none",
+            "refused 7",
+            "refused 8",
+        )
         self.assertEqual([it for it in wanted if not counts[it]], [], "no script led to these")
 
     def test_scripts_of_many_lives(self):
@@ -100,7 +125,8 @@ class Scripts(ScriptCase):
 
 
 class LongScripts(ScriptCase):
-    """Many lines of few keys, and many lives. Of sixteen lines some three are puts, and most are steps in the background."""
+    """Many lines of few keys, and many lives. Of sixteen lines some three are puts, and most are
+    steps in the background."""
 
     KINDS = ["put", "delete", "get", "flush", "swap", "convert", "merge"]
 
@@ -108,18 +134,25 @@ class LongScripts(ScriptCase):
         """A maker of lines for this geometry and so many keys."""
         geometry = model.Geometry(*numbers)
         maker = Maker(self.random, geometry)
-        maker.keys = [bytes([0, it, 0, it // 4]).ljust(20, b"\0").hex().encode() for it in range(count)]
+        maker.keys = [
+            bytes([0, it, 0, it // 4]).ljust(20, b"\0").hex().encode() for it in range(count)
+        ]
         return geometry, maker
 
     def long_lines(self, maker, count, weights):
         """So many lines, each step in the background by itself."""
         kinds = self.random.choices(self.KINDS, weights, k=count)
-        return [kind.encode() if kind in ("convert", "merge", "flush") else getattr(maker, f"make_{kind}")()[0] for kind in kinds]
+        return [
+            kind.encode()
+            if kind in ("convert", "merge", "flush") else getattr(maker, f"make_{kind}")()[0]
+            for kind in kinds
+        ]
 
     def test_two_thousand_lines_of_one_life(self):
         """After each fifty all forty keys are asked for."""
         geometry, maker = self.long_maker((2, 4, 8, 3, 3, 200), 40)
-        gets, lines = [b"get " + key for key in maker.keys], []
+        gets = [b"get " + key for key in maker.keys]
+        lines = []
         for _ in range(40):
             lines += self.long_lines(maker, 50, [3, 1, 1, 1, 1, 4, 5]) + gets
         printed = self.assert_printed(geometry, join_lines(lines))
@@ -132,13 +165,20 @@ class LongScripts(ScriptCase):
             text = b""
             for _ in range(100):
                 lines = self.long_lines(maker, 120, [5, 1, 1, 1, 1, 3, 4])
-                text += join_lines(lines) + b"stop %d %s\n" % (self.random.randrange(256), self.random.choice(model.FILLS).encode())
+                text += (
+                    join_lines(lines)
+                    + b"stop %d %s\n" % (
+                        self.random.randrange(256),
+                        self.random.choice(model.FILLS).encode(),
+                    )
+                )
             printed = self.assert_printed(geometry, text)
             self.assertGreater(printed.count("finished"), 50, numbers)
 
 
 class Worked(Case):
-    """Scripts whose ends and empty lines matter, letter for letter. tests/rows has those that are whole lines."""
+    """Scripts whose ends and empty lines matter, letter for letter. tests/rows has those that are
+    whole lines."""
 
     def assert_printed(self, text, *lines):
         out = "".join(line + "\n" for line in lines)
@@ -158,7 +198,24 @@ class Worked(Case):
 
     def test_lives_without_lines(self):
         """They are opened and stopped too. A stop may be at a call that never comes."""
-        for stop, end in (("stop 0 old", "\n"), ("stop 4294967295 old", "\n"), ("stop 0000000000 mix", "\r\n")):
-            text = f"flush\nno line\n{stop}{end}\r\n{stop}{end}flush\n{stop}{end.removesuffix(chr(10))}"
-            self.assert_printed(text, "opened", "acknowledged 0", "refused 20 BadLine", "stopped", "opened", "stopped",
-                                "opened", "acknowledged 0")
+        for stop, end in (
+            ("stop 0 old", "\n"),
+            ("stop 4294967295 old", "\n"),
+            ("stop 0000000000 mix", "\r\n"),
+        ):
+            text = (
+                f"flush\nno line\n{stop}{end}"
+                f"\r\n{stop}{end}"
+                f"flush\n{stop}{end.removesuffix(chr(10))}"
+            )
+            self.assert_printed(
+                text,
+                "opened",
+                "acknowledged 0",
+                "refused 20 BadLine",
+                "stopped",
+                "opened",
+                "stopped",
+                "opened",
+                "acknowledged 0",
+            )

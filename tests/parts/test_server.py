@@ -5,7 +5,14 @@ import unittest
 
 from served import SMALL, Client, ServedCase, digits, free_port, listening_sockets
 
-OPENED_REPORT = ["active log 1 rows 1", "frozen logs 0 rows 0", "hash stores 0 rows 0", "sorted entries 4", "charge 5", "layout 2"]
+OPENED_REPORT = [
+    "active log 1 rows 1",
+    "frozen logs 0 rows 0",
+    "hash stores 0 rows 0",
+    "sorted entries 4",
+    "charge 5",
+    "layout 2",
+]
 
 
 class Replies(ServedCase):
@@ -27,7 +34,9 @@ class Replies(ServedCase):
         replies, ended = self.answers("put =abc 0102\nget =abc\nmerge\n")
         self.assertEqual(replies, ["accepted 1", "value 0102", "refused 20 BadLine"])
         self.check_calls(ended, 2)
-        self.assertEqual(self.found("=abc", "a9993e364706816aba3e25717850c26c9cd0d89d"), ["value 0102"] * 2)
+        self.assertEqual(
+            self.found("=abc", "a9993e364706816aba3e25717850c26c9cd0d89d"), ["value 0102"] * 2
+        )
 
     def test_a_last_line_without_a_line_feed_is_not_answered(self):
         replies, ended = self.answers("put =abc 0102\nget =abc\nput =abc 0304")
@@ -47,24 +56,66 @@ class Replies(ServedCase):
         # 5 puts, 5 flushes, 9 steps of a conversion and 13 of a merge.
         self.check_calls(ended, 32)
         self.report("generation 3", *OPENED_REPORT)
-        self.assertEqual(self.found(*map(digits, range(1, 6))), [f"value {it:04}" for it in range(1, 6)])
+        self.assertEqual(
+            self.found(*map(digits, range(1, 6))), [f"value {it:04}" for it in range(1, 6)]
+        )
 
     def test_swaps(self):
-        lines = ["swap =abc 0102 0304", "put =abc 0102", "swap =abc 0102 0304", "swap =abc 0102 0506", "get =abc",
-                 "delete =abc", "swap =abc 0304 0506", "flush"]
+        lines = [
+            "swap =abc 0102 0304",
+            "put =abc 0102",
+            "swap =abc 0102 0304",
+            "swap =abc 0102 0506",
+            "get =abc",
+            "delete =abc",
+            "swap =abc 0304 0506",
+            "flush",
+        ]
         replies, ended = self.answers("".join(line + "\n" for line in lines))
-        self.assertEqual(replies, ["differs", "accepted 1", "accepted 2", "differs", "value 0304", "accepted 3",
-                                   "differs", "acknowledged 3"])
+        self.assertEqual(
+            replies,
+            [
+                "differs",
+                "accepted 1",
+                "accepted 2",
+                "differs",
+                "value 0304",
+                "accepted 3",
+                "differs",
+                "acknowledged 3",
+            ],
+        )
         # 6 commands, those that differ too, a flush behind each, and the flush.
         self.check_calls(ended, 13)
         self.assertEqual(self.found("=abc"), ["absent"])
 
     def test_swaps_from_and_to_no_value(self):
-        lines = ["swap =abc 0102 -", "swap =abc - 0102", "swap =abc - 0304", "get =abc", "swap =abc - -", "swap =abc 0102 -",
-                 "get =abc", "swap =abc - 0506", "flush"]
+        lines = [
+            "swap =abc 0102 -",
+            "swap =abc - 0102",
+            "swap =abc - 0304",
+            "get =abc",
+            "swap =abc - -",
+            "swap =abc 0102 -",
+            "get =abc",
+            "swap =abc - 0506",
+            "flush",
+        ]
         replies, ended = self.answers("".join(line + "\n" for line in lines))
-        self.assertEqual(replies, ["differs", "accepted 1", "differs", "value 0102", "refused 22 BadValue", "accepted 2",
-                                   "absent", "accepted 3", "acknowledged 3"])
+        self.assertEqual(
+            replies,
+            [
+                "differs",
+                "accepted 1",
+                "differs",
+                "value 0102",
+                "refused 22 BadValue",
+                "accepted 2",
+                "absent",
+                "accepted 3",
+                "acknowledged 3",
+            ],
+        )
         # 5 commands, those that differ too, a flush behind each, and the flush.
         self.check_calls(ended, 11)
         self.assertEqual(self.found("=abc"), ["value 0506"])
@@ -114,9 +165,17 @@ class Replies(ServedCase):
         client = self.client(server)
         replies = [client.ask(f"put {digits(it)} 0001")[0] for it in range(1, 9)]
         self.assertEqual(replies, [f"accepted {it}" for it in range(1, 9)])
-        self.assertEqual(client.ask(f"put {digits(9)} 0001", f"put {digits(1)} 0002"), ["refused 7 StoreFull"] * 2)
-        swaps = [f"swap {digits(1)} {old} 0002" for old in ("0001", "0002", "-")] + [f"swap {digits(9)} - 0001"]
-        self.assertEqual(client.ask(*swaps), ["refused 7 StoreFull", "differs", "differs", "refused 7 StoreFull"])
+        self.assertEqual(
+            client.ask(f"put {digits(9)} 0001", f"put {digits(1)} 0002"),
+            ["refused 7 StoreFull"] * 2,
+        )
+        swaps = (
+            [f"swap {digits(1)} {old} 0002" for old in ("0001", "0002", "-")]
+            + [f"swap {digits(9)} - 0001"]
+        )
+        self.assertEqual(
+            client.ask(*swaps), ["refused 7 StoreFull", "differs", "differs", "refused 7 StoreFull"]
+        )
         # A delete is taken as soon as a conversion has made room for its row.
         for _ in self.turns("room for a delete"):
             reply, found = client.ask(f"delete {digits(1)}", f"get {digits(1)}")
@@ -149,11 +208,23 @@ class Options(ServedCase):
     def test_a_record_that_is_full(self):
         server = self.serve("--audit", 4, "--sessions", 1)
         client = self.client(server)
-        self.assertEqual([client.ask(f"put {digits(it)} 0001")[0] for it in (1, 2)], ["accepted 1", "accepted 2"])
-        lines = [f"put {digits(3)} 0001", "flush", f"delete {digits(1)}", f"swap {digits(1)} 0001 0002",
-                 f"swap {digits(1)} 0003 0002", f"swap {digits(1)} 0001 -", f"swap {digits(3)} - 0001", f"get {digits(1)}",
-                 f"get {digits(3)}"]
-        self.assertEqual(client.ask(*lines), ["refused 11 HistoryFull"] * 7 + ["value 0001", "absent"])
+        self.assertEqual(
+            [client.ask(f"put {digits(it)} 0001")[0] for it in (1, 2)], ["accepted 1", "accepted 2"]
+        )
+        lines = [
+            f"put {digits(3)} 0001",
+            "flush",
+            f"delete {digits(1)}",
+            f"swap {digits(1)} 0001 0002",
+            f"swap {digits(1)} 0003 0002",
+            f"swap {digits(1)} 0001 -",
+            f"swap {digits(3)} - 0001",
+            f"get {digits(1)}",
+            f"get {digits(3)}",
+        ]
+        self.assertEqual(
+            client.ask(*lines), ["refused 11 HistoryFull"] * 7 + ["value 0001", "absent"]
+        )
         client.close()
         self.check_calls(server.ended(), 4)
         self.assertEqual(self.check_whole()["charge"], 2)
@@ -168,7 +239,10 @@ class Options(ServedCase):
 
     def test_an_empty_record(self):
         client = self.client(self.serve("--audit=0"))
-        self.assertEqual(client.ask(f"put {digits(1)} 0001", f"get {digits(1)}"), ["refused 11 HistoryFull", "absent"])
+        self.assertEqual(
+            client.ask(f"put {digits(1)} 0001", f"get {digits(1)}"),
+            ["refused 11 HistoryFull", "absent"],
+        )
 
     def test_a_record_with_room(self):
         server = self.serve("--audit", 32, "--sessions", 1)
@@ -250,7 +324,9 @@ class Listening(ServedCase):
 
     def test_it_listens_on_this_machine_alone(self):
         server = self.serve()
-        self.assertEqual(listening_sockets(server.process.pid), [("tcp", f"0100007F:{server.port:04X}")])
+        self.assertEqual(
+            listening_sockets(server.process.pid), [("tcp", f"0100007F:{server.port:04X}")]
+        )
         for address in ("127.0.0.2", "::1", own_address()):
             if address is None or (address == "::1" and not socket.has_ipv6):
                 continue
@@ -278,7 +354,9 @@ class Listening(ServedCase):
             port = listener.getsockname()[1]
             ended = self.begin("store", port).ended()
         self.assertEqual((ended.status, ended.out), (1, "opened\nnetwork fault\n"), ended)
-        self.assertEqual(ended.err, f"silt: 127.0.0.1:{port}: Address already in use (os error 98)\n")
+        self.assertEqual(
+            ended.err, f"silt: 127.0.0.1:{port}: Address already in use (os error 98)\n"
+        )
         self.check_empty()
 
     def test_ports_out_of_limits(self):

@@ -17,8 +17,16 @@ EACH = 200 if PROVED else 80
 # The replies to a command for which a store has no room.
 FULL = ("refused 7 StoreFull", "refused 8 NoRoom")
 WORDS = (b"put", b"delete", b"swap", b"get", b"flush")
-GOOD_LINES = (b"put =key 0304", b"swap =key 0304 0506", b"swap =key - 0304", b"swap =key 0304 -", b"get =key", b"delete =key",
-              b"flush", b"get " + b"0a" * 20)
+GOOD_LINES = (
+    b"put =key 0304",
+    b"swap =key 0304 0506",
+    b"swap =key - 0304",
+    b"swap =key 0304 -",
+    b"get =key",
+    b"delete =key",
+    b"flush",
+    b"get " + b"0a" * 20,
+)
 
 
 def long_name(number):
@@ -31,18 +39,22 @@ def long_value(number):
 
 
 def longest_swap(number):
-    """A swap whose line is as long as a line may be, of a value with this number for the one 100 later."""
+    """A swap whose line is as long as a line may be, of a value with this number for the one 100
+    later."""
     line = f"swap {long_name(number)} {long_value(number)} {long_value(number + 100)}"
     assert len(line) == LONGEST_LINE
     return line
 
 
 class OneOfMany:
-    """A client with a key of its own, which it puts, deletes, gets and flushes in turn. It knows the
-    value by its accepted commands."""
+    """A client with a key of its own, which it puts, deletes, gets and flushes in turn. It knows
+    the value by its accepted commands."""
 
     def __init__(self, client, number):
-        self.client, self.key, self.value, self.wrong = client, f"={number}", "absent", []
+        self.client = client
+        self.key = f"={number}"
+        self.value = "absent"
+        self.wrong = []
 
     def line(self, turn):
         if turn % 4 == 0:
@@ -77,10 +89,15 @@ class ManyClients(ServedCase):
         """What a client sends, and the replies to the gets among it: the client's own values."""
         lines, values = [], []
         for turn in range(4):
-            key, value = f"=client/{client}/{turn % 2}", f"{client:02x}{turn:02x}"
+            key = f"=client/{client}/{turn % 2}"
+            value = f"{client:02x}{turn:02x}"
             lines += [f"put {key} {value}", f"get {key}", f"get =client/{client}/9"]
             values += [f"value {value}", "absent"]
-        return lines + [f"delete =client/{client}/0", f"get =client/{client}/0", "flush"], values + ["absent"]
+        return lines + [
+            f"delete =client/{client}/0",
+            f"get =client/{client}/0",
+            "flush",
+        ], values + ["absent"]
 
     def check_replies(self, replies, values):
         """The gets found what was put, and the flush acknowledged all commands. Returns the
@@ -110,7 +127,8 @@ class ManyClients(ServedCase):
         self.assertEqual(found, [f"value {it:02x}03" for it in range(MOST_SESSIONS)])
 
     def test_many_commands_of_each(self):
-        """All clients send at once, and then all receive. The store ends with the values that they know."""
+        """All clients send at once, and then all receive. The store ends with the values that they
+        know."""
         server = self.serve("--sessions", MOST_SESSIONS, "--audit", 400_000)
         ones = [OneOfMany(self.client(server), it) for it in range(MOST_SESSIONS)]
         for first in range(0, EACH, self.burst):
@@ -126,7 +144,9 @@ class ManyClients(ServedCase):
         self.assertEqual(server.ended().status, 0)
         self.assertGreater(sum(it.value != "absent" for it in ones), 0)
         self.assertEqual(self.found(*(it.key for it in ones)), [it.value for it in ones])
-        self.assertEqual(len(self.silt("dump", "store").lines), sum(it.value != "absent" for it in ones))
+        self.assertEqual(
+            len(self.silt("dump", "store").lines), sum(it.value != "absent" for it in ones)
+        )
 
     def test_clients_that_send_nothing(self):
         server = self.serve("--sessions", MOST_SESSIONS)
@@ -202,9 +222,12 @@ class SlowClients(ServedCase):
         server = self.serve("--sessions", MOST_SESSIONS)
         *slow, client = self.clients(server, MOST_SESSIONS)
         for number, it in enumerate(slow, 1):
-            self.assertEqual(it.ask(f"put {long_name(number)} {long_value(number)}"), [f"accepted {number}"])
+            self.assertEqual(
+                it.ask(f"put {long_name(number)} {long_value(number)}"), [f"accepted {number}"]
+            )
             it.send_bytes(longest_swap(number).encode())
-        value, before = long_value(15), len(slow)
+        value = long_value(15)
+        before = len(slow)
         lines = [f"put =abc {value}", "get =abc", "flush", "delete =abc", "get =abc"]
         for turn in range(5):
             first = before + 2 * turn + 1
@@ -212,7 +235,9 @@ class SlowClients(ServedCase):
             self.assertEqual(client.ask(*lines), [*replies, f"accepted {first + 1}", "absent"])
         for number, it in enumerate(slow, 1):
             self.assertEqual(it.ask(""), [f"accepted {before + 10 + number}"])
-            self.assertEqual(it.ask(f"get {long_name(number)}"), [f"value {long_value(number + 100)}"])
+            self.assertEqual(
+                it.ask(f"get {long_name(number)}"), [f"value {long_value(number + 100)}"]
+            )
             it.close()
         client.close()
         self.assertEqual(server.ended().status, 0)
@@ -227,7 +252,11 @@ class SlowClients(ServedCase):
         deaf.send(*["get =big"] * 2000)
         for number in range(2, 12):
             lines = [f"put =abc {number:02x}" + value[2:], "get =abc", "flush"]
-            replies = [f"accepted {number}", f"value {number:02x}" + value[2:], f"acknowledged {number}"]
+            replies = [
+                f"accepted {number}",
+                f"value {number:02x}" + value[2:],
+                f"acknowledged {number}",
+            ]
             self.assertEqual(other.ask(*lines), replies)
         self.assertTrue(server.is_running())
         deaf.close()
@@ -249,7 +278,9 @@ class SlowClients(ServedCase):
     def test_lines_in_parts(self):
         self.store(SMALL)
         client = self.client(self.serve())
-        for number, text in enumerate(["put =abc 0102\n", "put =abc 0304\r\n", "\n\r\nput =abc 0506\n"], 1):
+        for number, text in enumerate(
+            ["put =abc 0102\n", "put =abc 0304\r\n", "\n\r\nput =abc 0506\n"], 1
+        ):
             for byte in text.encode():
                 client.send_bytes(bytes([byte]))
                 time.sleep(0.001)
@@ -267,11 +298,17 @@ class Lines(ServedCase):
         self.store(LONG_NAMES)
         client = self.client(self.serve())
         puts = [f"put {long_name(it)} {long_value(it)}" for it in (1, 2, 3)]
-        self.assertEqual(client.ask(*puts, longest_swap(1)), [f"accepted {it}" for it in (1, 2, 3, 4)])
-        self.assertEqual(client.ask(longest_swap(2) + "\r", "get =abc"), ["refused 23 LineTooLong", "absent"])
+        self.assertEqual(
+            client.ask(*puts, longest_swap(1)), [f"accepted {it}" for it in (1, 2, 3, 4)]
+        )
+        self.assertEqual(
+            client.ask(longest_swap(2) + "\r", "get =abc"), ["refused 23 LineTooLong", "absent"]
+        )
         self.assertEqual(client.ask("x" * LONGEST_LINE), ["refused 20 BadLine"])
         self.assertEqual(client.ask("x" * (LONGEST_LINE + 1)), ["refused 23 LineTooLong"])
-        self.assertEqual(client.ask("x" * 1_000_000, longest_swap(3)), ["refused 23 LineTooLong", "accepted 5"])
+        self.assertEqual(
+            client.ask("x" * 1_000_000, longest_swap(3)), ["refused 23 LineTooLong", "accepted 5"]
+        )
         gets = [f"get {long_name(it)}" for it in (1, 2, 3)]
         self.assertEqual(client.ask(*gets), [f"value {long_value(it)}" for it in (101, 2, 103)])
 
@@ -290,7 +327,10 @@ class Lines(ServedCase):
     def test_thousands_of_lines_in_one_write(self):
         self.store(ROOMY)
         client = self.client(self.serve())
-        lines, replies, accepted, values = [], [], 0, {}
+        lines = []
+        replies = []
+        accepted = 0
+        values = {}
         for turn in range(4000):
             key = f"=key/{self.random.randrange(20)}"
             if turn % 20 == 0:
@@ -317,7 +357,9 @@ class BrokenClients(ServedCase):
         server = self.serve()
         for _ in range(scaled(10)):
             noise = self.random.randbytes(self.random.randrange(1, 60_000))
-            due = [self.refusal(line) for line in noise.split(b"\n")[:-1] if line.removesuffix(b"\r")]
+            due = [
+                self.refusal(line) for line in noise.split(b"\n")[:-1] if line.removesuffix(b"\r")
+            ]
             self.assertFalse([line for line in noise.split(b"\n") if line.split(b" ")[0] in WORDS])
             client = self.client(server)
             client.send_bytes(noise)
@@ -349,9 +391,13 @@ class BrokenClients(ServedCase):
         self.assertEqual(client.ask("put =marker 0102"), ["accepted 1"])
         for _ in range(scaled(300)):
             line = bytearray(self.random.choice(GOOD_LINES))
-            line[self.random.randrange(len(line))] = self.random.choice([*range(10), *range(11, 256)])
+            line[self.random.randrange(len(line))] = self.random.choice(
+                [*range(10), *range(11, 256)]
+            )
             client.send_bytes(bytes(line) + b"\nget =marker\n")
-            self.assertRegex(client.reply(), "^(accepted|acknowledged|value|absent|differs|refused 2[0-2])", line)
+            self.assertRegex(
+                client.reply(), "^(accepted|acknowledged|value|absent|differs|refused 2[0-2])", line
+            )
             self.assertEqual(client.reply(), "value 0102", line)
 
     def test_resets(self):
@@ -375,7 +421,9 @@ class BrokenClients(ServedCase):
         first.send_bytes(b"put =b 00")
         first.close()
         silent, third = self.clients(server, 2)
-        self.assertEqual([third.ask(it) for it in ("get =a", "get =b")], [["value 0001"], ["absent"]])
+        self.assertEqual(
+            [third.ask(it) for it in ("get =a", "get =b")], [["value 0001"], ["absent"]]
+        )
         silent.close()
         third.close()
         self.check_calls(server.ended(), 2)
@@ -420,7 +468,9 @@ class BrokenClients(ServedCase):
         """The KiB of memory that a server holds when its clients have gone, and all descriptors
         of their connections are closed."""
         folder = f"/proc/{server.process.pid}"
-        self.wait_until(lambda: len(os.listdir(f"{folder}/fd")) == DESCRIPTORS, "the end of all sessions")
+        self.wait_until(
+            lambda: len(os.listdir(f"{folder}/fd")) == DESCRIPTORS, "the end of all sessions"
+        )
         with open(f"{folder}/status") as status:
             return next(int(line.split()[1]) for line in status if line.startswith("VmRSS:"))
 

@@ -23,13 +23,21 @@ class Flushes(ServedCase):
         server = self.serve("--sessions", 1, env=watching(self, log="record"))
         client = self.client(server)
         lines = ["put =abc 0102", "delete =abc", "put =pear 0102"]
-        self.assertEqual([client.ask(line)[0] for line in lines], ["accepted 1", "accepted 2", "accepted 3"])
+        self.assertEqual(
+            [client.ask(line)[0] for line in lines], ["accepted 1", "accepted 2", "accepted 3"]
+        )
         self.assertEqual(client.ask("flush"), ["acknowledged 3"])
         client.close()
         self.check_calls(server.ended(), 7)
-        calls = [it.name for it in read_record(self.path("record")) if it.name in ("pwrite", "fdatasync", "send")]
+        calls = [
+            it.name
+            for it in read_record(self.path("record")) if it.name in ("pwrite", "fdatasync", "send")
+        ]
         # The opening makes one sync. A put writes its row and then its commit byte, each settled.
-        self.assertEqual(calls, ["fdatasync"] + ["pwrite", "fdatasync", "pwrite", "fdatasync", "send"] * 3 + ["send"])
+        self.assertEqual(
+            calls,
+            ["fdatasync"] + ["pwrite", "fdatasync", "pwrite", "fdatasync", "send"] * 3 + ["send"],
+        )
 
     def check_failure(self, fault, words, found):
         """The flush of a put fails with this fault, and the store takes nothing more."""
@@ -39,7 +47,10 @@ class Flushes(ServedCase):
         note = f"silt: {words}; the store takes nothing more until it is opened again\n"
         self.wait_until(lambda: server.errors(), "a note of the failure")
         self.assertEqual((server.errors(), server.is_running()), (note, True))
-        self.assertEqual(client.ask("put =pear 0304", "flush", "get =abc", "delete =abc"), ["refused 9 Failed"] * 4)
+        self.assertEqual(
+            client.ask("put =pear 0304", "flush", "get =abc", "delete =abc"),
+            ["refused 9 Failed"] * 4,
+        )
         client.close()
         ended = server.ended()
         self.assertEqual((ended.status, ended.err), (0, note + f"silt: store: {words}\n"), ended)
@@ -48,12 +59,14 @@ class Flushes(ServedCase):
         self.assertEqual(self.found("=pear"), ["absent"])
 
     def test_the_flush_of_a_swap_fails(self):
-        """Sync 1 is the opening's, and the put has two. The reply to a swap that differs waits for no
-        sync of its own."""
+        """Sync 1 is the opening's, and the put has two. The reply to a swap that differs waits for
+        no sync of its own."""
         server = self.serve("--sessions", 1, env=watching(self, fail="fdatasync:4:EIO"))
         client = self.client(server)
         lines = ["put =abc 0102", "swap =abc 0000 0304", "swap =abc 0102 0304"]
-        self.assertEqual([client.ask(it) for it in lines], [["accepted 1"], ["differs"], ["unsettled 2"]])
+        self.assertEqual(
+            [client.ask(it) for it in lines], [["accepted 1"], ["differs"], ["unsettled 2"]]
+        )
         self.assertEqual(client.ask(*lines[1:], "flush"), ["refused 9 Failed"] * 3)
         client.close()
         self.assertEqual(server.ended().status, 0)
@@ -61,7 +74,9 @@ class Flushes(ServedCase):
         self.assertIn(self.found("=abc")[0], {"value 0102", "value 0304"})
 
     def test_the_sync_of_a_row_fails(self):
-        self.check_failure("fdatasync:2:EIO", "a sync: Input/output error (os error 5)", {"absent", "value 0102"})
+        self.check_failure(
+            "fdatasync:2:EIO", "a sync: Input/output error (os error 5)", {"absent", "value 0102"}
+        )
 
     def test_the_sync_of_a_commit_byte_fails(self):
         words = "a sync: No space left on device (os error 28)"
@@ -69,7 +84,9 @@ class Flushes(ServedCase):
 
     def test_the_write_of_a_row_fails(self):
         # A write is made at the sync that settles it, and is reported with its own offset.
-        self.check_failure("pwrite:1:ENOSPC", "a write at 16384: No space left on device (os error 28)", {"absent"})
+        self.check_failure(
+            "pwrite:1:ENOSPC", "a write at 16384: No space left on device (os error 28)", {"absent"}
+        )
 
     def test_many_clients_of_a_flush_that_fails(self):
         self.store(ROOMY, name="roomy")
@@ -79,7 +96,9 @@ class Flushes(ServedCase):
             client.send(f"put =client/{number} 0001", "flush")
         replies = [client.replies(2) for client in clients]
         puts = sorted(put for put, _ in replies)
-        unsettled = [f"unsettled {it}" for it in range(1, 1 + sum(it.startswith("unsettled") for it in puts))]
+        unsettled = [
+            f"unsettled {it}" for it in range(1, 1 + sum(it.startswith("unsettled") for it in puts))
+        ]
         self.assertEqual(puts, ["refused 9 Failed"] * (8 - len(unsettled)) + unsettled)
         self.assertGreaterEqual(len(unsettled), 1)
         self.assertEqual({flush for _, flush in replies}, {"refused 9 Failed"})
@@ -145,7 +164,10 @@ class Limits(ServedCase):
 
     def test_output_that_cannot_be_written(self):
         with open("/dev/full", "wb") as full:
-            self.assertEqual(self.ended_without_output(full), (1, "silt: No space left on device (os error 28)\n"))
+            self.assertEqual(
+                self.ended_without_output(full),
+                (1, "silt: No space left on device (os error 28)\n"),
+            )
         reading, writing = os.pipe()
         os.close(reading)
         self.assertEqual(self.ended_without_output(writing), (1, ""))
@@ -170,7 +192,10 @@ class Limits(ServedCase):
         server, clients, _ = self.crowded(4)
         for number, client in enumerate(clients):
             lines = (f"get {digits(number)}", f"delete {digits(number)}", "flush")
-            self.assertEqual(client.ask(*lines), ["value 0001", f"accepted {number + 5}", f"acknowledged {number + 5}"])
+            self.assertEqual(
+                client.ask(*lines),
+                ["value 0001", f"accepted {number + 5}", f"acknowledged {number + 5}"],
+            )
         self.assertTrue(server.is_running())
 
     def test_a_descriptor_that_is_given_back_serves_the_client_that_waits(self):
@@ -200,7 +225,9 @@ class Accepting(ServedCase):
         """The server goes on after an accept that failed with one of these errors, and does not
         count it."""
         for error in errors:
-            server = self.serve("--sessions", 2, env=watching(self, fail=[f"accept:1:{error}", f"accept:3:{error}"]))
+            server = self.serve(
+                "--sessions", 2, env=watching(self, fail=[f"accept:1:{error}", f"accept:3:{error}"])
+            )
             for _ in range(2):
                 self.served_client(server).close()
             self.check_calls(server.ended(), 0)
@@ -265,7 +292,11 @@ class Threads(ServedCase):
 
     def test_the_thread_of_the_writer(self):
         ended = self.begin("store", 0, env=watching(self, fail="thread:3:EAGAIN")).ended()
-        self.assertEqual((ended.status, ended.lines[0], ended.lines[2:]), (1, "opened", ["refused 6 NoMemory"]), ended)
+        self.assertEqual(
+            (ended.status, ended.lines[0], ended.lines[2:]),
+            (1, "opened", ["refused 6 NoMemory"]),
+            ended,
+        )
         self.check_whole()
 
     def test_the_thread_of_the_replier(self):
@@ -278,7 +309,9 @@ class Threads(ServedCase):
         client.close()
         self.check_calls(server.ended(), 32)
         numbers = self.check_whole()
-        self.assertEqual((numbers["generation"], numbers["sorted entries"], numbers["charge"]), (3, 4, 5))
+        self.assertEqual(
+            (numbers["generation"], numbers["sorted entries"], numbers["charge"]), (3, 4, 5)
+        )
 
     def test_the_thread_of_the_merger(self):
         self.check_late_work(["thread:1:EAGAIN"])
@@ -317,7 +350,11 @@ class Sessions(ServedCase):
         self.check_alone("recv:1:ECONNRESET", {"absent"})
 
     def test_calls_that_are_interrupted(self):
-        server = self.serve("--sessions", 1, env=watching(self, fail=["send:1:EINTR", "recv:1:EINTR", "recv:3:EINTR"]))
+        server = self.serve(
+            "--sessions",
+            1,
+            env=watching(self, fail=["send:1:EINTR", "recv:1:EINTR", "recv:3:EINTR"]),
+        )
         client = self.client(server)
         self.assertEqual(client.ask("put =abc 0102", "get =abc"), ["accepted 1", "value 0102"])
         self.assertEqual(client.ask("get =abc"), ["value 0102"])
@@ -325,7 +362,9 @@ class Sessions(ServedCase):
         self.check_calls(server.ended(), 2)
 
     def test_replies_that_are_sent_in_parts(self):
-        server = self.serve("--sessions", 1, env=watching(self, short=[f"send:{it}" for it in range(1, 9)]))
+        server = self.serve(
+            "--sessions", 1, env=watching(self, short=[f"send:{it}" for it in range(1, 9)])
+        )
         client = self.client(server)
         self.assertEqual(client.ask("put =abc 0102", "get =abc"), ["accepted 1", "value 0102"])
         client.close()

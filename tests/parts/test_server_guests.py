@@ -9,7 +9,13 @@ from served import BUSY, MOST_SESSIONS, ROOMY, ServedCase
 def request(first, *body):
     """An HTTP request with this first line and these lines as its body."""
     text = "".join(f"{line}\n" for line in body)
-    head = [first, "Host: 127.0.0.1", "Content-Type: text/plain", f"Content-Length: {len(text)}", ""]
+    head = [
+        first,
+        "Host: 127.0.0.1",
+        "Content-Type: text/plain",
+        f"Content-Length: {len(text)}",
+        "",
+    ]
     return ("".join(f"{line}\r\n" for line in head) + text).encode()
 
 
@@ -36,13 +42,23 @@ class Browsers(ServedCase):
         self.assertEqual(self.owner.ask("get =abc"), ["value 0102"], data)
 
     def test_a_body_that_deletes_a_key(self):
-        for first in ("POST / HTTP/1.1", "PUT /put HTTP/1.1", "GET =abc HTTP/1.0", "OPTIONS * HTTP/1.1"):
+        for first in (
+            "POST / HTTP/1.1",
+            "PUT /put HTTP/1.1",
+            "GET =abc HTTP/1.0",
+            "OPTIONS * HTTP/1.1",
+        ):
             self.check_refused(request(first, "delete =abc", "flush"))
         self.assertEqual(self.owner.ask("flush"), ["acknowledged 1"])
 
     def test_methods_and_targets_like_ours(self):
-        for first in ("flush / HTTP/1.1", "delete =abc HTTP/1.1", "get  HTTP/1.1", "put =abc 0506 HTTP/2.0",
-                      "swap =abc 0102 HTTP/1.1"):
+        for first in (
+            "flush / HTTP/1.1",
+            "delete =abc HTTP/1.1",
+            "get  HTTP/1.1",
+            "put =abc 0506 HTTP/2.0",
+            "swap =abc 0102 HTTP/1.1",
+        ):
             self.check_refused(request(first, "delete =abc"))
 
     def test_a_long_target(self):
@@ -59,15 +75,29 @@ class Browsers(ServedCase):
         self.assertEqual(guest.rest(), [])
 
     def test_bad_lines_that_are_no_request(self):
-        lines = ["FLUSH", "PUT =abc 0102", "GET /", "GET / HTTP", "POST /HTTP/1.1", "HTTP/1.1 200 OK", " HTTP"]
+        lines = [
+            "FLUSH",
+            "PUT =abc 0102",
+            "GET /",
+            "GET / HTTP",
+            "POST /HTTP/1.1",
+            "HTTP/1.1 200 OK",
+            " HTTP",
+        ]
         for line in lines:
-            self.assertEqual(self.client(self.server).ask(line, "get =abc"), ["refused 20 BadLine", "value 0102"], line)
+            self.assertEqual(
+                self.client(self.server).ask(line, "get =abc"),
+                ["refused 20 BadLine", "value 0102"],
+                line,
+            )
 
     def test_a_mark_behind_the_first_line(self):
         for first, reply in (("get =abc", ["value 0102"]), ("", [])):
             client = self.client(self.server)
             client.send(first, "POST / HTTP/1.1", "get =abc")
-            self.assertEqual(client.replies(len(reply) + 2), [*reply, "refused 20 BadLine", "value 0102"])
+            self.assertEqual(
+                client.replies(len(reply) + 2), [*reply, "refused 20 BadLine", "value 0102"]
+            )
 
     def test_such_sessions_count(self):
         self.owner.close()
@@ -113,16 +143,20 @@ class Silent(ServedCase):
         self.store("4096 4 16 4 4 100", [f"put =big {'5a' * 4096}", "flush"])
 
     def silence(self, limit):
-        """Serves a busy client, a silent one and one that sends half a line, with this limit in seconds, until the two
-        are closed. Whether the busy one has its replies, and the longest time between two of its lines."""
+        """Serves a busy client, a silent one and one that sends half a line, with this limit in
+        seconds, until the two are closed. Whether the busy one has its replies, and the longest
+        time between two of its lines."""
         server = self.serve("--idle", limit, "--sessions", 3)
         begun = time.monotonic()
         busy, silent, half = self.clients(server, 3)
         half.send_bytes(b"get =a")
-        sent, longest, is_served = begun, 0, True
+        sent = begun
+        longest = 0
+        is_served = True
         closing = {silent.socket, half.socket}
         for _ in self.turns("the end of the silent connections"):
-            longest, sent = max(longest, time.monotonic() - sent), time.monotonic()
+            longest = max(longest, time.monotonic() - sent)
+            sent = time.monotonic()
             is_served = is_served and self.is_absent(busy)
             closing -= set(select.select(closing, [], [], 0)[0])
             if not closing:
@@ -140,7 +174,8 @@ class Silent(ServedCase):
             return False
 
     def test_a_silent_client_is_closed_beside_a_busy_one(self):
-        """The busy client may be closed only if it was silent too long itself. Then it is tried with a longer limit."""
+        """The busy client may be closed only if it was silent too long itself. Then it is tried
+        with a longer limit."""
         for limit in (1, 4, 16):
             is_served, longest = self.silence(limit)
             if is_served:

@@ -10,7 +10,8 @@ from served import ServedCase
 
 # Logs of eight rows and few regions, so that freezes, conversions and merges go on all the time.
 BUSY = "4 4 8 4 3 200"
-# Logs that have room for all commands of a round, so that none is refused. Some rounds freeze a log.
+# Logs that have room for all commands of a round, so that none is refused. Some rounds freeze a
+# log.
 WIDE = "4 256 1024 8 8 30000"
 CLIENTS = 4
 KEYS = 6
@@ -24,9 +25,13 @@ class Writer:
     It sends `burst` commands in one write, and then waits for replies until `ahead` are due."""
 
     def __init__(self, number, random, burst=1, ahead=0):
-        self.number, self.random, self.burst, self.ahead = number, random, burst, ahead
+        self.number = number
+        self.random = random
+        self.burst = burst
+        self.ahead = ahead
         self.values = {f"=client/{number}/{key}": "absent" for key in range(KEYS)}
-        # The commands without a reply, in their order: the word of the due reply, the key and its value then.
+        # The commands without a reply, in their order: the word of the due reply, the key and its
+        # value then.
         self.pending = []
         self.turn = 0
         self.wrong = []
@@ -36,11 +41,16 @@ class Writer:
         then a delete, a swap that differs, or one that does not, from or to no value too."""
         self.turn += 1
         key = self.random.choice(list(values))
-        now, new = values[key], f"{self.number:02x}{self.turn:06x}"
+        now = values[key]
+        new = f"{self.number:02x}{self.turn:06x}"
         old = "-" if now == "absent" else now.split()[1]
         kind = self.random.randrange(7)
         if kind == 0 or kind == 1 and old != "-":
-            return f"delete {key}" if kind == 0 else f"swap {key} {old} -", ("accepted", key, "absent")
+            return f"delete {key}" if kind == 0 else f"swap {key} {old} -", (
+                "accepted",
+                key,
+                "absent",
+            )
         if kind == 2:
             return f"swap {key} ffffffff {new}", ("differs", key, now)
         line = f"swap {key} {old} {new}" if kind == 3 else f"put {key} {new}"
@@ -48,7 +58,8 @@ class Writer:
 
     def next_lines(self):
         """The lines of one write. Their commands are pending."""
-        values, lines = self.states()[-1], []
+        values = self.states()[-1]
+        lines = []
         for _ in range(self.burst):
             line, command = self.next_command(values)
             _, key, value = command
@@ -60,7 +71,9 @@ class Writer:
     def states(self):
         """The values after none of the pending commands, the first, the first two, and so on."""
         changes = ({key: value} for _, key, value in self.pending)
-        return list(itertools.accumulate(changes, lambda values, it: {**values, **it}, initial=self.values))
+        return list(
+            itertools.accumulate(changes, lambda values, it: {**values, **it}, initial=self.values)
+        )
 
     def run(self, client, counted):
         """Sends commands and takes replies until the connection breaks."""
@@ -90,17 +103,25 @@ class Writer:
     def find(self, found):
         """Takes over the values that a run found. Returns what they differ from: they are those
         after the commands that have replies, and some first pending ones."""
-        states, self.values, self.pending = self.states(), found, []
+        states = self.states()
+        self.values = found
+        self.pending = []
         return [] if found in states else states
 
 
 class Load:
-    """Clients that write to a server in threads, until the server ends. Commands that are refused do not count:
-    so whoever waits for many has waited for the background work that makes room for them."""
+    """Clients that write to a server in threads, until the server ends. Commands that are refused
+    do not count: so whoever waits for many has waited for the background work that makes room for
+    them."""
 
     def __init__(self, case, server, writers):
-        self.lock, self.count, self.least, self.reached = threading.Lock(), 0, 0, threading.Event()
-        self.threads = [threading.Thread(target=it.run, args=(case.client(server), self.note)) for it in writers]
+        self.lock = threading.Lock()
+        self.count = 0
+        self.least = 0
+        self.reached = threading.Event()
+        self.threads = [
+            threading.Thread(target=it.run, args=(case.client(server), self.note)) for it in writers
+        ]
         for thread in self.threads:
             thread.start()
 
@@ -208,7 +229,8 @@ class Kills(KillCase):
 class PipelinedKills(KillCase):
     """Each client has many commands under way. What is there is a beginning of what it sent."""
 
-    geometry, options = WIDE, ("--pipeline",)
+    geometry = WIDE
+    options = ("--pipeline",)
     burst, ahead = 25, 75
 
     def test_killed_under_load(self):
@@ -224,7 +246,9 @@ class Judging(unittest.TestCase):
         """A writer whose first command has its reply, and whose next two have none."""
         writer = Writer(0, None)
         self.keys = list(writer.values)[:3]
-        writer.pending = [("accepted", key, f"value {number}") for number, key in enumerate(self.keys)]
+        writer.pending = [
+            ("accepted", key, f"value {number}") for number, key in enumerate(self.keys)
+        ]
         writer.take("accepted 1")
         return writer
 
@@ -238,7 +262,12 @@ class Judging(unittest.TestCase):
             self.assertTrue(self.judged(*there), there)
 
     def test_another_end_is_refused(self):
-        for there in (["absent"], ["value 0", "absent", "value 2"], ["absent", "value 1"], ["value 1"]):
+        for there in (
+            ["absent"],
+            ["value 0", "absent", "value 2"],
+            ["absent", "value 1"],
+            ["value 1"],
+        ):
             self.assertFalse(self.judged(*there), there)
 
     def test_another_reply_is_wrong(self):

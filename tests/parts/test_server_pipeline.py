@@ -1,4 +1,5 @@
-"""Pipelined clients, which send many lines before they read a reply: with `--pipeline`, and without it."""
+"""Pipelined clients, which send many lines before they read a reply: with `--pipeline`, and without
+it."""
 import socket
 import threading
 import unittest
@@ -22,14 +23,16 @@ BAD_LINES = {
     "x" * (LONGEST_LINE + 1): "refused 23 LineTooLong",
 }
 # What an opening syncs, and how many rows go out, with their commit bytes behind them.
-OPENING, ONE_FLUSH = ["fdatasync"], ["pwrite", "fdatasync", "pwrite", "fdatasync", "send"]
+OPENING = ["fdatasync"]
+ONE_FLUSH = ["pwrite", "fdatasync", "pwrite", "fdatasync", "send"]
 
 
 class Expected:
     """What one client alone is to read: the reply to each line, and the map behind all of them."""
 
     def __init__(self):
-        self.values, self.accepted = {}, 0
+        self.values = {}
+        self.accepted = 0
 
     def reply_to(self, line):
         """The reply, where one behind `acknowledged` stands for any number from it on."""
@@ -70,9 +73,10 @@ class Pipelined(PipelineCase):
     up to the next other line."""
 
     many = 10_000
-    # What the flushes acknowledge behind the seventh command and behind the eighth, and the number of calls, in
-    # `test_three_batches`.
-    acknowledged, calls = (8, 8), 11
+    # What the flushes acknowledge behind the seventh command and behind the eighth, and the number
+    # of calls, in `test_three_batches`.
+    acknowledged = (8, 8)
+    calls = 11
 
     def check_calls_made(self, calls, commands, batches):
         """There were so many commands, and a flush for each of these batches."""
@@ -117,8 +121,20 @@ class Pipelined(PipelineCase):
         self.check_few_flushes(calls, self.many)
 
     def test_a_get_sees_the_puts_before_it(self):
-        lines = ["put =a 0001", "get =a", "put =a 0002", "put =b 0003", "get =a", "get =b", "delete =a", "put =b 0004",
-                 "put =c 0005", "get =a", "get =b", "get =c"]
+        lines = [
+            "put =a 0001",
+            "get =a",
+            "put =a 0002",
+            "put =b 0003",
+            "get =a",
+            "get =b",
+            "delete =a",
+            "put =b 0004",
+            "put =c 0005",
+            "get =a",
+            "get =b",
+            "get =c",
+        ]
         replies, calls = self.answers(*lines)
         self.check_replies(lines, replies)
         self.check_calls_made(calls, commands=6, batches=3)
@@ -134,7 +150,8 @@ class Pipelined(PipelineCase):
         self.check_calls_made(calls, commands=5, batches=1)
 
     def test_three_batches(self):
-        """Three puts, three other commands, and two puts: eight commands, and a flush for each batch."""
+        """Three puts, three other commands, and two puts: eight commands, and a flush for each
+        batch."""
         lines = ["put =a 0001", "put =b 0002", "put =a 0003", "get =a",
                  "put =a 0004", "delete =b", "swap =a 0004 0005", "get =a", "get =b", "merge",
                  "put =c 0006", "flush", "put =d 0007", "flush"]
@@ -151,7 +168,9 @@ class Pipelined(PipelineCase):
         count = min(self.many, 6000)
         lines = [f"put {'01'.ljust(40, '0')} {it:04x}" for it in range(count)]
         replies, _ = self.answers(*lines, f"get {'01'.ljust(40, '0')}")
-        self.assertEqual(replies, [f"accepted {it}" for it in range(1, count + 1)] + [f"value {count - 1:04x}"])
+        self.assertEqual(
+            replies, [f"accepted {it}" for it in range(1, count + 1)] + [f"value {count - 1:04x}"]
+        )
 
     def test_flushes_alone(self):
         replies, calls = self.answers("flush", "flush", "get =a", "flush")
@@ -207,11 +226,14 @@ class Pipelined(PipelineCase):
 
 
 class Plain(Pipelined):
-    """The same lines without the option have the same replies. Each command waits for a flush of its own."""
+    """The same lines without the option have the same replies. Each command waits for a flush of
+    its own."""
 
-    options, many = (), 500
+    options = ()
+    many = 500
     # Each command and each flush has a flush of its own.
-    acknowledged, calls = (7, 8), 18
+    acknowledged = (7, 8)
+    calls = 18
 
     def check_calls_made(self, calls, commands, batches):
         # A line `flush` is done by its own flush.
@@ -227,17 +249,30 @@ class Plain(Pipelined):
 class Flushes(PipelineCase):
     """What the replies of a batch say of its flush."""
 
-    lines = ["put =a 0001", "put =b 0002", "swap =a 0009 0003", "delete =b", "flush", "pot =a", "get =a"]
+    lines = [
+        "put =a 0001",
+        "put =b 0002",
+        "swap =a 0009 0003",
+        "delete =b",
+        "flush",
+        "pot =a",
+        "get =a",
+    ]
 
     def test_replies_come_behind_their_syncs(self):
         server = self.serve("--sessions", 1, env=watching(self, log="record"))
         client = self.client(server)
         for turn in range(3):
             puts = [f"put =key/{it} {turn:02x}{it:02x}" for it in range(40)]
-            self.assertEqual(client.ask(*puts), [f"accepted {40 * turn + it}" for it in range(1, 41)])
+            self.assertEqual(
+                client.ask(*puts), [f"accepted {40 * turn + it}" for it in range(1, 41)]
+            )
         client.close()
         self.check_calls(server.ended(), 123)
-        calls = [it.name for it in read_record(self.path("record")) if it.name in ("pwrite", "fdatasync", "send")]
+        calls = [
+            it.name
+            for it in read_record(self.path("record")) if it.name in ("pwrite", "fdatasync", "send")
+        ]
         self.assertEqual(calls, OPENING + ONE_FLUSH * 3)
 
     def check_failure(self, fault, words):
@@ -262,8 +297,18 @@ class Flushes(PipelineCase):
 
     def test_batches_behind_a_flush_that_fails(self):
         server = self.serve("--sessions", 1, env=watching(self, fail="fdatasync:2+:EIO"))
-        lines = ["swap =a 0000 0001", "put =a 0001", "put =b 0002", "flush", "get =a", "put =c 0003", "flush"]
-        due = ["differs", "unsettled 1", "unsettled 2", "refused 5 Device"] + ["refused 9 Failed"] * 3
+        lines = [
+            "swap =a 0000 0001",
+            "put =a 0001",
+            "put =b 0002",
+            "flush",
+            "get =a",
+            "put =c 0003",
+            "flush",
+        ]
+        due = (
+            ["differs", "unsettled 1", "unsettled 2", "refused 5 Device"] + ["refused 9 Failed"] * 3
+        )
         self.assertEqual(self.client(server).exchange(lines), due)
         self.assertEqual(server.ended().status, 0)
 
@@ -296,7 +341,8 @@ class Clients(PipelineCase):
         self.store(LONG_VALUES)
         server = self.serve()
         slow, other = self.clients(server, 2)
-        name, values = "=" + "n" * 8000, ["".join([f"{it:02x}"] * LONG_VALUE) for it in range(3)]
+        name = "=" + "n" * 8000
+        values = ["".join([f"{it:02x}"] * LONG_VALUE) for it in range(3)]
         line = f"swap {name} {values[0]} {values[1]}"
         self.assertEqual(len(line), LONGEST_LINE)
         slow.send_bytes(f"put {name} {values[0]}\nput =b {values[2]}\n{line[:8300]}".encode())
@@ -338,7 +384,10 @@ class Clients(PipelineCase):
         server = self.serve("--sessions", 8)
         clients = self.clients(server, 8)
         for number, client in enumerate(clients):
-            client.send(*(f"put =client/{number}/{it % 5} {it:04x}" for it in range(250)), f"get =client/{number}/4")
+            client.send(
+                *(f"put =client/{number}/{it % 5} {it:04x}" for it in range(250)),
+                f"get =client/{number}/4",
+            )
             client.end_input()
         numbers = []
         for client in clients:

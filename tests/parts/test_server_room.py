@@ -1,9 +1,10 @@
 """Writers that wait for room: a server refuses no command that a worker can make room for.
 
-    SILT_TEST_PROGRAM=crates/silt/out/silt PYTHONPATH=tests/helpers:tests/parts python3 tests/parts/test_server_room.py speed
+    export SILT_TEST_PROGRAM=crates/silt/out/silt PYTHONPATH=tests/helpers:tests/parts
+    python3 tests/parts/test_server_room.py speed
 
-prints how fast loads are, with waits and without. The tests measure no time: their waits are longer than
-a test may take, or end by what a worker does.
+prints how fast loads are, with waits and without. The tests measure no time: their waits are longer
+than a test may take, or end by what a worker does.
 """
 import concurrent.futures
 import hashlib
@@ -20,12 +21,16 @@ from test_server_pipeline import BAD_LINES, Expected
 from watch import watching
 
 # The threads of a server, by the order of their starts.
-MERGER, CONVERTER, FIRST_SESSION = 1, 2, 5
+MERGER = 1
+CONVERTER = 2
+FIRST_SESSION = 5
 # A wait that no test lives to see the end of.
 FOREVER = 10 * TIME_LIMIT
 # Two logs of four rows, and a place for each of many rows.
 TIGHT = "2 2 4 2 2 4000"
-NO_ROOM, FULL, FAILED = "refused 8 NoRoom", "refused 7 StoreFull", "refused 9 Failed"
+NO_ROOM = "refused 8 NoRoom"
+FULL = "refused 7 StoreFull"
+FAILED = "refused 9 Failed"
 
 
 def puts(count, keys=None):
@@ -46,7 +51,8 @@ class RoomCase(ServedCase):
     options = ("--pipeline",)
 
     def load(self, server, lines, connections=1):
-        """Sends the lines, in turn, through so many connections at once. The replies in the order of the lines."""
+        """Sends the lines, in turn, through so many connections at once. The replies in the order
+        of the lines."""
         clients = [Client(server.port, limit=4 * TIME_LIMIT) for _ in range(connections)]
         for client in clients:
             self.addCleanup(client.close)
@@ -57,7 +63,8 @@ class RoomCase(ServedCase):
         return [replies[it % connections][it // connections] for it in range(len(lines))]
 
     def check_accepted(self, replies, connections=1):
-        """Each command is accepted, each number is given once, and they grow along each connection."""
+        """Each command is accepted, each number is given once, and they grow along each
+        connection."""
         refused = [it for it in replies if not it.startswith("accepted ")]
         self.assertEqual(refused[:5], [], f"{len(refused)} of {len(replies)}")
         numbers = [int(it.split()[1]) for it in replies]
@@ -78,7 +85,8 @@ class RoomCase(ServedCase):
 
 
 class Loads(RoomCase):
-    """Loads that are faster than the workers. All commands are accepted, and each key has its value.
+    """Loads that are faster than the workers. All commands are accepted, and each key has its
+    value.
 
     Most of them may wait longer than a slow machine needs."""
 
@@ -145,7 +153,10 @@ class NoWait(RoomCase):
         lines = puts(2000)
         replies = self.load(server, lines)
         self.check_end(server)
-        self.assertEqual({it.split(" ", 1)[0] if it.startswith("accepted") else it for it in replies}, {"accepted", NO_ROOM})
+        self.assertEqual(
+            {it.split(" ", 1)[0] if it.startswith("accepted") else it for it in replies},
+            {"accepted", NO_ROOM},
+        )
         accepted = [(line, it) for line, it in zip(lines, replies) if it != NO_ROOM]
         self.check_accepted([it for _, it in accepted])
         self.check_dump([line for line, _ in accepted])
@@ -157,7 +168,8 @@ class Final(RoomCase):
     options = ("--pipeline", "--wait", FOREVER)
 
     def test_a_full_store(self):
-        """The store may hold eight rows and entries. It says so to the ninth put, though its logs have no room either."""
+        """The store may hold eight rows and entries. It says so to the ninth put, though its logs
+        have no room either."""
         self.store("2 2 4 2 2 8")
         server = self.serve("--sessions", 1)
         replies = self.load(server, puts(12))
@@ -166,14 +178,25 @@ class Final(RoomCase):
         self.check_dump(puts(12)[:8])
 
     def test_a_full_store_and_deletes(self):
-        """A delete and a swap to no value need room alone, so they wait for that, and puts behind them are refused still."""
+        """A delete and a swap to no value need room alone, so they wait for that, and puts behind
+        them are refused still."""
         self.store("2 2 4 2 2 8")
         server = self.serve("--sessions", 1)
-        lines = [*puts(8), "put =other 0000", "delete =key/0", "swap =key/1 0001 0002", "swap =key/2 0002 -",
-                 "swap =other - 0000", "get =key/1", "get =key/2"]
+        lines = [
+            *puts(8),
+            "put =other 0000",
+            "delete =key/0",
+            "swap =key/1 0001 0002",
+            "swap =key/2 0002 -",
+            "swap =other - 0000",
+            "get =key/1",
+            "get =key/2",
+        ]
         replies = self.load(server, lines)
         self.check_end(server)
-        self.assertEqual(replies[8:], [FULL, "accepted 9", FULL, "accepted 10", FULL, "value 0001", "absent"])
+        self.assertEqual(
+            replies[8:], [FULL, "accepted 9", FULL, "accepted 10", FULL, "value 0001", "absent"]
+        )
 
     def test_a_failed_store(self):
         self.store(TIGHT)
@@ -190,7 +213,8 @@ class Workers(RoomCase):
     options = ("--pipeline", "--wait", FOREVER)
 
     def failing(self, *faults, geometry=TIGHT):
-        """A server whose calls fail so, and the replies to puts of more rows than its regions take."""
+        """A server whose calls fail so, and the replies to puts of more rows than its regions
+        take."""
         self.path("store").unlink(missing_ok=True)
         self.store(geometry)
         self.server = self.serve("--sessions", 2, env=watching(self, fail=list(faults)))
@@ -200,10 +224,13 @@ class Workers(RoomCase):
         """Each accepted put is there, and no refused one."""
         for number, (reply, value) in enumerate(zip(replies, found, strict=True)):
             if not reply.startswith("unsettled"):
-                self.assertEqual(value, f"value {number:04x}" if reply.startswith("accepted") else "absent")
+                self.assertEqual(
+                    value, f"value {number:04x}" if reply.startswith("accepted") else "absent"
+                )
 
     def check_kept(self, replies):
-        """Another client reads what was accepted, and so does a run behind the end of the server."""
+        """Another client reads what was accepted, and so does a run behind the end of the
+        server."""
         keys = [f"=key/{it}" for it in range(len(replies))]
         client = self.client(self.server)
         self.check_values(replies, client.ask(*(f"get {key}" for key in keys)))
@@ -213,7 +240,9 @@ class Workers(RoomCase):
 
     def check_refused(self, replies, count):
         """So many are accepted, and all behind them are refused."""
-        self.assertEqual(replies, [f"accepted {it}" for it in range(1, count + 1)] + [NO_ROOM] * (60 - count))
+        self.assertEqual(
+            replies, [f"accepted {it}" for it in range(1, count + 1)] + [NO_ROOM] * (60 - count)
+        )
         self.check_kept(replies)
 
     def test_a_merger_that_cannot_read(self):
@@ -235,7 +264,9 @@ class Workers(RoomCase):
         replies = self.failing(f"pwrite@{MERGER}:1+:EIO", f"fdatasync@{MERGER}:1+:EIO")
         count = replies.index(FAILED)
         self.assertEqual(replies[count:], [FAILED] * (60 - count))
-        self.assertEqual({it.split()[0] for it in replies[:count]} - {"unsettled", "accepted"}, set())
+        self.assertEqual(
+            {it.split()[0] for it in replies[:count]} - {"unsettled", "accepted"}, set()
+        )
         self.assertEqual(self.client(self.server).ask("get =key/0", "put =new 0001"), [FAILED] * 2)
         self.server.kill()
         self.check_values(replies, self.found(*(f"=key/{it}" for it in range(60))))
@@ -243,20 +274,26 @@ class Workers(RoomCase):
     @unittest.skipUnless(PROVED, "a build with a memory checker has an allocator of its own")
     def test_a_worker_without_memory(self):
         for worker in (MERGER, CONVERTER):
-            self.check_refused(self.failing(f"memory@{worker}:1+:ENOMEM"), 16 if worker == MERGER else 8)
+            self.check_refused(
+                self.failing(f"memory@{worker}:1+:ENOMEM"), 16 if worker == MERGER else 8
+            )
 
     def test_workers_without_threads(self):
-        """If neither can be started, nobody makes room before the end, and nobody says so: each wait ends by its limit."""
+        """If neither can be started, nobody makes room before the end, and nobody says so: each
+        wait ends by its limit."""
         self.options = ("--pipeline", "--wait", 1)
         self.store(TIGHT)
-        server = self.serve("--sessions", 1, env=watching(self, fail=["thread:1:EAGAIN", "thread:2:EAGAIN"]))
+        server = self.serve(
+            "--sessions", 1, env=watching(self, fail=["thread:1:EAGAIN", "thread:2:EAGAIN"])
+        )
         replies = self.load(server, puts(10))
         self.check_end(server)
         self.assertEqual(replies, [f"accepted {it}" for it in range(1, 9)] + [NO_ROOM] * 2)
 
 
 class Slow(RoomCase):
-    """A converter whose reads take their time. Two logs take 16 rows, and a conversion reads eight of them."""
+    """A converter whose reads take their time. Two logs take 16 rows, and a conversion reads eight
+    of them."""
 
     def serve_slowly(self, *options, milliseconds, sessions=2, slow=()):
         self.store("2 4 8 2 4 400")
@@ -283,8 +320,9 @@ class Slow(RoomCase):
         self.assertGreater(gets, 0)
 
     def test_commands_before_one_that_waits(self):
-        """Those of other clients have their replies before it. Here the first client waits, and the two others come behind it:
-        the third session begins to read late, and the second one later still."""
+        """Those of other clients have their replies before it. Here the first client waits, and the
+        two others come behind it: the third session begins to read late, and the second one later
+        still."""
         late = [f"recv@{FIRST_SESSION + 2}:1:1000", f"recv@{FIRST_SESSION + 1}:1:4000"]
         server = self.serve_slowly("--wait", FOREVER, milliseconds=250, sessions=3, slow=late)
         first, second, third = self.clients(server, 3)
@@ -322,11 +360,22 @@ class Order(RoomCase):
         """Commands of eight keys, with gets, flushes and bad lines between them."""
         values, lines = {}, []
         for number in range(count):
-            key, kind = f"=key/{self.random.randrange(8)}", self.random.randrange(12)
+            key = f"=key/{self.random.randrange(8)}"
+            kind = self.random.randrange(12)
             old = values.get(key, NONE if kind == 1 else "ffff")
-            line = (f"delete {key}" if kind == 0 else f"swap {key} {old} {number:04x}" if kind < 3 else
-                    f"get {key}" if kind == 3 else "flush" if kind == 4 else self.random.choice(list(BAD_LINES)) if kind == 5 else
-                    f"put {key} {number:04x}")
+            line = (
+                f"delete {key}"
+                if kind == 0
+                else f"swap {key} {old} {number:04x}"
+                if kind < 3
+                else f"get {key}"
+                if kind == 3
+                else "flush"
+                if kind == 4
+                else self.random.choice(list(BAD_LINES))
+                if kind == 5
+                else f"put {key} {number:04x}"
+            )
             lines.append(line)
             if is_command(line) and line not in BAD_LINES:
                 values = tried(values, line)
@@ -361,15 +410,17 @@ class Order(RoomCase):
         server = self.serve("--sessions", 1)
         replies = self.client(server).exchange([*puts(100), "flush", "get =key/99"])
         self.check_end(server)
-        self.assertEqual(replies, [f"accepted {it}" for it in range(1, 101)] + ["acknowledged 100", "value 0063"])
+        self.assertEqual(
+            replies, [f"accepted {it}" for it in range(1, 101)] + ["acknowledged 100", "value 0063"]
+        )
 
 
 class Records(RoomCase):
     """What a command tries while it waits is recorded, and that is little."""
 
     def check_record(self, count, keys, rows, buckets):
-        """A load of so many puts is recorded whole if there is room for the commands, a flush of each, the steps of the
-        workers, and eight tries for each log that is to be converted."""
+        """A load of so many puts is recorded whole if there is room for the commands, a flush of
+        each, the steps of the workers, and eight tries for each log that is to be converted."""
         logs = count // rows
         most = 2 * count + logs * (4 * buckets + 1) + logs * (4 * buckets + keys + 1) + 8 * logs
         server = self.serve("--sessions", 1, "--audit", most)
@@ -389,7 +440,8 @@ class Records(RoomCase):
         self.check_record(1000, keys=20, rows=32, buckets=16)
 
     def test_tries_that_are_refused(self):
-        """If the converter cannot read, a put is tried eight times at most, each of which is recorded."""
+        """If the converter cannot read, a put is tried eight times at most, each of which is
+        recorded."""
         self.store(TIGHT)
         unable = watching(self, fail=f"pread@{CONVERTER}:1+:EIO")
         server = self.serve("--sessions", 1, "--wait", FOREVER, env=unable)
@@ -398,14 +450,17 @@ class Records(RoomCase):
         ended = server.ended()
         self.assertEqual(ended.status, 0, ended)
         calls = int(ended.lines[-1].removeprefix("calls "))
-        # The commands and their flushes, 8 tries of 20, a refused step of the converter for each, and those at the end.
+        # The commands and their flushes, 8 tries of 20, a refused step of the converter for each,
+        # and those at the end.
         self.assertLessEqual(calls, 2 * 28 + 20 * 8 * 2 + 8)
 
 
 class Kills(KillCase):
-    """A server that is killed while commands wait. What is there is a beginning of what each client sent, and all that was accepted."""
+    """A server that is killed while commands wait. What is there is a beginning of what each client
+    sent, and all that was accepted."""
 
-    geometry, options = "4 2 4 2 2 400", ("--pipeline", "--wait", FOREVER)
+    geometry = "4 2 4 2 2 400"
+    options = ("--pipeline", "--wait", FOREVER)
     burst, ahead = 25, 75
 
     def test_killed_under_load(self):
@@ -426,7 +481,10 @@ class Measures(RoomCase):
         accepted = sum(it.startswith("accepted") for it in replies)
         server.ended(limit=10 * TIME_LIMIT)
         how = "no waits" if options else "waits"
-        return f"{keys} keys, {connections} connections, {how}: {seconds:.2f} s, {accepted} accepted, {accepted / seconds:,.0f} a second"
+        return (
+            f"{keys} keys, {connections} connections, {how}: "
+            f"{seconds:.2f} s, {accepted} accepted, {accepted / seconds:,.0f} a second"
+        )
 
     def measure_all(self):
         for keys in (1000, 10_000, *((100_000,) if PROVED else ())):

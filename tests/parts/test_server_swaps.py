@@ -1,8 +1,8 @@
 """Swaps of many clients at a server.
 
-A counter: they read it and swap in the next number, and no count is lost. A lock: they take it by a swap
-from no value and release it by a swap to none, and it never has two holders. A set of keys: they all
-insert each of them by a swap from no value, and one of them does.
+A counter: they read it and swap in the next number, and no count is lost. A lock: they take it by a
+swap from no value and release it by a swap to none, and it never has two holders. A set of keys:
+they all insert each of them by a swap from no value, and one of them does.
 """
 import collections
 import math
@@ -19,13 +19,16 @@ COUNTED = "4 16 64 8 16 8000"
 CLIENTS = 16
 # How often each client counts, and how many counts there are at most before a kill.
 EACH = 200
-KILLS, BEFORE_A_KILL = 6, 800 if PROVED else 200
+KILLS = 6
+BEFORE_A_KILL = 800 if PROVED else 200
 # How often each client takes the lock and releases it, and how often all do before a kill, at most.
 LOCKED = 100 if PROVED else 25
 LOCKED_BEFORE_A_KILL = 2 * LOCKED
 # Room for each key's row. So many clients insert so many keys, and send so many lines in one write.
 INSERTED = "4 512 1024 8 16 12000"
-INSERTERS, KEYS, BURST = 8, 10_000 if PROVED else 1_000, 100
+INSERTERS = 8
+KEYS = 10_000 if PROVED else 1_000
+BURST = 100
 # What a store refuses until the background work makes room.
 NO_ROOM = ("refused 7 StoreFull", "refused 8 NoRoom")
 
@@ -49,12 +52,13 @@ class Swapper:
 
 
 class Counter(Swapper):
-    """A client that counts up. `accepted` has the numbers whose swap was accepted, and `cut` the one whose
-    swap had no reply when the connection broke."""
+    """A client that counts up. `accepted` has the numbers whose swap was accepted, and `cut` the
+    one whose swap had no reply when the connection broke."""
 
     def __init__(self):
         super().__init__()
-        self.accepted, self.cut = [], None
+        self.accepted = []
+        self.cut = None
 
     def run(self, client, count):
         """Counts until so many swaps are accepted, or until the connection breaks."""
@@ -87,7 +91,9 @@ class Counter(Swapper):
 class SwapCase(ServedCase):
     def load(self, server, swappers, *words):
         """Runs each of these clients in a thread of its own. The threads."""
-        threads = [threading.Thread(target=it.run, args=(self.client(server), *words)) for it in swappers]
+        threads = [
+            threading.Thread(target=it.run, args=(self.client(server), *words)) for it in swappers
+        ]
         for thread in threads:
             thread.start()
         return threads
@@ -121,7 +127,8 @@ class Counts(SwapCase):
 
     def count_all(self, begin, each):
         """Each client counts so often, from this number on."""
-        server, end = self.serve(), begin + CLIENTS * each
+        server = self.serve()
+        end = begin + CLIENTS * each
         counters = [Counter() for _ in range(CLIENTS)]
         self.join_all(self.load(server, counters, each), counters)
         self.assertEqual(self.accepted(counters), list(range(begin + 1, end + 1)))
@@ -134,10 +141,13 @@ class Counts(SwapCase):
 
     def count_and_kill(self, begin):
         """A server is killed while its clients count from this number on. The next number."""
-        server, counters = self.serve(), [Counter() for _ in range(CLIENTS)]
+        server = self.serve()
+        counters = [Counter() for _ in range(CLIENTS)]
         threads = self.load(server, counters, BEFORE_A_KILL)
         least = self.random.randrange(1, BEFORE_A_KILL)
-        self.wait_until(lambda: sum(len(it.accepted) for it in counters) >= least, f"{least} counts")
+        self.wait_until(
+            lambda: sum(len(it.accepted) for it in counters) >= least, f"{least} counts"
+        )
         self.kill(server)
         self.join_all(threads, counters)
         self.check_whole()
@@ -146,14 +156,16 @@ class Counts(SwapCase):
     def judge(self, begin, end, counters):
         """The file has each number whose swap was accepted. Any other is one whose swap had no
         reply, so at most one more for each client."""
-        accepted, cut = self.accepted(counters), {it.cut for it in counters}
+        accepted = self.accepted(counters)
+        cut = {it.cut for it in counters}
         counted = set(range(begin + 1, end + 1))
         self.assertLessEqual(set(accepted), counted)
         self.assertLessEqual(counted - set(accepted), cut)
         return end
 
     def test_a_wrong_count_is_refused(self):
-        """The judge sees a count that is lost, one that nobody made, and one that was made twice."""
+        """The judge sees a count that is lost, one that nobody made, and one that was made
+        twice."""
         def counters(*accepted, cut=None):
             made = [Counter() for _ in range(CLIENTS)]
             for counter, numbers in zip(made, accepted):
@@ -163,7 +175,11 @@ class Counts(SwapCase):
 
         self.assertEqual(self.judge(0, 3, counters([1, 3], [2])), 3)
         self.assertEqual(self.judge(0, 3, counters([1, 2], cut=3)), 3)
-        for end, made in ((2, counters([1, 3], [2])), (4, counters([1, 2], cut=3)), (3, counters([1, 2], [2, 3]))):
+        for end, made in (
+            (2, counters([1, 3], [2])),
+            (4, counters([1, 2], cut=3)),
+            (3, counters([1, 2], [2, 3])),
+        ):
             with self.assertRaises(AssertionError):
                 self.judge(0, end, made)
 
@@ -178,7 +194,9 @@ class Holders:
     """Who holds the lock, as the clients know it: at most one of them."""
 
     def __init__(self):
-        self.guard, self.holding, self.most = threading.Lock(), [], 0
+        self.guard = threading.Lock()
+        self.holding = []
+        self.most = 0
 
     def enter(self, number):
         with self.guard:
@@ -191,8 +209,8 @@ class Holders:
 
 
 class Locker(Swapper):
-    """A client that takes the lock and releases it. Its value is its own. It enters the list of the holders
-    behind the reply to its swap, and leaves the list before it sends the other one."""
+    """A client that takes the lock and releases it. Its value is its own. It enters the list of the
+    holders behind the reply to its swap, and leaves the list before it sends the other one."""
 
     def __init__(self, number, holders):
         super().__init__()
@@ -213,8 +231,8 @@ class Locker(Swapper):
             pass
 
     def is_held(self, is_mine):
-        """Whether this client has the lock, as a new connection finds it. A swap may have been done that had no reply.
-        One that had a reply was done."""
+        """Whether this client has the lock, as a new connection finds it. A swap may have been done
+        that had no reply. One that had a reply was done."""
         if self.number in self.holders.holding:
             self.note(is_mine, "the lock is lost")
         elif is_mine:
@@ -260,10 +278,13 @@ class Locks(SwapCase):
         self.assertEqual([it.released for it in lockers], due)
         self.assertEqual(self.client(server).ask("get =lock"), ["absent"])
         server.kill()
-        self.assertEqual((self.holders.most, self.holders.holding, self.found("=lock")), (1, [], ["absent"]))
+        self.assertEqual(
+            (self.holders.most, self.holders.holding, self.found("=lock")), (1, [], ["absent"])
+        )
 
     def lock_and_kill(self, lockers):
-        """A server is killed while its clients take and release, and no client has an end of its own."""
+        """A server is killed while its clients take and release, and no client has an end of its
+        own."""
         server = self.serve()
         least = sum(it.released for it in lockers) + self.random.randrange(1, LOCKED_BEFORE_A_KILL)
         threads = self.load(server, lockers, math.inf)
@@ -280,7 +301,8 @@ class Locks(SwapCase):
         self.lock_all(lockers)
 
     def test_a_second_holder_is_seen(self):
-        """The judge sees a lock that two clients have, one that is lost, and one that no client took."""
+        """The judge sees a lock that two clients have, one that is lost, and one that no client
+        took."""
         for first, second in ((1, 2), (2, 1)):
             self.holders.enter(first)
             self.holders.enter(second)
@@ -297,16 +319,22 @@ class Locks(SwapCase):
 
 
 class Inserter(Swapper):
-    """A client that inserts keys with its number as their value. `accepted` has those whose swap was accepted."""
+    """A client that inserts keys with its number as their value. `accepted` has those whose swap
+    was accepted."""
 
     def __init__(self, number, keys):
         super().__init__()
-        self.value, self.keys, self.accepted = f"{number:08x}", keys, []
+        self.value = f"{number:08x}"
+        self.keys = keys
+        self.accepted = []
 
     def run(self, client):
         while self.keys:
-            some, self.keys = self.keys[:BURST], self.keys[BURST:]
-            for key, reply in zip(some, client.ask(*(f"swap {key} - {self.value}" for key in some)), strict=True):
+            some = self.keys[:BURST]
+            self.keys = self.keys[BURST:]
+            for key, reply in zip(
+                some, client.ask(*(f"swap {key} - {self.value}" for key in some)), strict=True
+            ):
                 self.take(key, reply or "nothing")
 
     def take(self, key, reply):
@@ -342,8 +370,10 @@ class Inserts(SwapCase):
     def test_a_key_that_is_inserted_twice_is_refused(self):
         """The judge sees that, and a key that nobody inserted."""
         self.silt("run", "store", text="swap =a - 00000001\nswap =b - 00000002\nflush\n")
-        first, second = Inserter(1, []), Inserter(2, [])
-        first.accepted, second.accepted = ["=a"], ["=b"]
+        first = Inserter(1, [])
+        second = Inserter(2, [])
+        first.accepted = ["=a"]
+        second.accepted = ["=b"]
         self.judge(["=a", "=b"], [first, second])
         for accepted in (["=a", "=b"], [], ["=c"]):
             second.accepted = accepted

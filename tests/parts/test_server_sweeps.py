@@ -27,7 +27,10 @@ LINES = [
 MOST = 50
 # The errors that a server may report.
 CALL = r"a (read|write|sync)( at \d+)?: Input/output error \(os error 5\)"
-REPORT = rf"(silt: {CALL}; the store takes nothing more until it is opened again\n)?(silt: store: {CALL}\n)*"
+REPORT = (
+    rf"(silt: {CALL}; the store takes nothing more until it is opened again\n)?"
+    rf"(silt: store: {CALL}\n)*"
+)
 
 
 def told(word):
@@ -58,14 +61,18 @@ class Replies:
         if word == "swap":
             self.take_swap(*rest, reply, what)
         elif word in ("put", "delete"):
-            self.take_command(rest[0], f"value {rest[1]}" if word == "put" else "absent", reply, what)
+            self.take_command(
+                rest[0], f"value {rest[1]}" if word == "put" else "absent", reply, what
+            )
         elif not reply.startswith("refused "):
             due = {f"acknowledged {self.accepted}"} if word == "flush" else self.values[rest[0]]
             self.case.assertIn(reply, due, what)
 
     def take_swap(self, key, old, new, reply, what):
-        """A swap is a put or a delete of a key that has the old value, or none. If it differs, the key has another one."""
-        old, new = {told(old)}, told(new)
+        """A swap is a put or a delete of a key that has the old value, or none. If it differs, the
+        key has another one."""
+        old = {told(old)}
+        new = told(new)
         if reply == "differs":
             self.values[key] = self.values[key] - old
         elif not reply.startswith("refused "):
@@ -97,19 +104,24 @@ class Replies:
 
 
 class RepliesAtOnce:
-    """What a client knows that sends all lines in one write: what is there is a beginning of what it sent."""
+    """What a client knows that sends all lines in one write: what is there is a beginning of what
+    it sent."""
 
     def __init__(self, case):
         self.case = case
-        # The map after no command, the first, the first two, and so on, and how many of them a flush has settled.
-        self.maps, self.settled = [{}], 0
+        # The map after no command, the first, the first two, and so on, and how many of them a
+        # flush has settled.
+        self.maps = [{}]
+        self.settled = 0
         # The commands that may have been done, since no reply says so.
         self.unknown = []
         self.has_failed = False
 
     def take(self, line, reply, refusals):
         """Checks a reply, and notes what it says."""
-        what, values, accepted = (line, reply, self.maps), self.maps[-1], len(self.maps) - 1
+        what = (line, reply, self.maps)
+        values = self.maps[-1]
+        accepted = len(self.maps) - 1
         if self.has_failed:
             self.case.assertEqual(reply, "refused 9 Failed", what)
         elif reply.startswith("refused "):
@@ -124,7 +136,8 @@ class RepliesAtOnce:
             self.case.assertEqual((reply, self.settled), (due, accepted), what)
 
     def take_command(self, line, reply, what):
-        """A command that does not differ is done. If its flush was refused, so was that of all behind it."""
+        """A command that does not differ is done. If its flush was refused, so was that of all
+        behind it."""
         if differs(self.maps[-1], line):
             self.case.assertEqual(reply, "differs", what)
             return
@@ -141,7 +154,10 @@ class RepliesAtOnce:
 
     def check_found(self, found):
         """A next run found the map after the settled commands and some first ones of the others."""
-        maps = self.maps[self.settled:-1] + list(itertools.accumulate(self.unknown, tried, initial=self.maps[-1]))
+        maps = (
+            self.maps[self.settled:-1]
+            + list(itertools.accumulate(self.unknown, tried, initial=self.maps[-1]))
+        )
         self.case.assertIn(found, [[answer(it, key) for key in KEYS] for it in maps])
 
 
@@ -182,7 +198,9 @@ class Sweeps(ServedCase):
     def check_fault(self, fault, refusals):
         """A server with this fault, a client of it, and what the next run finds."""
         self.silt("format", "store", *SMALL.split(), "--force")
-        server = self.begin("store", 0, "--sessions", 1, *self.options, env=watching(self, fail=fault))
+        server = self.begin(
+            "store", 0, "--sessions", 1, *self.options, env=watching(self, fail=fault)
+        )
         replies = self.judge()
         if (server.line(1) or "").startswith("listening"):
             self.ask_all(server.listen(), replies, refusals)
@@ -193,7 +211,8 @@ class Sweeps(ServedCase):
         replies.check_found(self.found(*KEYS))
 
     def ask_all(self, server, replies, refusals):
-        """Sends one line after the other, until the server ends the session, and checks each reply."""
+        """Sends one line after the other, until the server ends the session, and checks each
+        reply."""
         try:
             client = self.client(server)
         except ConnectionError:
@@ -207,8 +226,8 @@ class Sweeps(ServedCase):
         client.close()
 
     def replies(self, client):
-        """The replies to the lines, each of which is sent behind the one before. The last one is None if the server has
-        ended the session."""
+        """The replies to the lines, each of which is sent behind the one before. The last one is
+        None if the server has ended the session."""
         for line in self.lines:
             yield self.reply_to(client, line)
 
@@ -230,7 +249,12 @@ class Sweeps(ServedCase):
     def check_end(self, ended, replies):
         """The server ended well, or with a reason, and reported each failure of the store."""
         if ended.status == 1:
-            reasons = {"refused 5 Device", "refused 6 NoMemory", "silt: out of memory", "silt: store: out of memory"}
+            reasons = {
+                "refused 5 Device",
+                "refused 6 NoMemory",
+                "silt: out of memory",
+                "silt: store: out of memory",
+            }
             self.assertTrue(reasons.intersection(ended.lines + ended.err.splitlines()), ended)
             return
         self.assertEqual(ended.status, 0, ended)
@@ -255,7 +279,8 @@ class Sweeps(ServedCase):
     @unittest.skipUnless(PROVED, "a build with checks has an allocator of its own")
     def test_memory_of_an_idle_session(self):
         # The first message to a worker is then the one that ends it.
-        self.lines, self.calls = [], 0
+        self.lines = []
+        self.calls = 0
         self.sweep("memory", "ENOMEM", {"refused 6 NoMemory"}, most=1000)
 
 
@@ -264,7 +289,8 @@ class PipelinedSweeps(Sweeps):
 
     options = ("--pipeline",)
     # One flush for all commands.
-    calls, least = 9 + 1 + 9 + 13, 12
+    calls = 9 + 1 + 9 + 13
+    least = 12
 
     def judge(self):
         return RepliesAtOnce(self)

@@ -1,5 +1,5 @@
-"""Random stores in files: replies, reports and each settled byte are the model's, on devices of both
-versions of the layout."""
+"""Random stores in files: replies, reports and each settled byte are the model's, on devices of
+both versions of the layout."""
 import model
 from harness import PROVED, Case, scaled
 from lines import Maker, join_lines, make_geometry
@@ -21,7 +21,9 @@ class FileCase(Case):
             return
         pending = device.pending_places()
         for place, byte in enumerate(image):
-            allowed = {device.settled[place]} | ({device.shown[place]} if place in pending else set())
+            allowed = {device.settled[place]} | (
+                {device.shown[place]} if place in pending else set()
+            )
             if byte not in allowed:
                 self.fail(f"{note}: byte {place} of the file is {byte:#04x}, and not of {allowed}")
 
@@ -54,7 +56,9 @@ class Stores(FileCase):
             for turn in range(self.random.choice([1, 1, 2, 3])):
                 if self.random.random() < 0.3:
                     self.make_old()
-                lines = maker.lines(self.random.randint(1, 150)) + self.random.choice([[], [b"flush"]])
+                lines = (
+                    maker.lines(self.random.randint(1, 150)) + self.random.choice([[], [b"flush"]])
+                )
                 data = join_lines(lines) + self.random.choice([b"", b"flush"])
                 self.compare_run(data, f"{note}, run {turn}: {data!r}")
             self.compare_check(note)
@@ -62,13 +66,17 @@ class Stores(FileCase):
     def test_a_forced_format_makes_any_file_an_empty_store(self):
         for number in range(COUNT // 10):
             geometry = make_geometry(self.random)
-            old = self.random.randbytes(self.random.choice([0, 1, geometry.size, 2 * geometry.size]))
+            old = self.random.randbytes(
+                self.random.choice([0, 1, geometry.size, 2 * geometry.size])
+            )
             self.path("store").write_bytes(old)
             ran = self.silt("format", "store", *geometry.numbers, "--force")
             self.assertEqual(ran.out, f"formatted {geometry.size}\n")
             self.compare_check(f"store {number} of {geometry.words}")
             self.assertEqual(self.check_report().lines[-2:], ["charge 0", "layout 2"])
-            self.compare_run(b"get =a\nput =a " + b"00" * geometry.v + b"\nflush\nget =a\n", f"store {number}")
+            self.compare_run(
+                b"get =a\nput =a " + b"00" * geometry.v + b"\nflush\nget =a\n", f"store {number}"
+            )
 
 
 # The digests of no entries, of the hash store after five puts and a conversion, and of the entries

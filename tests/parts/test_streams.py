@@ -1,7 +1,8 @@
 """The standard streams: any of them may be closed, and none may be the store.
 
-A program that begins without one of the descriptors 0, 1 and 2 would get that number for the next file
-that it opens. So the lines of a run would come from its store, and replies and notes would go into it.
+A program that begins without one of the descriptors 0, 1 and 2 would get that number for the next
+file that it opens. So the lines of a run would come from its store, and replies and notes would go
+into it.
 """
 import contextlib
 import hashlib
@@ -22,7 +23,12 @@ GEOMETRY = "64 2 4 2 2 16"
 TRAP = b"\ndelete =kept\nput =kept 00\nflush\nget =kept\n".ljust(64, b"\n").hex()
 PLAIN = "5a" * 64
 # Six rows: the first log is frozen, so there is work in the background.
-ROWS = [f"put =kept {PLAIN}", f"put =trap {TRAP}", *(f"put =more{it} {TRAP}" for it in range(4)), "flush"]
+ROWS = [
+    f"put =kept {PLAIN}",
+    f"put =trap {TRAP}",
+    *(f"put =more{it} {TRAP}" for it in range(4)),
+    "flush",
+]
 # Some lines are refused, so there are notes.
 LINES = f"get =kept\nput =kept 01\nnothing\nput =new {TRAP}\ndelete =trap\nflush\nget =trap\n"
 OTHER_DATA = b"data of somebody else\n" * 5
@@ -34,7 +40,8 @@ DEVICE = "refused 5 Device\n"
 
 @dataclass
 class Job:
-    """The words of a job, its standard input, and what is in the file before: `rows`, `other`, `empty`, or no file."""
+    """The words of a job, its standard input, and what is in the file before: `rows`, `other`,
+    `empty`, or no file."""
 
     words: str
     before: str = "rows"
@@ -80,13 +87,17 @@ class StreamCase(ServedCase):
         return {it.name: hashlib.sha1(it.read_bytes()).hexdigest() for it in self.folder.iterdir()}
 
     def streams(self, closed):
-        """Standard input from a file, the others to pipes; those that are closed, or of the same job with all
-        streams open, on /dev/null."""
-        return {name: subprocess.DEVNULL for number, name in enumerate(("stdin", "stdout", "stderr")) if number in closed}
+        """Standard input from a file, the others to pipes; those that are closed, or of the same
+        job with all streams open, on /dev/null."""
+        return {
+            name: subprocess.DEVNULL
+            for number, name in enumerate(("stdin", "stdout", "stderr")) if number in closed
+        }
 
 
 class Closed(StreamCase):
-    """Each job with each set of streams closed ends as with these streams on /dev/null, and leaves the same bytes."""
+    """Each job with each set of streams closed ends as with these streams on /dev/null, and leaves
+    the same bytes."""
 
     def ended(self, job, closed, **how):
         """How a job ends, and the files that it leaves."""
@@ -139,11 +150,21 @@ class Closed(StreamCase):
 
     def test_what_the_jobs_do(self):
         """The jobs do what they are for, so that there is something to compare."""
-        due = {"run": (0, 8, 2), "tend": (0, 2, 0), "check": (0, 7, 1), "dump": (0, 6, 0), "script": (0, 8, 0),
-               "run of other data": (1, 1, 1)}
+        due = {
+            "run": (0, 8, 2),
+            "tend": (0, 2, 0),
+            "check": (0, 7, 1),
+            "dump": (0, 6, 0),
+            "script": (0, 8, 0),
+            "run of other data": (1, 1, 1),
+        }
         for name, numbers in due.items():
             ended, _ = self.ended(JOBS[name], ())
-            self.assertEqual((ended.status, len(ended.lines), len(ended.err.splitlines())), numbers, (name, ended))
+            self.assertEqual(
+                (ended.status, len(ended.lines), len(ended.err.splitlines())),
+                numbers,
+                (name, ended),
+            )
 
     def test_a_value_that_is_lines(self):
         """A run with nothing to read deletes no key, whatever the values are."""
@@ -175,7 +196,9 @@ class ClosedServers(StreamCase):
     def served(self, closed, **how):
         """How a server ends, what its client reads, and the files that are left."""
         self.put_back("rows")
-        with self.start("serve", "store", 0, "--sessions", 1, **self.streams(closed), **how) as running:
+        with self.start(
+            "serve", "store", 0, "--sessions", 1, **self.streams(closed), **how
+        ) as running:
             try:
                 replies = self.session(running)
                 ended = self.finish(running, b"")
@@ -197,8 +220,15 @@ class ClosedServers(StreamCase):
 class Itself(StreamCase):
     """A store that is a standard stream of the job is refused, and stays as it was."""
 
-    jobs = ("run store", "run store --tend", "tend store", "check store", "dump store", f"format store {GEOMETRY} --force",
-            "serve store 0 --sessions 1")
+    jobs = (
+        "run store",
+        "run store --tend",
+        "tend store",
+        "check store",
+        "dump store",
+        f"format store {GEOMETRY} --force",
+        "serve store 0 --sessions 1",
+    )
 
     def setUp(self):
         super().setUp()
@@ -209,8 +239,10 @@ class Itself(StreamCase):
         """How a job ends that has the store as these streams, opened by this name."""
         modes = ("rb", "ab", "ab")
         with contextlib.ExitStack() as files:
-            streams = {name: files.enter_context(open(self.path(opened), modes[number]))
-                       for number, name in enumerate(("stdin", "stdout", "stderr")) if number in numbers}
+            streams = {
+                name: files.enter_context(open(self.path(opened), modes[number]))
+                for number, name in enumerate(("stdin", "stdout", "stderr")) if number in numbers
+            }
             with self.start(*words.split(), **streams) as running:
                 return self.finish(running, b"" if 0 in numbers else LINES)
 
@@ -219,7 +251,9 @@ class Itself(StreamCase):
         with self.subTest(words=words, streams=numbers, opened=opened):
             ended = self.refused(words, *numbers, opened=opened)
             self.assertEqual(ended.status, 1, ended)
-            self.assertTrue(self.path("store").read_bytes() == self.contents["rows"], "the store has changed")
+            self.assertTrue(
+                self.path("store").read_bytes() == self.contents["rows"], "the store has changed"
+            )
             self.assertEqual(ended.out, "" if 1 in numbers else DEVICE)
             named = "|".join(STREAMS[it] for it in numbers)
             note = f"silt: {name}: the file is also this program's ({named})\n"
@@ -252,13 +286,17 @@ class Itself(StreamCase):
         """`silt format new > new` finds an empty file that is its own output."""
         for number, mode in ((1, "wb"), (2, "wb")):
             streams = {("stdin", "stdout", "stderr")[number]: open(self.path("new"), mode)}
-            with streams["stdout" if number == 1 else "stderr"], self.start("format", "new", *GEOMETRY.split(), **streams) as running:
+            with streams["stdout" if number == 1 else "stderr"], self.start(
+                "format", "new", *GEOMETRY.split(), **streams
+            ) as running:
                 ended = self.finish(running, b"")
             self.assertEqual((ended.status, self.path("new").read_bytes()), (1, b""), ended)
 
     def test_a_plan_has_no_store(self):
         """Nothing is refused that names no file of a store."""
-        with open(self.path("text"), "ab") as text, self.start("plan", "1000", "64", stdout=text) as running:
+        with open(self.path("text"), "ab") as text, self.start(
+            "plan", "1000", "64", stdout=text
+        ) as running:
             self.assertEqual(self.finish(running, b"").status, 0)
         self.assertRegex(self.path("text").read_text(), r"\A64 \d+ .*\ndisk \d+\nmemory \d+\n\Z")
 
@@ -276,22 +314,38 @@ class OtherStreams(StreamCase):
         self.assertEqual(self.check_run(), Ended(0, self.due, ""))
 
     def test_other_files(self):
-        """Files of the same file system, as input, output and error output, with the store open for reading too."""
+        """Files of the same file system, as input, output and error output, with the store open for
+        reading too."""
         self.path("lines").write_text("get =kept\nnothing\n")
         with (open(self.path("lines"), "rb") as lines, open(self.path("replies"), "wb") as replies,
               open(self.path("notes"), "wb") as notes, open(self.path("store"), "rb") as beside):
-            running = self.start("run", "store", stdin=lines, stdout=replies, stderr=notes, pass_fds=[beside.fileno()])
+            running = self.start(
+                "run",
+                "store",
+                stdin=lines,
+                stdout=replies,
+                stderr=notes,
+                pass_fds=[beside.fileno()],
+            )
             self.assertEqual(running.wait(TIME_LIMIT), 0)
         self.assertEqual(self.path("replies").read_text(), self.due + "refused 20 BadLine\n")
-        self.assertEqual(self.path("notes").read_text(), "silt: 1 line refused 20 BadLine, first line 2\n")
-        self.assertTrue(self.path("store").read_bytes() == self.contents["rows"], "the store has changed")
+        self.assertEqual(
+            self.path("notes").read_text(), "silt: 1 line refused 20 BadLine, first line 2\n"
+        )
+        self.assertTrue(
+            self.path("store").read_bytes() == self.contents["rows"], "the store has changed"
+        )
 
     def test_one_file_for_all(self):
         """Input, output and error output may be one file, if it is not the store."""
         self.path("both").write_text("")
-        with open(self.path("both"), "r+b") as both, self.start("tend", "store", stdin=both, stdout=both, stderr=both) as running:
+        with open(self.path("both"), "r+b") as both, self.start(
+            "tend", "store", stdin=both, stdout=both, stderr=both
+        ) as running:
             self.assertEqual(self.finish(running, b"").status, 0)
-        self.assertRegex(self.path("both").read_text(), r"\Aopened\nconverted \d+ steps, merged \d+ steps\n\Z")
+        self.assertRegex(
+            self.path("both").read_text(), r"\Aopened\nconverted \d+ steps, merged \d+ steps\n\Z"
+        )
 
     def test_the_null_device(self):
         none = subprocess.DEVNULL
@@ -311,7 +365,9 @@ class OtherStreams(StreamCase):
             shown = read_to_end(terminal)
             os.close(terminal)
             self.assertEqual(running.wait(TIME_LIMIT), 0)
-        self.assertEqual(shown, self.due + "refused 20 BadLine\nsilt: 1 line refused 20 BadLine, first line 2\n")
+        self.assertEqual(
+            shown, self.due + "refused 20 BadLine\nsilt: 1 line refused 20 BadLine, first line 2\n"
+        )
 
 
 def read_to_end(terminal):
@@ -335,20 +391,37 @@ class NoNullDevice(Case):
     def hidden(self, words, closed, text=LINES):
         """How a job ends that finds no devices, and begins without some streams."""
         closes = " ".join(f"{it}>&-" for it in closed)
-        self.starter = [*self.mounting, "sh", "-c", f'mount --bind empty /dev && exec "$@" {closes}', "sh"]
+        self.starter = [
+            *self.mounting,
+            "sh",
+            "-c",
+            f'mount --bind empty /dev && exec "$@" {closes}',
+            "sh",
+        ]
         try:
             return self.silt(*words.split(), text=text)
         finally:
             self.starter = ()
 
     def test_no_job_touches_its_file(self):
-        for words in ("run store", "run store --tend", "tend store", "check store", "dump store", "serve store 0 --sessions 1",
-                      f"format store {GEOMETRY}", f"format store {GEOMETRY} --force", f"format new {GEOMETRY}"):
+        for words in (
+            "run store",
+            "run store --tend",
+            "tend store",
+            "check store",
+            "dump store",
+            "serve store 0 --sessions 1",
+            f"format store {GEOMETRY}",
+            f"format store {GEOMETRY} --force",
+            f"format new {GEOMETRY}",
+        ):
             for closed in SUBSETS:
                 with self.subTest(words=words, closed=closed):
                     ended = self.hidden(words, closed)
                     self.assertEqual((ended.status, ended.out), (1, ""), ended)
-                    self.assertTrue(self.path("store").read_bytes() == self.before, "the store has changed")
+                    self.assertTrue(
+                        self.path("store").read_bytes() == self.before, "the store has changed"
+                    )
                     self.assertFalse(self.path("new").exists())
 
 

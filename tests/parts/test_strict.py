@@ -1,4 +1,5 @@
-"""`run --strict` ends with status 3 if a line was refused. Without it such a run ends with status 0."""
+"""`run --strict` ends with status 3 if a line was refused. Without it such a run ends with status
+0."""
 import itertools
 import subprocess
 import unittest
@@ -12,10 +13,13 @@ FULL_DISK = "refused 5 Device"
 WELL = {
     "nothing": ("", ""),
     "blank lines": ("\n\r\n\n", ""),
-    "each kind of line": ("put =a 0102\nget =a\nget =b\nswap =a 0000 0304\nswap =a 0102 0304\nswap =b - 0506\ndelete =a\n"
-                          "flush\nconvert\nmerge\n",
-                          "accepted 1\nvalue 0102\nabsent\ndiffers\naccepted 2\naccepted 3\naccepted 4\n"
-                          "acknowledged 4\nidle\nidle\n"),
+    "each kind of line": (
+        "put =a 0102\nget =a\nget =b\n"
+        "swap =a 0000 0304\nswap =a 0102 0304\nswap =b - 0506\ndelete =a\n"
+        "flush\nconvert\nmerge\n",
+        "accepted 1\nvalue 0102\nabsent\ndiffers\naccepted 2\naccepted 3\naccepted 4\n"
+        "acknowledged 4\nidle\nidle\n",
+    ),
     "a last line that has no end": ("put =a 0102\npot", "accepted 1\n"),
 }
 # Lines of which some are refused.
@@ -25,17 +29,23 @@ REFUSED = {
     "a bad value": ("put =a 01\n", "refused 22 BadValue\n"),
     "a long line": ("x" * 16_601 + "\n", "refused 23 LineTooLong\n"),
     "a first line": ("pot\nput =a 0102\nget =a\n", "refused 20 BadLine\naccepted 1\nvalue 0102\n"),
-    "a line among others": ("put =a 0102\nstop 0 old\nget =a\n", "accepted 1\nrefused 20 BadLine\nvalue 0102\n"),
+    "a line among others": (
+        "put =a 0102\nstop 0 old\nget =a\n",
+        "accepted 1\nrefused 20 BadLine\nvalue 0102\n",
+    ),
     "a last line": ("put =a 0102\nget =a\nget\n", "accepted 1\nvalue 0102\nrefused 20 BadLine\n"),
     "a line before one that has no end": ("pot\nput =a", "refused 20 BadLine\n"),
-    "a put without room": ("".join(f"delete =k{it}\n" for it in range(9)),
-                           "".join(f"accepted {it}\n" for it in range(1, 9)) + "refused 8 NoRoom\n"),
+    "a put without room": (
+        "".join(f"delete =k{it}\n" for it in range(9)),
+        "".join(f"accepted {it}\n" for it in range(1, 9)) + "refused 8 NoRoom\n",
+    ),
 }
 
 
 class StrictCase(WatchedCase):
     def both(self, *options, text="", name="store", env=None):
-        """How a run ends without the option, and with it. Both begin with the same file, and differ in the status alone."""
+        """How a run ends without the option, and with it. Both begin with the same file, and differ
+        in the status alone."""
         before = self.path(name).read_bytes() if self.path(name).exists() else None
         ended, left = [], []
         for strict in ((), ("--strict",)):
@@ -84,7 +94,9 @@ class Lines(StrictCase):
 
     def test_a_full_store(self):
         self.store("2 2 4 2 2 3", name="full")
-        ended = self.check((0, 3), "--tend", text="".join(f"put =k{it} 0102\n" for it in range(4)), name="full")
+        ended = self.check(
+            (0, 3), "--tend", text="".join(f"put =k{it} 0102\n" for it in range(4)), name="full"
+        )
         self.assertEqual(ended.lines[-1], "refused 7 StoreFull")
 
     def test_the_option_stands_anywhere(self):
@@ -124,19 +136,30 @@ class Loads(StrictCase):
         text = "".join(f"put =key{it} {it:0200x}\nflush\n" for it in range(50))
         ended = self.check((0, 3), text=text, env=watching(self, fail="pwrite:9+:ENOSPC"))
         first = ended.lines.index(FULL_DISK)
-        self.assertEqual({it.split()[0] for it in ended.lines[1:first]}, {"accepted", "acknowledged"})
+        self.assertEqual(
+            {it.split()[0] for it in ended.lines[1:first]}, {"accepted", "acknowledged"}
+        )
         self.assertEqual(ended.lines[first + 1:], ["refused 9 Failed"] * (100 - first))
 
     def test_a_full_disk(self):
         """The same on a file system of ten pages."""
         self.path("full").mkdir()
-        self.path("lines").write_text("".join(f"put =key{it} {it:0200x}\nflush\n" for it in range(300)))
-        script = ('mount -t tmpfs -o size=40k tmpfs full && "$0" format full/store 100 64 224 2 2 1000 >made && '
-                  '"$0" run full/store $1 <lines')
+        self.path("lines").write_text(
+            "".join(f"put =key{it} {it:0200x}\nflush\n" for it in range(300))
+        )
+        script = (
+            "mount -t tmpfs -o size=40k tmpfs full && "
+            '"$0" format full/store 100 64 224 2 2 1000 >made && '
+            '"$0" run full/store $1 <lines'
+        )
         ended = []
         for option in ("", "--strict"):
             words = [*mounting(self), "sh", "-c", script, PROGRAM, option]
-            ended.append(subprocess.run(words, cwd=self.folder, capture_output=True, text=True, timeout=TIME_LIMIT))
+            ended.append(
+                subprocess.run(
+                    words, cwd=self.folder, capture_output=True, text=True, timeout=TIME_LIMIT
+                )
+            )
         plain, strict = ended
         self.assertEqual((plain.returncode, strict.returncode), (0, 3), strict)
         self.assertEqual((plain.stdout, plain.stderr), (strict.stdout, strict.stderr))
@@ -152,7 +175,8 @@ class Loads(StrictCase):
 
 
 class Broken(StrictCase):
-    """A run that does not come to the end of its lines ends with status 1, whether lines were refused or not."""
+    """A run that does not come to the end of its lines ends with status 1, whether lines were
+    refused or not."""
 
     def setUp(self):
         super().setUp()
@@ -181,17 +205,23 @@ class Broken(StrictCase):
 
     def test_a_store_that_is_not_opened(self):
         self.path("other").write_bytes(b"other data")
-        self.assertEqual(self.check((1, 1), text="pot\n", name="other").out, "refused 1 NotFormatted\n")
+        self.assertEqual(
+            self.check((1, 1), text="pot\n", name="other").out, "refused 1 NotFormatted\n"
+        )
         self.assertEqual(self.check((1, 1), text="pot\n", name="none").out, "refused 5 Device\n")
         image = bytearray(self.store(SMALL, ["put =a 0102", "flush"], "damaged").read_bytes())
         image[16384] = 3
         self.path("damaged").write_bytes(image)
-        self.assertEqual(self.check((1, 1), text="pot\n", name="damaged").out, "refused 3 Damaged log 0 row 0\n")
+        self.assertEqual(
+            self.check((1, 1), text="pot\n", name="damaged").out, "refused 3 Damaged log 0 row 0\n"
+        )
 
     @unittest.skipUnless(PROVED, "a build with a memory checker has an allocator of its own")
     def test_memory_that_runs_out(self):
-        """A run that breaks off ends with status 1. One that replies to all lines refused the first, and ends with 3."""
-        text, seen = "pot\n" + "put =a 0102\nget =a\n" * 3, set()
+        """A run that breaks off ends with status 1. One that replies to all lines refused the
+        first, and ends with 3."""
+        text = "pot\n" + "put =a 0102\nget =a\n" * 3
+        seen = set()
         for number in range(1, 400):
             env = watching(self, short="read:1+", fail=f"memory:{number}+:ENOMEM")
             ended = self.silt("run", "--strict", "store", text=text, env=env)
@@ -202,11 +232,14 @@ class Broken(StrictCase):
 
 
 class Pipelines(StrictCase):
-    """A dump that is refused says so by its own status. The next run gets no lines, of which none is refused."""
+    """A dump that is refused says so by its own status. The next run gets no lines, of which none
+    is refused."""
 
     def shell(self, script):
         words = ["bash", "-c", script.replace("silt", f"'{PROGRAM}'")]
-        return subprocess.run(words, cwd=self.folder, capture_output=True, text=True, timeout=TIME_LIMIT)
+        return subprocess.run(
+            words, cwd=self.folder, capture_output=True, text=True, timeout=TIME_LIMIT
+        )
 
     def setUp(self):
         super().setUp()
@@ -226,22 +259,35 @@ class Pipelines(StrictCase):
         return self.shell(f"set -o pipefail; {script}").returncode
 
     def test_a_dump_of_a_whole_store(self):
-        self.assertEqual(self.statuses("(silt dump whole && echo flush) | silt run --tend --strict new"), [0, 0])
-        self.assertEqual(self.status("(silt dump whole && echo flush) | silt run --tend --strict new"), 0)
+        self.assertEqual(
+            self.statuses("(silt dump whole && echo flush) | silt run --tend --strict new"), [0, 0]
+        )
+        self.assertEqual(
+            self.status("(silt dump whole && echo flush) | silt run --tend --strict new"), 0
+        )
 
     def test_a_dump_that_is_refused(self):
         """It prints its refusal where its lines would be, and the run refuses that as a line."""
         for name in ("damaged", "none"):
             self.assertEqual(self.statuses(f"silt dump {name} | silt run --strict new"), [1, 3])
-            self.assertEqual(self.statuses(f"(silt dump {name}; echo flush) | silt run --tend --strict new"), [0, 3])
-            self.assertEqual(self.status(f"(silt dump {name} && echo flush) | silt run --tend --strict new"), 3)
+            self.assertEqual(
+                self.statuses(f"(silt dump {name}; echo flush) | silt run --tend --strict new"),
+                [0, 3],
+            )
+            self.assertEqual(
+                self.status(f"(silt dump {name} && echo flush) | silt run --tend --strict new"), 3
+            )
             self.assertEqual(self.statuses(f"silt dump {name} | silt run new"), [1, 0])
             self.assertEqual(self.status(f"silt dump {name} | silt run new"), 1)
 
     def test_a_dump_that_breaks_off(self):
         """A run refuses no line that it does not get. Only the status of the dump tells."""
-        self.assertEqual(self.statuses("(silt dump whole | head -c 20; exit 1) | silt run --strict new"), [1, 0])
-        self.assertEqual(self.status("(silt dump whole | head -c 20; exit 1) | silt run --strict new"), 1)
+        self.assertEqual(
+            self.statuses("(silt dump whole | head -c 20; exit 1) | silt run --strict new"), [1, 0]
+        )
+        self.assertEqual(
+            self.status("(silt dump whole | head -c 20; exit 1) | silt run --strict new"), 1
+        )
 
 
 if __name__ == "__main__":

@@ -1,8 +1,8 @@
 """Digests of stores that are no longer written, and the two versions of the layout.
 
-A manifest of version 2 has the digests of the hash stores and of the sorted store that it names, and
-an opening compares them with what it reads. A device of version 1 has none. It is served all the
-same, and gets digests with its next manifest; its header stays as it is.
+A manifest of version 2 has the digests of the hash stores and of the sorted store that it names,
+and an opening compares them with what it reads. A device of version 1 has none. It is served all
+the same, and gets digests with its next manifest; its header stays as it is.
 """
 import os
 import re
@@ -12,7 +12,20 @@ import unittest
 
 import model
 from harness import PROGRAM, PROVED, TOP
-from layout import ACTIVE, DIGEST, GENERATION, HASH_DIGESTS, HEADER_LEN, LONG_FORM, SECTOR, SLOT_LEN, SLOTS, SORTED_DIGEST, as_version_1, slot_of
+from layout import (
+    ACTIVE,
+    DIGEST,
+    GENERATION,
+    HASH_DIGESTS,
+    HEADER_LEN,
+    LONG_FORM,
+    SECTOR,
+    SLOT_LEN,
+    SLOTS,
+    SORTED_DIGEST,
+    as_version_1,
+    slot_of,
+)
 from lines import join_lines
 from served import ServedCase
 from test_damage import DamageCase
@@ -41,8 +54,18 @@ MERGE = ["merge"] * 13
 # Log 1 is frozen.
 FREEZE = [*puts(range(6, 9)), f"delete {key(9)}", "flush"]
 # After a merge two more logs are hash stores: the older one in region 0, the newer one in region 1.
-TWO_STORES = [*CONVERTED, *MERGE, *puts(range(6, 10)), "flush", *CONVERT, *puts((10, 11)), f"delete {key(2)}",
-              *puts((12,)), "flush", *CONVERT]
+TWO_STORES = [
+    *CONVERTED,
+    *MERGE,
+    *puts(range(6, 10)),
+    "flush",
+    *CONVERT,
+    *puts((10, 11)),
+    f"delete {key(2)}",
+    *puts((12,)),
+    "flush",
+    *CONVERT,
+]
 
 
 class VersionCase(DamageCase, ServedCase):
@@ -63,7 +86,8 @@ class VersionCase(DamageCase, ServedCase):
 
     def assert_form(self, version, is_long):
         """The header's version, and whether each slot is open and long: None if it is closed."""
-        image, forms = self.image(), []
+        image = self.image()
+        forms = []
         for at in SLOTS:
             forms.append(image[at + GENERATION] >= LONG_FORM if image[at] == model.OPEN else None)
         self.assertEqual((image[:13].hex(), forms), (f"{MAGIC_AND_VERSION}{version:02x}", is_long))
@@ -96,15 +120,25 @@ class Digests(VersionCase):
         self.assert_whole(self.sound, 2)
 
     def test_each_byte_of_each_digest(self):
-        for begin, place in ((HASH_DIGESTS, "hash 1"), (HASH_DIGESTS + DIGEST, "hash 0"), (SORTED_DIGEST, "sorted")):
+        for begin, place in (
+            (HASH_DIGESTS, "hash 1"),
+            (HASH_DIGESTS + DIGEST, "hash 0"),
+            (SORTED_DIGEST, "sorted"),
+        ):
             for at in range(begin, begin + DIGEST):
-                self.assert_refused(self.changed(self.slot + at), f"refused 3 Damaged {place} digest", f"byte {at}")
+                self.assert_refused(
+                    self.changed(self.slot + at), f"refused 3 Damaged {place} digest", f"byte {at}"
+                )
 
     def test_each_byte_that_digests_cover(self):
         """Whatever byte of a slot or of an entry is another one, something is found."""
-        geometry, covered = self.store_of.geometry, []
+        geometry = self.store_of.geometry
+        covered = []
         for one in self.store_of.hashes:
-            covered += range(geometry.hash_at(one.region), geometry.hash_at(one.region) + geometry.slots * geometry.row_length)
+            covered += range(
+                geometry.hash_at(one.region),
+                geometry.hash_at(one.region) + geometry.slots * geometry.row_length,
+            )
         begin = geometry.sorted_at(self.store_of.sorted.region)
         covered += range(begin, begin + 4 * geometry.entry_length)
         for at in covered[self.random.randrange(EVERY)::EVERY]:
@@ -117,7 +151,9 @@ class Digests(VersionCase):
 
     def test_bytes_past_the_count(self):
         """The places of fourteen hash stores that are not named, and what is behind all digests."""
-        places = [*range(HASH_DIGESTS + 2 * DIGEST, SORTED_DIGEST)][self.random.randrange(EVERY)::EVERY]
+        places = [
+            *range(HASH_DIGESTS + 2 * DIGEST, SORTED_DIGEST)
+        ][self.random.randrange(EVERY)::EVERY]
         places += [SLOT_LEN, SLOT_LEN + 1, SECTOR - 2, SECTOR - 1]
         for at in places:
             self.path("store").write_bytes(self.changed(self.slot + at))
@@ -130,28 +166,40 @@ class Digests(VersionCase):
         self.run_lines([*puts(range(13, 17)), "flush", *MERGE])
 
     def test_digests_of_the_other_slot(self):
-        image, other = bytearray(self.sound), sum(SLOTS) - self.slot
+        image = bytearray(self.sound)
+        other = sum(SLOTS) - self.slot
         self.assertEqual(image[other], model.OPEN)
-        image[other + HASH_DIGESTS:other + SLOT_LEN] = self.random.randbytes(SLOT_LEN - HASH_DIGESTS)
+        image[other + HASH_DIGESTS:other + SLOT_LEN] = self.random.randbytes(
+            SLOT_LEN - HASH_DIGESTS
+        )
         self.assert_whole(image, 2)
 
     def test_swapped_digests(self):
-        image, at = bytearray(self.sound), self.slot + HASH_DIGESTS
-        image[at:at + DIGEST], image[at + DIGEST:at + 2 * DIGEST] = image[at + DIGEST:at + 2 * DIGEST], image[at:at + DIGEST]
+        image = bytearray(self.sound)
+        at = self.slot + HASH_DIGESTS
+        image[at:at + DIGEST], image[at + DIGEST:at + 2 * DIGEST] = (
+            image[at + DIGEST:at + 2 * DIGEST], image[at:at + DIGEST]
+        )
         self.assert_refused(image, "refused 3 Damaged hash 1 digest", "two digests swapped")
 
     def test_slots_come_before_the_digest_of_their_store(self):
         image = self.changed(self.slot + HASH_DIGESTS)
         image[self.store_of.geometry.hash_at(1) + 7 * 23] = 3
-        self.assert_refused(image, "refused 3 Damaged hash 1 slot 7", "the last slot and the digest of one store")
+        self.assert_refused(
+            image, "refused 3 Damaged hash 1 slot 7", "the last slot and the digest of one store"
+        )
 
     def test_a_digest_comes_before_the_slots_of_the_next_store(self):
         image = self.changed(self.slot + HASH_DIGESTS)
         image[self.store_of.geometry.hash_at(0)] = 3
-        self.assert_refused(image, "refused 3 Damaged hash 1 digest", "a digest, and a slot of the older store")
+        self.assert_refused(
+            image, "refused 3 Damaged hash 1 digest", "a digest, and a slot of the older store"
+        )
         image = self.changed(self.slot + HASH_DIGESTS + DIGEST)
         image[self.store_of.geometry.hash_at(1) + 7 * 23] = 3
-        self.assert_refused(image, "refused 3 Damaged hash 1 slot 7", "a slot, and the digest of the older store")
+        self.assert_refused(
+            image, "refused 3 Damaged hash 1 slot 7", "a slot, and the digest of the older store"
+        )
 
     def test_the_sorted_store_comes_last(self):
         begin = self.store_of.geometry.sorted_at(self.store_of.sorted.region)
@@ -160,7 +208,9 @@ class Digests(VersionCase):
         image[begin + 3 * 22] = 0
         self.assert_refused(image, "refused 3 Damaged sorted 3", "the last entry and the digest")
         image[self.slot + HASH_DIGESTS + DIGEST] ^= 1
-        self.assert_refused(image, "refused 3 Damaged hash 0 digest", "a digest of a hash store before them")
+        self.assert_refused(
+            image, "refused 3 Damaged hash 0 digest", "a digest of a hash store before them"
+        )
 
     def test_logs_come_first(self):
         """No digest covers a log."""
@@ -168,22 +218,39 @@ class Digests(VersionCase):
         log = self.store_of.active
         self.assertEqual(len(log.rows), 1)
         image[self.store_of.geometry.rows_at(log.region)] = 3
-        self.assert_refused(image, f"refused 3 Damaged log {log.region} row 0", "a row and a digest")
+        self.assert_refused(
+            image, f"refused 3 Damaged log {log.region} row 0", "a row and a digest"
+        )
         image = self.changed(self.store_of.geometry.rows_at(log.region) + 22)
         self.assert_whole(image, 2, "a value of a log")
 
     def test_reasons(self):
         """Standard error names the region whose digest is another one."""
-        geometry, region = self.store_of.geometry, self.store_of.sorted.region
+        geometry = self.store_of.geometry
+        region = self.store_of.sorted.region
         for at, what, place in (
-            (HASH_DIGESTS, "a hash store has another digest than the manifest says", geometry.hash_at(1)),
-            (HASH_DIGESTS + DIGEST, "a hash store has another digest than the manifest says", geometry.hash_at(0)),
-            (SORTED_DIGEST, "the sorted store has another digest than the manifest says", geometry.sorted_at(region)),
+            (
+                HASH_DIGESTS,
+                "a hash store has another digest than the manifest says",
+                geometry.hash_at(1),
+            ),
+            (
+                HASH_DIGESTS + DIGEST,
+                "a hash store has another digest than the manifest says",
+                geometry.hash_at(0),
+            ),
+            (
+                SORTED_DIGEST,
+                "the sorted store has another digest than the manifest says",
+                geometry.sorted_at(region),
+            ),
         ):
             self.path("store").write_bytes(self.changed(self.slot + at))
             for job in ("check", "run", "tend", "dump"):
                 ended = self.silt(job, "store")
-                self.assertEqual((ended.status, ended.err), (1, f"silt: store: {what}, at byte {place}\n"), ended)
+                self.assertEqual(
+                    (ended.status, ended.err), (1, f"silt: store: {what}, at byte {place}\n"), ended
+                )
 
     def test_a_server_refuses_it(self):
         self.path("store").write_bytes(self.changed(self.slot + SORTED_DIGEST))
@@ -213,7 +280,8 @@ class OldDevices(VersionCase):
             self.assert_whole(self.image(), 1)
 
     def test_one_manifest_after_the_other(self):
-        """The slot that a manifest is written to gets the long form, the other one stays as it is."""
+        """The slot that a manifest is written to gets the long form, the other one stays as it
+        is."""
         self.image_of(G, CONVERTED, version=1)
         self.run_lines(MERGE)
         self.assert_form(1, [False, True])
@@ -233,7 +301,11 @@ class OldDevices(VersionCase):
     def test_tend(self):
         self.image_of(G, [*puts(range(1, 6)), "flush"], version=1)
         ended = self.silt("tend", "store")
-        self.assertEqual((ended.status, ended.lines), (0, ["opened", "converted 9 steps, merged 13 steps"]), ended)
+        self.assertEqual(
+            (ended.status, ended.lines),
+            (0, ["opened", "converted 9 steps, merged 13 steps"]),
+            ended,
+        )
         self.assert_form(1, [True, True])
         self.assert_whole(self.image(), 2)
         again = self.silt("tend", "store")
@@ -242,27 +314,43 @@ class OldDevices(VersionCase):
     def test_run_with_tend(self):
         self.image_of(WIDE, TWO_STORES, version=1)
         lines = puts(range(13, 30))
-        ended = self.silt("run", "store", "--tend", text="".join(it + "\n" for it in [*lines, "flush"]))
+        ended = self.silt(
+            "run", "store", "--tend", text="".join(it + "\n" for it in [*lines, "flush"])
+        )
         self.assertEqual((ended.status, ended.lines[-1]), (0, "acknowledged 17"), ended)
         self.assert_form(1, [True, True])
         self.assert_whole(self.image(), 2)
-        self.assertEqual(self.answers([f"get {key(20)}", f"get {key(2)}"]), ["value 0020", "absent"])
+        self.assertEqual(
+            self.answers([f"get {key(20)}", f"get {key(2)}"]), ["value 0020", "absent"]
+        )
 
     def test_a_server(self):
         self.image_of(G, [*puts(range(1, 5)), "flush"], version=1)
         server = self.serve("--sessions", 1)
         client = self.client(server)
-        self.assertEqual(client.ask(f"get {key(1)}", *puts((5,)), f"get {key(5)}"), ["value 0001", "accepted 1", "value 0005"])
+        self.assertEqual(
+            client.ask(f"get {key(1)}", *puts((5,)), f"get {key(5)}"),
+            ["value 0001", "accepted 1", "value 0005"],
+        )
         client.end_input()
         self.assertEqual((client.rest(), server.ended().status), ([], 0))
         self.assert_form(1, [True, True])
-        self.report("generation 3", "active log 1 rows 1", "frozen logs 0 rows 0", "hash stores 0 rows 0",
-                    "sorted entries 4", "charge 5", "layout 2")
+        self.report(
+            "generation 3",
+            "active log 1 rows 1",
+            "frozen logs 0 rows 0",
+            "hash stores 0 rows 0",
+            "sorted entries 4",
+            "charge 5",
+            "layout 2",
+        )
 
     def test_a_server_without_background_work(self):
         self.image_of(G, [*CONVERTED, *MERGE], version=1)
         server = self.serve("--sessions", 1)
-        self.assertEqual(self.client(server).ask(f"get {key(3)}", f"get {key(9)}"), ["value 0003", "absent"])
+        self.assertEqual(
+            self.client(server).ask(f"get {key(3)}", f"get {key(9)}"), ["value 0003", "absent"]
+        )
         server.kill()
         self.assert_form(1, [False, False])
 
@@ -275,7 +363,9 @@ class OldDevices(VersionCase):
 
     def test_a_format_makes_a_new_device(self):
         self.image_of(G, [*CONVERTED, *MERGE], version=1)
-        self.assertEqual(self.silt("format", "store", *G.split(), "--force").out, "formatted 45056\n")
+        self.assertEqual(
+            self.silt("format", "store", *G.split(), "--force").out, "formatted 45056\n"
+        )
         self.assert_form(2, [True, None])
         self.assert_whole(self.image(), 2)
 
@@ -318,7 +408,9 @@ class Forms(VersionCase):
         image[8193] &= 0x7F
         self.assert_whole(image, 2, "the other slot is short")
         image[SLOTS[0] + 1 + HASH_DIGESTS] ^= 1
-        self.assert_refused(image, "refused 3 Damaged hash 0 digest", "digests are compared under version 1 too")
+        self.assert_refused(
+            image, "refused 3 Damaged hash 0 digest", "digests are compared under version 1 too"
+        )
 
     def test_version_2_over_short_slots(self):
         image = self.image_of(G, CONVERTED, version=1)
@@ -326,7 +418,9 @@ class Forms(VersionCase):
         self.assert_refused(image, "refused 3 Damaged slot 0", "version 2 without digests")
         image = self.image_of(G, [], version=1)
         image[12] = 2
-        self.assert_refused(image, "refused 3 Damaged slot 0", "version 2 without digests, as formatted")
+        self.assert_refused(
+            image, "refused 3 Damaged slot 0", "version 2 without digests, as formatted"
+        )
 
     def test_zeros_for_digests(self):
         """Byte 4,097 of an old device: the highest bit of its generation."""
@@ -345,7 +439,10 @@ class Forms(VersionCase):
                 self.assert_refused(image, "refused 1 NotFormatted", f"version {version}")
 
     def test_the_header_of_a_new_device(self):
-        self.assertEqual(self.image_of(G, [])[:HEADER_LEN].hex(), "a753494c54464c534800000002000000020000000200000004000000020000000200000008")
+        self.assertEqual(
+            self.image_of(G, [])[:HEADER_LEN].hex(),
+            "a753494c54464c534800000002000000020000000200000004000000020000000200000008",
+        )
         self.assert_form(2, [True, None])
 
 
@@ -381,7 +478,9 @@ class Worked(VersionCase):
         self.image_of(G, CONVERTED, version=1)
         self.assertEqual(self.answers(MERGE), ["moved"] * 12 + ["finished"])
         self.assertEqual(self.image()[SLOTS[1]:SLOTS[1] + ACTIVE].hex(), "a78000000000000003")
-        self.assertEqual(self.check_report().lines[-3:], ["sorted entries 4", "charge 5", "layout 2"])
+        self.assertEqual(
+            self.check_report().lines[-3:], ["sorted entries 4", "charge 5", "layout 2"]
+        )
 
     def test_a_value_of_a_sorted_entry(self):
         for version in (1, 2):
@@ -396,8 +495,8 @@ class Worked(VersionCase):
 
 
 class Scrub(VersionCase):
-    """The line of the README for cron: it keeps a dump of a sound store, and prints what is wrong with
-    a damaged one."""
+    """The line of the README for cron: it keeps a dump of a sound store, and prints what is wrong
+    with a damaged one."""
 
     def setUp(self):
         super().setUp()
@@ -405,14 +504,23 @@ class Scrub(VersionCase):
         self.path("bin/silt").symlink_to(PROGRAM)
         text = (TOP / "README.md").read_text()
         self.command = re.search(r"^```cron\n(?:\S+ ){5}cd /srv && (.*)\n```$", text, re.M).group(1)
-        self.restore = re.search(r"^`(\(cat a\.dump.*)`\.$", text, re.M).group(1).replace("./silt", "silt")
+        self.restore = re.search(r"^`(\(cat a\.dump.*)`\.$", text, re.M).group(1).replace(
+            "./silt", "silt"
+        )
         self.image_of(WIDE, TWO_STORES)
         self.path("store").rename(self.path("a.silt"))
         self.dumped = self.silt("dump", "a.silt").out
 
     def shell(self, command):
         env = {**os.environ, "PATH": f"{self.path('bin')}:{os.environ['PATH']}"}
-        ran = subprocess.run(["sh", "-c", command], cwd=self.folder, env=env, capture_output=True, text=True, timeout=60)
+        ran = subprocess.run(
+            ["sh", "-c", command],
+            cwd=self.folder,
+            env=env,
+            capture_output=True,
+            text=True,
+            timeout=60,
+        )
         return ran.returncode, ran.stdout, ran.stderr
 
     def test_a_sound_store_is_dumped(self):
@@ -461,7 +569,10 @@ class Pictures(VersionCase):
 
     def test_what_is_no_store(self):
         image = self.image_of(WIDE, TWO_STORES, version=1)
-        for version, words in ((2, "manifest slot 0 is open, and its body is not well formed"), (3, "its layout is version 3")):
+        for version, words in (
+            (2, "manifest slot 0 is open, and its body is not well formed"),
+            (3, "its layout is version 3"),
+        ):
             image[12] = version
             self.assertIn(words, self.drawn(image))
 
