@@ -26,6 +26,14 @@ DESCRIPTORS = 5
 MOST_SESSIONS = 64
 # What a connection reads for which there is no place, without its line feed.
 BUSY = f"busy: {MOST_SESSIONS} connections are served already"
+# A wait for room, in seconds, that no test lives to see the end of.
+FOREVER = 10 * TIME_LIMIT
+# The threads of a server, by the order of their starts.
+MERGER = 1
+CONVERTER = 2
+FIRST_SESSION = 5
+# The number of the system call in which a thread waits for another one.
+FUTEX = "202"
 # The longest line, without its line feed.
 LONGEST_LINE = 16600
 
@@ -167,6 +175,15 @@ class Server:
 
     def is_running(self):
         return self.process.poll() is None
+
+    def awaits_another(self, thread):
+        """Whether its thread with this number waits for another one. That of a session does so when it has handed its lines
+        to the writer."""
+        folder = pathlib.Path(f"/proc/{self.process.pid}/task")
+        tasks = sorted(int(it.name) for it in folder.iterdir())
+        if thread >= len(tasks):
+            return False  # it has not started
+        return (folder / str(tasks[thread]) / "syscall").read_text().split()[0] == FUTEX
 
     def send_signal(self, number):
         self.process.send_signal(number)

@@ -12,6 +12,7 @@
 //     SILT_WATCH_FAIL=CALL:N:ERRNO that call is not made and fails so: EIO, ENOSPC, EINTR, ..
 //     SILT_WATCH_SHORT=CALL:N      that call moves one byte alone
 //     SILT_WATCH_SLOW=CALL:N:M     that call begins M milliseconds later
+//     SILT_WATCH_HOLD=CALL:N:FILE  that call begins when there is such a file; of `thread` the thread that it starts does
 //     SILT_WATCH_DROP=CALL[:N]     those calls are not made and report success; no record has them
 //     SILT_WATCH_COUNTS=FILE       at the end, one line `CALL NUMBER` for each name
 //
@@ -55,16 +56,18 @@ static const struct { const char *name; int number; } error_names[] = {
     {"ENFILE", ENFILE}, {"ECONNABORTED", ECONNABORTED}, {"ECONNRESET", ECONNRESET}, {"EPIPE", EPIPE},
     {"EACCES", EACCES}, {"EBADF", EBADF}, {"EROFS", EROFS}, {"EDQUOT", EDQUOT}, {"EFBIG", EFBIG}, {"EINVAL", EINVAL}};
 
-enum what { FAIL, SHORT, DROP, SLOW };
+enum what { FAIL, SHORT, DROP, SLOW, HOLD };
 
 enum { ANY_THREAD = -1 };
 
-// What is planned for some calls of one name, of one thread or of any. The number is an error's, or of milliseconds.
+// What is planned for some calls of one name, of one thread or of any. The number is an error's, or of milliseconds. The
+// file is one that is waited for.
 struct plan {
     enum what what;
     enum call call;
     long thread, first, last;
     int number;
+    const char *file;
 };
 
 struct record {
@@ -119,13 +122,14 @@ static int error_of(const char *name) {
     return 0;
 }
 
-// One word of a variable: CALL, CALL:N, CALL:N:ERRNO or CALL:N:MILLISECONDS. A thread may be behind CALL. N may end in a plus.
+// One word of a variable: CALL, CALL:N, CALL:N:ERRNO, CALL:N:MILLISECONDS or CALL:N:FILE. A thread may be behind CALL. N may
+// end in a plus.
 static void read_plan(enum what what, const char *word) {
     if (plan_count == sizeof plans / sizeof *plans) refuse_words(word);
     struct plan *plan = &plans[plan_count++];
     size_t name = strcspn(word, "@:");
     char *rest = (char *)word + name;
-    *plan = (struct plan){what, number_of(word, name), ANY_THREAD, 1, INT64_MAX, EIO};
+    *plan = (struct plan){what, number_of(word, name), ANY_THREAD, 1, INT64_MAX, EIO, NULL};
     if (*rest == '@') plan->thread = strtol(rest + 1, &rest, 10);
     if (!*rest && what == DROP) return;
     if (*rest != ':') refuse_words(word);
@@ -133,7 +137,8 @@ static void read_plan(enum what what, const char *word) {
     if (*rest == '+') plan->last = INT64_MAX, rest++;
     if (what == FAIL && *rest == ':') plan->number = error_of(rest + 1);
     else if (what == SLOW && *rest == ':') plan->number = atoi(rest + 1);
-    else if (*rest || what == FAIL || what == SLOW) refuse_words(word);
+    else if (what == HOLD && *rest == ':') plan->file = strdup(rest + 1);
+    else if (*rest || what == FAIL || what == SLOW || what == HOLD) refuse_words(word);
 }
 
 static void read_plans(enum what what, const char *name) {
@@ -185,6 +190,7 @@ __attribute__((constructor)) static void start(void) {
     read_plans(SHORT, "SILT_WATCH_SHORT");
     read_plans(DROP, "SILT_WATCH_DROP");
     read_plans(SLOW, "SILT_WATCH_SLOW");
+    read_plans(HOLD, "SILT_WATCH_HOLD");
     open_log();
     is_started = 1;
 }
@@ -200,6 +206,15 @@ static int is_planned(const struct plan *plan, enum call call, long number) {
     return plan->first <= its && its <= plan->last;
 }
 
+static void wait_milliseconds(int number) {
+    struct timespec time = {number / 1000, number % 1000 * 1000000L};
+    nanosleep(&time, NULL);
+}
+
+static void wait_for(const char *file) {
+    while (access(file, F_OK)) wait_milliseconds(1);
+}
+
 // Counts a call, waits if it is to begin later, and finds what else is planned for it.
 static const struct plan *count(enum call call) {
     if (!is_started) return NULL;
@@ -208,8 +223,8 @@ static const struct plan *count(enum call call) {
     own_counts[call]++;
     for (int i = plan_count - 1; i >= 0; i--) {
         if (!is_planned(&plans[i], call, number)) continue;
-        struct timespec time = {plans[i].number / 1000, plans[i].number % 1000 * 1000000L};
-        if (plans[i].what == SLOW) nanosleep(&time, NULL);
+        if (plans[i].what == SLOW) wait_milliseconds(plans[i].number);
+        else if (plans[i].what == HOLD && call != THREAD) wait_for(plans[i].file);
         else found = &plans[i];
     }
     return found;
@@ -406,13 +421,15 @@ struct started {
     void *(*run)(void *);
     void *with;
     long number;
+    const char *file;
 };
 
-// A thread begins here, and gets its number.
+// A thread begins here, and gets its number. It may have to wait for a file.
 static void *begin(void *with) {
     struct started started = *(struct started *)with;
     __libc_free(with);
     own_number = started.number;
+    if (started.file) wait_for(started.file);
     return started.run(started.with);
 }
 
@@ -421,7 +438,7 @@ int pthread_create(pthread_t *thread, const pthread_attr_t *how, void *(*run)(vo
     const struct plan *plan = count(THREAD);
     struct started *started = __libc_malloc(sizeof *started);
     if (!started) return EAGAIN;
-    *started = (struct started){run, with, atomic_fetch_add(&threads, 1) + 1};
+    *started = (struct started){run, with, atomic_fetch_add(&threads, 1) + 1, is(plan, HOLD) ? plan->file : NULL};
     int error = is(plan, FAIL) ? plan->number : real_pthread_create(thread, how, begin, started);
     if (error) __libc_free(started);
     note_alone(THREAD, -1, -1, 0, error, NULL, 0);

@@ -50,7 +50,7 @@ class Call:
 
 
 def watching(case, log=None, counts=None, **plans):
-    """The environment of a watched run. The plans are fail, short, drop and slow: a word or a
+    """The environment of a watched run. The plans are fail, short, drop, slow and hold: a word or a
     list."""
     env = {"LD_PRELOAD": str(watch_library())}
     for name, path in (("LOG", log), ("COUNTS", counts)):

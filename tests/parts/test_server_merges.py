@@ -1,5 +1,5 @@
 """When a server's merger begins: with how many hash stores."""
-from served import Client, ServedCase
+from served import FOREVER, ServedCase
 
 # Logs of four rows. So each further put of a key of its own freezes a log after four.
 EIGHT = "2 2 4 4 8 400"
@@ -8,7 +8,9 @@ ONE = "2 2 4 2 1 400"
 
 class Merges(ServedCase):
     """After the last session the workers do what is due. So a store has at least as many hash stores as a merge takes, or
-    it has merged."""
+    it has merged. A put may wait longer than a slow machine needs."""
+
+    options = ("--wait", FOREVER)
 
     def served(self, logs, *options):
         """The lines of a check, after a server got rows for so many frozen logs, and one row more."""
@@ -16,9 +18,9 @@ class Merges(ServedCase):
         client = self.client(server)
         lines = [f"put =key/{it} {it:04x}" for it in range(4 * logs + 1)]
         replies = client.exchange(lines)
-        self.assertEqual(replies, [f"accepted {it + 1}" for it in range(len(lines))])
         ended = server.ended()
-        self.assertEqual((ended.status, ended.err), (0, ""), ended)
+        due = [f"accepted {it + 1}" for it in range(len(lines))]
+        self.assertEqual((replies, ended.status, ended.err), (due, 0, ""), ended)
         checked = self.check_report("store")
         self.assertEqual(checked.status, 0, checked)
         hashes, entries = (it.split() for it in checked.lines[3:5])

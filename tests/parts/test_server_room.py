@@ -15,17 +15,11 @@ import unittest
 
 from commands import NONE, answer, is_command, tried
 from harness import PROVED, TIME_LIMIT, scaled
-from served import ROOMY, Client, ServedCase
+from served import CONVERTER, FIRST_SESSION, FOREVER, MERGER, ROOMY, Client, ServedCase
 from test_server_kills import KillCase
 from test_server_pipeline import BAD_LINES, Expected
-from watch import watching
+from watch import read_record, watching
 
-# The threads of a server, by the order of their starts.
-MERGER = 1
-CONVERTER = 2
-FIRST_SESSION = 5
-# A wait that no test lives to see the end of.
-FOREVER = 10 * TIME_LIMIT
 # Two logs of four rows, and a place for each of many rows.
 TIGHT = "2 2 4 2 2 4000"
 NO_ROOM = "refused 8 NoRoom"
@@ -291,14 +285,23 @@ class Workers(RoomCase):
         self.assertEqual(replies, [f"accepted {it}" for it in range(1, 9)] + [NO_ROOM] * 2)
 
 
-class Slow(RoomCase):
-    """A converter whose reads take their time. Two logs take 16 rows, and a conversion reads eight
-    of them."""
+class Held(RoomCase):
+    """A converter that begins only when the test lets it. Two logs take 16 rows."""
 
-    def serve_slowly(self, *options, milliseconds, sessions=2, slow=()):
+    def serve_held(self, *options, sessions=2, hold=(), **plans):
         self.store("2 4 8 2 4 400")
-        env = watching(self, slow=[f"pread@{CONVERTER}:1+:{milliseconds}", *slow])
+        hold = [f"thread:{CONVERTER}:convert", *hold]
+        env = watching(self, log="record", hold=hold, **plans)
         return self.serve("--sessions", sessions, *options, env=env)
+
+    def let(self, name):
+        """Lets what is held for this name begin."""
+        self.path(name).touch()
+
+    def wait_for(self, server, session):
+        """Waits until this session, counted from 0, has handed its lines to the writer."""
+        thread = FIRST_SESSION + session
+        self.wait_until(lambda: server.awaits_another(thread), "lines of a session")
 
     def is_silent(self, client):
         """Whether nothing more has come for a client."""
@@ -309,44 +312,62 @@ class Slow(RoomCase):
         self.assertEqual(client.ask(*puts(16)), [f"accepted {it}" for it in range(1, 17)])
 
     def test_gets_go_on_while_a_writer_waits(self):
-        writer, reader = self.clients(self.serve_slowly("--wait", FOREVER, milliseconds=250), 2)
+        server = self.serve_held("--wait", FOREVER)
+        writer, reader = self.clients(server, 2)
         self.filled(writer)
         writer.send("put =late 0001")
-        gets = 0
-        while self.is_silent(writer):
+        self.wait_for(server, 0)
+        for _ in range(20):
             self.assertEqual(reader.ask("get =key/15"), ["value 000f"])
-            gets += self.is_silent(writer)
+        self.assertTrue(self.is_silent(writer))
+        self.let("convert")
         self.assertEqual((writer.reply(), reader.ask("get =late")), ("accepted 17", ["value 0001"]))
-        self.assertGreater(gets, 0)
 
     def test_commands_before_one_that_waits(self):
         """Those of other clients have their replies before it. Here the first client waits, and the
-        two others come behind it: the third session begins to read late, and the second one later
-        still."""
-        late = [f"recv@{FIRST_SESSION + 2}:1:1000", f"recv@{FIRST_SESSION + 1}:1:4000"]
-        server = self.serve_slowly("--wait", FOREVER, milliseconds=250, sessions=3, slow=late)
+        two others come behind it, the third one first. The second one needs four more conversions,
+        whose reads are slow."""
+        server = self.serve_held(
+            "--wait",
+            FOREVER,
+            sessions=3,
+            hold=[f"recv@{FIRST_SESSION + 1}:1:second", f"recv@{FIRST_SESSION + 2}:1:third"],
+            slow=f"pread@{CONVERTER}:9+:100",
+        )
         first, second, third = self.clients(server, 3)
         self.filled(first)
         first.send("put =first 0001")
+        self.wait_for(server, 0)
         third.send("put =third 0001", "flush")
+        self.let("third")
+        self.wait_for(server, 2)
         second.send(*(f"put =second/{it} 0001" for it in range(40)))
+        self.let("second")
+        self.wait_for(server, 1)
+        self.let("convert")
         self.assertEqual(first.reply(), "accepted 17")
-        self.assertEqual(third.replies(2), ["accepted 18", "acknowledged 18"])
-        self.assertTrue(self.is_silent(second))
+        accepted, acknowledged = third.replies(2)
+        self.assertEqual(accepted, "accepted 18")
+        # The flush may count those of the second one for which there was room before it.
+        self.assertIn(acknowledged, [f"acknowledged {it}" for it in range(18, 58)])
         self.assertEqual(second.replies(40), [f"accepted {it}" for it in range(19, 59)])
+        sends = [it.file for it in read_record(self.path("record")) if it.name == "send"]
+        self.assertLess(sends.index("socket 3"), sends.index("socket 2"))
 
     def test_a_wait_ends_by_its_limit(self):
         """The converter works longer than a command may wait."""
-        client = self.client(self.serve_slowly("--wait", 1, milliseconds=1000))
+        client = self.client(self.serve_held("--wait", 1))
         self.filled(client)
         self.assertEqual(client.ask("put =late 0001", "put =later 0001"), [NO_ROOM] * 2)
 
     def test_a_client_that_goes_while_it_waits(self):
-        server = self.serve_slowly("--wait", FOREVER, milliseconds=20)
+        server = self.serve_held("--wait", FOREVER)
         gone, other = self.clients(server, 2)
         self.filled(gone)
         gone.send(*(f"put =late/{it} 0001" for it in range(30)))
+        self.wait_for(server, 0)
         gone.reset()
+        self.let("convert")
         self.assertEqual(other.ask("put =other 0001")[0].split()[0], "accepted")
         other.close()
         self.check_end(server)
