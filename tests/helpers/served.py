@@ -177,8 +177,8 @@ class Server:
         return self.process.poll() is None
 
     def awaits_another(self, thread):
-        """Whether its thread with this number waits for another one. That of a session does so when it has handed its lines
-        to the writer."""
+        """Whether its thread with this number waits for another one. That of a session does so when
+        it has handed its lines to the writer."""
         folder = pathlib.Path(f"/proc/{self.process.pid}/task")
         tasks = sorted(int(it.name) for it in folder.iterdir())
         if thread >= len(tasks):

@@ -3,94 +3,16 @@
 Each damage says which refusal has to come, and the model has to find it too. The stores are of
 both versions of the layout.
 """
-import itertools
-
 import model
 from damages import DAMAGES, HARMLESS
+from files import DamageCase, changed
 from harness import PROVED, scaled
 from layout import as_version_1
 from lines import Maker, join_lines
-from test_stores import FileCase
 
 COUNT = scaled(40 if PROVED else 8)
 # How many pairs of damages are planted in each store.
 PAIRS = 30
-# The versions of rich stores: new devices, old ones, and old ones to which manifests were written
-# since.
-VERSIONS = ("new", "old", "changed")
-
-
-def make_rich_geometry(random):
-    """A geometry with room for all kinds of stores at once."""
-    b = random.choice([2, 2, 4, 8])
-    cap = random.choice([random.randint(2, 8), random.randint(5, 8), min(4 * b, 10)])
-    nl = random.randint(2, 4)
-    nh = random.randint(1, 3)
-    return model.Geometry(
-        random.randint(1, 4), b, cap, nl, nh, 6 * cap + nl * cap + random.randint(0, 9)
-    )
-
-
-def rich_lines(random, geometry):
-    """Lines after which the store has entries, hash stores, frozen logs, and rows in its log. They
-    come in two parts: what follows the last conversion is a part of its own."""
-    maker = Maker(random, geometry, full_tables=True)
-    maker.keys = [b"=%d" % i for i in range(5 * geometry.cap)]
-    convert = [b"convert"] * (geometry.slots + 1)
-
-    def commands(count):
-        return [
-            (maker.make_put() if random.random() < 0.8 else maker.make_delete())[0]
-            for _ in range(count)
-        ]
-
-    lines = commands(geometry.cap + 1) + convert
-    lines += [b"merge"] * (geometry.slots + geometry.cap + 1)
-    for _ in range(min(geometry.nh, 2)):
-        lines += commands(geometry.cap) + convert
-    return [*lines, b"flush"], [*commands((geometry.nl - 1) * geometry.cap), b"flush"]
-
-
-def changed(image, *changes):
-    """An image with these bytes in place: (offset, hexadecimal digits)."""
-    made = bytearray(image)
-    for at, digits in changes:
-        data = bytes.fromhex(digits)
-        made[at : at + len(data)] = data
-    return made
-
-
-class DamageCase(FileCase):
-    def setUp(self):
-        super().setUp()
-        self.versions = itertools.cycle(VERSIONS)
-
-    def make_rich_store(self):
-        """Makes a store, and returns its bytes and what the model finds there. The versions take
-        turns."""
-        geometry = make_rich_geometry(self.random)
-        version = next(self.versions)
-        self.path("store").unlink(missing_ok=True)
-        self.store(geometry.words)
-        first, second = rich_lines(self.random, geometry)
-        self.compare_run(join_lines(first), geometry.words)
-        if version == "changed":
-            self.make_old()
-        self.compare_run(join_lines(second), geometry.words)
-        if version == "old":
-            self.make_old()
-        return self.image(), model.examine(self.image())
-
-    def assert_refused(self, image, expected, note):
-        """Check and run give this refusal of an image, and leave the file as it was."""
-        self.path("store").write_bytes(image)
-        self.assertEqual(model.check(image), ([expected], 1), f"the model, {note}")
-        for call, text in (("check", ""), ("run", "get =a\nput =a 00\nflush\n")):
-            ran = self.silt(call, "store", text=text)
-            self.assertEqual((ran.out, ran.status), (expected + "\n", 1), f"{call}, {note}")
-            self.assertEqual(
-                self.image(), bytes(image), f"{note}: a refused {call} changed the file"
-            )
 
 
 class Damage(DamageCase):

@@ -1,9 +1,9 @@
 """Dumps: each entry of a store as a line that puts it, in the order of the keys, and the way
 back."""
 import model
+from files import DamageCase
 from harness import PROVED, scaled
 from layout import CLOSED, OPEN, Layout
-from test_damage import DamageCase
 
 COUNT = scaled(40 if PROVED else 8)
 # A geometry whose log takes all keys of a random store, whatever the length of its values.

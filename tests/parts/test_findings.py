@@ -5,8 +5,8 @@ the numbers of a report. All were worked out by hand. test_damage.py makes rando
 """
 import unittest
 
+from files import DamageCase
 from layout import Layout, manifest
-from test_damage import DamageCase
 
 # Geometries: small, with logs of eight rows, and with logs of one row.
 SMALL = "2 2 4 2 2 8"

@@ -4,7 +4,8 @@ import socket
 import threading
 import unittest
 
-from commands import Commands, answer, differs, done, is_command, names
+from commands import Commands, answer, is_command, names
+from expected import BAD_LINES, Expected
 from served import LONGEST_LINE, ServedCase
 from watch import read_record, watching
 
@@ -13,40 +14,9 @@ WIDE = "2 4096 16384 2 1 20000"
 # Values of this length make a swap under a name of 8,000 bytes a line of 16,600.
 LONG_VALUE = 2148
 LONG_VALUES = f"{LONG_VALUE} 16 64 2 1 100"
-# Lines that ask for nothing, and their replies.
-BAD_LINES = {
-    "pot =a 0102": "refused 20 BadLine",
-    "convert": "refused 20 BadLine",
-    "put =a": "refused 20 BadLine",
-    "put = 0102": "refused 21 BadKey",
-    "put =a 01": "refused 22 BadValue",
-    "x" * (LONGEST_LINE + 1): "refused 23 LineTooLong",
-}
 # What an opening syncs, and how many rows go out, with their commit bytes behind them.
 OPENING = ["fdatasync"]
 ONE_FLUSH = ["pwrite", "fdatasync", "pwrite", "fdatasync", "send"]
-
-
-class Expected:
-    """What one client alone is to read: the reply to each line, and the map behind all of them."""
-
-    def __init__(self):
-        self.values = {}
-        self.accepted = 0
-
-    def reply_to(self, line):
-        """The reply, where one behind `acknowledged` stands for any number from it on."""
-        if line in BAD_LINES:
-            return BAD_LINES[line]
-        if line == "flush":
-            return f"acknowledged {self.accepted}"
-        if not is_command(line):
-            return answer(self.values, line.split()[1])
-        if differs(self.values, line):
-            return "differs"
-        self.values = done(self.values, line)
-        self.accepted += 1
-        return f"accepted {self.accepted}"
 
 
 class PipelineCase(ServedCase):

@@ -1,6 +1,6 @@
 """Writers that wait for room: a server refuses no command that a worker can make room for.
 
-    export SILT_TEST_PROGRAM=crates/silt/out/silt PYTHONPATH=tests/helpers:tests/parts
+    export SILT_TEST_PROGRAM=crates/silt/out/silt PYTHONPATH=tests/helpers
     python3 tests/parts/test_server_room.py speed
 
 prints how fast loads are, with waits and without. The tests measure no time: their waits are longer
@@ -14,11 +14,11 @@ import time
 import unittest
 
 from commands import NONE, answer, is_command, tried
+from expected import BAD_LINES, Expected
 from harness import PROVED, TIME_LIMIT, scaled
 from served import CONVERTER, FIRST_SESSION, FOREVER, MERGER, ROOMY, Client, ServedCase
-from test_server_kills import KillCase
-from test_server_pipeline import BAD_LINES, Expected
 from watch import read_record, watching
+from writers import KillCase
 
 # Two logs of four rows, and a place for each of many rows.
 TIGHT = "2 2 4 2 2 4000"

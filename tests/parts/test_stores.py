@@ -1,47 +1,11 @@
 """Random stores in files: replies, reports and each settled byte are the model's, on devices of
 both versions of the layout."""
 import model
-from harness import PROVED, Case, scaled
+from files import FileCase
+from harness import PROVED, scaled
 from lines import Maker, join_lines, make_geometry
 
 COUNT = scaled(200 if PROVED else 40)
-
-
-class FileCase(Case):
-    """A test that compares a file with the model's device."""
-
-    def image(self, name="store"):
-        return self.path(name).read_bytes()
-
-    def compare_bytes(self, device, note):
-        """Each settled byte has to be in the file. At a pending place either byte may be."""
-        image = self.image()
-        self.assertEqual(len(image), len(device.shown), note)
-        if image == device.settled:
-            return
-        pending = device.pending_places()
-        for place, byte in enumerate(image):
-            allowed = {device.settled[place]} | (
-                {device.shown[place]} if place in pending else set()
-            )
-            if byte not in allowed:
-                self.fail(f"{note}: byte {place} of the file is {byte:#04x}, and not of {allowed}")
-
-    def compare_run(self, data, note):
-        """Runs lines on the file, and compares replies and bytes with the model's."""
-        said, device, _ = model.run_life(self.image(), list(model.split_lines(data)))
-        ran = self.silt("run", "store", text=data)
-        self.assertEqual(ran.lines, said, note)
-        self.assertEqual(ran.status, 0 if said[0] == "opened" else 1, note)
-        self.compare_bytes(device, note)
-
-    def compare_check(self, note):
-        """Checks the file. The report is the model's, and no byte is changed."""
-        before = self.image()
-        said, status = model.check(before)
-        ran = self.check_report()
-        self.assertEqual((ran.lines, ran.status), (said, status), note)
-        self.assertEqual(self.image(), before, f"{note}: a check changed the file")
 
 
 class Stores(FileCase):

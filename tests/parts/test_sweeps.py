@@ -9,7 +9,7 @@ of real files.
 import model
 from commands import answer, differs, done, is_command, maps_after
 from harness import PROVED
-from test_scripts import ScriptCase
+from scripted import ScriptCase
 
 # A build with checks tries every so many stops.
 EVERY = 1 if PROVED else 9

@@ -11,6 +11,7 @@ import sys
 import unittest
 
 import model
+from files import DamageCase
 from harness import PROGRAM, PROVED, TOP
 from layout import (
     ACTIVE,
@@ -28,7 +29,6 @@ from layout import (
 )
 from lines import join_lines
 from served import ServedCase
-from test_damage import DamageCase
 
 # A build with checks tries every so many bytes.
 EVERY = 1 if PROVED else 7
