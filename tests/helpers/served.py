@@ -210,6 +210,8 @@ class ServedCase(WatchedCase):
 
     # The options that each server of the test has.
     options = ()
+    # Those with which a command waits for room as long as it takes.
+    patient = ("--wait", FOREVER)
 
     def setUp(self):
         super().setUp()

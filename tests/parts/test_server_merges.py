@@ -1,5 +1,5 @@
 """When a server's merger begins: with how many hash stores."""
-from served import FOREVER, ServedCase
+from served import Client, ServedCase
 
 # Logs of four rows. So each further put of a key of its own freezes a log after four.
 EIGHT = "2 2 4 4 8 400"
@@ -10,7 +10,7 @@ class Merges(ServedCase):
     """After the last session the workers do what is due. So a store has at least as many hash stores as a merge takes, or
     it has merged. A put may wait longer than a slow machine needs."""
 
-    options = ("--wait", FOREVER)
+    options = ServedCase.patient
 
     def served(self, logs, *options):
         """The lines of a check, after a server got rows for so many frozen logs, and one row more."""
