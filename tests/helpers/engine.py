@@ -22,8 +22,12 @@ class Table:
         """The slots that a key with these two buckets may have."""
         first, second = pair
         ways = [(first, second)] + [(second, first)] * (first != second)
-        return [4 * bucket + n for bucket, tag in ways for n in range(4)
-                if self.slots[4 * bucket + n] and self.slots[4 * bucket + n][0] == tag]
+        return [
+            4 * bucket + n
+            for bucket, tag in ways
+            for n in range(4)
+            if self.slots[4 * bucket + n] and self.slots[4 * bucket + n][0] == tag
+        ]
 
     def free(self, bucket):
         """The lowest free slot of a bucket."""
@@ -327,8 +331,10 @@ class Engine:
         most = PIECE // self.layout.entry_len
         if merge.old and passed % most == 0 and merge.is_ahead != passed:
             merge.is_ahead = passed
-            self.read(self.layout.sorted_region(self.region) + passed * self.layout.entry_len,
-                      min(most, len(merge.old)) * self.layout.entry_len)
+            self.read(
+                self.layout.sorted_region(self.region) + passed * self.layout.entry_len,
+                min(most, len(merge.old)) * self.layout.entry_len,
+            )
         key = min([*merge.waiting, *(its for its, _ in merge.old[:1])], key=key_bytes)
         value = merge.old.pop(0)[1] if merge.old and merge.old[0][0] == key else None
         if key in merge.waiting:

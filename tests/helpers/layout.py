@@ -117,8 +117,13 @@ class Layout:
 
     def place(self, at):
         """The name of the part of the file that has this offset."""
-        edges = ((SECTOR, "header"), (FIRST_LOG, "manifest"), (self.gates(self.logs), "log"),
-                 (self.hash_region(self.hashes), "hash"), (self.size, "sorted"))
+        edges = (
+            (SECTOR, "header"),
+            (FIRST_LOG, "manifest"),
+            (self.gates(self.logs), "log"),
+            (self.hash_region(self.hashes), "hash"),
+            (self.size, "sorted"),
+        )
         return next(name for end, name in edges if at < end)
 
 

@@ -298,8 +298,14 @@ class Writes(CallCase):
     def test_a_swap_that_freezes(self):
         self.store(G)
         due = self.freeze(manifest(1, 1, frozen=[0]), True) + self.rules.row(1, 0, PUT, D, "0005")
-        self.judge(self.fill() + [(f"swap {D} 0005 0004", []), (f"swap {D} 0004 0005", due),
-                                  ("flush", self.rules.flush(1, 0, 1))])
+        self.judge(
+            self.fill()
+            + [
+                (f"swap {D} 0005 0004", []),
+                (f"swap {D} 0004 0005", due),
+                ("flush", self.rules.flush(1, 0, 1)),
+            ]
+        )
 
     def test_swaps_from_and_to_no_value_that_freeze(self):
         due = self.freeze(manifest(1, 1, frozen=[0]), True)
@@ -400,8 +406,14 @@ class Writes(CallCase):
             self.freeze(manifest(1, 1, frozen=[0]), True) + self.rules.row(1, 0, PUT, E, "0005")
         )
         slots = {0: row(PUT, A, "0003"), 4: row(DELETE, LATER)}
-        self.judge([*puts, (f"put {E} 0005", freeze), ("flush", self.rules.flush(1, 0, 1)),
-                    *self.convert(slots, self.converted(slots), False)])
+        self.judge(
+            [
+                *puts,
+                (f"put {E} 0005", freeze),
+                ("flush", self.rules.flush(1, 0, 1)),
+                *self.convert(slots, self.converted(slots), False),
+            ]
+        )
 
     def merge(self, entries, body, gathered=8, region=1):
         """All steps of a merge: slots that are gathered, keys with their values or None, and the
@@ -437,9 +449,13 @@ class Writes(CallCase):
         written."""
         self.store(G)
         row = self.rules.layout.row
-        lines = [(f"delete {B}", self.rules.row(1, 1, DELETE, B)), self.put(2, C, "0007", 1),
-                 ("flush", self.rules.flush(1, 1, 2)), self.put(3, LATER, "0008", 1),
-                 ("flush", self.rules.flush(1, 3, 1))]
+        lines = [
+            (f"delete {B}", self.rules.row(1, 1, DELETE, B)),
+            self.put(2, C, "0007", 1),
+            ("flush", self.rules.flush(1, 1, 2)),
+            self.put(3, LATER, "0008", 1),
+            ("flush", self.rules.flush(1, 3, 1)),
+        ]
         old = self.rules.entries([(A, "0001"), (B, "0002"), (C, "0003"), (D, "0004")])
         freeze = self.freeze(manifest(4, 0, frozen=[1], region=1, entries=old), False, log=0)
         lines.append((f"put {D} 0009", freeze + self.rules.row(0, 0, PUT, D, "0009")))
@@ -465,8 +481,9 @@ class Writes(CallCase):
         in front."""
         words = "2 2 1 3 3 8"
         self.rules = Rules(words)
-        self.store(words, [f"put {A} 0001", f"put {B} 0002", "flush"] + ["convert"] * 9
-                   + [f"put {C} 0003", "flush"] + ["merge"] * 8)
+        first = [f"put {A} 0001", f"put {B} 0002", "flush"]
+        second = [f"put {C} 0003", "flush"]
+        self.store(words, [*first, *["convert"] * 9, *second, *["merge"] * 8])
         # Opening forgets the merge under way. Log 1 is frozen, and the hash store in region 0 has
         # key A.
         rows = {0: self.rules.layout.row(PUT, B, "0002")}
@@ -724,8 +741,14 @@ class Reads(CallCase):
         self.store(WIDE, [f"put {first} 0001", f"put {second} 0002", "flush"])
         rows = [self.row(0, 23), self.row(1, 23)]
         heads = [self.row(0, ROW_HEAD), self.row(1, ROW_HEAD)]
-        self.judge_reads([(f"swap {absent} 0001 0003", rows), (f"swap {second} 0001 0003", rows),
-                          (f"swap {absent} 0001 -", rows), (f"swap {absent} - 0003", rows + heads)])
+        self.judge_reads(
+            [
+                (f"swap {absent} 0001 0003", rows),
+                (f"swap {second} 0001 0003", rows),
+                (f"swap {absent} 0001 -", rows),
+                (f"swap {absent} - 0003", rows + heads),
+            ]
+        )
         self.store(WIDE, [f"put {first} 0001", f"put {second} 0002", "flush"])
         self.judge_reads([(f"swap {second} 0002 0003", rows + heads)])
         self.store(WIDE, [f"put {first} 0001", f"put {second} 0002", "flush"])

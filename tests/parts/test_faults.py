@@ -66,8 +66,13 @@ WRITES = [
     Fault("pwrite", "EINTR"),
     Fault("pwrite"),
 ]
-SYNCS = [Fault("fdatasync", "EIO"), Fault("fdatasync", "ENOSPC", "+"), Fault("fdatasync", "EINTR"),
-         Fault("fsync", "EIO"), Fault("fsync", "EINTR")]
+SYNCS = [
+    Fault("fdatasync", "EIO"),
+    Fault("fdatasync", "ENOSPC", "+"),
+    Fault("fdatasync", "EINTR"),
+    Fault("fsync", "EIO"),
+    Fault("fsync", "EINTR"),
+]
 OPENS = [
     Fault("open", "EACCES"),
     Fault("open", "EMFILE"),
@@ -375,8 +380,10 @@ class Pieces(WatchedCase):
             ):
                 self.assertEqual(self.run_into(place, words), Ended(1, "", said), (words, place))
             store = "a store (V 2, B 2, CAP 4, NL 2, NH 2, S 8) of at most 1 keys"
-            for force, note in (("", f"silt: store: it holds {store}; --force overwrites it\n"),
-                                (" --force", f"silt: store holds {store}; it is overwritten\n")):
+            for force, note in (
+                ("", f"silt: store: it holds {store}; --force overwrites it\n"),
+                (" --force", f"silt: store holds {store}; it is overwritten\n"),
+            ):
                 self.assertEqual(
                     self.run_into(place, f"format store {SMALL}{force}"),
                     Ended(1, "", note + said),
@@ -421,8 +428,10 @@ class WorkedFaults(WatchedCase):
             os.truncate(self.path("store"), 16384)
             ended = self.finish(running, "get =a\nget =b\nflush\n")
         out = "refused 5 Device\nrefused 5 Device\nacknowledged 0\n"
-        err = ("silt: 2 lines refused 5 Device, first line 1\n"
-               "silt: store: a read at 16384: failed to fill whole buffer\n")
+        err = (
+            "silt: 2 lines refused 5 Device, first line 1\n"
+            "silt: store: a read at 16384: failed to fill whole buffer\n"
+        )
         self.assertEqual(ended, Ended(0, out, err))
 
     def test_a_failed_sync_of_an_opening(self):

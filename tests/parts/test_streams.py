@@ -317,8 +317,12 @@ class OtherStreams(StreamCase):
         """Files of the same file system, as input, output and error output, with the store open for
         reading too."""
         self.path("lines").write_text("get =kept\nnothing\n")
-        with (open(self.path("lines"), "rb") as lines, open(self.path("replies"), "wb") as replies,
-              open(self.path("notes"), "wb") as notes, open(self.path("store"), "rb") as beside):
+        with (
+            open(self.path("lines"), "rb") as lines,
+            open(self.path("replies"), "wb") as replies,
+            open(self.path("notes"), "wb") as notes,
+            open(self.path("store"), "rb") as beside,
+        ):
             running = self.start(
                 "run",
                 "store",
