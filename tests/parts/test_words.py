@@ -2,8 +2,8 @@
 from harness import Case, Ended
 
 FORMS = """silt format FILE V B CAP NL NH S [--force]  makes an empty store in a file
-silt run FILE [--tend] [--strict]           replies to the lines of the standard input
-silt tend FILE                              does all background work that is due
+silt run FILE [OPTION]...                   replies to the lines of the standard input
+silt tend FILE [--merge-at K]               does all background work that is due
 silt check FILE                             prints what the store in a file consists of
 silt dump FILE                              prints a line for each key that puts its value
 silt plan KEYS V [--memory BYTES]           prints the six numbers of a store for so many keys
@@ -23,20 +23,22 @@ PORT  a port of this machine, at most 65535; 0 lets the system choose
 --force           formats a file that holds keys or other data; they are lost
 --tend            converts and merges between the lines, as long as work is due
 --strict          ends with status 3 if a line was refused
+--merge-at K      run --tend: merges once there are K hash stores, and not only if no region is free
+--merge-at K      tend: merges only if there are K hash stores; any number if left out
 --memory BYTES    what the store may take of memory, merge included
 --audit N         refuses every call after the first N, which it records in memory; the record is not printed
 --sessions M      ends after M sessions; 0 has no end
 --idle SECONDS    closes a connection that sends nothing for so long; 0 never does
 --wait SECONDS    how long a command waits for room; 10 if left out, 0 refuses at once
---merge-at K      merges once there are K hash stores; half of NH if left out
+--merge-at K      serve: merges once there are K hash stores; half of NH if left out
 --pipeline        does the commands that a connection sent together with one flush
 """
 
 # The values and the options of each job.
 JOBS = {
     "format": ("FILE V B CAP NL NH S", "--force"),
-    "run": ("FILE", "--tend --strict"),
-    "tend": ("FILE", ""),
+    "run": ("FILE", "--tend --strict --merge-at"),
+    "tend": ("FILE", "--merge-at"),
     "check": ("FILE", ""),
     "dump": ("FILE", ""),
     "plan": ("KEYS V", "--memory"),
@@ -121,7 +123,16 @@ COMPLAINTS = {
     "serve disk 0 --merge-at": "--merge-at needs a number behind it",
     "serve disk 0 --merge-at 0": "--merge-at cannot be '0': a merge is of at least one hash store",
     "serve disk 0 --merge-at 2 --merge-at 3": "--merge-at is given twice",
-    "run disk --merge-at 2": "'--merge-at' is no option here",
+    "run disk --merge-at 2": "--merge-at needs --tend",
+    "run disk --strict --merge-at=2": "--merge-at needs --tend",
+    "run disk --merge-at 2 -- --tend": "'--tend' is one word too many",
+    "run disk --merge-at 0": "--merge-at cannot be '0': a merge is of at least one hash store",
+    "run disk --merge-at --tend": "--merge-at needs a number behind it",
+    "run --merge-at 2": "FILE is missing",
+    "tend disk --merge-at": "--merge-at needs a number behind it",
+    "tend disk --merge-at 2 --merge-at 2": "--merge-at is given twice",
+    "tend disk --tend": "'--tend' is no option here",
+    "check disk --merge-at 2": "'--merge-at' is no option here",
     "serve disk 0 --wait=": f"--wait cannot be '': {NO_DIGITS}",
     "serve disk 0 --wait 1.5": f"--wait cannot be '1.5': {SEPARATED}",
     "serve disk 0 --wait -1": "--wait needs a number behind it",
@@ -139,6 +150,7 @@ def form_of(job):
     """The form of one job, with what its values and its options are. It is made of the lines of all forms."""
     jobs, values, options = ([line + "\n" for line in part.splitlines()] for part in FORMS.split("\n\n"))
     form = [line for line in jobs if line.startswith(f"silt {job} ")]
+    options = [line for line in options if not line.startswith("--merge-at") or line.split()[2].rstrip(":") == job]
     named, chosen = ([line for line in part if line.split()[0] in names.split()] for part, names in zip((values, options), JOBS[job]))
     return "".join([*form, "\n", *named, *(["\n", *chosen] if chosen else [])])
 

@@ -1,5 +1,5 @@
 -- The commands of the program, as clap reads them.
-use Rattle.std.specs.Prelude.{◌≡◌, ℕ, Bool, List, [], ◌∷◌, Option, Some, None, true, false, codes, ◌==◌, nat_le, if◌then◌else◌, option_map, option_and_then}
+use Rattle.std.specs.Prelude.{◌≡◌, ℕ, Bool, List, [], ◌∷◌, Option, Some, None, true, false, codes, is_some, not, ◌&&◌, ◌==◌, nat_le, if◌then◌else◌, option_map, option_and_then}
 use Rattle.std.specs.Option.{option_map_or}
 use Rattle.std.specs.Str.{bytes_eq}
 use Rattle.clap.specs.Words.{AddsSubcommand, App, Row, Rule, Text, app_of, Kinds, fault_of, first_of, new_app, new_rule, subcommand_of, with_rule, with_subcommand}
@@ -48,10 +48,10 @@ abbrev pub script_app : App
 script_app = with_numbers (new_app (codes "script"))
 
 abbrev pub run_app : App
-run_app = with_flag (with_flag (with_file (new_app (codes "run"))) (codes "tend")) (codes "strict")
+run_app = with_option (with_flag (with_flag (with_file (new_app (codes "run"))) (codes "tend")) (codes "strict")) (codes "merge-at")
 
 abbrev pub tend_app : App
-tend_app = with_file (new_app (codes "tend"))
+tend_app = with_option (with_file (new_app (codes "tend"))) (codes "merge-at")
 
 abbrev pub check_app : App
 check_app = with_file (new_app (codes "check"))
@@ -123,9 +123,17 @@ count_in rows name = option_and_then (λ given. if gives_zero given then None el
 abbrev pub flag_in : List Row → Text → Bool
 flag_in rows name = option_map_or (λ text. bytes_eq text (codes "true")) (first_of name rows) false
 
+-- a number of hash stores is given, and no background work that would merge them
+abbrev pub merges_untended : Option ℕ → Bool → Bool
+merges_untended merge_at tend = is_some merge_at && not tend
+
 -- how the lines of a run are to be answered
-abbrev pub run_options_in : List Row → RunOptions
-run_options_in rows = record { tend = flag_in rows (codes "tend"); strict = flag_in rows (codes "strict") }
+abbrev pub run_options_in : List Row → Option RunOptions
+run_options_in rows =
+    option_and_then (λ merge_at.
+    if merges_untended merge_at (flag_in rows (codes "tend")) then None
+    else Some (record { tend = flag_in rows (codes "tend"); strict = flag_in rows (codes "strict"); merge_at = merge_at }))
+    (count_in rows (codes "merge-at"))
 
 -- how a file is to be served
 abbrev pub service_in : List Row → Option NamedService
@@ -146,8 +154,8 @@ abbrev pub job_in : Text → List Row → Option Named
 job_in name rows =
     if bytes_eq name (codes "format") then option_and_then (λ file. option_map (λ numbers. format file numbers (flag_in rows (codes "force"))) (numbers_in rows)) (file_in rows)
     else if bytes_eq name (codes "script") then option_map script (numbers_in rows)
-    else if bytes_eq name (codes "run") then option_map (λ file. run file (run_options_in rows)) (file_in rows)
-    else if bytes_eq name (codes "tend") then option_map tend (file_in rows)
+    else if bytes_eq name (codes "run") then option_and_then (λ file. option_map (run file) (run_options_in rows)) (file_in rows)
+    else if bytes_eq name (codes "tend") then option_and_then (λ file. option_map (tend file) (count_in rows (codes "merge-at"))) (file_in rows)
     else if bytes_eq name (codes "check") then option_map check (file_in rows)
     else if bytes_eq name (codes "dump") then option_map dump (file_in rows)
     else if bytes_eq name (codes "plan") then option_map plan (request_in rows)

@@ -36,7 +36,7 @@ pub data Named : Type 0 where
   format : List ℕ → Numbers → Bool → Named
   script : Numbers → Named
   run : List ℕ → RunOptions → Named
-  tend : List ℕ → Named
+  tend : List ℕ → Option ℕ → Named
   check : List ℕ → Named
   dump : List ℕ → Named
   plan : PlanRequest → Named
@@ -47,7 +47,7 @@ abbrev pub named : Job → Named
 named (Format file numbers force) = format file.now numbers force
 named (Script numbers) = script numbers
 named (Run file options) = run file.now options
-named (Tend file) = tend file.now
+named (Tend file merge_at) = tend file.now merge_at
 named (Check file) = check file.now
 named (Dump file) = dump file.now
 named (Plan request) = plan request
@@ -58,7 +58,7 @@ abbrev pub job_file : Job → Option (List ℕ)
 job_file (Format file numbers force) = Some file.now
 job_file (Script numbers) = None
 job_file (Run file options) = Some file.now
-job_file (Tend file) = Some file.now
+job_file (Tend file merge_at) = Some file.now
 job_file (Check file) = Some file.now
 job_file (Dump file) = Some file.now
 job_file (Plan request) = None

@@ -89,7 +89,15 @@ fn run<'a>(alloc: Global) -> Result<Command<'a>, AllocError>
 {
     let with_file = add_value(Ok(Command::new(alloc, "run")), alloc, "FILE");
     let with_tend = add_flag(with_file, alloc, "tend");
-    add_flag(with_tend, alloc, "strict")
+    let with_strict = add_flag(with_tend, alloc, "strict");
+    add_option(with_strict, alloc, "merge-at")
+}
+
+fn tend<'a>(alloc: Global) -> Result<Command<'a>, AllocError>
+    ensures { IfOk result (JoinsAs tend_app) }
+{
+    let with_file = add_value(Ok(Command::new(alloc, "tend")), alloc, "FILE");
+    add_option(with_file, alloc, "merge-at")
 }
 
 fn plan<'a>(alloc: Global) -> Result<Command<'a>, AllocError>
@@ -130,7 +138,7 @@ pub fn command<'a>(alloc: Global) -> Result<Command<'a>, AllocError>
     let with_format = add_command(Command::new(alloc, "silt"), format(alloc))?;
     let with_script = add_command(with_format, script(alloc))?;
     let with_run = add_command(with_script, run(alloc))?;
-    let with_tend = add_command(with_run, on_file(alloc, "tend"))?;
+    let with_tend = add_command(with_run, tend(alloc))?;
     let with_check = add_command(with_tend, on_file(alloc, "check"))?;
     let with_dump = add_command(with_check, on_file(alloc, "dump"))?;
     let with_plan = add_command(with_dump, plan(alloc))?;

@@ -7,6 +7,8 @@ use std::fmt;
 pub struct Choice {
     pub name: &'static str,
     pub has_number: bool,
+    /// The option without which it means nothing.
+    pub needs: Option<&'static str>,
     /// How it is written, and what it does.
     line: &'static str,
 }
@@ -28,60 +30,84 @@ pub struct Form {
 const FORCE: Choice = Choice {
     name: "--force",
     has_number: false,
+    needs: None,
     line: "--force           formats a file that holds keys or other data; they are lost",
 };
 
 const TEND: Choice = Choice {
     name: "--tend",
     has_number: false,
+    needs: None,
     line: "--tend            converts and merges between the lines, as long as work is due",
 };
 
 const STRICT: Choice = Choice {
     name: "--strict",
     has_number: false,
+    needs: None,
     line: "--strict          ends with status 3 if a line was refused",
 };
 
 const MEMORY: Choice = Choice {
     name: "--memory",
     has_number: true,
+    needs: None,
     line: "--memory BYTES    what the store may take of memory, merge included",
 };
 
 const AUDIT: Choice = Choice {
     name: "--audit",
     has_number: true,
+    needs: None,
     line: "--audit N         refuses every call after the first N, which it records in memory; the record is not printed",
 };
 
 const SESSIONS: Choice = Choice {
     name: "--sessions",
     has_number: true,
+    needs: None,
     line: "--sessions M      ends after M sessions; 0 has no end",
 };
 
 const IDLE: Choice = Choice {
     name: "--idle",
     has_number: true,
+    needs: None,
     line: "--idle SECONDS    closes a connection that sends nothing for so long; 0 never does",
 };
 
 const WAIT: Choice = Choice {
     name: "--wait",
     has_number: true,
+    needs: None,
     line: "--wait SECONDS    how long a command waits for room; 10 if left out, 0 refuses at once",
 };
 
-const MERGE_AT: Choice = Choice {
+const RUN_MERGE_AT: Choice = Choice {
     name: "--merge-at",
     has_number: true,
-    line: "--merge-at K      merges once there are K hash stores; half of NH if left out",
+    needs: Some("--tend"),
+    line: "--merge-at K      run --tend: merges once there are K hash stores, and not only if no region is free",
+};
+
+const TEND_MERGE_AT: Choice = Choice {
+    name: "--merge-at",
+    has_number: true,
+    needs: None,
+    line: "--merge-at K      tend: merges only if there are K hash stores; any number if left out",
+};
+
+const SERVE_MERGE_AT: Choice = Choice {
+    name: "--merge-at",
+    has_number: true,
+    needs: None,
+    line: "--merge-at K      serve: merges once there are K hash stores; half of NH if left out",
 };
 
 const PIPELINE: Choice = Choice {
     name: "--pipeline",
     has_number: false,
+    needs: None,
     line: "--pipeline        does the commands that a connection sent together with one flush",
 };
 
@@ -112,16 +138,16 @@ const FORMS: [Form; 8] = [
     },
     Form {
         job: "run",
-        line: "silt run FILE [--tend] [--strict]           replies to the lines of the standard input",
+        line: "silt run FILE [OPTION]...                   replies to the lines of the standard input",
         values: &["FILE"],
-        options: &[TEND, STRICT],
+        options: &[TEND, STRICT, RUN_MERGE_AT],
         input: &[EVENTS, STEPS],
     },
     Form {
         job: "tend",
-        line: "silt tend FILE                              does all background work that is due",
+        line: "silt tend FILE [--merge-at K]               does all background work that is due",
         values: &["FILE"],
-        options: &[],
+        options: &[TEND_MERGE_AT],
         input: &[],
     },
     Form {
@@ -156,7 +182,7 @@ const FORMS: [Form; 8] = [
         job: "serve",
         line: "silt serve FILE PORT [OPTION]...            replies to the lines of a port's connections",
         values: &["FILE", "PORT"],
-        options: &[AUDIT, SESSIONS, IDLE, WAIT, MERGE_AT, PIPELINE],
+        options: &[AUDIT, SESSIONS, IDLE, WAIT, SERVE_MERGE_AT, PIPELINE],
         input: &[EVENTS],
     },
 ];

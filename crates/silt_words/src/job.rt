@@ -19,6 +19,9 @@ pub struct RunOptions {
     pub tend: bool,
     /// Whether the status says that a line was refused.
     pub strict: bool,
+    /// Of how many hash stores, at least one, background work begins a merge. None if the option is left out. Only a run
+    /// that does background work has a number.
+    pub merge_at: Option<u32>,
 }
 
 /// How the store in a file is to be served.
@@ -71,6 +74,8 @@ pub enum Job<'a> {
     /// Does all background work of the store in a file.
     Tend {
         file: &'a str,
+        /// Of how many hash stores, at least one, a merge begins. None if the option is left out.
+        merge_at: Option<u32>,
     },
     /// Prints what the store in a file consists of.
     Check {
@@ -97,7 +102,7 @@ impl<'a> Job<'a> {
         match *self {
             Job::Format { file, .. } => Some(file),
             Job::Run { file, .. } => Some(file),
-            Job::Tend { file } => Some(file),
+            Job::Tend { file, .. } => Some(file),
             Job::Check { file } => Some(file),
             Job::Dump { file } => Some(file),
             Job::Serve(service) => Some(service.file),

@@ -24,8 +24,16 @@ pub enum Complaint<'a> {
     LacksNumber(&'a str),
     /// This option is given a second time.
     Twice(&'a str),
+    /// This option is given without that one.
+    Needs {
+        name: &'static str,
+        other: &'static str,
+    },
     /// The word for this value is no number, or one that is too great.
-    NoNumber { name: &'a str, word: &'a str },
+    NoNumber {
+        name: &'a str,
+        word: &'a str,
+    },
 }
 
 impl fmt::Display for Complaint<'_> {
@@ -38,6 +46,7 @@ impl fmt::Display for Complaint<'_> {
             Complaint::UnknownOption(word) => write!(f, "'{word}' is no option here"),
             Complaint::LacksNumber(name) => write!(f, "{name} needs a number behind it"),
             Complaint::Twice(name) => write!(f, "{name} is given twice"),
+            Complaint::Needs { name, other } => write!(f, "{name} needs {other}"),
             Complaint::NoNumber { name, word } => {
                 write!(
                     f,
@@ -203,14 +212,38 @@ impl Walk {
 
     // What is missing after the last word.
     fn missing(&self) -> Option<Complaint<'static>> {
-        match self.awaited {
-            Some(name) => Some(Complaint::LacksNumber(name)),
-            None => self
-                .form
-                .values
-                .get(self.place)
-                .map(|name| Complaint::Missing(*name)),
+        if let Some(name) = self.awaited {
+            return Some(Complaint::LacksNumber(name));
         }
+        match self.form.values.get(self.place) {
+            Some(name) => Some(Complaint::Missing(*name)),
+            None => self.lacking(),
+        }
+    }
+
+    // Which option was met without the one that it needs.
+    fn lacking(&self) -> Option<Complaint<'static>> {
+        for (option, met) in self.form.options.iter().zip(self.met.iter()) {
+            if let Some(other) = option.needs
+                && *met
+                && !self.has_met(other)
+            {
+                return Some(Complaint::Needs {
+                    name: option.name,
+                    other,
+                });
+            }
+        }
+        None
+    }
+
+    // Whether the option of this name was met.
+    fn has_met(&self, name: &str) -> bool {
+        self.form
+            .options
+            .iter()
+            .zip(self.met.iter())
+            .any(|(option, met)| *met && option.name == name)
     }
 }
 

@@ -1,5 +1,5 @@
 // The words of the command line.
-ghost use Rattle.std.specs.Prelude.{◌≡◌, Some, None, MatchResult, map, option_map, string_bytes};
+ghost use Rattle.std.specs.Prelude.{◌≡◌, Some, None, MatchResult, codes, map, option_map, string_bytes};
 ghost use Rattle.clap.specs.Words.{found_of, rows_of, subcommand_rows_of};
 ghost use Rattle.silt_words.specs.Commands.{count_in, file_in, flag_in, job_in, job_met, job_named, limit_in, number_in, numbers_in, option_in, port_in, request_in, run_options_in, service_in};
 ghost use Rattle.silt_words.specs.Jobs.{named, named_service};
@@ -73,6 +73,13 @@ fn count_at(matches: &ArgMatches<'_>, name: &str) -> Option<Option<u32>>
     }
 }
 
+// Of how many hash stores a merge is to begin.
+fn merge_at_of(matches: &ArgMatches<'_>) -> Option<Option<u32>>
+    ensures { result ≡ count_in (rows_of (found_of matches.now)) (codes "merge-at") }
+{
+    count_at(matches, "merge-at")
+}
+
 // Whether an option without a value is given.
 fn is_given(matches: &ArgMatches<'_>, name: &str) -> bool
     ensures { result ≡ flag_in (rows_of (found_of matches.now)) name.now }
@@ -83,13 +90,20 @@ fn is_given(matches: &ArgMatches<'_>, name: &str) -> bool
     }
 }
 
-fn run_options_of(matches: &ArgMatches<'_>) -> RunOptions
+// How the lines of a run are to be answered. Without background work no merge begins, so there is no number for it.
+fn run_options_of(matches: &ArgMatches<'_>) -> Option<RunOptions>
     ensures { result ≡ run_options_in (rows_of (found_of matches.now)) }
 {
-    RunOptions {
-        tend: is_given(matches, "tend"),
-        strict: is_given(matches, "strict"),
+    let merge_at = merge_at_of(matches)?;
+    let tend = is_given(matches, "tend");
+    if merge_at.is_some() && !tend {
+        return None;
     }
+    Some(RunOptions {
+        tend,
+        strict: is_given(matches, "strict"),
+        merge_at,
+    })
 }
 
 fn service_of<'a>(matches: &ArgMatches<'a>) -> Option<Service<'a>>
@@ -102,7 +116,7 @@ fn service_of<'a>(matches: &ArgMatches<'a>) -> Option<Service<'a>>
         sessions: limit_at(matches, "sessions")?,
         idle: limit_at(matches, "idle")?,
         wait: option_at(matches, "wait")?,
-        merge_at: count_at(matches, "merge-at")?,
+        merge_at: merge_at_of(matches)?,
         pipeline: is_given(matches, "pipeline"),
     })
 }
@@ -129,10 +143,11 @@ fn job_of<'a>(name: &str, matches: &ArgMatches<'a>) -> Option<Job<'a>>
         "script" => Some(Job::Script(numbers_of(matches)?)),
         "run" => Some(Job::Run {
             file: file_of(matches)?,
-            options: run_options_of(matches),
+            options: run_options_of(matches)?,
         }),
         "tend" => Some(Job::Tend {
             file: file_of(matches)?,
+            merge_at: merge_at_of(matches)?,
         }),
         "check" => Some(Job::Check {
             file: file_of(matches)?,

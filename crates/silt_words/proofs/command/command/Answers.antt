@@ -10,8 +10,8 @@ returns c =
     let one = joined format_app _ _ c.format.result c.format.ensures c.in_ok-with_format.ensures ∙ ap (λ (app : App). with_subcommand app format_app.top) c.new.ensures.app in
     let two = joined script_app _ _ c.script.result c.script.ensures c.in_ok-with_script.ensures ∙ ap (λ (app : App). with_subcommand app script_app.top) one in
     let three = joined run_app _ _ c.run.result c.run.ensures c.in_ok-with_run.ensures ∙ ap (λ (app : App). with_subcommand app run_app.top) two in
-    let four = joined tend_app _ _ c.on_file.result c.on_file.ensures c.in_ok-with_tend.ensures ∙ ap (λ (app : App). with_subcommand app tend_app.top) three in
-    let five = joined check_app _ _ c.on_file-2.result c.on_file-2.ensures c.in_ok-with_check.ensures ∙ ap (λ (app : App). with_subcommand app check_app.top) four in
-    let six = joined dump_app _ _ c.on_file-3.result c.on_file-3.ensures c.in_ok-with_dump.ensures ∙ ap (λ (app : App). with_subcommand app dump_app.top) five in
+    let four = joined tend_app _ _ c.tend.result c.tend.ensures c.in_ok-with_tend.ensures ∙ ap (λ (app : App). with_subcommand app tend_app.top) three in
+    let five = joined check_app _ _ c.on_file.result c.on_file.ensures c.in_ok-with_check.ensures ∙ ap (λ (app : App). with_subcommand app check_app.top) four in
+    let six = joined dump_app _ _ c.on_file-2.result c.on_file-2.ensures c.in_ok-with_dump.ensures ∙ ap (λ (app : App). with_subcommand app dump_app.top) five in
     let seven = joined plan_app _ _ c.plan.result c.plan.ensures c.in_ok-with_plan.ensures ∙ ap (λ (app : App). with_subcommand app plan_app.top) six in
     IfOk-weaker c.add_command-8.result _ _ (λ made adds. joined serve_app _ _ c.serve.result c.serve.ensures adds ∙ ap (λ (app : App). with_subcommand app serve_app.top) seven) c.add_command-8.ensures
