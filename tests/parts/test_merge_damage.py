@@ -13,7 +13,7 @@ from watch import WatchedCase, read_record, watching
 NUMBERS = "2 2 4 4 4 40"
 SLOTS = 8
 HASH, SORTED = "refused 3 Damaged hash {} digest", "refused 3 Damaged sorted digest"
-NOTE = "silt: store: a merge is refused: {} has another digest than the manifest says\n"
+NOTE = "silt: store: a merge is {}: {} has another digest than the manifest says{}\n"
 
 
 def puts(first, count):
@@ -204,12 +204,68 @@ class Tends(DamageCase):
         self.assertEqual(self.tended(self.sorted_places()[2])[:2], (1, f"opened\n{SORTED}\n"))
 
 
+class RunsThatTend(DamageCase):
+    """`run --tend`, whose store changes behind its opening."""
+
+    def check_refused(self, hashes, options, place, refusal):
+        """Four puts freeze a log. Its hash store is one of the first merge, or waits for that merge. All lines have their replies,
+        and the refusal comes behind them."""
+        self.with_stores(hashes)
+        opened = Opened(self, "--tend", *options)
+        self.assertEqual(opened.ask("get =key/1"), ["value 0001"])
+        flipped = self.flip(place)
+        self.assertEqual(opened.ask(*puts(5 + 4 * hashes, 4)), [f"accepted {it + 1}" for it in range(4)])
+        self.assertEqual(opened.ask("get =key/1", "put =more 0102", "flush", "get =more"),
+                         ["value 0001", "accepted 5", "acknowledged 5", "value 0102"])
+        ended = opened.end()
+        self.assertEqual((ended.status, ended.out, ended.err), (1, f"{refusal}\n", ""))
+        checked = self.check_report()
+        self.assertEqual(checked.status, 1, checked)
+        self.put_back(flipped)
+        self.assert_checked(self.check_report())
+        again = self.silt("run", "store", "--tend", *options, text="get =more\n")
+        self.assertEqual((again.status, again.out), (0, "opened\nvalue 0102\n"), again)
+
+    def test_a_hash_store(self):
+        self.check_refused(4, [], self.hash_places(0)[2], HASH.format(0))
+
+    def test_the_newest_of_four_hash_stores(self):
+        self.check_refused(4, ["--strict"], self.hash_places(3)[2], HASH.format(3))
+
+    def test_the_entries(self):
+        self.check_refused(4, [], self.sorted_places()[2], SORTED)
+
+    def test_a_merge_of_as_many_as_are_asked_for(self):
+        self.check_refused(1, ["--merge-at", "2"], self.hash_places(0)[2], HASH.format(0))
+
+    def test_a_strict_run_with_a_refused_line(self):
+        """The status says that background work was refused. The line that was refused has its note."""
+        self.with_stores(4)
+        opened = Opened(self, "--tend", "--strict")
+        self.flip(self.hash_places(0)[2])
+        self.assertEqual(opened.ask("put =a 01", *puts(21, 4), "get =key/1")[0], "refused 22 BadValue")
+        ended = opened.end()
+        self.assertEqual((ended.status, ended.out), (1, HASH.format(0) + "\n"))
+        self.assertEqual(ended.err, "silt: 1 line refused 22 BadValue, first line 1; a value has 4 hexadecimal digits here (V is 2)\n")
+
+    def test_a_run_without_background_work(self):
+        """It merges nothing, so it finds nothing."""
+        self.with_stores(4)
+        opened = Opened(self)
+        self.flip(self.hash_places(0)[2])
+        self.assertEqual(opened.ask(*puts(21, 4), "get =key/1"), [*[f"accepted {it + 1}" for it in range(4)], "value 0001"])
+        ended = opened.end()
+        self.assertEqual((ended.status, ended.out, ended.err), (0, "", ""))
+
+
 class Serves(ServedCase, DamageCase):
     """A server, whose merger begins when there are two hash stores."""
 
     def test_reports_it_at_once_and_goes_on(self):
         self.with_stores(1)
-        for place, what in ((self.hash_places(0)[2], "a hash store"), (self.sorted_places()[2], "the sorted store")):
+        cases = ((self.hash_places(0)[2], HASH.format(0), "a hash store", f", at byte {self.geometry.hash_at(0)}"),
+                 (self.sorted_places()[2], SORTED, "the sorted store", ""))
+        for place, refusal, what, at in cases:
             with self.subTest(what=what):
                 whole = self.path("store").read_bytes()
                 server = self.serve("--merge-at", 2, "--sessions", 1)
@@ -217,13 +273,13 @@ class Serves(ServedCase, DamageCase):
                 self.assertEqual(client.ask("get =key/1"), ["value 0001"])
                 self.flip(place)
                 self.assertEqual(client.ask(*puts(9, 4)), [f"accepted {it + 1}" for it in range(4)])
-                note = NOTE.format(what)
+                note = NOTE.format(refusal, what, at)
                 self.wait_until(lambda: note in server.error_file.read_text(), "the note")
                 self.assertEqual(client.ask("put =more 0102", "get =more", "get =key/5"), ["accepted 5", "value 0102", "value 0005"])
                 client.end_input()
                 self.assertEqual(client.rest(), [])
                 ended = server.ended()
-                self.assertEqual((ended.status, ended.err), (0, note), ended)
+                self.assertEqual((ended.status, ended.err), (1, note), ended)
                 self.path("store").write_bytes(whole)
 
 

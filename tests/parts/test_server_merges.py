@@ -1,5 +1,6 @@
-"""When a server's merger begins: with how many hash stores."""
-from served import Client, ServedCase
+"""When a merge begins, of a server and of background work without one: with how many hash stores."""
+from harness import Ended
+from served import ServedCase
 
 # Logs of four rows. So each further put of a key of its own freezes a log after four.
 EIGHT = "2 2 4 4 8 400"
@@ -61,35 +62,102 @@ class Merges(ServedCase):
                 self.assertGreater(entries, 4 * 8)
 
 
+class Tends(ServedCase):
+    """`run --tend --merge-at K` and `tend --merge-at K`."""
+
+    def stores(self):
+        """How many hash stores and entries a store has."""
+        checked = self.check_report("store")
+        self.assertEqual(checked.status, 0, checked)
+        return int(checked.lines[3].split()[2]), int(checked.lines[4].split()[2])
+
+    def run_logs(self, logs, *options):
+        """Rows for so many frozen logs, and one row more. The background work that the last put makes due is done before
+        the flush."""
+        self.path("store").unlink(missing_ok=True)
+        self.store(EIGHT)
+        lines = [f"put =key/{it} {it:04x}" for it in range(4 * logs + 1)]
+        ended = self.silt("run", "store", "--tend", *options, text="".join(f"{it}\n" for it in [*lines, "flush"]))
+        replies = [f"accepted {it + 1}" for it in range(len(lines))]
+        self.assertEqual((ended.status, ended.lines, ended.err), (0, ["opened", *replies, f"acknowledged {len(lines)}"], ""), ended)
+        return self.stores()
+
+    def test_a_run_merges_when_no_region_is_free(self):
+        for logs, left in ((8, (8, 0)), (9, (1, 32)), (16, (8, 32)), (17, (1, 64))):
+            with self.subTest(logs=logs):
+                self.assertEqual(self.run_logs(logs), left)
+
+    def test_a_run_merges_as_many_as_are_asked_for(self):
+        for at in (1, 3, 8):
+            for logs in (at - 1, at, at + 1, 2 * at):
+                with self.subTest(at=at, logs=logs):
+                    self.assertEqual(self.run_logs(logs, "--merge-at", at), (logs % at, logs // at * at * 4))
+
+    def test_tend_merges_whatever_there_is(self):
+        self.run_logs(3, "--merge-at", 8)
+        self.assert_tended(3, 0)
+
+    def test_tend_merges_as_many_as_are_asked_for(self):
+        for at, left in ((2, (0, 12)), (3, (0, 12)), (4, (3, 0)), (8, (3, 0))):
+            with self.subTest(at=at):
+                self.run_logs(3, "--merge-at", 8)
+                self.assert_tended(3, 0 if left[1] else 3, "--merge-at", at)
+                self.assertEqual(self.stores(), left)
+                self.assertEqual(self.silt("tend", "store", "--merge-at", at).out, "opened\nconverted 0 steps, merged 0 steps\n")
+
+    def assert_tended(self, stores, left, *options):
+        """It merges all of these stores, four rows each in eight slots, or none of them."""
+        steps = 0 if left else 8 * stores + 4 * stores + 1
+        ended = self.silt("tend", "store", *options)
+        self.assertEqual(ended, Ended(0, f"opened\nconverted 0 steps, merged {steps} steps\n", ""))
+
+    def test_tend_merges_fewer_where_a_log_waits(self):
+        """There is one hash region, and it is full when a second log is frozen."""
+        self.store(ONE, [f"put =key/{it} {it:04x}" for it in range(5)] + ["convert"] * 9
+                   + [f"put =key/{it} {it:04x}" for it in range(5, 9)] + ["flush"])
+        ended = self.silt("tend", "store", "--merge-at", 1)
+        self.assertEqual(ended, Ended(0, "opened\nconverted 9 steps, merged 30 steps\n", ""))
+        self.assertEqual(self.stores(), (0, 8))
+
+
 class Refusals(ServedCase):
     """Numbers of hash stores that no merge can be of."""
 
+    JOBS = (("serve", "store", 0), ("run", "store", "--tend"), ("tend", "store"))
+
     def test_none_names_no_job(self):
         self.store(EIGHT)
-        ended = self.silt("serve", "store", 0, "--merge-at", 0)
-        self.assertEqual((ended.status, ended.lines), (2, ["usage"]), ended)
-        self.assertIn("silt: --merge-at cannot be '0': a merge is of at least one hash store\n", ended.err)
+        for job in self.JOBS:
+            with self.subTest(job=job):
+                ended = self.silt(*job, "--merge-at", 0)
+                self.assertEqual((ended.status, ended.lines), (2, ["usage"]), ended)
+                self.assertIn("silt: --merge-at cannot be '0': a merge is of at least one hash store\n", ended.err)
 
     def test_no_number_names_no_job(self):
-        for word in ("", "half", "-1", "4294967296"):
-            with self.subTest(word=word):
-                ended = self.silt("serve", "store", 0, f"--merge-at={word}")
-                self.assertEqual((ended.status, ended.lines), (2, ["usage"]), ended)
+        for job in self.JOBS:
+            for word in ("", "half", "-1", "4294967296"):
+                with self.subTest(job=job, word=word):
+                    ended = self.silt(*job, f"--merge-at={word}")
+                    self.assertEqual((ended.status, ended.lines), (2, ["usage"]), ended)
 
     def test_more_than_there_are_regions(self):
         self.store(EIGHT)
         before = self.path("store").read_bytes()
-        ended = self.silt("serve", "store", 0, "--merge-at", 9)
-        self.assertEqual((ended.status, ended.lines), (1, ["refused 2 BadGeometry"]), ended)
-        self.assertEqual(ended.err, "silt: --merge-at: store has 8 hash regions, and no more hash stores\n")
-        self.assertEqual(self.path("store").read_bytes(), before)
+        for job in self.JOBS:
+            with self.subTest(job=job):
+                ended = self.silt(*job, "--merge-at", 9, text="put =a 0102\n")
+                self.assertEqual((ended.status, ended.lines), (1, ["refused 2 BadGeometry"]), ended)
+                self.assertEqual(ended.err, "silt: --merge-at: store has 8 hash regions, and no more hash stores\n")
+                self.assertEqual(self.path("store").read_bytes(), before)
 
     def test_a_damaged_store_is_refused_first(self):
         self.store(EIGHT)
         data = bytearray(self.path("store").read_bytes())
         data[0] ^= 1
         self.path("store").write_bytes(data)
-        ended = self.silt("serve", "store", 0, "--merge-at", 9)
-        self.assertEqual(ended.status, 1)
-        self.assertTrue(ended.lines[0].startswith("refused "), ended)
-        self.assertNotIn("--merge-at", ended.err)
+        for job in self.JOBS:
+            with self.subTest(job=job):
+                ended = self.silt(*job, "--merge-at", 9)
+                self.assertEqual(ended.status, 1)
+                self.assertTrue(ended.lines[0].startswith("refused "), ended)
+                self.assertNotIn("--merge-at", ended.err)

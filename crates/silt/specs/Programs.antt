@@ -27,63 +27,65 @@ use Rattle.silt.specs.declared.clash.Clash.{Clash}
 use Rattle.silt.specs.declared.standard_streams.SameStreams.{SameStreams}
 use Rattle.silt.specs.declared.standard_streams.Stream.{Stream}
 
-module _ {N D F : Type 0} (facts : Ghosts D F) (notes : NotesOf N) (reported_refusal : N → N → List ℕ → Refusal F → Type 0)
-    (reported_session : List ℕ → ℕ → SessionEnd → D → Type 0) (reported_failures : List ℕ → D → Type 0) (tally : Tally) (old new : N)
+module _ {N D F W : Type 0} (facts : Ghosts D F) (notes : NotesOf N) (reported_refusal : N → N → List ℕ → Refusal F → Type 0)
+    (reported_session : List ℕ → W → ℕ → SessionEnd → D → Type 0) (reported_failures : List ℕ → D → Type 0) (contents : W → Option (List ℕ)) (kept_tally : W → Tally) (old new : N)
     (Opened Shared Found : List ℕ → D → Type 0) (Resized : D → ℕ → D → Type 0) where
   -- this job was done, on a disk that the source gave for its path
-  abbrev pub EndsJob : Job → Option (List ℕ) → Option (List ℕ) → Option (List ℕ) → Option (List ℕ) → Type 0
+  abbrev pub EndsJob : Job → Option (List ℕ) → Option (List ℕ) → W → W → Type 0
   EndsJob (Format file numbers force) remaining left before after =
-      (given : Option D) × FormatsFile facts notes reported_refusal Resized Found file.now numbers force old new given before after
-  EndsJob (Script numbers) remaining left before after = EndsScript (shape_asked numbers) remaining left before after
+      (given : Option D) × FormatsFile facts notes reported_refusal Resized Found file.now numbers force old new given (contents before) (contents after)
+  EndsJob (Script numbers) remaining left before after = EndsScript (shape_asked numbers) remaining left (contents before) (contents after)
   EndsJob (Run file options) remaining left before after =
-      (given : Option D) × RunsFile facts options tally 0 (reported_session file.now) (Opened file.now) given remaining left before after
-  EndsJob (Tend file) remaining left before after = (given : Option D) × TendsFile facts (reported_failures file.now) (Opened file.now) given before after
+      (given : Option D) × RunsFile facts options contents kept_tally 0 (reported_session file.now) (Opened file.now) given remaining left before after
+  EndsJob (Tend file merge_at) remaining left before after = (given : Option D) × TendsFile facts merge_at (reported_failures file.now) (Opened file.now) given (contents before) (contents after)
   EndsJob (Check file) remaining left before after =
-      (given : Option D) × ChecksFile facts (notes.reported_charge old new file.now) (Shared file.now) given before after
-  EndsJob (Dump file) remaining left before after = (given : Option D) × DumpsFile facts (Shared file.now) given before after
+      (given : Option D) × ChecksFile facts (notes.reported_charge old new file.now) (Shared file.now) given (contents before) (contents after)
+  EndsJob (Dump file) remaining left before after = (given : Option D) × DumpsFile facts (Shared file.now) given (contents before) (contents after)
   EndsJob (Plan request) remaining left before after =
-      PrintsPlan request (first_planned request bucket_counts) 0 before after × ReportsCost (notes.reported_cost old new) request
+      PrintsPlan request (first_planned request bucket_counts) 0 (contents before) (contents after) × ReportsCost (notes.reported_cost old new) request
   EndsJob (Serve service) remaining left before after =
-      (given : Option D) × ServesFile facts (reported_failures service.file.now) (Opened service.file.now) service.audit given before after
+      (given : Option D) × ServesFile facts (reported_failures service.file.now) (Opened service.file.now) service.audit given (contents before) (contents after)
 
-module _ {D F : Type 0} (facts : Ghosts D F) (reported_session : List ℕ → ℕ → SessionEnd → D → Type 0) (tally : Tally) (Opened : List ℕ → D → Type 0) where
+module _ {D F W : Type 0} (facts : Ghosts D F) (reported_session : List ℕ → W → ℕ → SessionEnd → D → Type 0) (contents : W → Option (List ℕ)) (kept_tally : W → Tally)
+    (Opened : List ℕ → D → Type 0) where
   -- the job is a strict run that came to the end of its lines, and a reply was a refusal
-  abbrev pub RefusesLines : Job → Option (List ℕ) → Option (List ℕ) → Option (List ℕ) → Option (List ℕ) → Type 0
+  abbrev pub RefusesLines : Job → Option (List ℕ) → Option (List ℕ) → W → W → Type 0
   RefusesLines (Run file options) remaining left before after =
-      (given : Option D) × RunsFile facts options tally 3 (reported_session file.now) (Opened file.now) given remaining left before after
+      (given : Option D) × RunsFile facts options contents kept_tally 3 (reported_session file.now) (Opened file.now) given remaining left before after
   RefusesLines job remaining left before after = ⊥
 
-module _ {N D F E : Type 0} (facts : Ghosts D F) (notes : NotesOf N) (reported_refusal : N → N → List ℕ → Refusal F → Type 0)
-    (reported_error : N → N → List ℕ → E → Type 0) (reported_session : List ℕ → ℕ → SessionEnd → D → Type 0) (reported_failures : List ℕ → D → Type 0) (tally : Tally) (old new : N)
+module _ {N D F E W : Type 0} (facts : Ghosts D F) (notes : NotesOf N) (reported_refusal : N → N → List ℕ → Refusal F → Type 0)
+    (reported_error : N → N → List ℕ → E → Type 0) (reported_session : List ℕ → W → ℕ → SessionEnd → D → Type 0) (reported_failures : List ℕ → D → Type 0)
+    (contents : W → Option (List ℕ)) (kept_tally : W → Tally) (old new : N)
     (Opened : List ℕ → D → Type 0) (NotOpened : List ℕ → E → Type 0) (Shared : List ℕ → D → Type 0) (NotShared : List ℕ → E → Type 0)
     (Found : List ℕ → D → Type 0) (NotFound : List ℕ → E → Type 0) (Resized : D → ℕ → D → Type 0) (NotResized : D → ℕ → E → Type 0) where
   -- the line says that this job is refused, for its cause, or a life's session or its background work broke off
-  abbrev pub PrintsJob : Job → Option (List ℕ) → Option (List ℕ) → Option (List ℕ) → Option (List ℕ) → Type 0
+  abbrev pub PrintsJob : Job → Option (List ℕ) → Option (List ℕ) → W → W → Type 0
   PrintsJob (Format file numbers force) remaining left before after =
       (given : Option D)
-      × PrintsFormatFile facts notes reported_refusal Resized Found file.now numbers force old new reported_error NotFound NotResized given before after
+      × PrintsFormatFile facts notes reported_refusal Resized Found file.now numbers force old new reported_error NotFound NotResized given (contents before) (contents after)
   PrintsJob (Script numbers) remaining left before after =
-      PrintsRefusal (shape_asked numbers) before after × (¬ InLimits (shape_asked numbers) → notes.reported_numbers old new numbers)
+      PrintsRefusal (shape_asked numbers) (contents before) (contents after) × (¬ InLimits (shape_asked numbers) → notes.reported_numbers old new numbers)
   PrintsJob (Run file options) remaining left before after =
       (given : Option D)
-      × PrintsRunFile facts options tally (reported_refusal old new file.now) (reported_session file.now) (Opened file.now) (NotOpenedReported NotOpened (reported_error old new) file.now)
+      × PrintsRunFile facts options contents kept_tally (reported_refusal old new file.now) (reported_session file.now) (Opened file.now) (NotOpenedReported NotOpened (reported_error old new) file.now)
       given remaining left before after
-  PrintsJob (Tend file) remaining left before after =
+  PrintsJob (Tend file merge_at) remaining left before after =
       (given : Option D)
-      × PrintsTendFile facts (reported_refusal old new file.now) (reported_failures file.now) (Opened file.now) (NotOpenedReported NotOpened (reported_error old new) file.now)
-      given before after
+      × PrintsTendFile facts merge_at (reported_refusal old new file.now) (reported_failures file.now) (Opened file.now) (NotOpenedReported NotOpened (reported_error old new) file.now)
+      given (contents before) (contents after)
   PrintsJob (Check file) remaining left before after =
       (given : Option D)
-      × PrintsCheckFile facts (reported_refusal old new file.now) (Shared file.now) (NotOpenedReported NotShared (reported_error old new) file.now) given before after
+      × PrintsCheckFile facts (reported_refusal old new file.now) (Shared file.now) (NotOpenedReported NotShared (reported_error old new) file.now) given (contents before) (contents after)
   PrintsJob (Dump file) remaining left before after =
       (given : Option D)
-      × PrintsCheckFile facts (reported_refusal old new file.now) (Shared file.now) (NotOpenedReported NotShared (reported_error old new) file.now) given before after
+      × PrintsCheckFile facts (reported_refusal old new file.now) (Shared file.now) (NotOpenedReported NotShared (reported_error old new) file.now) given (contents before) (contents after)
   PrintsJob (Plan request) remaining left before after =
-      PrintsPlan request (first_planned request bucket_counts) 1 before after × notes.reported_no_plan old new request
+      PrintsPlan request (first_planned request bucket_counts) 1 (contents before) (contents after) × notes.reported_no_plan old new request
   PrintsJob (Serve service) remaining left before after =
       (given : Option D)
-      × PrintsServeFile facts (ReportedUnserved notes.reported_port reported_refusal old new service.port service.file.now) service.merge_at
-      (Opened service.file.now) (NotOpenedReported NotOpened (reported_error old new) service.file.now) given before after
+      × PrintsServeFile facts (ReportedUnserved notes.reported_port reported_refusal old new service.port service.file.now) service.merge_at service.audit
+      (Opened service.file.now) (NotOpenedReported NotOpened (reported_error old new) service.file.now) given (contents before) (contents after)
 
 -- the line that is written if no job was read from the words, and the status
 abbrev pub PrintsWords : WordsError → ℕ → Option (List ℕ) → Option (List ℕ) → Type 0
@@ -99,29 +101,30 @@ abbrev pub NamesNoJob : (List (List ℕ) → Type 0) → List (List ℕ) → Wor
 NamesNoJob reported words Usage = (job_named words ≡ None) × reported words
 NamesNoJob reported words NoMemory = Unit {0}
 
-module _ {N D F E : Type 0} (facts : Ghosts D F) (notes : NotesOf N) (reported_refusal : N → N → List ℕ → Refusal F → Type 0)
-    (reported_error : N → N → List ℕ → E → Type 0) (reported_session : List ℕ → ℕ → SessionEnd → D → Type 0) (reported_failures : List ℕ → D → Type 0) (tally : Tally) (old new : N)
+module _ {N D F E W : Type 0} (facts : Ghosts D F) (notes : NotesOf N) (reported_refusal : N → N → List ℕ → Refusal F → Type 0)
+    (reported_error : N → N → List ℕ → E → Type 0) (reported_session : List ℕ → W → ℕ → SessionEnd → D → Type 0) (reported_failures : List ℕ → D → Type 0)
+    (contents : W → Option (List ℕ)) (kept_tally : W → Tally) (old new : N)
     (Opened : List ℕ → D → Type 0) (NotOpened : List ℕ → E → Type 0) (Shared : List ℕ → D → Type 0) (NotShared : List ℕ → E → Type 0)
     (Found : List ℕ → D → Type 0) (NotFound : List ℕ → E → Type 0) (Resized : D → ℕ → D → Type 0) (NotResized : D → ℕ → E → Type 0)
     (AreFile : List ℕ → SameStreams → Type 0) (reported_stream : N → N → List ℕ → Stream → Type 0) where
   -- The job's file is a standard stream, and so it is refused: nothing is read, and that file gets neither line nor note.
-  abbrev pub RefusesClash : Job → Option (List ℕ) → Option (List ℕ) → Option (List ℕ) → Option (List ℕ) → Type 0
+  abbrev pub RefusesClash : Job → Option (List ℕ) → Option (List ℕ) → W → W → Type 0
   RefusesClash job remaining left before after =
-      (left ≡ remaining) × ((clash : Clash) × IsClash AreFile job clash × PrintsClash clash before after × NotesClash reported_stream clash old new)
+      (left ≡ remaining) × ((clash : Clash) × IsClash AreFile job clash × PrintsClash clash (contents before) (contents after) × NotesClash reported_stream clash old new)
 
   -- The job had this status: 0 if it was done, 1 if it was refused or broke off, 3 if it is strict and a line was refused. Its file is no
   -- standard stream, or it is one, and the job was refused for that.
-  abbrev pub HasStatus : Job → ℕ → Option (List ℕ) → Option (List ℕ) → Option (List ℕ) → Option (List ℕ) → Type 0
+  abbrev pub HasStatus : Job → ℕ → Option (List ℕ) → Option (List ℕ) → W → W → Type 0
   HasStatus job status remaining left before after =
       (IsApart AreFile job
-      × (((status ≡ 0) × EndsJob facts notes reported_refusal reported_session reported_failures tally old new Opened Shared Found Resized job remaining left before after)
-      ⊎ (((status ≡ 1) × PrintsJob facts notes reported_refusal reported_error reported_session reported_failures tally old new Opened NotOpened Shared NotShared
+      × (((status ≡ 0) × EndsJob facts notes reported_refusal reported_session reported_failures contents kept_tally old new Opened Shared Found Resized job remaining left before after)
+      ⊎ (((status ≡ 1) × PrintsJob facts notes reported_refusal reported_error reported_session reported_failures contents kept_tally old new Opened NotOpened Shared NotShared
       Found NotFound Resized NotResized job remaining left before after)
-      ⊎ ((status ≡ 3) × RefusesLines facts reported_session tally Opened job remaining left before after))))
+      ⊎ ((status ≡ 3) × RefusesLines facts reported_session contents kept_tally Opened job remaining left before after))))
       ⊎ ((status ≡ 1) × RefusesClash job remaining left before after)
 
   -- The job that the words name had this status, or no job was read from the words.
-  abbrev pub Answers : List (List ℕ) → ℕ → Option (List ℕ) → Option (List ℕ) → Option (List ℕ) → Option (List ℕ) → Type 0
+  abbrev pub Answers : List (List ℕ) → ℕ → Option (List ℕ) → Option (List ℕ) → W → W → Type 0
   Answers words status remaining left before after =
       ((job : Job) × NamesJob words job × HasStatus job status remaining left before after)
-      ⊎ ((error : WordsError) × NamesNoJob (notes.reported_words old new) words error × PrintsWords error status before after)
+      ⊎ ((error : WordsError) × NamesNoJob (notes.reported_words old new) words error × PrintsWords error status (contents before) (contents after))

@@ -12,7 +12,7 @@ use Rattle.silt_server.specs.Serving.{IsServed, ServesKept, PrintsNotServed}
 use Rattle.silt_store_set.specs.CoreInvariant.{LeavesBegun}
 use Rattle.silt_store_set.specs.CoreState.{CoreState, Opens}
 use Rattle.silt_jobs.specs.Files.{PrintsNoDisk}
-use Rattle.silt_jobs.specs.Jobs.{PrintsOpening}
+use Rattle.silt_jobs.specs.Jobs.{PrintsFewRegions, PrintsOpening}
 use Rattle.silt_jobs.specs.Scripts.{reply_line}
 
 -- a note says that the server cannot listen on this port, or there is none
@@ -27,18 +27,15 @@ ReportedUnserved {N} reported_port reported old new port file refusal = (mid : N
 abbrev pub EndsServe : {D F : Type 0} → Ghosts D F → Option ℕ → D → Option (List ℕ) → Option (List ℕ) → Type 0
 EndsServe facts audit new before after = IsServed (facts.content new) before after × IfSome audit (λ most. ServesKept facts (λ port. Unit {0}) new before after)
 
--- The line says that a store has fewer hash regions than the hash stores of which a merge is to begin.
-abbrev pub PrintsFewRegions : {D : Type 0} → Option ℕ → CoreState D → D → Option (List ℕ) → Option (List ℕ) → Type 0
-PrintsFewRegions merge_at core new before after =
-    (new ≡ core.disk) × IsSomeAnd merge_at (λ least. core.shape.hashes < least) × Appends before after (reply_line {F = Unit {0}} (Refused BadGeometry))
-
 module _ {D F : Type 0} (facts : Ghosts D F) where
-  -- the line says why the store on a disk was not opened, and so does a note; or why the opened store was not served to the end
-  abbrev pub PrintsServe : (Refusal F → Type 0) → Option ℕ → D → D → Option (List ℕ) → Option (List ℕ) → Type 0
-  PrintsServe reported merge_at old new before after =
+  -- The line says why the store on a disk was not opened, and so does a note; or why the opened store was not served to the end. Or it
+  -- was, and a merge was refused meanwhile.
+  abbrev pub PrintsServe : (Refusal F → Type 0) → Option ℕ → Option ℕ → D → D → Option (List ℕ) → Option (List ℕ) → Type 0
+  PrintsServe reported merge_at audit old new before after =
       PrintsOpening facts reported old new before after
       ⊎ ((core : CoreState D) × Opens facts (facts.content old) core
-      × (PrintsFewRegions merge_at core new before after ⊎ PrintsNotServed facts (λ port. Unit {0}) core new before after))
+      × (PrintsFewRegions merge_at core new before after
+      ⊎ (PrintsNotServed facts (λ port. Unit {0}) core new before after ⊎ EndsServe facts audit new before after)))
 
   -- What a server leaves, however it ends: each possible crash image was possible before or represents the map that was shown;
   -- or all of them represent one map after some first part of one list of commands.
@@ -51,7 +48,7 @@ module _ {D F : Type 0} (facts : Ghosts D F) where
       (old : D) × Opened old × IsSomeAnd given (λ new. EndsServe facts audit new before after × LeavesServed old new × reported_failures new)
 
   -- the line says that the source opened no disk, or why the opened one, returned as a server leaves it, was not served to the end
-  abbrev pub PrintsServeFile : {E : Type 0} → (Refusal F → Type 0) → Option ℕ → (D → Type 0) → (E → Type 0) → Option D → Option (List ℕ) → Option (List ℕ) → Type 0
-  PrintsServeFile reported merge_at Opened NotOpened given before after =
+  abbrev pub PrintsServeFile : {E : Type 0} → (Refusal F → Type 0) → Option ℕ → Option ℕ → (D → Type 0) → (E → Type 0) → Option D → Option (List ℕ) → Option (List ℕ) → Type 0
+  PrintsServeFile reported merge_at audit Opened NotOpened given before after =
       PrintsNoDisk NotOpened before after
-      ⊎ ((old : D) × Opened old × IsSomeAnd given (λ new. PrintsServe reported merge_at old new before after × LeavesServed old new))
+      ⊎ ((old : D) × Opened old × IsSomeAnd given (λ new. PrintsServe reported merge_at audit old new before after × LeavesServed old new))

@@ -15,10 +15,9 @@ use crate::standard_streams::StandardStreams;
 use silt_device::DiskSource;
 use silt_disk::Disk;
 use silt_jobs::{
-    FaultNotes, KeepsError, KeepsLines, KeepsTally, Notes, SourceNotes, Watched, check_file,
+    FaultNotes, KeepsError, KeepsLines, KeepsTally, Notes, SourceNotes, Tended, Watched, check_file,
     dump_file, format_file, report_error_of, run_file, run_script, tend_file, write_plan,
 };
-use silt_store_set::Served;
 use silt_words::{Job, WordsError, read_words};
 use std::alloc::Global;
 use std::io::{self, Read, Write};
@@ -51,20 +50,20 @@ pub fn program<
     notes: &mut N,
 ) -> u8
 where
-    S::Disk: Served + Watched,
+    S::Disk: Tended + Watched,
     ensures done { result ≡ 0 → (job : JobOf) × NamesJob (map string_bytes words.now) job × IsApart (H.are_file rt.now) job
         × EndsJob S.Disk.Disk N.Notes (ReportedRefusal N.reported_fault N.reported_damage N.reported_no_store)
-        (ReportedSession N.reported_failure S.Disk.Watched.kept_read S.Disk.Watched.last_failure N.reported_end N.reported_tally notes.old notes.new
-        (R.kept_error reader.new) (W.kept_error writer.new) (R.kept_lines reader.new) (W.kept_tally writer.new))
-        (ReportedFailures N.reported_failure S.Disk.Watched.kept_read S.Disk.Watched.last_failure notes.old notes.new) (W.kept_tally writer.new) notes.old notes.new
+        (ReportedSession N.reported_failure S.Disk.Watched.kept_read S.Disk.Watched.last_failure N.reported_end N.reported_tally
+        W.kept_error W.kept_tally notes.old notes.new (R.kept_error reader.new) (R.kept_lines reader.new))
+        (ReportedFailures N.reported_failure S.Disk.Watched.kept_read S.Disk.Watched.last_failure notes.old notes.new) W.contents W.kept_tally notes.old notes.new
         (S.opened source) (S.shared source) (S.found source) S.resized job
-        (R.remaining reader.old) (R.remaining reader.new) (W.contents writer.old) (W.contents writer.new) }
+        (R.remaining reader.old) (R.remaining reader.new) writer.old writer.new }
     ensures refused { result ≡ 3 → (job : JobOf) × NamesJob (map string_bytes words.now) job × IsApart (H.are_file rt.now) job
         × RefusesLines S.Disk.Disk
-        (ReportedSession N.reported_failure S.Disk.Watched.kept_read S.Disk.Watched.last_failure N.reported_end N.reported_tally notes.old notes.new
-        (R.kept_error reader.new) (W.kept_error writer.new) (R.kept_lines reader.new) (W.kept_tally writer.new))
-        (W.kept_tally writer.new) (S.opened source) job
-        (R.remaining reader.old) (R.remaining reader.new) (W.contents writer.old) (W.contents writer.new) }
+        (ReportedSession N.reported_failure S.Disk.Watched.kept_read S.Disk.Watched.last_failure N.reported_end N.reported_tally
+        W.kept_error W.kept_tally notes.old notes.new (R.kept_error reader.new) (R.kept_lines reader.new))
+        W.contents W.kept_tally (S.opened source) job
+        (R.remaining reader.old) (R.remaining reader.new) writer.old writer.new }
     ensures usage { result ≡ 2 → (job_named (map string_bytes words.now) ≡ None) × N.reported_words notes.old notes.new (map string_bytes words.now)
         × Appends (W.contents writer.old) (W.contents writer.new) (codes "usage\n") }
 {
@@ -106,15 +105,15 @@ pub fn answer<
     notes: &mut N,
 ) -> io::Result<u8>
 where
-    S::Disk: Served + Watched,
+    S::Disk: Tended + Watched,
     ensures { IfOk result (λ status. Answers S.Disk.Disk N.Notes (ReportedRefusal N.reported_fault N.reported_damage N.reported_no_store) N.reported_error
-        (ReportedSession N.reported_failure S.Disk.Watched.kept_read S.Disk.Watched.last_failure N.reported_end N.reported_tally notes.old notes.new
-        (R.kept_error reader.new) (W.kept_error writer.new) (R.kept_lines reader.new) (W.kept_tally writer.new))
-        (ReportedFailures N.reported_failure S.Disk.Watched.kept_read S.Disk.Watched.last_failure notes.old notes.new) (W.kept_tally writer.new) notes.old notes.new
+        (ReportedSession N.reported_failure S.Disk.Watched.kept_read S.Disk.Watched.last_failure N.reported_end N.reported_tally
+        W.kept_error W.kept_tally notes.old notes.new (R.kept_error reader.new) (R.kept_lines reader.new))
+        (ReportedFailures N.reported_failure S.Disk.Watched.kept_read S.Disk.Watched.last_failure notes.old notes.new) W.contents W.kept_tally notes.old notes.new
         (S.opened source) (S.not_opened source) (S.shared source) (S.not_shared source)
         (S.found source) (S.not_found source) S.resized S.not_resized
         (H.are_file rt.now) N.reported_stream
-        (map string_bytes words.now) status (R.remaining reader.old) (R.remaining reader.new) (W.contents writer.old) (W.contents writer.new)) }
+        (map string_bytes words.now) status (R.remaining reader.old) (R.remaining reader.new) writer.old writer.new) }
 {
     match read_words(alloc, words) {
         Ok(job) => match clash_of(rt, &job) {
@@ -161,25 +160,25 @@ fn do_job<
     notes: &mut N,
 ) -> io::Result<u8>
 where
-    S::Disk: Served + Watched,
+    S::Disk: Tended + Watched,
     ensures printed { IfOk result (IsRunStatus (PrintsJob S.Disk.Disk N.Notes (ReportedRefusal N.reported_fault N.reported_damage N.reported_no_store) N.reported_error
-        (ReportedSession N.reported_failure S.Disk.Watched.kept_read S.Disk.Watched.last_failure N.reported_end N.reported_tally notes.old notes.new
-        (R.kept_error reader.new) (W.kept_error writer.new) (R.kept_lines reader.new) (W.kept_tally writer.new))
-        (ReportedFailures N.reported_failure S.Disk.Watched.kept_read S.Disk.Watched.last_failure notes.old notes.new) (W.kept_tally writer.new) notes.old notes.new
+        (ReportedSession N.reported_failure S.Disk.Watched.kept_read S.Disk.Watched.last_failure N.reported_end N.reported_tally
+        W.kept_error W.kept_tally notes.old notes.new (R.kept_error reader.new) (R.kept_lines reader.new))
+        (ReportedFailures N.reported_failure S.Disk.Watched.kept_read S.Disk.Watched.last_failure notes.old notes.new) W.contents W.kept_tally notes.old notes.new
         (S.opened source) (S.not_opened source) (S.shared source) (S.not_shared source)
         (S.found source) (S.not_found source) S.resized S.not_resized
-        job.entry (R.remaining reader.old) (R.remaining reader.new) (W.contents writer.old) (W.contents writer.new))
+        job.entry (R.remaining reader.old) (R.remaining reader.new) writer.old writer.new)
         (RefusesLines S.Disk.Disk
-        (ReportedSession N.reported_failure S.Disk.Watched.kept_read S.Disk.Watched.last_failure N.reported_end N.reported_tally notes.old notes.new
-        (R.kept_error reader.new) (W.kept_error writer.new) (R.kept_lines reader.new) (W.kept_tally writer.new))
-        (W.kept_tally writer.new) (S.opened source) job.entry
-        (R.remaining reader.old) (R.remaining reader.new) (W.contents writer.old) (W.contents writer.new))) }
+        (ReportedSession N.reported_failure S.Disk.Watched.kept_read S.Disk.Watched.last_failure N.reported_end N.reported_tally
+        W.kept_error W.kept_tally notes.old notes.new (R.kept_error reader.new) (R.kept_lines reader.new))
+        W.contents W.kept_tally (S.opened source) job.entry
+        (R.remaining reader.old) (R.remaining reader.new) writer.old writer.new)) }
     ensures done { result ≡ Ok 0 → EndsJob S.Disk.Disk N.Notes (ReportedRefusal N.reported_fault N.reported_damage N.reported_no_store)
-        (ReportedSession N.reported_failure S.Disk.Watched.kept_read S.Disk.Watched.last_failure N.reported_end N.reported_tally notes.old notes.new
-        (R.kept_error reader.new) (W.kept_error writer.new) (R.kept_lines reader.new) (W.kept_tally writer.new))
-        (ReportedFailures N.reported_failure S.Disk.Watched.kept_read S.Disk.Watched.last_failure notes.old notes.new) (W.kept_tally writer.new) notes.old notes.new
+        (ReportedSession N.reported_failure S.Disk.Watched.kept_read S.Disk.Watched.last_failure N.reported_end N.reported_tally
+        W.kept_error W.kept_tally notes.old notes.new (R.kept_error reader.new) (R.kept_lines reader.new))
+        (ReportedFailures N.reported_failure S.Disk.Watched.kept_read S.Disk.Watched.last_failure notes.old notes.new) W.contents W.kept_tally notes.old notes.new
         (S.opened source) (S.shared source) (S.found source) S.resized job.entry
-        (R.remaining reader.old) (R.remaining reader.new) (W.contents writer.old) (W.contents writer.new) }
+        (R.remaining reader.old) (R.remaining reader.new) writer.old writer.new }
 {
     match job {
         Job::Format {
@@ -191,7 +190,9 @@ where
         Job::Run { file, options } => {
             run_file(alloc, source, file, options, reader, writer, notes).1
         }
-        Job::Tend { file } => tend_file(alloc, source, file, writer, notes).1,
+        Job::Tend { file, merge_at } => {
+            tend_file(alloc, source, file, merge_at, writer, notes).1
+        }
         Job::Check { file } => check_file(alloc, source, file, writer, notes).1,
         Job::Dump { file } => dump_file(alloc, source, file, writer, notes).1,
         Job::Plan(request) => write_plan(alloc, &request, writer, notes),

@@ -1,20 +1,24 @@
 // The server on the disk of a path.
-ghost use Rattle.std.specs.Prelude.{◌≡◌, ◌⊎◌, ◌<◌, ◌≤◌, ◌/◌, None, Ok, IfOk, IfSome, is_some, false, max, true, unwrap_or};
+ghost use Rattle.std.specs.Prelude.{◌≡◌, ◌⊎◌, ◌<◌, ◌≤◌, ◌/◌, None, Ok, IfOk, IfSome, IsOkAnd, is_some, false, max, true, unwrap_or};
 ghost use Rattle.std.specs.Option.{IsSomeAnd};
 ghost use Rattle.silt_disk.specs.Layout.{Shape};
 ghost use Rattle.silt_store_set.specs.CoreInvariant.{LeavesBegun};
 ghost use Rattle.silt_wire.specs.Statuses.{IsStatus};
 ghost use Rattle.silt_server.specs.Serving.{PrintsNotServed};
-ghost use Rattle.silt.specs.Services.{EndsServe, LeavesServed, ServesFile, PrintsFewRegions, PrintsServe, PrintsServeFile, ReportedUnserved};
+ghost use Rattle.silt.specs.Services.{EndsServe, LeavesServed, ServesFile, PrintsServe, PrintsServeFile, ReportedUnserved};
+ghost use Rattle.silt_jobs.specs.Jobs.{PrintsFewRegions};
 ghost use Rattle.silt_jobs.specs.Notes.{NotOpenedReported, ReportedFailures, ReportedRefusal};
 
 use crate::listener::PatientListener;
 use crate::standard_streams::StandardStreams;
 use silt_desk::{Gate, Spot};
 use silt_device::DiskSource;
-use silt_disk::Disk;
+use silt_disk::{Disk, Geometry};
 use silt_event::Place;
-use silt_jobs::{FaultNotes, Notes, SourceNotes, Watched, refuse, refuse_opening, report_failures};
+use silt_jobs::{
+    FaultNotes, Notes, SourceNotes, Watched, has_few_regions, merge_damage_at, refuse,
+    refuse_few_regions, refuse_opening, report_failures,
+};
 use silt_server::{Limits, refuse_network, serve_on};
 use silt_store_set::{Core, Refusal};
 use silt_words::Service;
@@ -26,7 +30,7 @@ use std::thread::Threads;
 use std::time::Clock;
 
 /// Serves the store on the disk of a path to the connections of a port of this machine. Returns the disk and the
-/// status: 0 after the last session, 1 if the disk or the store is not opened, or the network fails.
+/// status: 0 after the last session, 1 if the disk or the store is not opened, the network fails, or a merge was refused.
 ///
 /// # Errors
 ///
@@ -53,7 +57,7 @@ where
     S::Disk: Watched,
     ensures printed { IfOk result.1 (IsStatus (PrintsServeFile S.Disk.Disk
         (ReportedUnserved N.reported_port (ReportedRefusal N.reported_fault N.reported_damage N.reported_no_store) notes.old notes.new service.now.port service.now.file.now)
-        service.now.merge_at (S.opened source service.now.file.now)
+        service.now.merge_at service.now.audit (S.opened source service.now.file.now)
         (NotOpenedReported (S.not_opened source) (N.reported_error notes.old notes.new) service.now.file.now) result.0 (W.contents writer.old) (W.contents writer.new))) }
     ensures served { result.1 ≡ Ok 0 → ServesFile S.Disk.Disk
         (ReportedFailures N.reported_failure S.Disk.Watched.kept_read S.Disk.Watched.last_failure notes.old notes.new service.now.file.now)
@@ -95,7 +99,7 @@ fn serve_disk<
     ensures failed { result.1 ≡ Ok 0 → ReportedFailures N.reported_failure D.kept_read D.last_failure notes.old notes.new service.now.file.now result.0 }
     ensures printed { IfOk result.1 (IsStatus (PrintsServe D.Disk
         (ReportedUnserved N.reported_port (ReportedRefusal N.reported_fault N.reported_damage N.reported_no_store) notes.old notes.new service.now.port service.now.file.now)
-        service.now.merge_at disk result.0 (W.contents writer.old) (W.contents writer.new))) }
+        service.now.merge_at service.now.audit disk result.0 (W.contents writer.old) (W.contents writer.new))) }
     ensures left { LeavesServed D.Disk disk result.0 }
 {
     let listener = bind(rt, service.port, notes);
@@ -107,17 +111,6 @@ fn serve_disk<
             (disk, status)
         }
         Err(fault) => refuse_opening(alloc, fault, service.file, writer, notes),
-    }
-}
-
-// Whether a store has fewer hash regions than the hash stores of which a merge is to begin.
-fn has_few_regions<D: Disk>(core: &Core<D>, merge_at: Option<u32>) -> bool
-    ensures few { result ≡ true → IsSomeAnd merge_at (λ least. core.now.shape.hashes < least) }
-    ensures enough { result ≡ false → IfSome merge_at (λ least. least ≤ core.now.shape.hashes) }
-{
-    match merge_at {
-        Some(least) => core.geometry().hashes() < least,
-        None => false,
     }
 }
 
@@ -163,14 +156,13 @@ fn serve_opened<
     ensures served { result.1 ≡ Ok 0 → EndsServe D.Disk service.now.audit result.0 (W.contents writer.old) (W.contents writer.new) }
     ensures bound { result.1 ≡ Ok 0 → is_some listener ≡ true }
     ensures printed { IfOk result.1 (IsStatus (PrintsFewRegions service.now.merge_at core result.0 (W.contents writer.old) (W.contents writer.new)
-        ⊎ PrintsNotServed D.Disk (λ port. Unit {0}) core result.0 (W.contents writer.old) (W.contents writer.new))) }
+        ⊎ (PrintsNotServed D.Disk (λ port. Unit {0}) core result.0 (W.contents writer.old) (W.contents writer.new)
+        ⊎ EndsServe D.Disk service.now.audit result.0 (W.contents writer.old) (W.contents writer.new)))) }
     ensures left { (shape : Shape) × LeavesBegun (D.content result.0) shape }
     ensures quiet { result.1 ≡ Ok 0 → notes.new ≡ notes.old }
 {
     if has_few_regions(&core, service.merge_at) {
-        notes.report_few_regions(service.file, core.geometry().hashes());
-        let status = refuse(alloc, &Refusal::<()>::BadGeometry, writer);
-        return (core.close(), status);
+        return refuse_few_regions(alloc, core, service.file, writer, notes);
     }
     serve_store(rt, alloc, core, listener, service, writer, notes)
 }
@@ -197,7 +189,8 @@ fn serve_store<
 ) -> (D, io::Result<u8>)
     ensures served { result.1 ≡ Ok 0 → EndsServe D.Disk service.now.audit result.0 (W.contents writer.old) (W.contents writer.new) }
     ensures bound { result.1 ≡ Ok 0 → is_some listener ≡ true }
-    ensures printed { IfOk result.1 (IsStatus (PrintsNotServed D.Disk (λ port. Unit {0}) core result.0 (W.contents writer.old) (W.contents writer.new))) }
+    ensures printed { IfOk result.1 (IsStatus (PrintsNotServed D.Disk (λ port. Unit {0}) core result.0 (W.contents writer.old) (W.contents writer.new)
+        ⊎ EndsServe D.Disk service.now.audit result.0 (W.contents writer.old) (W.contents writer.new))) }
     ensures left { (shape : Shape) × LeavesBegun (D.content result.0) shape }
     ensures quiet { result.1 ≡ Ok 0 → notes.new ≡ notes.old }
 {
@@ -206,15 +199,28 @@ fn serve_store<
     };
     let listener = PatientListener::new(listener, rt);
     let limits = limits_of(service);
+    let geometry = core.geometry();
     let gate = MergeGate {
         rt,
         file: service.file,
-        least: least_merged(service.merge_at, core.geometry().hashes()),
+        geometry,
+        least: least_merged(service.merge_at, geometry.hashes()),
         is_noted: OnceLock::new(),
     };
     let (disk, status) = serve_on(rt, alloc, &listener, core, limits, &gate, writer);
     report_listener(service.port, listener.failure(), &status, notes);
-    (disk, status)
+    (disk, status_served(status, gate.is_noted.get().is_some()))
+}
+
+// The status of a server with this status: 1 if a merge was refused.
+fn status_served(status: io::Result<u8>, is_unmerged: bool) -> io::Result<u8>
+    ensures done { result ≡ Ok 0 → (status ≡ Ok 0) × (is_unmerged ≡ false) }
+    ensures printed { IfOk result (λ ended. IsOkAnd status (λ served. (ended ≡ served) ⊎ ((served ≡ 0) × (ended ≡ 1) × (is_unmerged ≡ true)))) }
+{
+    match status {
+        Ok(0) if is_unmerged => Ok(1),
+        ended => ended,
+    }
 }
 
 // The limits of a server of this service.
@@ -247,6 +253,7 @@ fn least_merged(asked: Option<u32>, hashes: u32) -> u32
 struct MergeGate<'a, H> {
     rt: &'a H,
     file: &'a str,
+    geometry: Geometry,
     least: u32,
     is_noted: OnceLock<()>,
 }
@@ -260,7 +267,8 @@ impl<H: StandardStreams> Gate for MergeGate<'_, H> {
 
     fn damaged(&self, _spot: Spot, place: Place) {
         if self.is_noted.try_set(()).is_ok() {
-            self.rt.note_unmerged(self.file, place);
+            let at = merge_damage_at(&self.geometry, place);
+            self.rt.note_unmerged(self.file, place, at);
         }
     }
 }

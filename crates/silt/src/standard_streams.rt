@@ -6,7 +6,7 @@ ghost use Rattle.silt.specs.declared.standard_streams.SameStreams.{SameStreams a
 use crate::file_identity::identity_at;
 use silt_device::FileSystem;
 use silt_event::Place;
-use silt_jobs::{NoteLines, Notes};
+use silt_jobs::NoteLines;
 use std::alloc::Global;
 use std::os::fd::{AsRawFd, RawFd};
 use std::rt::Runtime;
@@ -108,8 +108,9 @@ pub trait StandardStreams {
     fn streams_at(&self, path: &str) -> SameStreams
         ensures { are_file self.now path.now result };
 
-    /// Notes on the standard error, at once, that a merge found this part of the store in a file damaged.
-    fn note_unmerged(&self, file: &str, place: Place);
+    /// Notes on the standard error, at once, that a merge found this part of the store in a file damaged, and where it
+    /// begins, if that is known.
+    fn note_unmerged(&self, file: &str, place: Place, at: Option<u64>);
 }
 
 // Not for any system with files: rattle takes no such bound of `done` for granted in the threads of a server.
@@ -134,7 +135,7 @@ impl StandardStreams for HostRuntime {
         }
     }
 
-    fn note_unmerged(&self, file: &str, place: Place) {
-        NoteLines::new(self.stderr()).report_unmerged(file, place);
+    fn note_unmerged(&self, file: &str, place: Place, at: Option<u64>) {
+        NoteLines::new(self.stderr()).report_unmerged(self.alloc(), file, place, at);
     }
 }

@@ -1,7 +1,6 @@
 -- Steps of background work, one more at a time.
-use Rattle.std.proofs.Common.{◌≡◌, ◌≢◌, ◌+◌, ◌≤◌, ◌<◌, ◌||◌, ℕ, Bool, true, false, cond, IsTrue, List, [], ◌∷◌, ◌++◌, length, Some, None, refl, sym, ap, ◌∙◌, subst, arith, inl, inr, Result, Ok, Err}
-use Rattle.std.specs.Prelude.{OnErr}
-use Rattle.std.specs.List.{list_any}
+use Rattle.std.proofs.Common.{◌≡◌, ◌≢◌, ◌+◌, ◌≤◌, ◌<◌, ℕ, Bool, true, false, cond, IsTrue, List, [], ◌∷◌, ◌++◌, length, Option, Some, None, option_map, refl, sym, ap, ◌∙◌, subst, arith, inl, inr}
+use Rattle.std.specs.Prelude.{is_some}
 use Rattle.std.proofs.lemmas.List.{length-append}
 use Rattle.std.proofs.lemmas.List.Elements.{All-nil, All-push}
 use Rattle.silt_disk.specs.declared.disk.Disk.{Ghosts}
@@ -15,9 +14,9 @@ use Rattle.silt_event.specs.declared.reply.Reply.{Reply}
 use Rattle.silt_event.specs.declared.refusal.Refusal.{Refusal}
 use Rattle.silt_event.specs.declared.refusal.Refusal.TheVariants.{NotFormatted, BadGeometry, Damaged, Crowded, Device, NoMemory, StoreFull, NoRoom, Failed, Spent, HistoryFull}
 use Rattle.silt_event.specs.declared.reply.Reply.TheVariants.{Accepted, Acknowledged, Found, Absent, Differs, Progress, Refused, Unsettled, NotServed}
-use Rattle.silt_store_set.specs.CoreState.{Cause, ConvertCause, ConvertsTo, CoreState, Does, DoesPlain, MergeCause, convert_due, is_convert, is_merge, is_refused, wants_convert, wants_merge}
+use Rattle.silt_store_set.specs.CoreState.{Cause, ConvertsTo, CoreState, Does, DoesPlain, convert_due, is_convert, is_merge, is_refused, wants_convert}
 use Rattle.silt_store_set.proofs.Runs.{runs_more}
-use Rattle.silt_jobs.specs.BackgroundWork.{TakesSteps, TendedState, Tends, TendsAll, TendsThenDoes, count_of, is_idle, is_progress, is_step, most_steps}
+use Rattle.silt_jobs.specs.BackgroundWork.{AreDone, PlainRefusal, StopsAt, TakesSteps, TendsAll, TendsDue, TendsPlain, TendsThenDoes, begins, count_of, is_idle, is_step, merges, most_steps}
 use Rattle.silt_jobs.specs.declared.background_work.Steps.{Steps}
 
 -- one event more is one more of its kind
@@ -25,13 +24,14 @@ pub count_more : (is_kind : Event → Bool) (events : List Event) (event : Event
 count_more is_kind [] event = omega arith
 count_more is_kind (e ∷ events) event = omega (arith, count_more is_kind events event)
 
--- with a refused reply at the end one of them is refused
-pub any_last : {F : Type 0} (replies : List (Reply F)) (reply : Reply F) → is_refused reply ≡ true → list_any is_refused (replies ++ reply ∷ []) ≡ true
-any_last [] reply is = ap (λ (b : Bool). b || false) is
-any_last (r ∷ replies) reply is = elim (is_refused r) as (λ (b : Bool). (b || list_any is_refused (replies ++ reply ∷ [])) ≡ true) [
-  | true ↦ refl
-  | false ↦ any_last replies reply is
-]
+-- one step more that was not refused
+pub done_more : {F : Type 0} (replies : List (Reply F)) (reply : Reply F) → AreDone replies → is_refused reply ≡ false → AreDone (replies ++ reply ∷ [])
+done_more replies reply fine is = All-push (λ reply. is_refused reply ≡ false) replies reply fine is
+
+-- there was no refusal, if there is none without its fault
+pub none_plain : {F : Type 0} (refused : Option (Refusal F)) (refusal : Option PlainRefusal) → refusal ≡ option_map plain_refusal refused → refusal ≡ None → refused ≡ None
+none_plain None refusal is none = refl
+none_plain (Some r) refusal is none = absurd (cc)
 
 module _ {D F : Type 0} (facts : Ghosts D F) where
   -- no step yet
@@ -47,120 +47,70 @@ module _ {D F : Type 0} (facts : Ghosts D F) where
     run = runs_more facts old mid new taken.events taken.replies event reply taken.run does;
   }
 
-  -- one step more, if that step is refused
-  pub taken_more : {T E : Type 0} (result : Result T E) (old mid new : CoreState D) (event : Event) (reply : Reply F) → IsTrue (is_step event) → TakesSteps facts old mid
-      → Does facts mid new event reply → OnErr result (TakesSteps facts old new)
-  taken_more (Ok value) old mid new event reply step taken does = tt
-  taken_more (Err error) old mid new event reply step taken does = one_more old mid new event reply step taken does
+  -- one step more, which was refused
+  abbrev pub stops_more : (old mid new : CoreState D) (event : Event) (refusal : Refusal F) → IsTrue (is_step event) → (taken : TakesSteps facts old mid) → AreDone taken.replies
+      → Does facts mid new event (Refused refusal) → StopsAt facts old new refusal
+  stops_more old mid new event refusal step taken fine does = (one_more old mid new event (Refused refusal) step taken does, (taken.replies, refl, fine))
 
-  -- this many steps or more between lines; none but the last was refused
+  -- ---- what is done before a line
+
+  -- this many steps or more between lines, and none was refused
   pub record Going (old new : CoreState D) (turn : ℕ) : Type 0 where
     pub steps : TakesSteps facts old new
+    pub fine : AreDone steps.replies
     pub many : turn ≤ length steps.replies
+    pub shape : new.shape ≡ old.shape
 
   pub none_going : (core : CoreState D) → Going core core 0
-  none_going core = record { steps = none_taken core; many = omega arith }
+  none_going core = record { steps = none_taken core; fine = All-nil (λ reply. is_refused reply ≡ false); many = omega arith; shape = refl }
 
-  abbrev pub going_more : (old mid new : CoreState D) (event : Event) (reply : PlainReply) (turn : ℕ) → IsTrue (is_step event) → Going old mid turn → DoesPlain facts mid new event reply
-      → Going old new (turn + 1)
-  going_more old mid new event reply turn step going does = record {
-    steps = one_more old mid new event does.0 step going.steps does.1;
-    many = omega (arith, going.many, length-append going.steps.replies (does.0 ∷ []));
+  abbrev pub going_more : (old mid new : CoreState D) (event : Event) (progress : ProgressOf) (turn : ℕ) → IsTrue (is_step event) → Going old mid turn
+      → Does facts mid new event (Progress progress) → Going old new (turn + 1)
+  going_more old mid new event progress turn step going does = record {
+    steps = one_more old mid new event (Progress progress) step going.steps does;
+    fine = done_more going.steps.replies (Progress progress) going.fine refl;
+    many = omega (arith, going.many, length-append going.steps.replies (Progress progress ∷ []));
+    shape = does.shape ∙ going.shape;
   }
 
-  -- a step that is no progress is refused
-  convert_refused : (mid new : CoreState D) (reported : Reply F) (reply : PlainReply) → ConvertCause facts mid new reported → reply ≡ plain reported → is_progress reply ≡ false → is_refused reported ≡ true
-  convert_refused mid new (Progress progress) reply cause is none = absurd (cc)
-  convert_refused mid new (Refused refusal) reply cause is none = refl
-  convert_refused mid new reported reply cause is none = absurd cause
-
-  merge_refused : (mid new : CoreState D) (reported : Reply F) (reply : PlainReply) → MergeCause facts mid new reported → reply ≡ plain reported → is_progress reply ≡ false → is_refused reported ≡ true
-  merge_refused mid new (Progress progress) reply cause is none = absurd (cc)
-  merge_refused mid new (Refused refusal) reply cause is none = refl
-  merge_refused mid new reported reply cause is none = absurd cause
-
-  step_refused : (mid new : CoreState D) (event : Event) (reported : Reply F) (reply : PlainReply) → IsTrue (is_step event) → Does facts mid new event reported → reply ≡ plain reported
-      → is_progress reply ≡ false → is_refused reported ≡ true
-  step_refused mid new Convert reported reply step does is none = convert_refused mid new reported reply does.cause is none
-  step_refused mid new Merge reported reply step does is none = merge_refused mid new reported reply does.cause is none
-  step_refused mid new (Put key value) reported reply step does is none = absurd (cc)
-  step_refused mid new (Delete key) reported reply step does is none = absurd (cc)
-  step_refused mid new (Swap key before after) reported reply step does is none = absurd (cc)
-  step_refused mid new (Get key) reported reply step does is none = absurd (cc)
-  step_refused mid new Flush reported reply step does is none = absurd (cc)
-
   -- two steps more
-  pub going_two : (old mid next new : CoreState D) (first second : Event) (reply next_reply : PlainReply) (turn : ℕ) → IsTrue (is_step first) → IsTrue (is_step second) → Going old mid turn
-      → DoesPlain facts mid next first reply → DoesPlain facts next new second next_reply → Going old new (turn + 1)
-  going_two old mid next new first second reply next_reply turn step also going does more =
-      let both = going_more old next new second next_reply (turn + 1) also (going_more old mid next first reply turn step going does) more in
-      record { steps = both.steps; many = omega (arith, both.many) }
-
-  -- and then one of all steps is
-  pub refused_last : (old mid new : CoreState D) (event : Event) (reply : PlainReply) (turn : ℕ) (step : IsTrue (is_step event)) (going : Going old mid turn) (does : DoesPlain facts mid new event reply)
-      → is_progress reply ≡ false → list_any is_refused (going_more old mid new event reply turn step going does).steps.replies ≡ true
-  refused_last old mid new event reply turn step going does none =
-      any_last going.steps.replies does.0 (step_refused mid new event does.0 reply step does.1 does.2 none)
+  pub going_two : (old mid next new : CoreState D) (first second : Event) (progress more : ProgressOf) (turn : ℕ) → IsTrue (is_step first) → IsTrue (is_step second) → Going old mid turn
+      → Does facts mid next first (Progress progress) → Does facts next new second (Progress more) → Going old new (turn + 1)
+  going_two old mid next new first second progress more turn step also going does then_does =
+      let both = going_more old next new second more (turn + 1) also (going_more old mid next first progress turn step going does) then_does in
+      record { steps = both.steps; fine = both.fine; many = omega (arith, both.many); shape = both.shape }
 
   -- if a conversion finds nothing to do, no step is due
-  progress_idle : (mid new : CoreState D) (progress : ProgressOf) → progress ≡ convert_due mid → ConvertsTo facts mid new progress → is_idle (Progress progress) ≡ true → convert_due new ≡ Idle
+  progress_idle : (mid new : CoreState D) (progress : ProgressOf) → progress ≡ convert_due mid → ConvertsTo facts mid new progress → is_idle progress ≡ true → convert_due new ≡ Idle
   progress_idle mid new Idle is same idle = ap (λ (c : CoreState D). convert_due c) same ∙ sym is
   progress_idle mid new Waiting is same idle = absurd (cc)
   progress_idle mid new Moved is same idle = absurd (cc)
   progress_idle mid new Finished is same idle = absurd (cc)
 
-  idle_cause : (mid new : CoreState D) (reported : Reply F) → ConvertCause facts mid new reported → is_idle (plain reported) ≡ true → convert_due new ≡ Idle
-  idle_cause mid new (Progress progress) cause idle = progress_idle mid new progress cause.1 cause.2 idle
-  idle_cause mid new (Refused refusal) cause idle = absurd (cc)
-  idle_cause mid new reported cause idle = absurd cause
-
-  pub idle_done : (mid new : CoreState D) (reply : PlainReply) → DoesPlain facts mid new Convert reply → is_idle reply ≡ true → convert_due new ≡ Idle
-  idle_done mid new reply does idle = idle_cause mid new does.0 does.1.cause (ap is_idle (sym does.2) ∙ idle)
-
-  -- ---- what is done before a line
-
-  -- an event fits a store of the same shape
-  pub fits_after : (was now : CoreState D) (event same : Event) → HasValueOf was.shape.value_len event → now.shape ≡ was.shape → same ≡ event → HasValueOf now.shape.value_len same
-  fits_after was now event same fits shape is =
-      subst (λ (e : Event). HasValueOf now.shape.value_len e) (sym is) (subst (λ (s : Shape). HasValueOf s.value_len event) (sym shape) fits)
-
-  -- a store that does not tend does nothing
-  pub tends_off : (old : TendedState D) → old.tends ≡ false → Tends facts old old
-  tends_off old is = record {
-    steps = none_taken old.core;
-    done = λ e. absurd (cc);
-    stops = λ e _. absurd (cc);
-    off = λ _. refl;
-  }
-
   -- all that is due
-  pub tends_idle : (old new : TendedState D) (mid : CoreState D) (reply : PlainReply) (turn : ℕ) → old.tends ≡ true → new.tends ≡ true → Going old.core mid turn
-      → DoesPlain facts mid new.core Convert reply → is_idle reply ≡ true → Tends facts old new
-  tends_idle old new mid reply turn was is going does idle = record {
-    steps = (going_more old.core mid new.core Convert reply turn refl going does).steps;
-    done = λ _. idle_done mid new.core reply does idle;
-    stops = λ _ e. absurd (cc);
-    off = λ e. absurd (cc);
-  }
+  pub due_done : (least : Option ℕ) (old mid new : CoreState D) (progress : ProgressOf) (turn : ℕ) → Going old mid turn → Does facts mid new Convert (Progress progress) → is_idle progress ≡ true
+      → begins new least ≡ false → TendsDue facts least old new None
+  due_done least old mid new progress turn going does idle rests =
+      let all = going_more old mid new Convert progress turn refl going does in
+      record { steps = all.steps; ended = all.fine; done = λ _. (progress_idle mid new progress does.cause.1 does.cause.2 idle, rests); shape = all.shape }
 
   -- until a step is refused
-  pub tends_refused : (old new : TendedState D) (mid : CoreState D) (event : Event) (reply : PlainReply) (turn : ℕ) → old.tends ≡ true → new.tends ≡ false → IsTrue (is_step event)
-      → Going old.core mid turn → DoesPlain facts mid new.core event reply → is_progress reply ≡ false → Tends facts old new
-  tends_refused old new mid event reply turn was is step going does none = record {
-    steps = (going_more old.core mid new.core event reply turn step going does).steps;
+  pub due_refused : (least : Option ℕ) (old mid new : CoreState D) (event : Event) (refusal : Refusal F) (turn : ℕ) → IsTrue (is_step event) → Going old mid turn
+      → Does facts mid new event (Refused refusal) → TendsDue facts least old new (Some refusal)
+  due_refused least old mid new event refusal turn step going does = record {
+    steps = one_more old mid new event (Refused refusal) step going.steps does;
+    ended = inl (going.steps.replies, refl, going.fine);
     done = λ e. absurd (cc);
-    stops = λ _ _. inl (refused_last old.core mid new.core event reply turn step going does none);
-    off = λ e. absurd (cc);
+    shape = does.shape ∙ going.shape;
   }
 
   -- until the most steps are taken
-  pub tends_out : (old new : TendedState D) (turn : ℕ) → old.tends ≡ true → new.tends ≡ false → most_steps ≤ turn → Going old.core new.core turn → Tends facts old new
-  tends_out old new turn was is most going = record {
-    steps = going.steps;
-    done = λ e. absurd (cc);
-    stops = λ _ _. inr (omega (arith, going.many, most));
-    off = λ e. absurd (cc);
-  }
+  pub due_out : (least : Option ℕ) (old new : CoreState D) (turn : ℕ) → most_steps ≤ turn → Going old new turn → TendsDue facts least old new (Some Spent)
+  due_out least old new turn most going = record { steps = going.steps; ended = inr (refl, omega (arith, going.many, most)); done = λ e. absurd (cc); shape = going.shape }
+
+  -- an event fits a store of the same shape
+  pub fits_after : (was now : CoreState D) (event : Event) → HasValueOf was.shape.value_len event → now.shape ≡ was.shape → HasValueOf now.shape.value_len event
+  fits_after was now event fits shape = subst (λ (s : Shape). HasValueOf s.value_len event) (sym shape) fits
 
   -- a refusal for lack of room is one with its fault too
   refusal_for_room : (refusal : Refusal F) → plain_refusal refusal ≡ NoRoom → refusal ≡ NoRoom
@@ -203,15 +153,31 @@ module _ {D F : Type 0} (facts : Ghosts D F) where
       let reported = reply_for_room does.0 (sym does.2 ∙ is) in
       room_cause mid new event (subst (λ (r : Reply F). Cause facts mid new event r) reported does.1.cause) idle
 
-  -- and then the event is done
-  pub tends_then : (old mid new : TendedState D) (event : Event) (reply : PlainReply) → Tends facts old mid → DoesPlain facts mid.core new.core event reply → new.tends ≡ mid.tends
-      → TendsThenDoes facts old new event reply
-  tends_then old mid new event reply tends does same = record {
-    mid = mid;
-    tended = tends;
+  -- the event alone, of a store that does no more background work
+  pub does_off : (least : Option ℕ) (refusal : Option PlainRefusal) (core new : CoreState D) (event : Event) (reply : PlainReply) → is_some refusal ≡ true → DoesPlain facts core new event reply
+      → TendsThenDoes facts (record { core = core; least = least; refusal = refusal }) (record { core = new; least = least; refusal = refusal }) event reply
+  does_off least None core new event reply is does = absurd (cc)
+  does_off least (Some r) core new event reply is does = record {
+    mid = record { core = core; least = least; refusal = Some r };
+    tended = refl;
     does = does;
-    tends = same;
-    room = λ on. has_room mid.core new.core event reply does (tends.done on);
+    least = refl;
+    refusal = refl;
+    room = λ e. absurd (cc);
+  }
+
+  -- the background work, and then the event
+  pub does_on : (least : Option ℕ) (before after : Option PlainRefusal) (core mid new : CoreState D) (event : Event) (reply : PlainReply) → is_some before ≡ false
+      → TendsPlain facts least core mid after → DoesPlain facts mid new event reply
+      → TendsThenDoes facts (record { core = core; least = least; refusal = before }) (record { core = new; least = least; refusal = after }) event reply
+  does_on least (Some r) after core mid new event reply is tends does = absurd (cc)
+  does_on least None after core mid new event reply is tends does = record {
+    mid = record { core = mid; least = least; refusal = after };
+    tended = (tends, refl);
+    does = does;
+    least = refl;
+    refusal = refl;
+    room = λ none. has_room mid new event reply does (tends.1.done (none_plain tends.0 after tends.2 none)).0;
   }
 
   -- ---- all of it
@@ -219,32 +185,35 @@ module _ {D F : Type 0} (facts : Ghosts D F) where
   -- this many steps were taken, and counted
   pub record Counted (old new : CoreState D) (converted merged turn : ℕ) : Type 0 where
     pub taken : TakesSteps facts old new
+    pub fine : AreDone taken.replies
     pub converts : converted ≡ count_of is_convert taken.events
     pub merges : merged ≡ count_of is_merge taken.events
     pub all : converted + merged ≡ turn
 
   pub none_counted : (core : CoreState D) → Counted core core 0 0 0
-  none_counted core = record { taken = none_taken core; converts = refl; merges = refl; all = refl }
+  none_counted core = record { taken = none_taken core; fine = All-nil (λ reply. is_refused reply ≡ false); converts = refl; merges = refl; all = refl }
 
-  pub convert_counted : (old mid new : CoreState D) (reply : Reply F) (converted merged turn : ℕ) → Counted old mid converted merged turn → Does facts mid new Convert reply
+  pub convert_counted : (old mid new : CoreState D) (reply : Reply F) (converted merged turn : ℕ) → Counted old mid converted merged turn → is_refused reply ≡ false → Does facts mid new Convert reply
       → Counted old new (converted + 1) merged (turn + 1)
-  convert_counted old mid new reply converted merged turn counted does = record {
+  convert_counted old mid new reply converted merged turn counted fine does = record {
     taken = one_more old mid new Convert reply refl counted.taken does;
+    fine = done_more counted.taken.replies reply counted.fine fine;
     converts = omega (arith, counted.converts, count_more is_convert counted.taken.events Convert);
     merges = omega (arith, counted.merges, count_more is_merge counted.taken.events Convert);
     all = omega (arith, counted.all);
   }
 
-  pub merge_counted : (old mid new : CoreState D) (reply : Reply F) (converted merged turn : ℕ) → Counted old mid converted merged turn → Does facts mid new Merge reply
+  pub merge_counted : (old mid new : CoreState D) (reply : Reply F) (converted merged turn : ℕ) → Counted old mid converted merged turn → is_refused reply ≡ false → Does facts mid new Merge reply
       → Counted old new converted (merged + 1) (turn + 1)
-  merge_counted old mid new reply converted merged turn counted does = record {
+  merge_counted old mid new reply converted merged turn counted fine does = record {
     taken = one_more old mid new Merge reply refl counted.taken does;
+    fine = done_more counted.taken.replies reply counted.fine fine;
     converts = omega (arith, counted.converts, count_more is_convert counted.taken.events Merge);
     merges = omega (arith, counted.merges, count_more is_merge counted.taken.events Merge);
     all = omega (arith, counted.all);
   }
 
   -- then all work is done, or the most steps were taken
-  pub counted_all : (old new : CoreState D) (steps : Steps) (turn : ℕ) → Counted old new steps.converted steps.merged turn
-      → (steps.converted + steps.merged < most_steps → (wants_convert new ≡ false) × (wants_merge new ≡ false)) → TendsAll facts old new steps
-  counted_all old new steps turn counted done = record { taken = counted.taken; converted = counted.converts; merged = counted.merges; done = done }
+  pub counted_all : (least : Option ℕ) (old new : CoreState D) (steps : Steps) (turn : ℕ) → Counted old new steps.converted steps.merged turn
+      → (steps.converted + steps.merged < most_steps → (wants_convert new ≡ false) × (merges new least ≡ false)) → TendsAll facts least old new steps
+  counted_all least old new steps turn counted done = record { taken = counted.taken; fine = counted.fine; converted = counted.converts; merged = counted.merges; done = done }

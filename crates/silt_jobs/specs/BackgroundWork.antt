@@ -1,16 +1,21 @@
 -- Background work between lines, and all of it at once.
-use Rattle.std.specs.Prelude.{◌≡◌, ◌≢◌, ◌⊎◌, ◌+◌, ◌<◌, ◌≤◌, ◌-◌, ◌^◌, ℕ, Bool, true, false, cond, IsTrue, All, List, [], ◌∷◌, length}
-use Rattle.std.specs.List.{list_any}
+use Rattle.std.specs.Prelude.{◌≡◌, ◌≢◌, ◌⊎◌, ◌+◌, ◌<◌, ◌≤◌, ◌-◌, ◌^◌, ◌&&◌, ℕ, Bool, true, false, not, cond, IsTrue, All, List, [], ◌∷◌, ◌++◌, length, Option, Some, None, Result, Ok, Err, option_map}
 use Rattle.silt_disk.specs.declared.disk.Disk.{Ghosts}
-use Rattle.silt_event.specs.Events.{PlainReply}
+use Rattle.silt_event.specs.Events.{PlainReply, plain_refusal}
 use Rattle.silt_event.specs.declared.event.Event.{Event}
 use Rattle.silt_event.specs.declared.event.Event.TheVariants.{Convert, Merge}
-use Rattle.silt_event.specs.declared.progress.Progress.TheVariants.{Idle, Waiting}
-use Rattle.silt_event.specs.declared.refusal.Refusal.TheVariants.{NoRoom}
+use Rattle.silt_event.specs.declared.progress.Progress.{Progress}
+use Rattle.silt_event.specs.declared.progress.Progress.TheVariants.{Idle}
+use Rattle.silt_event.specs.declared.refusal.Refusal.{Refusal}
+use Rattle.silt_event.specs.declared.refusal.Refusal.TheVariants.{NoRoom, Spent}
 use Rattle.silt_event.specs.declared.reply.Reply.{Reply}
-use Rattle.silt_event.specs.declared.reply.Reply.TheVariants.{Progress, Refused}
-use Rattle.silt_store_set.specs.CoreState.{CoreState, DoesPlain, Runs, convert_due, is_convert, is_merge, is_refused, wants_convert, wants_merge}
+use Rattle.silt_event.specs.declared.reply.Reply.TheVariants.{Refused}
+use Rattle.silt_store_set.specs.CoreState.{CoreState, DoesPlain, Runs, convert_due, is_convert, is_merge, is_refused, may_merge, wants_convert, wants_merge}
 use Rattle.silt_jobs.specs.declared.background_work.Steps.{Steps}
+
+-- a refusal without its fault
+abbrev pub PlainRefusal : Type 0
+PlainRefusal = Refusal (Unit {0})
 
 -- the event is a step of background work
 abbrev pub is_step : Event → Bool
@@ -18,18 +23,15 @@ is_step Convert = true
 is_step Merge = true
 is_step event = false
 
--- what a step found: nothing to do, or a wait for other work, or anything but a refusal
-abbrev pub is_idle : PlainReply → Bool
-is_idle (Progress Idle) = true
-is_idle reply = false
+-- a conversion found nothing to do
+abbrev pub is_idle : Progress → Bool
+is_idle Idle = true
+is_idle progress = false
 
-abbrev pub is_waiting : PlainReply → Bool
-is_waiting (Progress Waiting) = true
-is_waiting reply = false
-
-abbrev pub is_progress : PlainReply → Bool
-is_progress (Progress progress) = true
-is_progress reply = false
+-- the error of a result, if it is one
+abbrev pub error_of : {A E : Type 0} → Result A E → Option E
+error_of (Ok value) = None
+error_of (Err error) = Some error
 
 -- steps of background work, each of them a call of the store, and their replies
 pub record TakesSteps {D F : Type 0} (facts : Ghosts D F) (old new : CoreState D) : Type 0 where
@@ -38,43 +40,83 @@ pub record TakesSteps {D F : Type 0} (facts : Ghosts D F) (old new : CoreState D
   pub background : All (λ event. IsTrue (is_step event)) events
   pub run : Runs facts old events replies new
 
+-- none of these steps was refused
+abbrev pub AreDone : {F : Type 0} → List (Reply F) → Type 0
+AreDone replies = All (λ reply. is_refused reply ≡ false) replies
+
+-- the last of these steps was refused so, and none before it
+abbrev pub EndsRefused : {F : Type 0} → List (Reply F) → Refusal F → Type 0
+EndsRefused {F} replies refusal = (front : List (Reply F)) × (replies ≡ front ++ Refused refusal ∷ []) × AreDone front
+
+-- steps were taken until one was refused so
+abbrev pub StopsAt : {D F : Type 0} → Ghosts D F → CoreState D → CoreState D → Refusal F → Type 0
+StopsAt facts old new refusal = (taken : TakesSteps facts old new) × EndsRefused taken.replies refusal
+
 -- the most steps that are taken at once
 abbrev pub most_steps : ℕ
 most_steps = 2 ^ 64 - 1
 
 -- ---- between lines
 
--- a store, and whether its background work is still done between lines
+-- there is a step of a merge of at least this many hash stores, if there is a number
+abbrev pub begins : {D : Type 0} → CoreState D → Option ℕ → Bool
+begins core None = false
+begins core (Some least) = may_merge core least
+
+-- which refusal ended the steps: that of the last one, or none, if none was refused, or `Spent` after the most steps
+abbrev pub EndsSteps : {F : Type 0} → List (Reply F) → Option (Refusal F) → Type 0
+EndsSteps replies None = AreDone replies
+EndsSteps replies (Some refusal) = EndsRefused replies refusal ⊎ ((refusal ≡ Spent) × (most_steps ≤ length replies))
+
+-- The background work that is due before a line: steps until one is refused, or until no frozen log is left and no merge of as many hash
+-- stores as are asked for can begin or go on.
+pub record TendsDue {D F : Type 0} (facts : Ghosts D F) (least : Option ℕ) (old new : CoreState D) (refused : Option (Refusal F)) : Type 0 where
+  pub steps : TakesSteps facts old new
+  pub ended : EndsSteps steps.replies refused
+  pub done : refused ≡ None → (convert_due new ≡ Idle) × (begins new least ≡ false)
+  pub shape : new.shape ≡ old.shape
+
+-- the same, with the refusal without its fault
+abbrev pub TendsPlain : {D F : Type 0} → Ghosts D F → Option ℕ → CoreState D → CoreState D → Option PlainRefusal → Type 0
+TendsPlain {D} {F} facts least old new refusal = (refused : Option (Refusal F)) × TendsDue facts least old new refused × (refusal ≡ option_map plain_refusal refused)
+
+-- a store, of how many hash stores a merge begins between lines, and why its background work was refused, if it was
 pub record TendedState (D : Type 0) : Type 0 where
   pub core : CoreState D
-  pub tends : Bool
+  pub least : Option ℕ
+  pub refusal : Option PlainRefusal
 
--- The background work before a line: steps until no frozen log is left, or until one is refused. After a refused step none is done any
--- more.
-pub record Tends {D F : Type 0} (facts : Ghosts D F) (old new : TendedState D) : Type 0 where
-  pub steps : TakesSteps facts old.core new.core
-  pub done : new.tends ≡ true → convert_due new.core ≡ Idle
-  pub stops : old.tends ≡ true → new.tends ≡ false → (list_any is_refused steps.replies ≡ true) ⊎ (most_steps ≤ length steps.replies)
-  pub off : old.tends ≡ false → new ≡ old
+-- the background work before a line: after a refused step none is done any more
+abbrev pub Tends : {D F : Type 0} → Ghosts D F → Option PlainRefusal → TendedState D → TendedState D → Type 0
+Tends facts (Some refusal) old new = new ≡ old
+Tends facts None old new = TendsPlain facts old.least old.core new.core new.refusal × (new.least ≡ old.least)
 
 -- The background work that is due is done, and then the event. If all of it was done, the store has room for the event.
 pub record TendsThenDoes {D F : Type 0} (facts : Ghosts D F) (old new : TendedState D) (event : Event) (reply : PlainReply) : Type 0 where
   pub mid : TendedState D
-  pub tended : Tends facts old mid
+  pub tended : Tends facts old.refusal old mid
   pub does : DoesPlain facts mid.core new.core event reply
-  pub tends : new.tends ≡ mid.tends
-  pub room : mid.tends ≡ true → reply ≢ Refused NoRoom
+  pub least : new.least ≡ mid.least
+  pub refusal : new.refusal ≡ mid.refusal
+  pub room : mid.refusal ≡ None → reply ≢ Refused NoRoom
 
 -- ---- all of it
+
+-- there is a step of merging: with a number, of a merge of at least so many hash stores
+abbrev pub merges : {D : Type 0} → CoreState D → Option ℕ → Bool
+merges core None = wants_merge core
+merges core (Some least) = may_merge core least
 
 -- how many of the events are of this kind
 abbrev pub count_of : (Event → Bool) → List Event → ℕ
 count_of is_kind [] = 0
 count_of is_kind (event ∷ events) = cond (is_kind event) 1 0 + count_of is_kind events
 
--- Steps were taken and counted by their kind. No work is left, unless they are the most that are taken at once.
-pub record TendsAll {D F : Type 0} (facts : Ghosts D F) (old new : CoreState D) (steps : Steps) : Type 0 where
+-- Steps were taken and counted by their kind, and none was refused. No conversion is left to do, and no merge: with a number, none that
+-- goes on or could begin with so many hash stores. The steps may also be the most that are taken at once.
+pub record TendsAll {D F : Type 0} (facts : Ghosts D F) (least : Option ℕ) (old new : CoreState D) (steps : Steps) : Type 0 where
   pub taken : TakesSteps facts old new
+  pub fine : AreDone taken.replies
   pub converted : steps.converted ≡ count_of is_convert taken.events
   pub merged : steps.merged ≡ count_of is_merge taken.events
-  pub done : steps.converted + steps.merged < most_steps → (wants_convert new ≡ false) × (wants_merge new ≡ false)
+  pub done : steps.converted + steps.merged < most_steps → (wants_convert new ≡ false) × (merges new least ≡ false)

@@ -28,6 +28,12 @@ offset_of s sorted (Sorted entry) = part_at (sorted_at s sorted) (entry_len s) s
 offset_of s sorted SortedDigest = Some (sorted_at s sorted)
 offset_of s sorted Charge = None
 
+-- the offset of a part that is not in the sorted store
+abbrev pub unsorted_offset_of : Shape → Place → Option ℕ
+unsorted_offset_of s (Sorted entry) = None
+unsorted_offset_of s SortedDigest = None
+unsorted_offset_of s place = offset_of s 0 place
+
 -- the header of a device is whole, and these are its six numbers
 abbrev pub HasShape : Content → Shape → Type 0
 HasShape content shape = IsTrue content.honest → shape_found (size content) (header_of content.shown) ≡ Ok shape

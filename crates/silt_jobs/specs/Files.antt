@@ -20,31 +20,32 @@ use Rattle.silt_jobs.specs.declared.tally.Tally.{Tally}
 abbrev pub PrintsNoDisk : {E : Type 0} → (E → Type 0) → Option (List ℕ) → Option (List ℕ) → Type 0
 PrintsNoDisk {E} IsCause before after = (error : E) × IsCause error × Prints (Device (tt {0})) before after
 
-module _ {D F : Type 0} (facts : Ghosts D F) (options : RunOptions) (tally : Tally) where
+module _ {D F W : Type 0} (facts : Ghosts D F) (options : RunOptions) (contents : W → Option (List ℕ)) (kept_tally : W → Tally) where
   -- One life with this status, on a disk that the source opened. The disk is returned as the store left it, and notes say which of its calls
   -- failed.
-  abbrev pub RunsFile : ℕ → (ℕ → SessionEnd → D → Type 0) → (D → Type 0) → Option D → Option (List ℕ) → Option (List ℕ) → Option (List ℕ) → Option (List ℕ) → Type 0
+  abbrev pub RunsFile : ℕ → (W → ℕ → SessionEnd → D → Type 0) → (D → Type 0) → Option D → Option (List ℕ) → Option (List ℕ) → W → W → Type 0
   RunsFile status reported_session Opened given remaining left before after =
-      (old : D) × Opened old × IsSomeAnd given (λ new. EndsRun facts options tally reported_session status old new remaining left before after)
+      (old : D) × Opened old × IsSomeAnd given (λ new. EndsRun facts options contents kept_tally reported_session status old new remaining left before after)
 
-  -- the line says that the source opened no disk, or why its store was not opened, or the session on it broke off
-  abbrev pub PrintsRunFile : {E : Type 0} → (Refusal F → Type 0) → (ℕ → SessionEnd → D → Type 0) → (D → Type 0) → (E → Type 0)
-      → Option D → Option (List ℕ) → Option (List ℕ) → Option (List ℕ) → Option (List ℕ) → Type 0
+  -- the line says that the source opened no disk, or why its store was not opened, or the session on it or its background work broke off
+  abbrev pub PrintsRunFile : {E : Type 0} → (Refusal F → Type 0) → (W → ℕ → SessionEnd → D → Type 0) → (D → Type 0) → (E → Type 0)
+      → Option D → Option (List ℕ) → Option (List ℕ) → W → W → Type 0
   PrintsRunFile reported_refusal reported_session Opened NotOpened given remaining left before after =
-      PrintsNoDisk NotOpened before after ⊎ ((old : D) × Opened old
-      × IsSomeAnd given (λ new. PrintsRun facts options tally reported_refusal reported_session old new remaining left before after))
+      PrintsNoDisk NotOpened (contents before) (contents after) ⊎ ((old : D) × Opened old
+      × IsSomeAnd given (λ new. PrintsRun facts options contents kept_tally reported_refusal reported_session old new remaining left before after))
 
-module _ {D F : Type 0} (facts : Ghosts D F) where
+module _ {D F : Type 0} (facts : Ghosts D F) (merge_at : Option ℕ) where
   -- All background work was done on a disk that the source opened. The disk is returned as the store left it, and notes report failed
   -- calls.
   abbrev pub TendsFile : (D → Type 0) → (D → Type 0) → Option D → Option (List ℕ) → Option (List ℕ) → Type 0
-  TendsFile reported_failures Opened given before after = (old : D) × Opened old × IsSomeAnd given (λ new. EndsTend facts reported_failures old new before after)
+  TendsFile reported_failures Opened given before after =
+      (old : D) × Opened old × IsSomeAnd given (λ new. EndsTend facts merge_at reported_failures old new before after)
 
   -- the line says that the source opened no disk, why its store was not opened, or why a step was refused
   abbrev pub PrintsTendFile : {E : Type 0} → (Refusal F → Type 0) → (D → Type 0) → (D → Type 0) → (E → Type 0) → Option D → Option (List ℕ) → Option (List ℕ) → Type 0
   PrintsTendFile reported_refusal reported_failures Opened NotOpened given before after =
       PrintsNoDisk NotOpened before after ⊎ ((old : D) × Opened old
-      × IsSomeAnd given (λ new. PrintsTend facts reported_refusal reported_failures old new before after))
+      × IsSomeAnd given (λ new. PrintsTend facts merge_at reported_refusal reported_failures old new before after))
 
 module _ {D F E : Type 0} (facts : Ghosts D F) (reported : Refusal F → Type 0) (Opened : D → Type 0) (NotOpened : E → Type 0) where
   -- the line says that the source opened no disk, or what is wrong with the one that it opened, which is returned

@@ -53,8 +53,10 @@ module _ {N D : Type 0} (reported_failure : N → N → List ℕ → Failure →
       (read : Option Failure) × kept_read disk read × (mid : N) × ReportedCall (λ from to. reported_failure from to file) read old mid
       × ReportedCall (λ from to. reported_failure from to file) (last_failure disk) mid new
 
-  -- notes say how a session on the disk of this file ended, then which lines were refused, and then which calls of the disk failed
-  abbrev pub ReportedSession : (N → N → SessionEnd → Option StreamError → Type 0) → (N → N → InputLines → Tally → ℕ → Type 0) → N → N
-      → Option StreamError → Option StreamError → InputLines → Tally → List ℕ → ℕ → SessionEnd → D → Type 0
-  ReportedSession reported_end reported_tally old new reading writing lines tally file value_len end disk =
-      (mid : N) × ReportedLines reported_end reported_tally reading writing lines tally value_len end old mid × ReportedFailures mid new file disk
+  -- Notes say how a session on the disk of this file ended that left the writer so, then which lines were refused, and then which calls of
+  -- the disk failed.
+  abbrev pub ReportedSession : {W : Type 0} → (N → N → SessionEnd → Option StreamError → Type 0) → (N → N → InputLines → Tally → ℕ → Type 0)
+      → (W → Option StreamError) → (W → Tally) → N → N → Option StreamError → InputLines → List ℕ → W → ℕ → SessionEnd → D → Type 0
+  ReportedSession reported_end reported_tally kept_error kept_tally old new reading lines file answered value_len end disk =
+      (mid : N) × ReportedLines reported_end reported_tally reading (kept_error answered) lines (kept_tally answered) value_len end old mid
+      × ReportedFailures mid new file disk

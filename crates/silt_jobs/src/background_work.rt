@@ -1,6 +1,6 @@
 // Background work without workers: between the lines of a session, or all at once.
-ghost use Rattle.std.specs.Prelude.{◌≡◌, true, IfOk, OnErr};
-ghost use Rattle.silt_jobs.specs.BackgroundWork.{TakesSteps, TendsAll, TendsThenDoes, is_idle, is_progress, is_waiting};
+ghost use Rattle.std.specs.Prelude.{◌≡◌, ◌&&◌, not, IfErr, IfOk};
+ghost use Rattle.silt_jobs.specs.BackgroundWork.{StopsAt, TendsAll, TendsDue, TendsPlain, TendsThenDoes, begins, error_of, is_idle, merges};
 
 use silt_disk::Disk;
 use silt_event::{Answerer, Event, Reply};
@@ -15,14 +15,19 @@ pub struct Steps {
     pub merged: u64,
 }
 
-/// Does all background work of a store: conversions first, because they make room for puts.
+/// Does all background work of a store: conversions first, because they make room for puts. With a number it begins a
+/// merge only of at least so many hash stores, or if a conversion waits for a hash region.
 ///
 /// # Errors
 ///
 /// That of the first step that is refused. The steps before it are done.
-pub fn tend_all<D: Disk>(alloc: Global, core: &mut Core<D>) -> Result<Steps, Refusal<D::Fault>>
-    ensures done { IfOk result (TendsAll D.Disk core.old core.new) }
-    ensures refused { OnErr result (TakesSteps D.Disk core.old core.new) }
+pub fn tend_all<D: Disk>(
+    alloc: Global,
+    core: &mut Core<D>,
+    least: Option<u32>,
+) -> Result<Steps, Refusal<D::Fault>>
+    ensures done { IfOk result (TendsAll D.Disk least core.old core.new) }
+    ensures refused { IfErr result (StopsAt D.Disk core.old core.new) }
 {
     let mut steps = Steps {
         converted: 0,
@@ -32,7 +37,7 @@ pub fn tend_all<D: Disk>(alloc: Global, core: &mut Core<D>) -> Result<Steps, Ref
         if core.wants_convert() {
             core.convert(alloc)?;
             steps.converted += 1;
-        } else if core.wants_merge() {
+        } else if merges(core, least) {
             core.merge(alloc)?;
             steps.merged += 1;
         } else {
@@ -42,13 +47,91 @@ pub fn tend_all<D: Disk>(alloc: Global, core: &mut Core<D>) -> Result<Steps, Ref
     Ok(steps)
 }
 
-/// A store that does background work before each event. It converts all frozen logs, and it merges if a conversion
-/// waits for a hash region. So each put finds a free log, and a merge takes as many hash stores as there may be. After
-/// a step that is refused it does no more background work.
+// Whether there is a step of merging to do: with a number, of at least so many hash stores.
+fn merges<D: Disk>(core: &Core<D>, least: Option<u32>) -> bool
+    ensures { result ≡ merges core.now least }
+{
+    match least {
+        Some(least) => core.may_merge(least),
+        None => core.wants_merge(),
+    }
+}
+
+/// Does the background work that is due before a line: it converts all frozen logs, and it merges if a conversion waits
+/// for a hash region. So each put finds a free log. With a number it also merges once there are so many hash stores.
+///
+/// # Errors
+///
+/// That of the first step that is refused. The steps before it are done. `Spent`, if the most steps were done.
+pub fn tend_due<D: Disk>(
+    alloc: Global,
+    core: &mut Core<D>,
+    least: Option<u32>,
+) -> Result<(), Refusal<D::Fault>>
+    ensures { TendsDue D.Disk least core.old core.new (error_of result) }
+{
+    for _turn in 0..u64::MAX {
+        let converted = core.convert(alloc)?;
+        if rests(core, least, converted) {
+            return Ok(());
+        }
+        if is_paused(converted) {
+            core.merge(alloc)?;
+        }
+    }
+    Err(Refusal::Spent)
+}
+
+// Whether nothing is due before a line, if the next step of conversion is this one.
+fn rests<D: Disk>(core: &Core<D>, least: Option<u32>, converted: Progress) -> bool
+    ensures { result ≡ (is_idle converted && not (begins core.now least)) }
+{
+    matches!(converted, Progress::Idle) && !begins(core, least)
+}
+
+// Whether there is a step of a merge of at least this many hash stores to do, if there is a number.
+fn begins<D: Disk>(core: &Core<D>, least: Option<u32>) -> bool
+    ensures { result ≡ begins core.now least }
+{
+    match least {
+        Some(least) => core.may_merge(least),
+        None => false,
+    }
+}
+
+// Whether no conversion can go on before a merge has ended.
+fn is_paused(converted: Progress) -> bool
+{
+    matches!(converted, Progress::Idle | Progress::Waiting)
+}
+
+/// A disk whose store can do the background work that is due before a line.
+pub trait Tended: Served {
+    /// Does that work as [`tend_due`] does it. Returns why a step was refused, if one was.
+    fn tend_on(core: &mut Core<Self>, alloc: Global, least: Option<u32>) -> Option<Refusal<()>>
+        ensures { TendsPlain Self.Disk least core.old core.new result };
+}
+
+/// The background work of [`tend_due`]. Returns why a step was refused, without its fault, if one was.
+pub fn tend_plain<D: Disk>(
+    alloc: Global,
+    core: &mut Core<D>,
+    least: Option<u32>,
+) -> Option<Refusal<()>>
+    ensures { TendsPlain D.Disk least core.old core.new result }
+{
+    match tend_due(alloc, core, least) {
+        Ok(()) => None,
+        Err(refusal) => Some(refusal.plain()),
+    }
+}
+
+/// A store that does the background work that is due before each event. After a step that is refused it does no more.
 #[derive(Drop)]
 pub struct Tending<D: Disk> {
     core: Core<D>,
-    tends: bool,
+    least: Option<u32>,
+    refusal: Option<Refusal<()>>,
 }
 
 impl<D: Disk> Model for Tending<D> {
@@ -60,15 +143,28 @@ impl<D: Disk> Model for Tending<D> {
 
     ghost coded = { Prim.hlevel (codes, map_code) };
 
-    ghost view = { λ a. record { core = a.core; tends = a.tends } };
+    ghost view = { λ a. record { core = a.core; least = a.least; refusal = a.refusal } };
 }
 
 impl<D: Disk> Tending<D> {
-    /// This store.
-    pub fn new(core: Core<D>) -> Self
-        ensures { result ≡ record { core = core; tends = true } }
+    ghost use Rattle.std.specs.Prelude.{None};
+
+    /// This store. With a number it also merges once there are so many hash stores.
+    pub fn new(core: Core<D>, least: Option<u32>) -> Self
+        ensures { result ≡ record { core = core; least = least; refusal = None } }
     {
-        Tending { core, tends: true }
+        Tending {
+            core,
+            least,
+            refusal: None,
+        }
+    }
+
+    /// Why a step of its background work was refused, if one was.
+    pub fn refusal(&self) -> Option<Refusal<()>>
+        ensures { result ≡ self.now.refusal }
+    {
+        self.refusal
     }
 
     /// The store, as it is now.
@@ -79,53 +175,16 @@ impl<D: Disk> Tending<D> {
     }
 }
 
-impl<D: Served> Answerer for Tending<D> {
+impl<D: Tended> Answerer for Tending<D> {
     ghost value_len = { λ tending. tending.core.shape.value_len };
 
     ghost answers = { TendsThenDoes D.Disk };
 
     fn answer(&mut self, alloc: Global, event: Event) -> Reply<()> {
-        if !self.tends {
+        if self.refusal.is_some() {
             return D::answer_on(&mut self.core, alloc, &event);
         }
-        self.tends = false;
-        for _turn in 0..u64::MAX {
-            let converted = D::answer_on(&mut self.core, alloc, &Event::Convert);
-            if is_idle(&converted) {
-                self.tends = true;
-                return D::answer_on(&mut self.core, alloc, &event);
-            }
-            if !is_progress(&converted) {
-                return D::answer_on(&mut self.core, alloc, &event);
-            }
-            if is_waiting(&converted) {
-                let merged = D::answer_on(&mut self.core, alloc, &Event::Merge);
-                if !is_progress(&merged) {
-                    return D::answer_on(&mut self.core, alloc, &event);
-                }
-            }
-        }
+        self.refusal = D::tend_on(&mut self.core, alloc, self.least);
         D::answer_on(&mut self.core, alloc, &event)
     }
-}
-
-// Whether a step found nothing to do.
-fn is_idle(reply: &Reply<()>) -> bool
-    ensures { result ≡ is_idle reply.now }
-{
-    matches!(reply, Reply::Progress(Progress::Idle))
-}
-
-// Whether a step waits for another kind of work.
-fn is_waiting(reply: &Reply<()>) -> bool
-    ensures { result ≡ is_waiting reply.now }
-{
-    matches!(reply, Reply::Progress(Progress::Waiting))
-}
-
-// Whether a step was not refused.
-fn is_progress(reply: &Reply<()>) -> bool
-    ensures { result ≡ is_progress reply.now }
-{
-    matches!(reply, Reply::Progress(_))
 }

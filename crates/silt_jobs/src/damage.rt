@@ -4,7 +4,7 @@ ghost use Rattle.silt_disk.specs.Disk.{GaveAny, size};
 ghost use Rattle.silt_disk.specs.Layout.{device_size, entry_len, row_len};
 ghost use Rattle.silt_disk.specs.Header.{header_of, version_of};
 ghost use Rattle.silt_image.specs.Stores.{shape_found};
-ghost use Rattle.silt_jobs.specs.Damage.{HasShape, LacksShape, part_at, offset_of};
+ghost use Rattle.silt_jobs.specs.Damage.{HasShape, LacksShape, part_at, offset_of, unsorted_offset_of};
 
 use silt_disk::{Disk, Geometry, HEADER_LEN, Version, slot_start, version_of};
 use silt_event::{Finding, Place, Refusal};
@@ -95,6 +95,18 @@ fn sorted_on<D: Disk>(disk: &D, header: &Header) -> u32
     match read_current(disk, header.geometry, header.version) {
         Ok(manifest) if manifest.current().sorted < 2 => manifest.current().sorted,
         _ => 0,
+    }
+}
+
+/// The offset of the damaged part that a merge reports, if the geometry alone says it. In which region the sorted store
+/// lies, the manifest says.
+pub fn merge_damage_at(geometry: &Geometry, place: Place) -> Option<u64>
+    ensures { result ≡ unsorted_offset_of geometry.now place }
+{
+    match place {
+        Place::Sorted(_) => None,
+        Place::SortedDigest => None,
+        _ => offset_of(geometry, 0, place),
     }
 }
 

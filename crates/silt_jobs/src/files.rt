@@ -10,6 +10,7 @@ ghost use Rattle.silt_jobs.specs.HeldData.{Looks};
 ghost use Rattle.silt_jobs.specs.Jobs.{IsRunStatus};
 ghost use Rattle.silt_jobs.specs.declared.held_data.Holding.{Holding as HoldingOf};
 
+use crate::background_work::Tended;
 use crate::failure::Watched;
 use crate::geometry::geometry_of;
 use crate::held_data::may_overwrite;
@@ -19,7 +20,7 @@ use crate::refusal::refuse;
 use crate::streams::{KeepsError, KeepsLines, KeepsTally};
 use silt_device::DiskSource;
 use silt_disk::{Disk, Geometry};
-use silt_store_set::{Refusal, Served};
+use silt_store_set::Refusal;
 use silt_words::{Numbers, RunOptions};
 use std::alloc::Global;
 use std::io::{self, Read, Write};
@@ -104,9 +105,9 @@ fn format_found<
 }
 
 /// One life of the store on the disk of a path, from the reader's lines. Returns the disk and the status: 0 at the end
-/// of the lines, 1 if the disk or the store is not opened, or the session ends before that. With `tend` it does the
-/// background work that is due before each line. With `strict` the status is 3 at the end of the lines if a reply was
-/// a refusal.
+/// of the lines, 1 if the disk or the store is not opened, the session ends before that, or background work is refused.
+/// With `tend` it does the background work that is due before each line. With `strict` the status is 3 at the end of
+/// the lines if a reply was a refusal.
 ///
 /// # Errors
 ///
@@ -126,22 +127,22 @@ pub fn run_file<
     notes: &mut N,
 ) -> (Option<S::Disk>, io::Result<u8>)
 where
-    S::Disk: Served + Watched,
+    S::Disk: Tended + Watched,
     ensures printed { IfOk result.1 (IsRunStatus
-        (PrintsRunFile S.Disk.Disk options (W.kept_tally writer.new)
+        (PrintsRunFile S.Disk.Disk options W.contents W.kept_tally
         (ReportedRefusal N.reported_fault N.reported_damage N.reported_no_store notes.old notes.new path.now)
-        (ReportedSession N.reported_failure S.Disk.Watched.kept_read S.Disk.Watched.last_failure N.reported_end N.reported_tally notes.old notes.new
-        (R.kept_error reader.new) (W.kept_error writer.new) (R.kept_lines reader.new) (W.kept_tally writer.new) path.now)
+        (ReportedSession N.reported_failure S.Disk.Watched.kept_read S.Disk.Watched.last_failure N.reported_end N.reported_tally
+        W.kept_error W.kept_tally notes.old notes.new (R.kept_error reader.new) (R.kept_lines reader.new) path.now)
         (S.opened source path.now) (NotOpenedReported (S.not_opened source) (N.reported_error notes.old notes.new) path.now)
-        result.0 (R.remaining reader.old) (R.remaining reader.new) (W.contents writer.old) (W.contents writer.new))
-        (RunsFile S.Disk.Disk options (W.kept_tally writer.new) 3
-        (ReportedSession N.reported_failure S.Disk.Watched.kept_read S.Disk.Watched.last_failure N.reported_end N.reported_tally notes.old notes.new
-        (R.kept_error reader.new) (W.kept_error writer.new) (R.kept_lines reader.new) (W.kept_tally writer.new) path.now)
-        (S.opened source path.now) result.0 (R.remaining reader.old) (R.remaining reader.new) (W.contents writer.old) (W.contents writer.new))) }
-    ensures answered { result.1 ≡ Ok 0 → RunsFile S.Disk.Disk options (W.kept_tally writer.new) 0
-        (ReportedSession N.reported_failure S.Disk.Watched.kept_read S.Disk.Watched.last_failure N.reported_end N.reported_tally notes.old notes.new
-        (R.kept_error reader.new) (W.kept_error writer.new) (R.kept_lines reader.new) (W.kept_tally writer.new) path.now)
-        (S.opened source path.now) result.0 (R.remaining reader.old) (R.remaining reader.new) (W.contents writer.old) (W.contents writer.new) }
+        result.0 (R.remaining reader.old) (R.remaining reader.new) writer.old writer.new)
+        (RunsFile S.Disk.Disk options W.contents W.kept_tally 3
+        (ReportedSession N.reported_failure S.Disk.Watched.kept_read S.Disk.Watched.last_failure N.reported_end N.reported_tally
+        W.kept_error W.kept_tally notes.old notes.new (R.kept_error reader.new) (R.kept_lines reader.new) path.now)
+        (S.opened source path.now) result.0 (R.remaining reader.old) (R.remaining reader.new) writer.old writer.new)) }
+    ensures answered { result.1 ≡ Ok 0 → RunsFile S.Disk.Disk options W.contents W.kept_tally 0
+        (ReportedSession N.reported_failure S.Disk.Watched.kept_read S.Disk.Watched.last_failure N.reported_end N.reported_tally
+        W.kept_error W.kept_tally notes.old notes.new (R.kept_error reader.new) (R.kept_lines reader.new) path.now)
+        (S.opened source path.now) result.0 (R.remaining reader.old) (R.remaining reader.new) writer.old writer.new }
 {
     match source.open(path) {
         Ok(disk) => {
@@ -155,8 +156,9 @@ where
     }
 }
 
-/// Does all background work of the store on the disk of a path. Returns the disk and the status: 0 after the line with
-/// the number of steps, 1 if the disk or the store is not opened, or a step is refused.
+/// Does all background work of the store on the disk of a path. With `merge_at` it begins a merge only of at least so
+/// many hash stores, or if a conversion waits for a hash region. Returns the disk and the status: 0 after the line with
+/// the number of steps, 1 if the disk or the store is not opened, the store has fewer hash regions, or a step is refused.
 ///
 /// # Errors
 ///
@@ -169,23 +171,24 @@ pub fn tend_file<
     alloc: Global,
     source: S,
     path: &str,
+    merge_at: Option<u32>,
     writer: &mut W,
     notes: &mut N,
 ) -> (Option<S::Disk>, io::Result<u8>)
 where
     S::Disk: Watched,
-    ensures printed { IfOk result.1 (IsStatus (PrintsTendFile S.Disk.Disk
+    ensures printed { IfOk result.1 (IsStatus (PrintsTendFile S.Disk.Disk merge_at
         (ReportedRefusal N.reported_fault N.reported_damage N.reported_no_store notes.old notes.new path.now)
         (ReportedFailures N.reported_failure S.Disk.Watched.kept_read S.Disk.Watched.last_failure notes.old notes.new path.now)
         (S.opened source path.now) (NotOpenedReported (S.not_opened source) (N.reported_error notes.old notes.new) path.now)
         result.0 (W.contents writer.old) (W.contents writer.new))) }
-    ensures tended { result.1 ≡ Ok 0 → TendsFile S.Disk.Disk
+    ensures tended { result.1 ≡ Ok 0 → TendsFile S.Disk.Disk merge_at
         (ReportedFailures N.reported_failure S.Disk.Watched.kept_read S.Disk.Watched.last_failure notes.old notes.new path.now)
         (S.opened source path.now) result.0 (W.contents writer.old) (W.contents writer.new) }
 {
     match source.open(path) {
         Ok(disk) => {
-            let (disk, status) = tend_on(alloc, disk, path, writer, notes);
+            let (disk, status) = tend_on(alloc, disk, path, merge_at, writer, notes);
             (Some(disk), status)
         }
         Err(error) => {

@@ -11,9 +11,10 @@ use crate::plan_cost::PlanCost;
 use crate::streams::StreamError;
 use crate::tally::{KINDS, Refusals, Tally};
 use silt_disk::Geometry;
-use silt_store_set::Place;
-use silt_wire::SessionEnd;
+use silt_store_set::{Place, Refusal};
+use silt_wire::{SessionEnd, print_refusal};
 use silt_words::{Numbers, PlanRequest, VERSION, asks_version, complaint_of, forms_for};
+use std::alloc::Global;
 use std::fmt::Display;
 use std::io::{self, ErrorKind, Write};
 
@@ -36,6 +37,27 @@ impl<W> NoteLines<W> {
     }
 }
 
+impl<W: Write> NoteLines<W> {
+    /// Reports that a merge found this part of the store in the file of this name damaged, and where it begins, if that is
+    /// known. It names the refusal as a reply does, if there is memory for its text.
+    pub fn report_unmerged(&mut self, alloc: Global, file: &str, place: Place, at: Option<u64>) {
+        let _ = write!(self.writer, "silt: {file}: a merge is ");
+        let _ = match print_refusal(alloc, &Refusal::<()>::Damaged(place)) {
+            Ok(refused) => self.writer.write_all(refused.as_bytes()),
+            Err(_) => self.writer.write_all(b"refused"),
+        };
+        let _ = write_place(&mut self.writer, place, at);
+    }
+}
+
+// Writes the end of a line: what a damaged part is, and where it begins, if that is known.
+fn write_place<W: Write>(writer: &mut W, place: Place, at: Option<u64>) -> io::Result<()> {
+    match at {
+        Some(at) => writeln!(writer, ": {place}, at byte {at}"),
+        None => writeln!(writer, ": {place}"),
+    }
+}
+
 impl<W: Write> Notes for NoteLines<W> {
     ghost reported_port = { λ _ _ _. ⊤ };
 
@@ -46,8 +68,6 @@ impl<W: Write> Notes for NoteLines<W> {
     ghost reported_other = { λ _ _ _. ⊤ };
 
     ghost reported_few_regions = { λ _ _ _ _. ⊤ };
-
-    ghost reported_unmerged = { λ _ _ _ _. ⊤ };
 
     ghost reported_numbers = { λ _ _ _. ⊤ };
 
@@ -99,10 +119,6 @@ impl<W: Write> Notes for NoteLines<W> {
             self.writer,
             "silt: --merge-at: {file} has {hashes} hash regions, and no more hash stores"
         );
-    }
-
-    fn report_unmerged(&mut self, file: &str, place: Place) {
-        let _ = writeln!(self.writer, "silt: {file}: a merge is refused: {place}");
     }
 
     fn report_numbers(&mut self, numbers: &Numbers) {
@@ -206,10 +222,8 @@ impl<W: Write, F: Display> FaultNotes<F> for NoteLines<W> {
     }
 
     fn report_damage(&mut self, file: &str, place: Place, at: Option<u64>) {
-        let _ = match at {
-            Some(at) => writeln!(self.writer, "silt: {file}: {place}, at byte {at}"),
-            None => writeln!(self.writer, "silt: {file}: {place}"),
-        };
+        let _ = write!(self.writer, "silt: {file}");
+        let _ = write_place(&mut self.writer, place, at);
     }
 
     fn report_no_store(&mut self, file: &str) {

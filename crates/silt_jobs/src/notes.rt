@@ -42,9 +42,6 @@ pub trait Notes {
     /// A note says that the store in the file of this name has this many hash regions, and that a merge begins of no more.
     ghost reported_few_regions: { Self → Self → List ℕ → ℕ → Type 0 };
 
-    /// A note says that a merge found this part of the store in the file of this name damaged.
-    ghost reported_unmerged: { Self → Self → List ℕ → PlaceOf → Type 0 };
-
     /// A note says which of these numbers is out of its limits.
     ghost reported_numbers: { Self → Self → NumbersOf → Type 0 };
 
@@ -91,10 +88,6 @@ pub trait Notes {
     /// Reports that the store in the file of this name has this many hash regions, and that a merge begins of no more.
     fn report_few_regions(&mut self, file: &str, hashes: u32)
         ensures { reported_few_regions self.old self.new file.now hashes };
-
-    /// Reports that a merge found this part of the store in the file of this name damaged.
-    fn report_unmerged(&mut self, file: &str, place: Place)
-        ensures { reported_unmerged self.old self.new file.now place };
 
     /// Reports which of these numbers is out of its limits.
     fn report_numbers(&mut self, numbers: &Numbers)

@@ -3,6 +3,7 @@ ghost use Rattle.std.specs.Prelude.{◌≡◌, ◌+◌, ◌%◌, ◌^◌, ◌≤
 ghost use Rattle.silt_disk.specs.Disk.{Makes, Settles, Stays, Tears, Writes, size};
 ghost use Rattle.silt_disk.specs.declared.disk.Call.TheVariants.{Write, Sync};
 
+use crate::background_work::{Tended, tend_plain};
 use crate::failure::{Failure, Watched};
 use crate::note_lines::NoteLines;
 use crate::notes::Notes;
@@ -10,7 +11,7 @@ use crate::progress::Progress;
 use silt_device::{DiskSource, FileDisk};
 use silt_disk::Disk;
 use silt_event::{Event, Reply};
-use silt_store_set::{Core, Served};
+use silt_store_set::{Core, Refusal, Served};
 use std::alloc::Global;
 use std::io::Stderr;
 use std::sync::OnceLock;
@@ -155,6 +156,12 @@ impl<N: Notes + Send + Sync + Drop> Watched for WatchedFile<'_, N> {
 impl Served for WatchedFile<'_, NoteLines<Stderr>> {
     fn answer_on(core: &mut Core<Self>, alloc: Global, event: &Event) -> Reply<()> {
         core.answer(alloc, event).plain()
+    }
+}
+
+impl Tended for WatchedFile<'_, NoteLines<Stderr>> {
+    fn tend_on(core: &mut Core<Self>, alloc: Global, least: Option<u32>) -> Option<Refusal<()>> {
+        tend_plain(alloc, core, least)
     }
 }
 
