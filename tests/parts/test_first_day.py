@@ -264,6 +264,26 @@ class Runs(WatchedCase):
                          "silt: 1 line refused 21 BadKey, first line 4\n"
                          "silt: 3 lines refused 22 BadValue, first line 2; a value has 4 hexadecimal digits here (V is 2)\n")
 
+    def test_a_swap_of_two_hyphens(self):
+        """No value is wrong, and the note says what is. A key out of its form, a word more or a value is another fault."""
+        self.store(SMALL)
+        swap, value = "OLD and NEW of a swap are not both a hyphen", "a value has 4 hexadecimal digits here (V is 2)"
+        digits = "0123456789abcdefABCD" * 2
+        for lines, said in ((["swap =a - -"], f"1 line refused 22 BadValue, first line 1; {swap}"),
+                            (["get =a", f"swap {digits} - -\r", "swap =a - -"], f"2 lines refused 22 BadValue, first line 2; {swap}"),
+                            ([f"swap ={'n' * 8000} - -"], f"1 line refused 22 BadValue, first line 1; {swap}"),
+                            (["put =a 01", "swap =a - -"], f"2 lines refused 22 BadValue, first line 1; {value}, and {swap}"),
+                            (["swap =a - -", "put =a 01"], f"2 lines refused 22 BadValue, first line 1; {value}, and {swap}"),
+                            (["swap =a - 01"], f"1 line refused 22 BadValue, first line 1; {value}"),
+                            (["swap =a - --"], f"1 line refused 22 BadValue, first line 1; {value}"),
+                            (["swap =a -- -"], f"1 line refused 22 BadValue, first line 1; {value}"),
+                            (["swap = - -", f"swap {digits}0 - -", f"swap ={'n' * 8001} - -", "swap a - -", "put =a 01"],
+                             f"4 lines refused 21 BadKey, first line 1\nsilt: 1 line refused 22 BadValue, first line 5; {value}"),
+                            (["swap =a - - -", "swaps =a - -", "swap  =a - -", "put =a 01"],
+                             f"3 lines refused 20 BadLine, first line 1\nsilt: 1 line refused 22 BadValue, first line 4; {value}")):
+            ended = self.run_lines(*lines)
+            self.assertEqual((ended.status, ended.err), (0, f"silt: {said}\n"), lines)
+
     def test_no_room(self):
         self.store(SMALL)
         ended = self.run_lines(*(f"delete =k{n}" for n in range(12)), "flush")

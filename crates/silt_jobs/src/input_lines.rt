@@ -1,4 +1,5 @@
-// The lines of an input: how many there are, and which of them are blank.
+// The lines of an input: how many there are, which of them are blank, and how many are swaps of no value for none.
+use crate::empty_swap::EmptySwap;
 use std::alloc::Global;
 
 /// How many blank lines are kept at most, by their numbers.
@@ -13,7 +14,8 @@ pub enum Begun {
     Something,
 }
 
-/// How many lines an input has, and the numbers of its blank lines, which get no reply. The first line is number 1.
+/// How many lines an input has, the numbers of its blank lines, which get no reply, and how many are swaps of no value for
+/// none. The first line is number 1.
 #[derive(Drop)]
 pub struct InputLines {
     ended: u64,
@@ -21,6 +23,8 @@ pub struct InputLines {
     blank: Vec<u64>,
     // Whether not all blank lines are kept.
     is_cut: bool,
+    swap: EmptySwap,
+    empty_swaps: u64,
 }
 
 impl InputLines {
@@ -31,6 +35,8 @@ impl InputLines {
             begun: Begun::Nothing,
             blank: Vec::new(alloc),
             is_cut: false,
+            swap: EmptySwap::new(),
+            empty_swaps: 0,
         }
     }
 
@@ -47,19 +53,24 @@ impl InputLines {
             self.end_line();
             return;
         }
+        self.swap = self.swap.with(byte);
         self.begun = match self.begun {
             Begun::Nothing if byte == b'\r' => Begun::Return,
             _ => Begun::Something,
         };
     }
 
-    // Ends a line, and keeps its number if it is blank.
+    // Ends a line, keeps its number if it is blank, and counts it if it is a swap of no value for none.
     fn end_line(&mut self) {
         self.ended = self.ended.wrapping_add(1);
         if self.begun != Begun::Something {
             self.keep_blank();
         }
         self.begun = Begun::Nothing;
+        if self.swap.is_whole() {
+            self.empty_swaps = self.empty_swaps.saturating_add(1);
+        }
+        self.swap = EmptySwap::new();
     }
 
     // Keeps the number of the last line, which is blank.
@@ -72,6 +83,11 @@ impl InputLines {
     /// Whether bytes came after the last line feed.
     pub fn has_rest(&self) -> bool {
         self.begun != Begun::Nothing
+    }
+
+    /// How many lines are swaps of no value for none.
+    pub fn empty_swaps(&self) -> u64 {
+        self.empty_swaps
     }
 
     /// The number of the line to which this is the reply. None if that is not known.

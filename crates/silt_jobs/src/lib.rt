@@ -10,6 +10,7 @@
 mod background_work;
 mod damage;
 mod dump;
+mod empty_swap;
 mod failure;
 mod files;
 mod geometry;

@@ -152,7 +152,11 @@ impl<W: Write> Notes for NoteLines<W> {
             let refusals = tally.refusals(kind);
             if refusals.count > 0 {
                 let _ = write_refusals(&mut self.writer, kind, refusals, lines);
-                let _ = write_help(&mut self.writer, kind, value_len);
+                let _ = if kind == BAD_VALUE {
+                    write_value_help(&mut self.writer, refusals.count, lines, value_len)
+                } else {
+                    writeln!(self.writer, "{}", help_for(kind))
+                };
             }
         }
         if lines.has_rest() {
@@ -252,16 +256,27 @@ fn write_refusals<W: Write>(
     }
 }
 
-// Writes the end of the line about the refusals with this number: what helps.
-fn write_help<W: Write>(writer: &mut W, kind: usize, value_len: u32) -> io::Result<()> {
-    if kind == BAD_VALUE {
-        let digits = 2 * u64::from(value_len);
-        return writeln!(
-            writer,
-            "; a value has {digits} hexadecimal digits here (V is {value_len})"
-        );
+// Writes the end of the line about so many refused values: what a value is here, and, if some of these lines were swaps of
+// no value for none, what a swap needs.
+fn write_value_help<W: Write>(
+    writer: &mut W,
+    refused: u64,
+    lines: &InputLines,
+    value_len: u32,
+) -> io::Result<()> {
+    let hyphens = lines.empty_swaps();
+    if hyphens >= refused {
+        return writer.write_all(b"; OLD and NEW of a swap are not both a hyphen\n");
     }
-    writeln!(writer, "{}", help_for(kind))
+    let digits = 2 * u64::from(value_len);
+    write!(
+        writer,
+        "; a value has {digits} hexadecimal digits here (V is {value_len})"
+    )?;
+    if hyphens > 0 {
+        return writer.write_all(b", and OLD and NEW of a swap are not both a hyphen\n");
+    }
+    writer.write_all(b"\n")
 }
 
 // The name of a refusal of a line, by its number.
