@@ -16,11 +16,11 @@ use silt_device::DiskSource;
 use silt_disk::{Disk, Geometry};
 use silt_event::Place;
 use silt_jobs::{
-    FaultNotes, Notes, SourceNotes, Watched, has_few_regions, merge_damage_at, refuse,
-    refuse_few_regions, refuse_opening, report_failures,
+    FaultNotes, Notes, SourceNotes, Watched, has_few_regions, merge_damage_at,
+    refuse_few_regions, refuse_no_disk, refuse_opening, report_failures,
 };
 use silt_server::{Limits, refuse_network, serve_on};
-use silt_store_set::{Core, Refusal};
+use silt_store_set::Core;
 use silt_words::Service;
 use std::alloc::Global;
 use std::io::{self, Write};
@@ -68,10 +68,7 @@ where
             let (disk, status) = serve_disk(rt, alloc, disk, service, writer, notes);
             (Some(disk), status)
         }
-        Err(error) => {
-            notes.report_error(service.file, &error);
-            (None, refuse(alloc, &Refusal::Device(()), writer))
-        }
+        Err(error) => (None, refuse_no_disk(alloc, service.file, &error, writer, notes)),
     }
 }
 

@@ -11,7 +11,7 @@ ghost use Rattle.silt_jobs.specs.Notes.{NotOpenedReported, ReportedRefusal};
 
 use crate::damage::damage_at;
 use crate::notes::{FaultNotes, SourceNotes, report_refusal};
-use crate::refusal::refuse;
+use crate::refusal::{refuse, refuse_no_disk};
 use silt_device::DiskSource;
 use silt_disk::Disk;
 use silt_store_set::{Key, Refusal, Value, read_entries};
@@ -121,9 +121,6 @@ pub fn dump_file<
             let status = dump_on(alloc, &disk, path, writer, notes);
             (Some(disk), status)
         }
-        Err(error) => {
-            notes.report_error(path, &error);
-            (None, refuse(alloc, &Refusal::Device(()), writer))
-        }
+        Err(error) => (None, refuse_no_disk(alloc, path, &error, writer, notes)),
     }
 }

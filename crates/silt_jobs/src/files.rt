@@ -16,7 +16,7 @@ use crate::geometry::geometry_of;
 use crate::held_data::may_overwrite;
 use crate::jobs::{check_on, format_on, run_on, tend_on};
 use crate::notes::{FaultNotes, Notes, SourceNotes};
-use crate::refusal::refuse;
+use crate::refusal::{refuse, refuse_no_disk};
 use crate::streams::{KeepsError, KeepsLines, KeepsTally};
 use silt_device::DiskSource;
 use silt_disk::{Disk, Geometry};
@@ -61,10 +61,7 @@ pub fn format_file<
     };
     match source.find(path) {
         Ok(disk) => format_found::<S, W, N>(alloc, disk, path, geometry, force, writer, notes),
-        Err(error) => {
-            notes.report_error(path, &error);
-            (None, refuse(alloc, &Refusal::Device(()), writer))
-        }
+        Err(error) => (None, refuse_no_disk(alloc, path, &error, writer, notes)),
     }
 }
 
@@ -97,10 +94,7 @@ fn format_found<
             let (disk, status) = format_on(alloc, disk, geometry, path, writer, notes);
             (Some(disk), status)
         }
-        Err(error) => {
-            notes.report_error(path, &error);
-            (None, refuse(alloc, &Refusal::Device(()), writer))
-        }
+        Err(error) => (None, refuse_no_disk(alloc, path, &error, writer, notes)),
     }
 }
 
@@ -149,10 +143,7 @@ where
             let (disk, status) = run_on(alloc, disk, path, options, reader, writer, notes);
             (Some(disk), status)
         }
-        Err(error) => {
-            notes.report_error(path, &error);
-            (None, refuse(alloc, &Refusal::Device(()), writer))
-        }
+        Err(error) => (None, refuse_no_disk(alloc, path, &error, writer, notes)),
     }
 }
 
@@ -191,10 +182,7 @@ where
             let (disk, status) = tend_on(alloc, disk, path, merge_at, writer, notes);
             (Some(disk), status)
         }
-        Err(error) => {
-            notes.report_error(path, &error);
-            (None, refuse(alloc, &Refusal::Device(()), writer))
-        }
+        Err(error) => (None, refuse_no_disk(alloc, path, &error, writer, notes)),
     }
 }
 
@@ -226,9 +214,6 @@ pub fn check_file<
             let status = check_on(alloc, &disk, path, writer, notes);
             (Some(disk), status)
         }
-        Err(error) => {
-            notes.report_error(path, &error);
-            (None, refuse(alloc, &Refusal::Device(()), writer))
-        }
+        Err(error) => (None, refuse_no_disk(alloc, path, &error, writer, notes)),
     }
 }

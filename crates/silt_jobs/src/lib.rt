@@ -47,7 +47,7 @@ pub use notes::{FaultNotes, Notes, SourceNotes, report_error_of, report_failures
 pub use plan::write_plan;
 pub use plan_cost::{PlanCost, Remedy};
 pub use progress::{AfterProgress, Progress};
-pub use refusal::refuse;
+pub use refusal::{refuse, refuse_no_disk};
 pub use script::run_script;
 pub use streams::{KeepsError, KeepsLines, KeepsTally, StreamError, WatchedReader, WatchedWriter};
 pub use tally::Tally;

@@ -125,7 +125,7 @@ flag_in rows name = option_map_or (λ text. bytes_eq text (codes "true")) (first
 
 -- a number of hash stores is given, and no background work that would merge them
 abbrev pub merges_untended : Option ℕ → Bool → Bool
-merges_untended merge_at tend = is_some merge_at && not tend
+merges_untended merge_at tends = is_some merge_at && not tends
 
 -- how the lines of a run are to be answered
 abbrev pub run_options_in : List Row → Option RunOptions
@@ -154,8 +154,8 @@ abbrev pub job_in : Text → List Row → Option Named
 job_in name rows =
     if bytes_eq name (codes "format") then option_and_then (λ file. option_map (λ numbers. format file numbers (flag_in rows (codes "force"))) (numbers_in rows)) (file_in rows)
     else if bytes_eq name (codes "script") then option_map script (numbers_in rows)
-    else if bytes_eq name (codes "run") then option_and_then (λ file. option_map (run file) (run_options_in rows)) (file_in rows)
-    else if bytes_eq name (codes "tend") then option_and_then (λ file. option_map (tend file) (count_in rows (codes "merge-at"))) (file_in rows)
+    else if bytes_eq name (codes "run") then option_and_then (λ file. option_map (λ options. run file options) (run_options_in rows)) (file_in rows)
+    else if bytes_eq name (codes "tend") then option_and_then (λ file. option_map (λ merge_at. tend file merge_at) (count_in rows (codes "merge-at"))) (file_in rows)
     else if bytes_eq name (codes "check") then option_map check (file_in rows)
     else if bytes_eq name (codes "dump") then option_map dump (file_in rows)
     else if bytes_eq name (codes "plan") then option_map plan (request_in rows)

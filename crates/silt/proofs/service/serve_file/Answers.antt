@@ -1,7 +1,5 @@
 use Rattle.std.proofs.Common.{inl, inr}
-use Rattle.silt_event.specs.declared.refusal.Refusal.TheVariants.{Device}
-use Rattle.silt_wire.proofs.Statuses.{told_weaker}
-use Rattle.silt_jobs.proofs.FileRefusals.{reported_refusal}
+use Rattle.silt_wire.proofs.Statuses.{status_told, told_weaker}
 use Rattle.silt.proofs.service.serve_file.Goals as goal
 
 pub returns-in-Ok-clause-printed : goal.returns-in-Ok-clause-printed
@@ -11,4 +9,4 @@ pub returns-in-Ok-clause-served : goal.returns-in-Ok-clause-served
 returns-in-Ok-clause-served g c = λ is. (c.in-Ok.disk, c.in-Ok.ensures.opened, (c.serve_disk-disk.ensures.served is, c.serve_disk-disk.ensures.left, c.serve_disk-disk.ensures.failed is))
 
 pub returns-in-Err-clause-printed : goal.returns-in-Err-clause-printed
-returns-in-Err-clause-printed g c = reported_refusal {F = Unit {0}} c.refuse.result (Device tt) _ _ (λ reported. inl (c.in-Err.error, (c.in-Err.ensures.not_opened, c.report_error.ensures), reported)) c.refuse.ensures
+returns-in-Err-clause-printed g c = status_told c.refuse_no_disk.result (λ h. inl (c.in-Err.error, (c.in-Err.ensures.not_opened, h.1), h.0)) c.refuse_no_disk.ensures

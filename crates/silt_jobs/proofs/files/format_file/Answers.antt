@@ -1,6 +1,6 @@
 use Rattle.std.proofs.Common.{inl, inr}
-use Rattle.silt_event.specs.declared.refusal.Refusal.TheVariants.{BadGeometry, Device}
-use Rattle.silt_wire.proofs.Statuses.{told_weaker}
+use Rattle.silt_event.specs.declared.refusal.Refusal.TheVariants.{BadGeometry}
+use Rattle.silt_wire.proofs.Statuses.{status_told, told_weaker}
 use Rattle.silt_jobs.proofs.FileRefusals.{reported_refusal}
 use Rattle.silt_jobs.proofs.Refusals.{reports_bad_geometry}
 use Rattle.silt_jobs.proofs.files.format_file.Goals as goal
@@ -22,4 +22,4 @@ returns-in-Ok-find-clause-formatted g c = λ is.
 
 pub returns-in-Err-clause-printed : goal.returns-in-Err-clause-printed
 returns-in-Err-clause-printed g c =
-    reported_refusal {F = Unit {0}} c.refuse-in-Err.result (Device tt) _ _ (λ reported. inr (c.in-Ok.ensures.1, inl (c.in-Err.error, (c.in-Err.ensures.not_found, c.report_error.ensures), reported))) c.refuse-in-Err.ensures
+    status_told c.refuse_no_disk.result (λ h. inr (c.in-Ok.ensures.1, inl (c.in-Err.error, (c.in-Err.ensures.not_found, h.1), h.0))) c.refuse_no_disk.ensures

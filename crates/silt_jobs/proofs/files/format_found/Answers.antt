@@ -1,6 +1,6 @@
 use Rattle.std.proofs.Common.{◌∙◌, refl, inl, inr}
 use Rattle.silt_event.specs.declared.refusal.Refusal.TheVariants.{Device}
-use Rattle.silt_wire.proofs.Statuses.{told_weaker}
+use Rattle.silt_wire.proofs.Statuses.{status_told, told_weaker}
 use Rattle.silt_jobs.proofs.FileRefusals.{reported_refusal}
 use Rattle.silt_jobs.proofs.files.format_found.Goals as goal
 
@@ -19,6 +19,6 @@ returns-in-Ok-clause-printed g c =
 pub returns-in-Err-clause-printed : goal.returns-in-Err-clause-printed
 returns-in-Err-clause-printed g c =
     let look = rw c.if-not-may_overwrite.false at c.may_overwrite.ensures in
-    reported_refusal {F = Unit {0}} c.refuse-in-Err.result (Device tt) _ _
-    (λ reported. (look.0, look.1, inr (c.may_overwrite.new.notes, look.2, inl (c.in-Err.error, (rw c.size.ensures.value at c.in-Err.ensures.not_resized, c.report_error.ensures), reported))))
-    c.refuse-in-Err.ensures
+    status_told c.refuse_no_disk.result
+    (λ h. (look.0, look.1, inr (c.may_overwrite.new.notes, look.2, inl (c.in-Err.error, (rw c.size.ensures.value at c.in-Err.ensures.not_resized, h.1), h.0))))
+    c.refuse_no_disk.ensures

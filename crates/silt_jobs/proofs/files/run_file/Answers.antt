@@ -1,6 +1,5 @@
 use Rattle.std.proofs.Common.{inl, inr}
-use Rattle.silt_event.specs.declared.refusal.Refusal.TheVariants.{Device}
-use Rattle.silt_jobs.proofs.FileRefusals.{reported_refusal}
+use Rattle.silt_wire.proofs.Statuses.{status_told}
 use Rattle.silt_jobs.proofs.Outcomes.{run_broken, run_weaker}
 use Rattle.silt_jobs.proofs.files.run_file.Goals as goal
 
@@ -13,5 +12,5 @@ returns-in-Ok-clause-answered g c = λ is. (c.in-Ok.disk, c.in-Ok.ensures.opened
 
 pub returns-in-Err-clause-printed : goal.returns-in-Err-clause-printed
 returns-in-Err-clause-printed g c =
-    run_broken _ _ c.refuse.result
-    (reported_refusal {F = Unit {0}} c.refuse.result (Device tt) _ _ (λ reported. inl (c.in-Err.error, (c.in-Err.ensures.not_opened, c.report_error.ensures), reported)) c.refuse.ensures)
+    run_broken _ _ c.refuse_no_disk.result
+    (status_told c.refuse_no_disk.result (λ h. inl (c.in-Err.error, (c.in-Err.ensures.not_opened, h.1), h.0)) c.refuse_no_disk.ensures)

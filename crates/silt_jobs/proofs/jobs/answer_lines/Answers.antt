@@ -1,4 +1,4 @@
-use Rattle.std.proofs.Common.{ℕ, true, ap, ◌∙◌, subst}
+use Rattle.std.proofs.Common.{ℕ, None, ap, ◌∙◌, subst}
 use Rattle.silt_disk.specs.Layout.{Shape}
 use Rattle.silt_wire.specs.Sessions.{Ends}
 use Rattle.silt_jobs.specs.BackgroundWork.{TendsThenDoes}
@@ -9,6 +9,6 @@ returns-then-tend g c =
     let len = c.value_len-value_len.ensures.value ∙ ap (λ (s : Shape). s.value_len) c.geometry.ensures in
     let P = λ (n : ℕ).
     Ends (TendsThenDoes g.D.Disk) c.session-end.result n
-    (record { answerer = record { core = c.args.core; tends = true }; remaining = g.R.Read.remaining c.args.reader.now; contents = g.W.Write.contents c.args.writer.now })
+    (record { answerer = record { core = c.args.core; least = c.args.options.merge_at; refusal = None }; remaining = g.R.Read.remaining c.args.reader.now; contents = g.W.Write.contents c.args.writer.now })
     (record { answerer = c.session-end.new.answerer; remaining = g.R.Read.remaining c.session-end.new.reader; contents = g.W.Write.contents c.session-end.new.writer }) in
-    rw (c.if-tend.true, c.into_core.ensures) (c.session-end.new.answerer.tends, subst P len (rw c.new-tending.ensures at c.session-end.ensures.ends))
+    rw (c.if-tend.true, c.into_core.ensures, c.refusal-refusal.ensures) (c.session-end.new.answerer.least, subst P len (rw c.new-tending.ensures at c.session-end.ensures.ends))
