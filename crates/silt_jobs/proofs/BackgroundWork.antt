@@ -1,6 +1,6 @@
 -- Steps of background work, one more at a time.
-use Rattle.std.proofs.Common.{◌≡◌, ◌≢◌, ◌+◌, ◌≤◌, ◌<◌, ℕ, Bool, true, false, cond, IsTrue, List, [], ◌∷◌, ◌++◌, length, Option, Some, None, option_map, refl, sym, ap, ◌∙◌, subst, arith, inl, inr}
-use Rattle.std.specs.Prelude.{is_some}
+use Rattle.std.proofs.Common.{◌≡◌, ◌≢◌, ◌+◌, ◌≤◌, ◌<◌, ◌&&◌, not, ℕ, Bool, true, false, cond, IsTrue, List, [], ◌∷◌, ◌++◌, length, Option, Some, None, option_map, Result, Ok, Err, refl, sym, ap, ◌∙◌, subst, arith, inl, inr}
+use Rattle.std.specs.Prelude.{IsErrAnd, is_some}
 use Rattle.std.proofs.lemmas.List.{length-append}
 use Rattle.std.proofs.lemmas.List.Elements.{All-nil, All-push}
 use Rattle.silt_disk.specs.declared.disk.Disk.{Ghosts}
@@ -16,7 +16,7 @@ use Rattle.silt_event.specs.declared.refusal.Refusal.TheVariants.{NotFormatted, 
 use Rattle.silt_event.specs.declared.reply.Reply.TheVariants.{Accepted, Acknowledged, Found, Absent, Differs, Progress, Refused, Unsettled, NotServed}
 use Rattle.silt_store_set.specs.CoreState.{Cause, ConvertsTo, CoreState, Does, DoesPlain, convert_due, is_convert, is_merge, is_refused, wants_convert}
 use Rattle.silt_store_set.proofs.Runs.{runs_more}
-use Rattle.silt_jobs.specs.BackgroundWork.{AreDone, PlainRefusal, StopsAt, TakesSteps, TendsAll, TendsDue, TendsPlain, TendsThenDoes, begins, count_of, is_idle, is_step, merges, most_steps}
+use Rattle.silt_jobs.specs.BackgroundWork.{AreDone, PlainRefusal, StopsAt, TakesSteps, TendsAll, TendsDue, TendsPlain, TendsThenDoes, begins, count_of, error_of, is_idle, is_step, merges, most_steps}
 use Rattle.silt_jobs.specs.declared.background_work.Steps.{Steps}
 
 -- one event more is one more of its kind
@@ -32,6 +32,17 @@ done_more replies reply fine is = All-push (λ reply. is_refused reply ≡ false
 pub none_plain : {F : Type 0} (refused : Option (Refusal F)) (refusal : Option PlainRefusal) → refusal ≡ option_map plain_refusal refused → refusal ≡ None → refused ≡ None
 none_plain None refusal is none = refl
 none_plain (Some r) refusal is none = absurd (cc)
+
+-- what holds of this refusal holds of that of a result which is one
+pub due_error : {T F : Type 0} (P : Option (Refusal F) → Type 0) (result : Result T (Refusal F)) (refusal : Refusal F) → IsErrAnd result (λ e. e ≡ refusal) → P (Some refusal) → P (error_of result)
+due_error P (Ok value) refusal is p = absurd is
+due_error {T} {F} P (Err e) refusal is p = subst (λ (r : Refusal F). P (Some r)) (sym is) p
+
+-- the store rests if no conversion is due and no merge begins
+pub rests_so : (idle begun : Bool) → (idle && not begun) ≡ true → (idle ≡ true) × (begun ≡ false)
+rests_so true false is = (refl, refl)
+rests_so true true is = absurd (cc)
+rests_so false begun is = absurd (cc)
 
 module _ {D F : Type 0} (facts : Ghosts D F) where
   -- no step yet

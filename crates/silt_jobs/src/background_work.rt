@@ -100,8 +100,7 @@ fn begins<D: Disk>(core: &Core<D>, least: Option<u32>) -> bool
 }
 
 // Whether no conversion can go on before a merge has ended.
-fn is_paused(converted: Progress) -> bool
-{
+fn is_paused(converted: Progress) -> bool {
     matches!(converted, Progress::Idle | Progress::Waiting)
 }
 

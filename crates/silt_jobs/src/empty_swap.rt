@@ -1,6 +1,7 @@
 // Lines that are swaps of no value for none: `swap`, a key, and two hyphens. They are refused, and no value is wrong.
 
 const HEAD: &[u8] = b"swap ";
+
 const TAIL: &[u8] = b"- -";
 
 /// The most bytes that a name of a key may have.

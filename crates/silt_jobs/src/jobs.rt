@@ -12,8 +12,8 @@ ghost use Rattle.silt_jobs.specs.Notes.{ReportedFailures, ReportedLines, Reporte
 use crate::background_work::{Steps, Tended, Tending, tend_all};
 use crate::damage::{damage_at, geometry_on};
 use crate::failure::Watched;
-use crate::notes::{FaultNotes, Notes, report_end, report_failures, report_refusal};
 use crate::merge_at::{has_few_regions, refuse_few_regions};
+use crate::notes::{FaultNotes, Notes, report_end, report_failures, report_refusal};
 use crate::output::write_out;
 use crate::refusal::refuse;
 use crate::streams::{KeepsError, KeepsLines, KeepsTally};

@@ -9,7 +9,7 @@ returns-in-Ok g c =
       c.answer_lines-core.result.2,
       c.answer_lines-core.new.writer,
       g.W.Write.contents c.write_out.new.writer,
-      untended.0 ∙ (rw (c.tally-status.ensures) at c.run_status-status.ensures),
+      untended.0 ∙ (rw (c.tally-in-Ok.ensures) at c.run_status-status.ensures),
       c.in-Ok.ensures,
       c.answer_lines-core.ensures,
       (c.report_end.new.notes, c.report_end.ensures, rw (c.lines.ensures, c.tally.ensures, c.value_len-value_len.ensures.value, c.geometry.ensures) at c.report_tally.ensures),
