@@ -1,6 +1,6 @@
 -- How the program ends.
 use Rattle.std.proofs.Common.{◌≡◌, ◌∙◌, ◌⊎◌, ℕ, List, None, Some, true, true≢false, Option, Result, Ok, Err, ap, arith, refl, sym, subst, inl, inr, codes}
-use Rattle.std.specs.Prelude.{IfOk, IfSome, is_some}
+use Rattle.std.specs.Prelude.{IfOk, IfSome, IsOkAnd, is_some}
 use Rattle.std.specs.Result.{IsOk, result_unwrap_or}
 use Rattle.std.specs.Io.KnownBytes.{Appends}
 use Rattle.silt_wire.specs.Statuses.{IsStatus}
@@ -82,6 +82,15 @@ module _ {A : Type 0} (Named Apart Done Reported Refused Clashed : A → Type 0)
   usage_at_2 status is (inl (job, named, inr h)) = absurd (omega (arith, is, h.0))
   usage_at_2 status is (inr (Usage, cause, reported)) = (cause.0, cause.1, reported.1)
   usage_at_2 status is (inr (NoMemory, cause, reported)) = absurd (omega (arith, is, reported.0))
+
+-- what a server with this status ended with, if it ends with 1 where a merge was refused
+pub served_ended : {E Unserved Served Refused : Type 0} (status ended : Result ℕ E) → IfOk status (IsStatus Unserved) → (status ≡ Ok 0 → Served)
+    → IfOk ended (λ now. IsOkAnd status (λ before. (now ≡ before) ⊎ ((before ≡ 0) × (now ≡ 1) × Refused))) → IfOk ended (IsStatus (Unserved ⊎ Served))
+served_ended status (Err error) known served h = tt
+served_ended (Err error) (Ok now) known served h = absurd h
+served_ended (Ok before) (Ok now) (inl zero) served (inl same) = inl (same ∙ zero)
+served_ended (Ok before) (Ok now) (inr unserved) served (inl same) = inr (same ∙ unserved.0, inl unserved.1)
+served_ended (Ok before) (Ok now) known served (inr refused) = inr (refused.1, inr (served (ap Ok refused.0)))
 
 -- what is true if a value was made
 pub if_made : {A P : Type 0} (made : Option A) → IfSome made (λ _. P) → is_some made ≡ true → P

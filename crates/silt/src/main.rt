@@ -3,10 +3,11 @@
 //! - `silt plan KEYS V [--memory BYTES]` prints the six numbers of a store for this many keys, and what they cost.
 //! - `silt format FILE V B CAP NL NH S [--force]` makes an empty store of this geometry in a file, and prints the file's
 //!   length. Without `--force` a file with other data stays as it is.
-//! - `silt run FILE [--tend] [--strict]` is one life of the store in a file: it reads lines to the end, and writes one
-//!   reply line for each. The end of the input flushes nothing. With `--tend` it does the background work that is due
-//!   between the lines. With `--strict` it ends with status 3 if a line was refused.
-//! - `silt tend FILE` does all background work of the store in a file.
+//! - `silt run FILE [--tend] [--strict] [--merge-at K]` is one life of the store in a file: it reads lines to the end, and
+//!   writes one reply line for each. The end of the input flushes nothing. With `--tend` it does the background work that
+//!   is due between the lines; if that is refused, it prints why behind the replies, and ends with status 1. With
+//!   `--strict` it ends with status 3 if a line was refused.
+//! - `silt tend FILE [--merge-at K]` does all background work of the store in a file.
 //! - `silt check FILE` prints a report of the store in a file, in numbers.
 //! - `silt dump FILE` prints a line for each key with a value, which puts that value.
 //! - `silt script V B CAP NL NH S` makes an empty store of this geometry on a disk in memory, reads lines to the end, and

@@ -3,20 +3,20 @@ use Rattle.silt_wire.proofs.Statuses.{never_done, status_told, told_weaker}
 use Rattle.silt.proofs.service.serve_opened.Goals as goal
 
 pub returns-then-has_few_regions-clause-served : goal.returns-then-has_few_regions-clause-served
-returns-then-has_few_regions-clause-served g c = never_done _ c.refuse-status.result c.refuse-status.ensures
+returns-then-has_few_regions-clause-served g c = never_done _ c.refuse_few_regions.result.1 c.refuse_few_regions.ensures.printed
 
 pub returns-then-has_few_regions-clause-bound : goal.returns-then-has_few_regions-clause-bound
-returns-then-has_few_regions-clause-bound g c = never_done _ c.refuse-status.result c.refuse-status.ensures
+returns-then-has_few_regions-clause-bound g c = never_done _ c.refuse_few_regions.result.1 c.refuse_few_regions.ensures.printed
 
 pub returns-then-has_few_regions-clause-quiet : goal.returns-then-has_few_regions-clause-quiet
-returns-then-has_few_regions-clause-quiet g c = never_done _ c.refuse-status.result c.refuse-status.ensures
+returns-then-has_few_regions-clause-quiet g c = never_done _ c.refuse_few_regions.result.1 c.refuse_few_regions.ensures.printed
 
 pub returns-then-has_few_regions-clause-printed : goal.returns-then-has_few_regions-clause-printed
 returns-then-has_few_regions-clause-printed g c =
-    status_told c.refuse-status.result (λ appended. inl (c.close.ensures.disk, c.has_few_regions.ensures.few c.if-has_few_regions.true, appended)) c.refuse-status.ensures
+    status_told c.refuse_few_regions.result.1 (λ appended. inl (c.refuse_few_regions.ensures.disk, c.has_few_regions.ensures.few c.if-has_few_regions.true, appended)) c.refuse_few_regions.ensures.printed
 
 pub returns-then-has_few_regions-clause-left : goal.returns-then-has_few_regions-clause-left
-returns-then-has_few_regions-clause-left g c = (c.args.core.shape, c.close.ensures.left)
+returns-then-has_few_regions-clause-left g c = c.refuse_few_regions.ensures.left
 
 pub returns-clause-printed : goal.returns-clause-printed
 returns-clause-printed g c = told_weaker c.serve_store.result.1 (λ not_served. inr not_served) c.serve_store.ensures.printed
