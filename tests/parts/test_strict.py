@@ -131,6 +131,19 @@ class Loads(StrictCase):
         ended = self.check((0, 0), "--tend", text=text)
         self.assertEqual(ended.lines[-1], "acknowledged 1000")
 
+    def test_background_work_of_a_failed_store(self):
+        """Its next step is refused. That comes behind the replies, and its status is that of no line."""
+        self.store("100 16 56 3 4 2000")
+        lines = [f"put =key{it} {it:0200x}\nflush\n" for it in range(50)]
+        env = watching(self, fail="pwrite:9+:ENOSPC")
+        ended = self.check((1, 1), "--tend", text="".join(lines), env=env)
+        failed = ended.lines.index("refused 5 Device")
+        self.assertEqual(ended.lines[failed:], ["refused 5 Device", *["refused 9 Failed"] * (101 - failed)])
+        self.assertEqual(len(ended.lines), 102)
+        self.assertIn(f"silt: {100 - failed} lines refused 9 Failed, first line {failed + 1}; ", ended.err)
+        ended = self.check((0, 3), "--tend", text="".join("".join(lines).splitlines(True)[:failed]), env=env)
+        self.assertEqual(ended.lines[-1], "refused 5 Device")
+
     def test_writes_that_find_no_space(self):
         self.store("100 16 56 3 4 2000")
         text = "".join(f"put =key{it} {it:0200x}\nflush\n" for it in range(50))
