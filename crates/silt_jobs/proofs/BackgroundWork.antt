@@ -1,5 +1,5 @@
 -- Steps of background work, one more at a time.
-use Rattle.std.proofs.Common.{◌≡◌, ◌≢◌, ◌+◌, ◌≤◌, ◌<◌, ◌&&◌, not, ℕ, Bool, true, false, cond, IsTrue, List, [], ◌∷◌, ◌++◌, length, Option, Some, None, option_map, Result, Ok, Err, refl, sym, ap, ◌∙◌, subst, arith, inl, inr}
+use Rattle.std.proofs.Common.{◌≡◌, ◌≢◌, ◌+◌, ◌≤◌, ◌<◌, ◌&&◌, ◌||◌, not, ℕ, Bool, true, false, cond, IsTrue, List, [], ◌∷◌, ◌++◌, length, Option, Some, None, option_map, Result, Ok, Err, refl, sym, ap, ◌∙◌, subst, arith, inl, inr}
 use Rattle.std.specs.Prelude.{IsErrAnd, is_some}
 use Rattle.std.proofs.lemmas.List.{length-append}
 use Rattle.std.proofs.lemmas.List.Elements.{All-nil, All-push}
@@ -14,9 +14,8 @@ use Rattle.silt_event.specs.declared.reply.Reply.{Reply}
 use Rattle.silt_event.specs.declared.refusal.Refusal.{Refusal}
 use Rattle.silt_event.specs.declared.refusal.Refusal.TheVariants.{NotFormatted, BadGeometry, Damaged, Crowded, Device, NoMemory, StoreFull, NoRoom, Failed, Spent, HistoryFull}
 use Rattle.silt_event.specs.declared.reply.Reply.TheVariants.{Accepted, Acknowledged, Found, Absent, Differs, Progress, Refused, Unsettled, NotServed}
-use Rattle.silt_store_set.specs.CoreState.{Cause, ConvertsTo, CoreState, Does, DoesPlain, convert_due, is_convert, is_merge, is_refused, wants_convert}
-use Rattle.silt_store_set.proofs.Runs.{runs_more}
-use Rattle.silt_jobs.specs.BackgroundWork.{AreDone, PlainRefusal, StopsAt, TakesSteps, TendsAll, TendsDue, TendsPlain, TendsThenDoes, begins, count_of, error_of, is_idle, is_step, merges, most_steps}
+use Rattle.silt_store_set.specs.CoreState.{Cause, ConvertsTo, CoreState, Does, DoesPlain, awaits_region, convert_due, is_convert, is_merge, is_refused, wants_convert}
+use Rattle.silt_jobs.specs.BackgroundWork.{AreDone, PlainRefusal, RunsDue, StopsAt, TakesSteps, TendsAll, TendsDue, TendsPlain, TendsThenDoes, begins, count_of, due_at_once, due_between, error_of, is_idle, is_paused, merges, most_steps}
 use Rattle.silt_jobs.specs.declared.background_work.Steps.{Steps}
 
 -- one event more is one more of its kind
@@ -44,52 +43,80 @@ rests_so true false is = (refl, refl)
 rests_so true true is = absurd (cc)
 rests_so false begun is = absurd (cc)
 
-module _ {D F : Type 0} (facts : Ghosts D F) where
+-- a merge is due if the store does not rest where no conversion is due
+idle_due : (waits begun : Bool) → (true && not begun) ≡ false → (waits || begun) ≡ true
+idle_due true begun is = refl
+idle_due false true is = refl
+idle_due false false is = absurd (cc)
+
+module _ {D F : Type 0} (facts : Ghosts D F) (is_due : CoreState D → Event → Bool) where
+  -- a run of steps that are due goes on by one
+  pub due_more : (old mid new : CoreState D) (events : List Event) (replies : List (Reply F)) (event : Event) (reply : Reply F)
+      → RunsDue facts is_due old events replies mid → IsTrue (is_due mid event) → Does facts mid new event reply → RunsDue facts is_due old (events ++ event ∷ []) (replies ++ reply ∷ []) new
+  due_more old mid new [] [] event reply run due does =
+      (new, subst (λ (c : CoreState D). IsTrue (is_due c event)) run due, subst (λ (c : CoreState D). Does facts c new event reply) run does, refl)
+  due_more old mid new (e ∷ events) (r ∷ replies) event reply run due does = (run.0, run.1, run.2, due_more run.0 mid new events replies event reply run.3 due does)
+  due_more old mid new [] (r ∷ replies) event reply run due does = absurd run
+  due_more old mid new (e ∷ events) [] event reply run due does = absurd run
+
   -- no step yet
-  abbrev pub none_taken : (core : CoreState D) → TakesSteps facts core core
-  none_taken core = record { events = []; replies = []; background = All-nil (λ event. IsTrue (is_step event)); run = refl }
+  abbrev pub none_taken : (core : CoreState D) → TakesSteps facts is_due core core
+  none_taken core = record { events = []; replies = []; run = refl }
 
   -- one step more
-  abbrev pub one_more : (old mid new : CoreState D) (event : Event) (reply : Reply F) → IsTrue (is_step event) → TakesSteps facts old mid → Does facts mid new event reply → TakesSteps facts old new
-  one_more old mid new event reply step taken does = record {
+  abbrev pub one_more : (old mid new : CoreState D) (event : Event) (reply : Reply F) → IsTrue (is_due mid event) → TakesSteps facts is_due old mid → Does facts mid new event reply
+      → TakesSteps facts is_due old new
+  one_more old mid new event reply due taken does = record {
     events = taken.events ++ event ∷ [];
     replies = taken.replies ++ reply ∷ [];
-    background = All-push (λ event. IsTrue (is_step event)) taken.events event taken.background step;
-    run = runs_more facts old mid new taken.events taken.replies event reply taken.run does;
+    run = due_more old mid new taken.events taken.replies event reply taken.run due does;
   }
 
   -- one step more, which was refused
-  abbrev pub stops_more : (old mid new : CoreState D) (event : Event) (refusal : Refusal F) → IsTrue (is_step event) → (taken : TakesSteps facts old mid) → AreDone taken.replies
-      → Does facts mid new event (Refused refusal) → StopsAt facts old new refusal
-  stops_more old mid new event refusal step taken fine does = (one_more old mid new event (Refused refusal) step taken does, (taken.replies, refl, fine))
+  abbrev pub stops_more : (old mid new : CoreState D) (event : Event) (refusal : Refusal F) → IsTrue (is_due mid event) → (taken : TakesSteps facts is_due old mid) → AreDone taken.replies
+      → Does facts mid new event (Refused refusal) → StopsAt facts is_due old new refusal
+  stops_more old mid new event refusal due taken fine does = (one_more old mid new event (Refused refusal) due taken does, (taken.replies, refl, fine))
 
+module _ {D F : Type 0} (facts : Ghosts D F) where
   -- ---- what is done before a line
 
   -- this many steps or more between lines, and none was refused
-  pub record Going (old new : CoreState D) (turn : ℕ) : Type 0 where
-    pub steps : TakesSteps facts old new
+  pub record Going (least : Option ℕ) (old new : CoreState D) (turn : ℕ) : Type 0 where
+    pub steps : TakesSteps facts (due_between least) old new
     pub fine : AreDone steps.replies
     pub many : turn ≤ length steps.replies
     pub shape : new.shape ≡ old.shape
 
-  pub none_going : (core : CoreState D) → Going core core 0
-  none_going core = record { steps = none_taken core; fine = All-nil (λ reply. is_refused reply ≡ false); many = omega arith; shape = refl }
+  pub none_going : (least : Option ℕ) (core : CoreState D) → Going least core core 0
+  none_going least core = record { steps = none_taken facts (due_between least) core; fine = All-nil (λ reply. is_refused reply ≡ false); many = omega arith; shape = refl }
 
-  abbrev pub going_more : (old mid new : CoreState D) (event : Event) (progress : ProgressOf) (turn : ℕ) → IsTrue (is_step event) → Going old mid turn
-      → Does facts mid new event (Progress progress) → Going old new (turn + 1)
-  going_more old mid new event progress turn step going does = record {
-    steps = one_more old mid new event (Progress progress) step going.steps does;
+  abbrev pub going_more : (least : Option ℕ) (old mid new : CoreState D) (event : Event) (progress : ProgressOf) (turn : ℕ) → IsTrue (due_between least mid event) → Going least old mid turn
+      → Does facts mid new event (Progress progress) → Going least old new (turn + 1)
+  going_more least old mid new event progress turn due going does = record {
+    steps = one_more facts (due_between least) old mid new event (Progress progress) due going.steps does;
     fine = done_more going.steps.replies (Progress progress) going.fine refl;
     many = omega (arith, going.many, length-append going.steps.replies (Progress progress ∷ []));
     shape = does.shape ∙ going.shape;
   }
 
-  -- two steps more
-  pub going_two : (old mid next new : CoreState D) (first second : Event) (progress more : ProgressOf) (turn : ℕ) → IsTrue (is_step first) → IsTrue (is_step second) → Going old mid turn
-      → Does facts mid next first (Progress progress) → Does facts next new second (Progress more) → Going old new (turn + 1)
-  going_two old mid next new first second progress more turn step also going does then_does =
-      let both = going_more old next new second more (turn + 1) also (going_more old mid next first progress turn step going does) then_does in
+  -- a conversion and a merge more
+  pub going_two : (least : Option ℕ) (old mid next new : CoreState D) (progress more : ProgressOf) (turn : ℕ) → Going least old mid turn
+      → Does facts mid next Convert (Progress progress) → IsTrue (due_between least next Merge) → Does facts next new Merge (Progress more) → Going least old new (turn + 1)
+  going_two least old mid next new progress more turn going does due then_does =
+      let both = going_more least old next new Merge more (turn + 1) due (going_more least old mid next Convert progress turn refl going does) then_does in
       record { steps = both.steps; fine = both.fine; many = omega (arith, both.many); shape = both.shape }
+
+  -- a merge is due if no conversion can go on and the store does not rest
+  merge_due_after : (least : Option ℕ) (mid new : CoreState D) (progress : ProgressOf) → progress ≡ convert_due mid → ConvertsTo facts mid new progress → is_paused progress ≡ true
+      → (is_idle progress && not (begins new least)) ≡ false → IsTrue (due_between least new Merge)
+  merge_due_after least mid new Idle is same paused rests = idle_due (awaits_region (convert_due new)) (begins new least) rests
+  merge_due_after least mid new Waiting is same paused rests = ap (λ (p : ProgressOf). awaits_region p || begins new least) (ap (λ (c : CoreState D). convert_due c) same ∙ sym is)
+  merge_due_after least mid new Moved is same paused rests = absurd (cc)
+  merge_due_after least mid new Finished is same paused rests = absurd (cc)
+
+  pub paused_due : (least : Option ℕ) (mid new : CoreState D) (progress : ProgressOf) → Does facts mid new Convert (Progress progress) → is_paused progress ≡ true
+      → (is_idle progress && not (begins new least)) ≡ false → IsTrue (due_between least new Merge)
+  paused_due least mid new progress does paused rests = merge_due_after least mid new progress does.cause.1 does.cause.2 paused rests
 
   -- if a conversion finds nothing to do, no step is due
   progress_idle : (mid new : CoreState D) (progress : ProgressOf) → progress ≡ convert_due mid → ConvertsTo facts mid new progress → is_idle progress ≡ true → convert_due new ≡ Idle
@@ -99,24 +126,24 @@ module _ {D F : Type 0} (facts : Ghosts D F) where
   progress_idle mid new Finished is same idle = absurd (cc)
 
   -- all that is due
-  pub due_done : (least : Option ℕ) (old mid new : CoreState D) (progress : ProgressOf) (turn : ℕ) → Going old mid turn → Does facts mid new Convert (Progress progress) → is_idle progress ≡ true
-      → begins new least ≡ false → TendsDue facts least old new None
+  pub due_done : (least : Option ℕ) (old mid new : CoreState D) (progress : ProgressOf) (turn : ℕ) → Going least old mid turn → Does facts mid new Convert (Progress progress)
+      → is_idle progress ≡ true → begins new least ≡ false → TendsDue facts least old new None
   due_done least old mid new progress turn going does idle rests =
-      let all = going_more old mid new Convert progress turn refl going does in
+      let all = going_more least old mid new Convert progress turn refl going does in
       record { steps = all.steps; ended = all.fine; done = λ _. (progress_idle mid new progress does.cause.1 does.cause.2 idle, rests); shape = all.shape }
 
   -- until a step is refused
-  pub due_refused : (least : Option ℕ) (old mid new : CoreState D) (event : Event) (refusal : Refusal F) (turn : ℕ) → IsTrue (is_step event) → Going old mid turn
+  pub due_refused : (least : Option ℕ) (old mid new : CoreState D) (event : Event) (refusal : Refusal F) (turn : ℕ) → IsTrue (due_between least mid event) → Going least old mid turn
       → Does facts mid new event (Refused refusal) → TendsDue facts least old new (Some refusal)
-  due_refused least old mid new event refusal turn step going does = record {
-    steps = one_more old mid new event (Refused refusal) step going.steps does;
+  due_refused least old mid new event refusal turn due going does = record {
+    steps = one_more facts (due_between least) old mid new event (Refused refusal) due going.steps does;
     ended = inl (going.steps.replies, refl, going.fine);
     done = λ e. absurd (cc);
     shape = does.shape ∙ going.shape;
   }
 
   -- until the most steps are taken
-  pub due_out : (least : Option ℕ) (old new : CoreState D) (turn : ℕ) → most_steps ≤ turn → Going old new turn → TendsDue facts least old new (Some Spent)
+  pub due_out : (least : Option ℕ) (old new : CoreState D) (turn : ℕ) → most_steps ≤ turn → Going least old new turn → TendsDue facts least old new (Some Spent)
   due_out least old new turn most going = record { steps = going.steps; ended = inr (refl, omega (arith, going.many, most)); done = λ e. absurd (cc); shape = going.shape }
 
   -- an event fits a store of the same shape
@@ -194,30 +221,30 @@ module _ {D F : Type 0} (facts : Ghosts D F) where
   -- ---- all of it
 
   -- this many steps were taken, and counted
-  pub record Counted (old new : CoreState D) (converted merged turn : ℕ) : Type 0 where
-    pub taken : TakesSteps facts old new
+  pub record Counted (least : Option ℕ) (old new : CoreState D) (converted merged turn : ℕ) : Type 0 where
+    pub taken : TakesSteps facts (due_at_once least) old new
     pub fine : AreDone taken.replies
     pub converts : converted ≡ count_of is_convert taken.events
     pub merges : merged ≡ count_of is_merge taken.events
     pub all : converted + merged ≡ turn
 
-  pub none_counted : (core : CoreState D) → Counted core core 0 0 0
-  none_counted core = record { taken = none_taken core; fine = All-nil (λ reply. is_refused reply ≡ false); converts = refl; merges = refl; all = refl }
+  pub none_counted : (least : Option ℕ) (core : CoreState D) → Counted least core core 0 0 0
+  none_counted least core = record { taken = none_taken facts (due_at_once least) core; fine = All-nil (λ reply. is_refused reply ≡ false); converts = refl; merges = refl; all = refl }
 
-  pub convert_counted : (old mid new : CoreState D) (reply : Reply F) (converted merged turn : ℕ) → Counted old mid converted merged turn → is_refused reply ≡ false → Does facts mid new Convert reply
-      → Counted old new (converted + 1) merged (turn + 1)
-  convert_counted old mid new reply converted merged turn counted fine does = record {
-    taken = one_more old mid new Convert reply refl counted.taken does;
+  pub convert_counted : (least : Option ℕ) (old mid new : CoreState D) (reply : Reply F) (converted merged turn : ℕ) → Counted least old mid converted merged turn → wants_convert mid ≡ true
+      → is_refused reply ≡ false → Does facts mid new Convert reply → Counted least old new (converted + 1) merged (turn + 1)
+  convert_counted least old mid new reply converted merged turn counted due fine does = record {
+    taken = one_more facts (due_at_once least) old mid new Convert reply due counted.taken does;
     fine = done_more counted.taken.replies reply counted.fine fine;
     converts = omega (arith, counted.converts, count_more is_convert counted.taken.events Convert);
     merges = omega (arith, counted.merges, count_more is_merge counted.taken.events Convert);
     all = omega (arith, counted.all);
   }
 
-  pub merge_counted : (old mid new : CoreState D) (reply : Reply F) (converted merged turn : ℕ) → Counted old mid converted merged turn → is_refused reply ≡ false → Does facts mid new Merge reply
-      → Counted old new converted (merged + 1) (turn + 1)
-  merge_counted old mid new reply converted merged turn counted fine does = record {
-    taken = one_more old mid new Merge reply refl counted.taken does;
+  pub merge_counted : (least : Option ℕ) (old mid new : CoreState D) (reply : Reply F) (converted merged turn : ℕ) → Counted least old mid converted merged turn → merges mid least ≡ true
+      → is_refused reply ≡ false → Does facts mid new Merge reply → Counted least old new converted (merged + 1) (turn + 1)
+  merge_counted least old mid new reply converted merged turn counted due fine does = record {
+    taken = one_more facts (due_at_once least) old mid new Merge reply due counted.taken does;
     fine = done_more counted.taken.replies reply counted.fine fine;
     converts = omega (arith, counted.converts, count_more is_convert counted.taken.events Merge);
     merges = omega (arith, counted.merges, count_more is_merge counted.taken.events Merge);
@@ -225,6 +252,6 @@ module _ {D F : Type 0} (facts : Ghosts D F) where
   }
 
   -- then all work is done, or the most steps were taken
-  pub counted_all : (least : Option ℕ) (old new : CoreState D) (steps : Steps) (turn : ℕ) → Counted old new steps.converted steps.merged turn
+  pub counted_all : (least : Option ℕ) (old new : CoreState D) (steps : Steps) (turn : ℕ) → Counted least old new steps.converted steps.merged turn
       → (steps.converted + steps.merged < most_steps → (wants_convert new ≡ false) × (merges new least ≡ false)) → TendsAll facts least old new steps
   counted_all least old new steps turn counted done = record { taken = counted.taken; fine = counted.fine; converted = counted.converts; merged = counted.merges; done = done }

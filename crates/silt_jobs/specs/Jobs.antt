@@ -27,7 +27,7 @@ use Rattle.silt_wire.specs.declared.sessions.SessionEnd.{SessionEnd}
 use Rattle.silt_wire.specs.declared.sessions.SessionEnd.TheVariants.{End, WriteFault}
 use Rattle.silt_jobs.specs.Damage.{HasShape, LacksShape}
 use Rattle.silt_jobs.specs.Scripts.{reply_line}
-use Rattle.silt_jobs.specs.BackgroundWork.{PlainRefusal, StopsAt, TendsAll, TendsThenDoes}
+use Rattle.silt_jobs.specs.BackgroundWork.{PlainRefusal, StopsAt, TendsAll, TendsThenDoes, due_at_once}
 use Rattle.silt_jobs.specs.Tally.{has_refusals}
 use Rattle.silt_jobs.specs.declared.background_work.Steps.{Steps}
 use Rattle.silt_jobs.specs.declared.tally.Tally.{Tally}
@@ -117,7 +117,7 @@ module _ {D F : Type 0} (facts : Ghosts D F) (merge_at : Option ℕ) where
   abbrev pub EndsTending : CoreState D → CoreState D → ℕ → Option (List ℕ) → Option (List ℕ) → Type 0
   EndsTending old new status before after =
       ((status ≡ 0) × ((steps : Steps) × TendsAll facts merge_at old new steps × Appends before after (tended_line steps)))
-      ⊎ ((status ≡ 1) × ((refusal : Refusal F) × StopsAt facts old new refusal × Prints refusal before after))
+      ⊎ ((status ≡ 1) × ((refusal : Refusal F) × StopsAt facts (due_at_once merge_at) old new refusal × Prints refusal before after))
 
 module _ {D F : Type 0} (facts : Ghosts D F) (merge_at : Option ℕ) (reported_failures : D → Type 0) where
   -- `opened` was written, the background work of an opened store ended with this status, and the disk is as the store left it

@@ -1,6 +1,6 @@
 // Background work without workers: between the lines of a session, or all at once.
 ghost use Rattle.std.specs.Prelude.{◌≡◌, ◌&&◌, not, IfErr, IfOk};
-ghost use Rattle.silt_jobs.specs.BackgroundWork.{StopsAt, TendsAll, TendsDue, TendsPlain, TendsThenDoes, begins, error_of, is_idle, merges};
+ghost use Rattle.silt_jobs.specs.BackgroundWork.{StopsAt, TendsAll, TendsDue, TendsPlain, TendsThenDoes, begins, due_at_once, error_of, is_idle, is_paused, merges};
 
 use silt_disk::Disk;
 use silt_event::{Answerer, Event, Reply};
@@ -27,7 +27,7 @@ pub fn tend_all<D: Disk>(
     least: Option<u32>,
 ) -> Result<Steps, Refusal<D::Fault>>
     ensures done { IfOk result (TendsAll D.Disk least core.old core.new) }
-    ensures refused { IfErr result (StopsAt D.Disk core.old core.new) }
+    ensures refused { IfErr result (StopsAt D.Disk (due_at_once least) core.old core.new) }
 {
     let mut steps = Steps {
         converted: 0,
@@ -100,7 +100,9 @@ fn begins<D: Disk>(core: &Core<D>, least: Option<u32>) -> bool
 }
 
 // Whether no conversion can go on before a merge has ended.
-fn is_paused(converted: Progress) -> bool {
+fn is_paused(converted: Progress) -> bool
+    ensures { result ≡ is_paused converted }
+{
     matches!(converted, Progress::Idle | Progress::Waiting)
 }
 
