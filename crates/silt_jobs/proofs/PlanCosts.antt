@@ -5,8 +5,8 @@ use Rattle.std.specs.Option.{option_map}
 use Rattle.std.proofs.lemmas.List.{drop_all, drop_more}
 use Rattle.silt_disk.specs.Layout.{Shape}
 use Rattle.silt_words.specs.declared.job.PlanRequest.{PlanRequest}
-use Rattle.silt_jobs.specs.Plans.{bucket_counts, first_planned, shape_planned}
-use Rattle.silt_jobs.specs.PlanCosts.{ReportsCost, cost_of, first_needed, needs_buckets}
+use Rattle.silt_jobs.specs.Plans.{shape_planned}
+use Rattle.silt_jobs.specs.PlanCosts.{cost_of, first_needed, needs_buckets}
 use Rattle.silt_jobs.specs.declared.plan_cost.PlanCost.{PlanCost}
 
 if_true : (b : Bool) (x y : ℕ) → b ≡ true → (if b then x else y) ≡ x

@@ -1,16 +1,13 @@
 -- The output of a dump.
-use Rattle.std.specs.Prelude.{◌≡◌, ◌⊎◌, ℕ, IsTrue, List, ◌++◌, Option, Some, codes, flat_map}
+use Rattle.std.specs.Prelude.{◌≡◌, ℕ, IsTrue, List, ◌++◌, Option, Some, codes, flat_map}
 use Rattle.std.specs.BTreeMap.{BTreeMap, IsOrdered}
 use Rattle.std.specs.Io.KnownBytes.{Appends}
 use Rattle.hex.specs.Hex.{encode_lower}
 use Rattle.silt_disk.specs.declared.disk.Disk.{Ghosts}
-use Rattle.silt_event.specs.declared.refusal.Refusal.{Refusal}
 use Rattle.silt_frame.specs.Rows.{key_cmp}
 use Rattle.silt_frame.specs.declared.key.Key.{Key}
 use Rattle.silt_image.specs.Meaning.{image_map}
 use Rattle.silt_engine.specs.Lookup.{AreEntriesOf}
-use Rattle.silt_jobs.specs.Files.{PrintsNoDisk}
-use Rattle.silt_jobs.specs.Jobs.{PrintsCheck}
 
 -- the line that puts this value at this key
 abbrev pub put_line : Key → List ℕ → List ℕ

@@ -1,4 +1,4 @@
-use Rattle.std.proofs.Common.{refl, sym, ◌∙◌, ap, arith}
+use Rattle.std.proofs.Common.{sym, ◌∙◌, ap, arith}
 use Rattle.silt_event.specs.declared.event.Event.TheVariants.{Convert, Merge}
 use Rattle.silt_engine.proofs.Exits.{on_error}
 use Rattle.silt_store_set.specs.CoreState.{is_refused}

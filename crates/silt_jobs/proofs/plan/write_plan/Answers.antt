@@ -1,4 +1,4 @@
-use Rattle.std.proofs.Common.{sym, ap, ◌∙◌, ◌+◌, ◌*◌, ℕ}
+use Rattle.std.proofs.Common.{sym, ap, ◌∙◌, ℕ}
 use Rattle.silt_jobs.specs.Plans.{bucket_counts, first_planned, memory_of}
 use Rattle.silt_jobs.proofs.PlanCosts.{reports_cost}
 use Rattle.silt_jobs.proofs.Plans.{reports_none, reports_plan}
