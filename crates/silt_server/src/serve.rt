@@ -64,7 +64,7 @@ pub fn serve_on<L: Listens, D: Disk, G: Gate + Sync, R: Threads + Wait + Clock +
         Some(most) => serve_kept(rt, alloc, listener, core, most, limits, gate, out),
         None => {
             let (trace, blanks) = (Count::new(), Blanks::new());
-            serve_traced::<L, D, Count, Brand, Brand, G, R, W>(
+            serve_traced::<L, D, Count, Brand, G, R, W>(
                 rt, alloc, listener, core, trace, blanks, limits, gate, out,
             )
         }
@@ -110,7 +110,7 @@ fn serve_kept<L: Listens, D: Disk, G: Gate + Sync, R: Threads + Wait + Clock + S
     match Kept::new(alloc, &core, most) {
         Ok(trace) => {
             let blanks = Blanks::new();
-            serve_traced::<L, D, Kept, Brand, Brand, G, R, W>(
+            serve_traced::<L, D, Kept, Brand, G, R, W>(
                 rt, alloc, listener, core, trace, blanks, limits, gate, out,
             )
         }
@@ -149,8 +149,7 @@ fn serve_traced<
     L: Listens,
     D: Disk,
     T: Trace + Send + Sync,
-    N: DeskId + Send + Sync,
-    P: InboxId + Send + Sync,
+    N: DeskId + InboxId + Send + Sync,
     G: Gate + Sync,
     R: Threads + Wait + Clock + Sync,
     W: Write,
@@ -167,8 +166,8 @@ fn serve_traced<
 ) -> (D, io::Result<u8>)
     requires calls { (blanks.calls.name ≡ N.calls_name) × (blanks.calls.parts ≡ N.seats) × (N.seats ≡ 3) }
     requires accepted { (blanks.accepted.name ≡ N.accepted_name) × (blanks.accepted.parts ≡ N.seats) }
-    requires put { (blanks.put.name ≡ P.put_name) × (blanks.put.parts ≡ P.feeders) × (P.feeders ≡ 64) }
-    requires taken { (blanks.taken.name ≡ P.taken_name) × (blanks.taken.parts ≡ 1) }
+    requires put { (blanks.put.name ≡ N.put_name) × (blanks.put.parts ≡ N.feeders) × (N.feeders ≡ 64) }
+    requires taken { (blanks.taken.name ≡ N.taken_name) × (blanks.taken.parts ≡ 1) }
     requires trace { T.agrees trace (seen D.Disk core) × T.counts trace 0 0 }
     ensures served { result.1 ≡ Ok 0 → (core : CoreState D) × (trace : T) × (core.disk ≡ result.0) × T.agrees trace (seen D.Disk core)
         × PrintsServed (L.has_port listener.now) T.counts trace (W.contents out.old) (W.contents out.new) }
@@ -183,7 +182,7 @@ fn serve_traced<
     } = blanks;
     match Desk::<D, T, N>::new(alloc, core, trace, WORKERS, calls, accepted) {
         Ok((desk, seats)) => {
-            let Some(state) = ServerState::<N, P>::new(alloc, seats, put, taken) else {
+            let Some(state) = ServerState::<N>::new(alloc, seats, put, taken) else {
                 let status = refuse(alloc, &Refusal::<()>::NoMemory, out);
                 return (desk.close(), status);
             };
@@ -201,23 +200,23 @@ fn serve_traced<
 /// The state between the connections and the desk: the writer and the workers, the inbox of the sessions' jobs, a slot for
 /// each session, and the writer's end of the inbox.
 #[derive(Drop)]
-pub struct ServerState<N: DeskId, P: InboxId> {
+pub struct ServerState<N: DeskId + InboxId> {
     workers: Workers<N>,
-    inbox: Inbox<Job, P>,
-    slots: Vec<Mutex<SessionSlot<P>>>,
-    taker: Taker<P>,
+    inbox: Inbox<Job, N>,
+    slots: Vec<Mutex<SessionSlot<N>>>,
+    taker: Taker<N>,
 }
 
-impl<N: DeskId, P: InboxId> ServerState<N, P> {
+impl<N: DeskId + InboxId> ServerState<N> {
     /// The writer and the workers on these seats, and the inbox with ledgers of these blanks. None if out of memory.
     pub fn new(
         alloc: Global,
         seats: Vec<Seat<N>>,
         put: Blank,
         taken: Blank,
-    ) -> Option<ServerState<N, P>>
-        requires put { (put.name ≡ P.put_name) × (put.parts ≡ P.feeders) × (P.feeders ≡ 64) }
-        requires taken { (taken.name ≡ P.taken_name) × (taken.parts ≡ 1) }
+    ) -> Option<ServerState<N>>
+        requires put { (put.name ≡ N.put_name) × (put.parts ≡ N.feeders) × (N.feeders ≡ 64) }
+        requires taken { (taken.name ≡ N.taken_name) × (taken.parts ≡ 1) }
     {
         let (inbox, feeders, taker) = Inbox::new(alloc, MOST_SESSIONS, put, taken).ok()?;
         let slots = slots_of(alloc, feeders).ok()?;
@@ -237,8 +236,7 @@ pub fn serve_desk<
     L: Listens,
     D: Disk,
     T: Trace + Send + Sync,
-    N: DeskId + Send + Sync,
-    P: InboxId + Send + Sync,
+    N: DeskId + InboxId + Send + Sync,
     G: Gate + Sync,
     R: Threads + Wait + Clock + Sync,
     W: Write,
@@ -247,7 +245,7 @@ pub fn serve_desk<
     alloc: Global,
     listener: &L,
     desk: Desk<D, T, N>,
-    state: ServerState<N, P>,
+    state: ServerState<N>,
     limits: Limits,
     gate: &G,
     out: &mut W,
@@ -287,8 +285,7 @@ fn serve_begun<
     L: Listens,
     D: Disk,
     T: Trace + Send + Sync,
-    N: DeskId + Send + Sync,
-    P: InboxId + Send + Sync,
+    N: DeskId + InboxId + Send + Sync,
     G: Gate + Sync,
     R: Threads + Wait + Clock + Sync,
     W: Write,
@@ -297,7 +294,7 @@ fn serve_begun<
     alloc: Global,
     listener: &L,
     desk: Desk<D, T, N>,
-    state: ServerState<N, P>,
+    state: ServerState<N>,
     limits: Limits,
     gate: &G,
     out: &mut W,
@@ -381,8 +378,7 @@ fn run_threads<
     L: Listens,
     D: Disk,
     T: Trace + Send + Sync,
-    N: DeskId + Send + Sync,
-    P: InboxId + Send + Sync,
+    N: DeskId + InboxId + Send + Sync,
     G: Gate + Sync,
     R: Threads + Wait + Clock + Sync,
 >(
@@ -390,7 +386,7 @@ fn run_threads<
     alloc: Global,
     listener: &L,
     shared: &Shared<D, T, N>,
-    state: ServerState<N, P>,
+    state: ServerState<N>,
     value_len: usize,
     limits: Limits,
     gate: &G,
@@ -412,8 +408,7 @@ fn run_workers<
     L: Listens,
     D: Disk,
     T: Trace + Send + Sync,
-    N: DeskId + Send + Sync,
-    P: InboxId + Send + Sync,
+    N: DeskId + InboxId + Send + Sync,
     G: Gate + Sync,
     R: Threads + Wait + Clock + Sync,
 >(
@@ -422,9 +417,9 @@ fn run_workers<
     listener: &L,
     shared: &Shared<D, T, N>,
     workers: Workers<N>,
-    inbox: &Inbox<Job, P>,
-    slots: &[Mutex<SessionSlot<P>>],
-    taker: Taker<P>,
+    inbox: &Inbox<Job, N>,
+    slots: &[Mutex<SessionSlot<N>>],
+    taker: Taker<N>,
     value_len: usize,
     limits: Limits,
     gate: &G,

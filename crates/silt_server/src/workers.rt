@@ -176,14 +176,14 @@ pub fn run_merger<D: Disk, T: Trace, N: DeskId, G: Gate, R: Wait>(
 
 /// Does the requests of the sessions until there are no more, and gives the writer's seat back. A command waits for room
 /// for at most so many seconds.
-pub fn run_writer<D: Disk, T: Trace, N: DeskId, P: InboxId, G: Gate, R: Wait + Clock>(
+pub fn run_writer<D: Disk, T: Trace, N: DeskId + InboxId, G: Gate, R: Wait + Clock>(
     rt: &R,
     alloc: Global,
     shared: &Shared<D, T, N>,
     parts: WriterParts<N>,
     gate: &G,
-    inbox: &Inbox<Job, P>,
-    taker: Taker<P>,
+    inbox: &Inbox<Job, N>,
+    taker: Taker<N>,
     seconds: u32,
 ) -> Seat<N>
     ensures { result.number ≡ parts.seat.number }

@@ -65,8 +65,7 @@ type Ended = Option<(Printed, u8)>;
 // Serves the store of a desk with these seats. Returns what its record shows, and the status.
 fn serve_seated<
     D: Disk,
-    N: DeskId + Send + Sync,
-    P: InboxId + Send + Sync,
+    N: DeskId + InboxId + Send + Sync,
     R: Threads + Wait + Clock + Sync,
 >(
     rt: &R,
@@ -77,10 +76,10 @@ fn serve_seated<
     put: Blank,
     taken: Blank,
 ) -> Ended
-    requires put { (put.name ≡ P.put_name) × (put.parts ≡ P.feeders) × (P.feeders ≡ 64) }
-    requires taken { (taken.name ≡ P.taken_name) × (taken.parts ≡ 1) }
+    requires put { (put.name ≡ N.put_name) × (put.parts ≡ N.feeders) × (N.feeders ≡ 64) }
+    requires taken { (taken.name ≡ N.taken_name) × (taken.parts ≡ 1) }
 {
-    let state = ServerState::<N, P>::new(alloc, seats, put, taken)?;
+    let state = ServerState::<N>::new(alloc, seats, put, taken)?;
     let limits = limits_of(SESSIONS, None);
     let mut written = Vec::new(alloc);
     let (desk, status) = serve_desk(
@@ -100,8 +99,7 @@ fn serve_seated<
 // Serves a store and records all calls. The blanks become the ledgers.
 fn serve_recorded<
     D: Disk,
-    N: DeskId + Send + Sync,
-    P: InboxId + Send + Sync,
+    N: DeskId + InboxId + Send + Sync,
     R: Threads + Wait + Clock + Sync,
 >(
     rt: &R,
@@ -114,15 +112,15 @@ fn serve_recorded<
 ) -> Ended
     requires calls { (desk_blanks.0.name ≡ N.calls_name) × (desk_blanks.0.parts ≡ N.seats) × (N.seats ≡ 3) }
     requires accepted { (desk_blanks.1.name ≡ N.accepted_name) × (desk_blanks.1.parts ≡ N.seats) }
-    requires put { (inbox_blanks.0.name ≡ P.put_name) × (inbox_blanks.0.parts ≡ P.feeders) × (P.feeders ≡ 64) }
-    requires taken { (inbox_blanks.1.name ≡ P.taken_name) × (inbox_blanks.1.parts ≡ 1) }
+    requires put { (inbox_blanks.0.name ≡ N.put_name) × (inbox_blanks.0.parts ≡ N.feeders) × (N.feeders ≡ 64) }
+    requires taken { (inbox_blanks.1.name ≡ N.taken_name) × (inbox_blanks.1.parts ≡ 1) }
     requires trace { IsHistory kept (seen D.Disk core) × (kept.calls ≡ []) }
 {
     let (calls, accepted) = desk_blanks;
     let (put, taken) = inbox_blanks;
     match Desk::<D, Kept, N>::new(alloc, core, kept, 3, calls, accepted) {
         Ok((desk, seats)) => {
-            serve_seated::<D, N, P, R>(rt, alloc, listener, desk, seats, put, taken)
+            serve_seated::<D, N, R>(rt, alloc, listener, desk, seats, put, taken)
         }
         Err(_) => None,
     }
@@ -136,7 +134,7 @@ fn serve_kept<R: Threads + Wait + Clock + Sync>(
     core: Core<MemDisk>,
 ) -> Ended {
     match Kept::new(alloc, &core, 400_000) {
-        Ok(kept) => serve_recorded::<MemDisk, Brand, Brand, R>(
+        Ok(kept) => serve_recorded::<MemDisk, Brand, R>(
             rt,
             alloc,
             listener,

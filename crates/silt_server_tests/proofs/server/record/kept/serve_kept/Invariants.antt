@@ -3,5 +3,5 @@ use Rattle.silt_server_tests.proofs.server.record.kept.serve_kept.Given as goal
 abbrev pub ghosts-serve_recorded-N-DeskId : goal.ghosts-serve_recorded-N-DeskId
 ghosts-serve_recorded-N-DeskId g a = record { calls_name = a.desk_blanks.0.name; accepted_name = a.desk_blanks.1.name; seats = a.desk_blanks.0.parts }
 
-abbrev pub ghosts-serve_recorded-P-InboxId : goal.ghosts-serve_recorded-P-InboxId
-ghosts-serve_recorded-P-InboxId g a = record { put_name = a.inbox_blanks.0.name; taken_name = a.inbox_blanks.1.name; feeders = a.inbox_blanks.0.parts }
+abbrev pub ghosts-serve_recorded-N-InboxId : goal.ghosts-serve_recorded-N-InboxId
+ghosts-serve_recorded-N-InboxId g a = record { put_name = a.inbox_blanks.0.name; taken_name = a.inbox_blanks.1.name; feeders = a.inbox_blanks.0.parts }
