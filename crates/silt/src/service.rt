@@ -19,7 +19,7 @@ use silt_jobs::{
     FaultNotes, Notes, SourceNotes, Watched, has_few_regions, merge_damage_at,
     refuse_few_regions, refuse_no_disk, refuse_opening, report_failures,
 };
-use silt_server::{Limits, refuse_network, serve_on};
+use silt_server::{Limits, Server, refuse_network};
 use silt_store_set::Core;
 use silt_words::Service;
 use std::alloc::Global;
@@ -204,7 +204,14 @@ fn serve_store<
         least: least_merged(service.merge_at, geometry.hashes()),
         is_noted: OnceLock::new(),
     };
-    let (disk, status) = serve_on(rt, alloc, &listener, core, limits, &gate, writer);
+    let server = Server {
+        rt,
+        alloc,
+        listener: &listener,
+        limits,
+        gate: &gate,
+    };
+    let (disk, status) = server.serve(core, writer);
     report_listener(service.port, listener.failure(), &status, notes);
     (disk, status_served(status, gate.is_noted.get().is_some()))
 }

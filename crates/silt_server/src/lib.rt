@@ -1,6 +1,6 @@
 //! One store for many clients, over the network.
 //!
-//! [`serve_on`] serves a store on a listener. Each session is one thread that replies to the lines of its connection in
+//! A [`Server`] serves a store on a listener. Each session is one thread that replies to the lines of its connection in
 //! order, with a slot and an inbox of silt_session. Beside the sessions run the writer that does their changes, the
 //! replier that sends its replies, and the converter and the merger, which do their steps while there is work. With
 //! [`Limits::pipeline`] all changes of one read are one job of the writer.
@@ -10,6 +10,8 @@
 #![tactic(auto)]
 
 mod admission;
+mod common;
+mod connection;
 mod counting_listener;
 mod limits;
 mod serve;
@@ -19,4 +21,4 @@ mod written;
 
 pub use counting_listener::Listens;
 pub use limits::Limits;
-pub use serve::{ServerState, refuse_network, serve_desk, serve_on};
+pub use serve::{Server, ServerState, refuse_network};

@@ -9,17 +9,16 @@ ghost use Rattle.silt_wire.specs.Statuses.{IsStatus};
 ghost use Rattle.silt_server.specs.Serving.{BreaksServing, ServesAt, ServesKept, PrintsCalls, PrintsNotServed};
 ghost use Rattle.silt_server.specs.Serving.{PrintsServed, WritesHead, head_text, network_text, no_memory_text};
 
-use crate::admission::serve_sessions;
+use crate::common::{Served, Serving};
 use crate::counting_listener::Listens;
 use crate::limits::Limits;
-use crate::threads::run_beside;
-use crate::workers::{Workers, run_converter, run_merger, run_writer};
+use crate::workers::Workers;
 use crate::written::{refuse, write_calls, write_listening, write_network_fault, write_opened};
 use silt_desk::{Count, Desk, DeskId, Gate, Kept, Seat, Shared, Trace};
 use silt_disk::Disk;
-use silt_event::{Event, Refusal, Reply};
+use silt_event::Refusal;
 use silt_inbox::{Inbox, InboxId, Taker};
-use silt_session::{Job, SessionSlot, Unanswered, answer_all, slots_of};
+use silt_session::{Job, SessionSlot, slots_of};
 use silt_store_set::Core;
 use std::alloc::{AllocError, Global};
 use std::io::{self, Write};
@@ -35,39 +34,171 @@ const MOST_SESSIONS: u64 = 64;
 /// How many seats the workers have.
 const WORKERS: u64 = 3;
 
-/// Serves a store to the connections of a listener within these limits.
-///
-/// Writes `opened` and `listening` with the listener's port. After the last session, the converter ends when it has no
-/// step to do, and then the merger. A log that waits for a hash region may stay frozen. Then it writes `calls` with the
-/// number of recorded calls.
-///
-/// Gives the store's disk back, and the status: 0 after that, 1 if nothing is served or the network fails.
-///
-/// # Errors
-///
-/// The writer's, and out of memory for the text of a line.
-pub fn serve_on<L: Listens, D: Disk, G: Gate + Sync, R: Threads + Wait + Clock + Sync, W: Write>(
-    rt: &R,
-    alloc: Global,
-    listener: &L,
-    core: Core<D>,
-    limits: Limits,
-    gate: &G,
-    out: &mut W,
-) -> (D, io::Result<u8>)
-    ensures served { result.1 ≡ Ok 0 → ServesAt (L.has_port listener.now) (D.content result.0) (W.contents out.old) (W.contents out.new) }
-    ensures kept { result.1 ≡ Ok 0 → IfSome limits.audit (λ _. ServesKept D.Disk (L.has_port listener.now) result.0 (W.contents out.old) (W.contents out.new)) }
-    ensures printed { IfOk result.1 (IsStatus (PrintsNotServed D.Disk (L.has_port listener.now) core result.0 (W.contents out.old) (W.contents out.new))) }
-    ensures left { (shape : Shape) × LeavesBegun (D.content result.0) shape }
-{
-    match limits.audit {
-        Some(most) => serve_kept(rt, alloc, listener, core, most, limits, gate, out),
-        None => {
-            let (trace, blanks) = (Count::new(), Blanks::new());
-            serve_traced::<L, D, Count, Brand, G, R, W>(
-                rt, alloc, listener, core, trace, blanks, limits, gate, out,
-            )
+/// A server of one store: where its connections come from, its limits, and the gate that its workers pass.
+#[derive(Drop)]
+pub struct Server<'a, L, G, R> {
+    pub rt: &'a R,
+    pub alloc: Global,
+    pub listener: &'a L,
+    pub limits: Limits,
+    pub gate: &'a G,
+}
+
+impl<L: Listens, G: Gate + Sync, R: Threads + Wait + Clock + Sync> Server<'_, L, G, R> {
+    /// Serves a store to the connections of the listener, within the limits.
+    ///
+    /// Writes `opened` and `listening` with the listener's port. After the last session, the converter ends when it has no
+    /// step to do, and then the merger. A log that waits for a hash region may stay frozen. Then it writes `calls` with the
+    /// number of recorded calls.
+    ///
+    /// Gives the store's disk back, and the status: 0 after that, 1 if nothing is served or the network fails.
+    ///
+    /// # Errors
+    ///
+    /// The writer's, and out of memory for the text of a line.
+    pub fn serve<D: Disk, W: Write>(&self, core: Core<D>, out: &mut W) -> (D, io::Result<u8>)
+        ensures served { result.1 ≡ Ok 0 → ServesAt (L.has_port self.now.listener.now) (D.content result.0) (W.contents out.old) (W.contents out.new) }
+        ensures kept { result.1 ≡ Ok 0 → IfSome self.now.limits.audit (λ _. ServesKept D.Disk (L.has_port self.now.listener.now) result.0 (W.contents out.old) (W.contents out.new)) }
+        ensures printed { IfOk result.1 (IsStatus (PrintsNotServed D.Disk (L.has_port self.now.listener.now) core result.0 (W.contents out.old) (W.contents out.new))) }
+        ensures left { (shape : Shape) × LeavesBegun (D.content result.0) shape }
+    {
+        match self.limits.audit {
+            Some(most) => self.serve_kept(core, most, out),
+            None => {
+                let (trace, blanks) = (Count::new(), Blanks::new());
+                self.serve_traced::<D, Count, Brand, W>(core, trace, blanks, out)
+            }
         }
+    }
+
+    // Serves a store, and records at most this many calls.
+    fn serve_kept<D: Disk, W: Write>(
+        &self,
+        core: Core<D>,
+        most: u64,
+        out: &mut W,
+    ) -> (D, io::Result<u8>)
+        ensures served { result.1 ≡ Ok 0 → ServesAt (L.has_port self.now.listener.now) (D.content result.0) (W.contents out.old) (W.contents out.new) }
+        ensures kept { result.1 ≡ Ok 0 → ServesKept D.Disk (L.has_port self.now.listener.now) result.0 (W.contents out.old) (W.contents out.new) }
+        ensures printed { IfOk result.1 (IsStatus (PrintsNotServed D.Disk (L.has_port self.now.listener.now) core result.0 (W.contents out.old) (W.contents out.new))) }
+        ensures left { (shape : Shape) × LeavesBegun (D.content result.0) shape }
+    {
+        match Kept::new(self.alloc, &core, most) {
+            Ok(trace) => {
+                let blanks = Blanks::new();
+                self.serve_traced::<D, Kept, Brand, W>(core, trace, blanks, out)
+            }
+            Err(refusal) => {
+                let status = refuse(self.alloc, &refusal, out);
+                (core.close(), status)
+            }
+        }
+    }
+
+    // Serves a store with a trace of its calls.
+    fn serve_traced<D: Disk, T: Trace + Send + Sync, N: DeskId + InboxId + Send + Sync, W: Write>(
+        &self,
+        core: Core<D>,
+        trace: T,
+        blanks: Blanks,
+        out: &mut W,
+    ) -> (D, io::Result<u8>)
+        requires calls { (blanks.calls.name ≡ N.calls_name) × (blanks.calls.parts ≡ N.seats) × (N.seats ≡ 3) }
+        requires accepted { (blanks.accepted.name ≡ N.accepted_name) × (blanks.accepted.parts ≡ N.seats) }
+        requires put { (blanks.put.name ≡ N.put_name) × (blanks.put.parts ≡ N.feeders) × (N.feeders ≡ 64) }
+        requires taken { (blanks.taken.name ≡ N.taken_name) × (blanks.taken.parts ≡ 1) }
+        requires trace { T.agrees trace (seen D.Disk core) × T.counts trace 0 0 }
+        ensures served { result.1 ≡ Ok 0 → (core : CoreState D) × (trace : T) × (core.disk ≡ result.0) × T.agrees trace (seen D.Disk core)
+            × PrintsServed (L.has_port self.now.listener.now) T.counts trace (W.contents out.old) (W.contents out.new) }
+        ensures printed { IfOk result.1 (IsStatus (BreaksServing (L.has_port self.now.listener.now) (W.contents out.old) (W.contents out.new))) }
+        ensures left { (shape : Shape) × LeavesBegun (D.content result.0) shape }
+    {
+        let Blanks {
+            calls,
+            accepted,
+            put,
+            taken,
+        } = blanks;
+        match Desk::<D, T, N>::new(self.alloc, core, trace, WORKERS, calls, accepted) {
+            Ok((desk, seats)) => {
+                let Some(state) = ServerState::<N>::new(self.alloc, seats, put, taken) else {
+                    let status = refuse(self.alloc, &Refusal::<()>::NoMemory, out);
+                    return (desk.close(), status);
+                };
+                let (desk, status) = self.serve_desk(desk, state, out);
+                let _ = desk.trace(); // it agrees with the store
+                (desk.close(), status)
+            }
+            Err(lack) => {
+                let status = refuse(self.alloc, &Refusal::<()>::NoMemory, out);
+                (lack.core.close(), status)
+            }
+        }
+    }
+
+    /// Serves the store of a desk to the connections of the listener, within the limits, and gives the desk back with the
+    /// status: its trace has every call that a session made.
+    pub fn serve_desk<D: Disk, T: Trace + Send + Sync, N: DeskId + InboxId + Send + Sync, W: Write>(
+        &self,
+        desk: Desk<D, T, N>,
+        state: ServerState<N>,
+        out: &mut W,
+    ) -> (Desk<D, T, N>, io::Result<u8>)
+        ensures served { result.1 ≡ Ok 0 → PrintsServed (L.has_port self.now.listener.now) T.counts result.0.trace (W.contents out.old) (W.contents out.new) }
+        ensures printed { IfOk result.1 (IsStatus (BreaksServing (L.has_port self.now.listener.now) (W.contents out.old) (W.contents out.new))) }
+    {
+        match begin(self.alloc, self.listener, out) {
+            Ok(()) => self.serve_begun(desk, state, out),
+            Err(status) => {
+                drop(state);
+                (desk, status)
+            }
+        }
+    }
+
+    // Serves the store of a desk once the head is written, and writes the last lines.
+    fn serve_begun<D: Disk, T: Trace + Send + Sync, N: DeskId + InboxId + Send + Sync, W: Write>(
+        &self,
+        desk: Desk<D, T, N>,
+        state: ServerState<N>,
+        out: &mut W,
+    ) -> (Desk<D, T, N>, io::Result<u8>)
+        ensures calls { result.1 ≡ Ok 0 → PrintsCalls T.counts result.0.trace (W.contents out.old) (W.contents out.new) }
+        ensures printed { IfOk result.1 (IsStatus (Appends (W.contents out.old) (W.contents out.new) no_memory_text ⊎ Appends (W.contents out.old) (W.contents out.new) network_text)) }
+    {
+        let value_len = desk.geometry().value_len() as usize;
+        let shared: Shared<D, T, N> = RwLock::new(desk);
+        let served = self.run_threads(&shared, state, value_len);
+        let mut desk = shared.into_inner();
+        let status = end(self.alloc, &mut desk, served, out);
+        (desk, status)
+    }
+
+    // Runs the workers and the replier beside the sessions, until these have ended and all their requests are done. Values
+    // have so many bytes. None if the writer has no thread.
+    fn run_threads<D: Disk, T: Trace + Send + Sync, N: DeskId + InboxId + Send + Sync>(
+        &self,
+        desk: &Shared<D, T, N>,
+        state: ServerState<N>,
+        value_len: usize,
+    ) -> Option<Served<N>> {
+        let ServerState {
+            workers,
+            inbox,
+            slots,
+            taker,
+        } = state;
+        let serving = Serving {
+            rt: self.rt,
+            alloc: self.alloc,
+            desk,
+            inbox: &inbox,
+            slots: slots.as_slice(),
+            value_len,
+            limits: self.limits,
+            gate: self.gate,
+        };
+        serving.run(self.listener, workers, taker)
     }
 }
 
@@ -91,36 +222,6 @@ fn write_no_network<W: Write>(out: &mut W) -> io::Result<u8>
     write_network_fault(out)
 }
 
-// Serves a store, and records at most this many calls.
-fn serve_kept<L: Listens, D: Disk, G: Gate + Sync, R: Threads + Wait + Clock + Sync, W: Write>(
-    rt: &R,
-    alloc: Global,
-    listener: &L,
-    core: Core<D>,
-    most: u64,
-    limits: Limits,
-    gate: &G,
-    out: &mut W,
-) -> (D, io::Result<u8>)
-    ensures served { result.1 ≡ Ok 0 → ServesAt (L.has_port listener.now) (D.content result.0) (W.contents out.old) (W.contents out.new) }
-    ensures kept { result.1 ≡ Ok 0 → ServesKept D.Disk (L.has_port listener.now) result.0 (W.contents out.old) (W.contents out.new) }
-    ensures printed { IfOk result.1 (IsStatus (PrintsNotServed D.Disk (L.has_port listener.now) core result.0 (W.contents out.old) (W.contents out.new))) }
-    ensures left { (shape : Shape) × LeavesBegun (D.content result.0) shape }
-{
-    match Kept::new(alloc, &core, most) {
-        Ok(trace) => {
-            let blanks = Blanks::new();
-            serve_traced::<L, D, Kept, Brand, G, R, W>(
-                rt, alloc, listener, core, trace, blanks, limits, gate, out,
-            )
-        }
-        Err(refusal) => {
-            let status = refuse(alloc, &refusal, out);
-            (core.close(), status)
-        }
-    }
-}
-
 // The blanks that become the ledgers of a desk and of an inbox.
 #[derive(Drop)]
 struct Blanks {
@@ -140,59 +241,6 @@ impl Blanks {
             accepted: Blank::new(WORKERS),
             put: Blank::new(MOST_SESSIONS),
             taken: Blank::new(1),
-        }
-    }
-}
-
-// Serves a store with a trace of its calls.
-fn serve_traced<
-    L: Listens,
-    D: Disk,
-    T: Trace + Send + Sync,
-    N: DeskId + InboxId + Send + Sync,
-    G: Gate + Sync,
-    R: Threads + Wait + Clock + Sync,
-    W: Write,
->(
-    rt: &R,
-    alloc: Global,
-    listener: &L,
-    core: Core<D>,
-    trace: T,
-    blanks: Blanks,
-    limits: Limits,
-    gate: &G,
-    out: &mut W,
-) -> (D, io::Result<u8>)
-    requires calls { (blanks.calls.name ≡ N.calls_name) × (blanks.calls.parts ≡ N.seats) × (N.seats ≡ 3) }
-    requires accepted { (blanks.accepted.name ≡ N.accepted_name) × (blanks.accepted.parts ≡ N.seats) }
-    requires put { (blanks.put.name ≡ N.put_name) × (blanks.put.parts ≡ N.feeders) × (N.feeders ≡ 64) }
-    requires taken { (blanks.taken.name ≡ N.taken_name) × (blanks.taken.parts ≡ 1) }
-    requires trace { T.agrees trace (seen D.Disk core) × T.counts trace 0 0 }
-    ensures served { result.1 ≡ Ok 0 → (core : CoreState D) × (trace : T) × (core.disk ≡ result.0) × T.agrees trace (seen D.Disk core)
-        × PrintsServed (L.has_port listener.now) T.counts trace (W.contents out.old) (W.contents out.new) }
-    ensures printed { IfOk result.1 (IsStatus (BreaksServing (L.has_port listener.now) (W.contents out.old) (W.contents out.new))) }
-    ensures left { (shape : Shape) × LeavesBegun (D.content result.0) shape }
-{
-    let Blanks {
-        calls,
-        accepted,
-        put,
-        taken,
-    } = blanks;
-    match Desk::<D, T, N>::new(alloc, core, trace, WORKERS, calls, accepted) {
-        Ok((desk, seats)) => {
-            let Some(state) = ServerState::<N>::new(alloc, seats, put, taken) else {
-                let status = refuse(alloc, &Refusal::<()>::NoMemory, out);
-                return (desk.close(), status);
-            };
-            let (desk, status) = serve_desk(rt, alloc, listener, desk, state, limits, gate, out);
-            let _ = desk.trace(); // it agrees with the store
-            (desk.close(), status)
-        }
-        Err(lack) => {
-            let status = refuse(alloc, &Refusal::<()>::NoMemory, out);
-            (lack.core.close(), status)
         }
     }
 }
@@ -230,38 +278,6 @@ impl<N: DeskId + InboxId> ServerState<N> {
     }
 }
 
-/// Serves the store of a desk to the listener's connections within these limits, and gives the desk back with the status: its trace has
-/// every call that a session made.
-pub fn serve_desk<
-    L: Listens,
-    D: Disk,
-    T: Trace + Send + Sync,
-    N: DeskId + InboxId + Send + Sync,
-    G: Gate + Sync,
-    R: Threads + Wait + Clock + Sync,
-    W: Write,
->(
-    rt: &R,
-    alloc: Global,
-    listener: &L,
-    desk: Desk<D, T, N>,
-    state: ServerState<N>,
-    limits: Limits,
-    gate: &G,
-    out: &mut W,
-) -> (Desk<D, T, N>, io::Result<u8>)
-    ensures served { result.1 ≡ Ok 0 → PrintsServed (L.has_port listener.now) T.counts result.0.trace (W.contents out.old) (W.contents out.new) }
-    ensures printed { IfOk result.1 (IsStatus (BreaksServing (L.has_port listener.now) (W.contents out.old) (W.contents out.new))) }
-{
-    match begin(alloc, listener, out) {
-        Ok(()) => serve_begun(rt, alloc, listener, desk, state, limits, gate, out),
-        Err(status) => {
-            drop(state);
-            (desk, status)
-        }
-    }
-}
-
 // Writes the head. If the listener has no port, or the writer fails, nothing is served, and this is the status.
 fn begin<L: Listens, W: Write>(
     alloc: Global,
@@ -280,49 +296,12 @@ fn begin<L: Listens, W: Write>(
     }
 }
 
-// Serves the store of a desk once the head is written, and writes the last lines.
-fn serve_begun<
-    L: Listens,
-    D: Disk,
-    T: Trace + Send + Sync,
-    N: DeskId + InboxId + Send + Sync,
-    G: Gate + Sync,
-    R: Threads + Wait + Clock + Sync,
-    W: Write,
->(
-    rt: &R,
-    alloc: Global,
-    listener: &L,
-    desk: Desk<D, T, N>,
-    state: ServerState<N>,
-    limits: Limits,
-    gate: &G,
-    out: &mut W,
-) -> (Desk<D, T, N>, io::Result<u8>)
-    ensures calls { result.1 ≡ Ok 0 → PrintsCalls T.counts result.0.trace (W.contents out.old) (W.contents out.new) }
-    ensures printed { IfOk result.1 (IsStatus (Appends (W.contents out.old) (W.contents out.new) no_memory_text ⊎ Appends (W.contents out.old) (W.contents out.new) network_text)) }
-{
-    let value_len = desk.geometry().value_len() as usize;
-    let shared: Shared<D, T, N> = RwLock::new(desk);
-    let served = run_threads(rt, alloc, listener, &shared, state, value_len, limits, gate);
-    let mut desk = shared.into_inner();
-    let status = end(alloc, &mut desk, served, out);
-    (desk, status)
-}
-
 // Writes that the store is opened, and on which port the server listens.
 fn write_head<W: Write>(alloc: Global, port: u16, out: &mut W) -> io::Result<()>
     ensures { OnOk result (Appends (W.contents out.old) (W.contents out.new) (head_text port)) }
 {
     write_opened(out)?;
     write_listening(alloc, port, out)
-}
-
-// What comes back when the sessions have ended: the seats, and whether the listener failed.
-#[derive(Drop)]
-struct Served<N: DeskId> {
-    seats: (Seat<N>, Seat<N>, Seat<N>),
-    accepted: io::Result<()>,
 }
 
 // Writes the last lines after the sessions have ended, and returns the status.
@@ -370,106 +349,4 @@ fn all_of<N: DeskId>(
 ) -> Result<Vec<Seat<N>>, AllocError> {
     let (first, second, third) = seats;
     Ok(vec![in alloc; first, second, third]?)
-}
-
-// Runs the workers and the replier beside the sessions, until these have ended and all their requests are done. None if
-// the writer has no thread.
-fn run_threads<
-    L: Listens,
-    D: Disk,
-    T: Trace + Send + Sync,
-    N: DeskId + InboxId + Send + Sync,
-    G: Gate + Sync,
-    R: Threads + Wait + Clock + Sync,
->(
-    rt: &R,
-    alloc: Global,
-    listener: &L,
-    shared: &Shared<D, T, N>,
-    state: ServerState<N>,
-    value_len: usize,
-    limits: Limits,
-    gate: &G,
-) -> Option<Served<N>> {
-    let ServerState {
-        workers,
-        inbox,
-        slots,
-        taker,
-    } = state;
-    let slots = slots.as_slice();
-    run_workers(
-        rt, alloc, listener, shared, workers, &inbox, slots, taker, value_len, limits, gate,
-    )
-}
-
-// The same over an inbox and slots that others own.
-fn run_workers<
-    L: Listens,
-    D: Disk,
-    T: Trace + Send + Sync,
-    N: DeskId + InboxId + Send + Sync,
-    G: Gate + Sync,
-    R: Threads + Wait + Clock + Sync,
->(
-    rt: &R,
-    alloc: Global,
-    listener: &L,
-    shared: &Shared<D, T, N>,
-    workers: Workers<N>,
-    inbox: &Inbox<Job, N>,
-    slots: &[Mutex<SessionSlot<N>>],
-    taker: Taker<N>,
-    value_len: usize,
-    limits: Limits,
-    gate: &G,
-) -> Option<Served<N>> {
-    let Workers {
-        writer: first,
-        converter: second,
-        merger: third,
-        stops,
-        batches,
-    } = workers;
-    let reply = |desk: &Shared<D, T, N>, number: usize, events: Vec<Event>| -> Result<
-        Vec<Reply<()>>,
-        Unanswered,
-    > {
-        match slots.get(number) {
-            Some(slot) => answer_all(rt, alloc, desk, inbox, value_len, slot, events),
-            None => Err(Unanswered::Lost),
-        }
-    };
-    let reply = &reply;
-    let seconds = limits.wait;
-    gather_served(run_beside(
-        rt,
-        shared,
-        move |desk: &Shared<D, T, N>| run_merger(rt, alloc, desk, third, gate),
-        move |desk: &Shared<D, T, N>| run_converter(rt, alloc, desk, second, gate),
-        move |desk: &Shared<D, T, N>| {
-            run_writer(rt, alloc, desk, first, gate, inbox, taker, seconds)
-        },
-        move |desk: &Shared<D, T, N>| {
-            serve_sessions(
-                rt, alloc, listener, desk, inbox, slots, reply, value_len, limits,
-            )
-        },
-        stops,
-        batches,
-    ))
-}
-
-// What came back from the merger, the converter, and the writer and the sessions. None if the writer had no thread.
-fn gather_served<N: DeskId>(
-    back: (Seat<N>, Seat<N>, Option<(Seat<N>, io::Result<()>)>),
-) -> Option<Served<N>> {
-    let (merged, converted, written) = back;
-    match written {
-        Some((writer, accepted)) => Some(Served {
-            seats: (writer, converted, merged),
-            accepted,
-        }),
-        None => None,
-    }
 }

@@ -1,12 +1,23 @@
 // The threads of a server.
 ghost use Rattle.std.specs.Prelude.{◌≡◌};
 
-use crossbeam_channel::{Receiver, Sender};
+use crossbeam_channel::Receiver;
 use silt_desk::{Wake, Wakes, join_over};
 use silt_session::{Job, send_batches};
 use std::sync::Wait;
 use std::thread::Threads;
 use std::{io, thread};
+
+/// What the workers and the writer need, the ways to stop the converter and the merger, and the replier's end of its
+/// channel.
+#[derive(Drop)]
+pub struct Parts<X> {
+    pub merger: X,
+    pub converter: X,
+    pub writer: X,
+    pub stops: Wakes,
+    pub batches: Receiver<Vec<Job>>,
+}
 
 // Runs the writer and the replier in threads of their own beside the sessions, until these have ended. They close the
 // inbox: the writer ends when it is empty, and then the replier. None if the writer's thread cannot be started; then
@@ -14,29 +25,31 @@ use std::{io, thread};
 fn write_beside<
     S: Sync,
     X: Send + Drop,
-    A: FnOnce(&S) -> X + Send + Drop,
-    B: FnOnce(&S) -> io::Result<()>,
+    Y: Send + Drop,
+    C: Fn(&S, X) -> Y + Sync,
+    F: Fn(&S) -> io::Result<()>,
     R: Threads + Wait + Sync,
 >(
     rt: &R,
     shared: &S,
-    writer: A,
-    sessions: B,
+    writer: X,
     batches: Receiver<Vec<Job>>,
-) -> Option<(X, io::Result<()>)>
-    requires writer { A.IsAlwaysCallable writer }
-    requires sessions { B.IsAlwaysCallable sessions }
+    work: &C,
+    sessions: &F,
+) -> Option<(Y, io::Result<()>)>
+    requires work { C.IsAlwaysCallable work.now }
+    requires sessions { F.IsAlwaysCallable sessions.now }
 {
     thread::scope(
         thread::scope_env(),
         rt,
-        move |scope| -> Option<(X, io::Result<()>)>
-            requires { A.IsAlwaysCallable writer × B.IsAlwaysCallable sessions }
+        move |scope| -> Option<(Y, io::Result<()>)>
+            requires { C.IsAlwaysCallable work.now × F.IsAlwaysCallable sessions.now }
         {
             let Ok(handle) = scope.spawn(
-                move || -> X
-                    requires { A.IsAlwaysCallable writer }
-                { writer(shared) },
+                move || -> Y
+                    requires { C.IsAlwaysCallable work.now }
+                { work(shared, writer) },
             ) else {
                 return None;
             };
@@ -47,68 +60,33 @@ fn write_beside<
     )
 }
 
-// Runs the converter, the writer and the replier beside the sessions, until these have ended and all their requests are
-// done. Then the converter is stopped.
-fn convert_beside<
-    S: Sync,
-    X: Send + Drop,
-    B: FnOnce(&S) -> X + Send,
-    C: FnOnce(&S) -> X + Send + Drop,
-    F: FnOnce(&S) -> io::Result<()>,
-    R: Threads + Wait + Sync,
->(
-    rt: &R,
-    shared: &S,
-    converter: B,
-    writer: C,
-    sessions: F,
-    stop: Sender<Wake>,
-    batches: Receiver<Vec<Job>>,
-) -> (X, Option<(X, io::Result<()>)>)
-    requires converter { B.IsAlwaysCallable converter }
-    requires writer { C.IsAlwaysCallable writer }
-    requires sessions { F.IsAlwaysCallable sessions }
-{
-    join_over(
-        rt,
-        shared,
-        converter,
-        move |shared: &S| -> Option<(X, io::Result<()>)>
-            requires { C.IsAlwaysCallable writer × F.IsAlwaysCallable sessions }
-        {
-            let done = write_beside(rt, shared, writer, sessions, batches);
-            let _ = stop.send(rt, Wake::Stop); // the converter may have ended
-            done
-        },
-    )
-}
-
 /// Runs the merger, the converter, the writer and the replier beside the sessions, until these have ended and all their
 /// requests are done. Then each worker is stopped. The sessions close the inbox. Returns what the merger, the converter,
 /// and the writer and the sessions gave; the last two are None if the writer has no thread.
 pub fn run_beside<
     S: Sync,
     X: Send + Drop,
-    A: FnOnce(&S) -> X + Send,
-    B: FnOnce(&S) -> X + Send,
-    C: FnOnce(&S) -> X + Send + Drop,
-    F: FnOnce(&S) -> io::Result<()>,
+    Y: Send + Drop,
+    C: Fn(&S, X) -> Y + Sync,
+    F: Fn(&S) -> io::Result<()>,
     R: Threads + Wait + Sync,
 >(
     rt: &R,
     shared: &S,
-    merger: A,
-    converter: B,
-    writer: C,
-    sessions: F,
-    stops: Wakes,
-    batches: Receiver<Vec<Job>>,
-) -> (X, X, Option<(X, io::Result<()>)>)
-    requires merger { A.IsAlwaysCallable merger }
-    requires converter { B.IsAlwaysCallable converter }
-    requires writer { C.IsAlwaysCallable writer }
-    requires sessions { F.IsAlwaysCallable sessions }
+    parts: Parts<X>,
+    work: &C,
+    sessions: &F,
+) -> (Y, Y, Option<(Y, io::Result<()>)>)
+    requires work { C.IsAlwaysCallable work.now }
+    requires sessions { F.IsAlwaysCallable sessions.now }
 {
+    let Parts {
+        merger,
+        converter,
+        writer,
+        stops,
+        batches,
+    } = parts;
     let Wakes {
         converter: stop_converter,
         merger: stop_merger,
@@ -116,18 +94,25 @@ pub fn run_beside<
     let (merged, (converted, written)) = join_over(
         rt,
         shared,
-        merger,
-        move |shared: &S| -> (X, Option<(X, io::Result<()>)>)
-            requires { B.IsAlwaysCallable converter × C.IsAlwaysCallable writer × F.IsAlwaysCallable sessions }
+        move |shared: &S| -> Y
+            requires { C.IsAlwaysCallable work.now }
+        { work(shared, merger) },
+        move |shared: &S| -> (Y, Option<(Y, io::Result<()>)>)
+            requires { C.IsAlwaysCallable work.now × F.IsAlwaysCallable sessions.now }
         {
-            let done = convert_beside(
+            let done = join_over(
                 rt,
                 shared,
-                converter,
-                writer,
-                sessions,
-                stop_converter,
-                batches,
+                move |shared: &S| -> Y
+                    requires { C.IsAlwaysCallable work.now }
+                { work(shared, converter) },
+                move |shared: &S| -> Option<(Y, io::Result<()>)>
+                    requires { C.IsAlwaysCallable work.now × F.IsAlwaysCallable sessions.now }
+                {
+                    let done = write_beside(rt, shared, writer, batches, work, sessions);
+                    let _ = stop_converter.send(rt, Wake::Stop); // the converter may have ended
+                    done
+                },
             );
             let _ = stop_merger.send(rt, Wake::Stop); // the merger may have ended
             done

@@ -3,13 +3,9 @@ ghost use Rattle.std.specs.Prelude.{◌≡◌, ◌++◌, ◌∷◌, [], List, If
 ghost use Rattle.silt_desk.specs.Seats.{SeatState};
 
 use crossbeam_channel::{Receiver, Sender};
-use silt_desk::{DeskId, Gate, Seat, Shared, Trace, Wake, Wakes, converter, merger};
-use silt_disk::Disk;
-use silt_inbox::{Inbox, InboxId, Taker};
-use silt_session::{Job, RoomGate, RoomWait, replier_channel, room_channel, writer};
+use silt_desk::{DeskId, Seat, Wake, Wakes};
+use silt_session::{Job, replier_channel, room_channel};
 use std::alloc::{AllocError, Global};
-use std::sync::Wait;
-use std::time::Clock;
 
 // How many messages a worker's channel holds. The writer, the other worker and the thread that stops it each send one
 // at a time, so a send never waits for room. The channel allocates its memory when it is made, so a send is never out
@@ -131,74 +127,4 @@ fn two_ways(alloc: Global) -> Result<(Way, Way), AllocError> {
     let first = make_way(alloc)?;
     let second = make_way(alloc)?;
     Ok((first, second))
-}
-
-/// Does steps of conversion until the converter is told to end, and gives its seat back. The writer hears when there may be
-/// room.
-pub fn run_converter<D: Disk, T: Trace, N: DeskId, G: Gate, R: Wait>(
-    rt: &R,
-    alloc: Global,
-    shared: &Shared<D, T, N>,
-    worker: Worker<N>,
-    gate: &G,
-) -> Seat<N>
-    ensures { result.number ≡ worker.seat.number }
-{
-    let Worker {
-        seat,
-        wakes,
-        other,
-        room,
-    } = worker;
-    let gate = RoomGate { rt, gate, room };
-    converter(rt, alloc, shared, seat, &gate, wakes, other)
-}
-
-/// Does steps of merging until the merger is told to end, and gives its seat back. The writer hears when there may be room.
-pub fn run_merger<D: Disk, T: Trace, N: DeskId, G: Gate, R: Wait>(
-    rt: &R,
-    alloc: Global,
-    shared: &Shared<D, T, N>,
-    worker: Worker<N>,
-    gate: &G,
-) -> Seat<N>
-    ensures { result.number ≡ worker.seat.number }
-{
-    let Worker {
-        seat,
-        wakes,
-        other,
-        room,
-    } = worker;
-    let gate = RoomGate { rt, gate, room };
-    merger(rt, alloc, shared, seat, &gate, wakes, other)
-}
-
-/// Does the requests of the sessions until there are no more, and gives the writer's seat back. A command waits for room
-/// for at most so many seconds.
-pub fn run_writer<D: Disk, T: Trace, N: DeskId + InboxId, G: Gate, R: Wait + Clock>(
-    rt: &R,
-    alloc: Global,
-    shared: &Shared<D, T, N>,
-    parts: WriterParts<N>,
-    gate: &G,
-    inbox: &Inbox<Job, N>,
-    taker: Taker<N>,
-    seconds: u32,
-) -> Seat<N>
-    ensures { result.number ≡ parts.seat.number }
-{
-    let WriterParts {
-        seat,
-        wakes,
-        heard,
-        replier,
-    } = parts;
-    let room = RoomWait {
-        wakes,
-        heard,
-        seconds,
-    };
-    let (seat, _) = writer(rt, alloc, shared, seat, gate, inbox, taker, room, replier);
-    seat
 }

@@ -15,7 +15,7 @@ mod work;
 use silt_desk::Gate;
 use silt_device::{Disk, Geometry, MemDisk};
 use silt_fixtures::{formatted_with, opened_on};
-use silt_server::{Limits, serve_on};
+use silt_server::{Limits, Server};
 use silt_store_set::Core;
 use std::alloc::Global;
 use std::io::{self, Read, Write};
@@ -70,9 +70,16 @@ fn serve_beside<D: Disk, G: Gate + Sync, C: Clients, R: Threads + Wait + Clock +
     written: &mut Vec<u8>,
     got: &mut Vec<u8>,
 ) -> (D, io::Result<u8>) {
+    let server = Server {
+        rt,
+        alloc,
+        listener,
+        limits,
+        gate,
+    };
     let (ended, ()) = thread::join(
         rt,
-        || -> (D, io::Result<u8>) { serve_on(rt, alloc, listener, core, limits, gate, written) },
+        || -> (D, io::Result<u8>) { server.serve(core, written) },
         || ask_at(listener, clients, got),
     );
     ended

@@ -1,4 +1,3 @@
-mod Answering
 mod Batches
 mod Clients
 mod Lists

@@ -1,7 +1,7 @@
 -- One event more of a session that asks several at once.
 use Rattle.std.proofs.Common.{◌≡◌, ℕ, ◌+◌, List, [], ◌∷◌, ◌++◌, append_assoc, length, map, refl, sym, ◌∙◌, ap, subst, arith, vec_capacity, vec_len}
 use Rattle.std.specs.List.{AllZip}
-use Rattle.std.specs.Prelude.{OnOk, Result, Ok, Err}
+use Rattle.std.specs.Prelude.{IfOk, IfSome, OnOk, Option, Some, None, Result, Ok, Err}
 use Rattle.std.proofs.lemmas.List.{append-nil, length-append, map-append}
 use Rattle.std.proofs.lemmas.Slice.Zip.{AllZip-long}
 use Rattle.silt_disk.specs.declared.disk.Disk.{Ghosts}
@@ -12,11 +12,12 @@ use Rattle.silt_event.specs.declared.reply.Reply.TheVariants.{Refused}
 use Rattle.silt_inbox.specs.Answers.{event_kind}
 use Rattle.silt_inbox.specs.declared.answered.EventKind.{EventKind}
 use Rattle.silt_inbox.specs.declared.answered.EventKind.TheVariants as kind
-use Rattle.silt_session.specs.Pipelines.{Allows, AnswersSoFar, HasRoom, IsEmpty}
+use Rattle.silt_session.specs.Pipelines.{Allows, AnswersSoFar, HasReply, HasRoom, IsEmpty}
 use Rattle.silt_session.specs.Requests.{asked_event}
 use Rattle.silt_session.specs.Sessions.{IsAnswer}
 use Rattle.silt_session.specs.declared.job.Request.{Request}
 use Rattle.silt_session.specs.declared.job.Request.TheVariants.{Put, Delete, Swap, Flush}
+use Rattle.silt_session.specs.declared.job.Task.{Task}
 use Rattle.silt_session.specs.declared.pipeline.Pipeline.{Pipeline}
 use Rattle.silt_session.proofs.Lists.{zip_append, zip_map}
 
@@ -34,6 +35,12 @@ allows_refusal kind.Get = refl
 allows_refusal kind.Convert = refl
 allows_refusal kind.Merge = refl
 
+-- the reply of a task that came back alone
+pub alone_replies : (result : Option PlainReply) (tasks rest : List Task) (task : Task) → tasks ≡ rest ++ task ∷ [] → rest ≡ [] → IfSome result (HasReply task)
+    → IfSome result (λ reply. (t : Task) × (tasks ≡ t ∷ []) × HasReply t reply)
+alone_replies None tasks rest task is none has = has
+alone_replies (Some reply) tasks rest task is none has = (task, is ∙ ap (λ (l : List Task). l ++ task ∷ []) none, has)
+
 module _ {D F : Type 0} (facts : Ghosts D F) where
   -- a reply that the kind allows is one to the request
   allowed_answers : (request : Request) (reply : PlainReply) → Allows (kind_of request) reply → IsAnswer facts (asked_event request) reply
@@ -41,6 +48,12 @@ module _ {D F : Type 0} (facts : Ghosts D F) where
   allowed_answers (Delete key) reply allowed = allowed
   allowed_answers (Swap key old new) reply allowed = allowed
   allowed_answers Flush reply allowed = allowed
+
+  -- a reply that the kind of a request allows is one to its event
+  pub asked_answers : {E : Type 0} (request : Request) (event : Event) (result : Result PlainReply E) → asked_event request ≡ event
+      → IfOk result (Allows (kind_of request)) → IfOk result (IsAnswer facts event)
+  asked_answers request event (Ok reply) is allowed = subst (λ (e : Event). IsAnswer facts e reply) is (allowed_answers request reply allowed)
+  asked_answers request event (Err e) is allowed = allowed
 
   -- no event has a reply or waits
   pub answers_none : (pipeline : Pipeline) → IsEmpty pipeline → AnswersSoFar facts [] pipeline

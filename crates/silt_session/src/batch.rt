@@ -21,7 +21,9 @@ const TRIES_BETWEEN: u32 = 6;
 
 /// Where the writer works: the desk, the gate before each call, and how it waits for room.
 #[derive(Drop)]
-pub struct Workplace<'a, D: Disk, T: Trace, N: DeskId, G: Gate, H: HearsRoom> {
+pub struct Workplace<'a, D: Disk, T: Trace, N: DeskId, G: Gate, H: HearsRoom, R> {
+    pub rt: &'a R,
+    pub alloc: Global,
     pub shared: &'a Shared<D, T, N>,
     pub gate: &'a G,
     pub room: &'a RoomWait<H>,
@@ -131,156 +133,133 @@ fn try_at<D: Disk, T: Trace, N: DeskId>(
     (answer, due)
 }
 
-// Does a request under a guard of its own. Returns the result, and the work that may make room if it is refused for want
-// of it.
-fn try_request<D: Disk, T: Trace, N: DeskId, G: Gate, H: HearsRoom, R: Wait>(
-    rt: &R,
-    alloc: Global,
-    at: &Workplace<'_, D, T, N, G, H>,
-    seat: &mut Seat<N>,
-    request: &Request,
-) -> (Option<Answer>, Option<Due>)
-    ensures { TriesOnce D.Disk T.Trace seat.old request.now result.0 result.1 seat.new }
-{
-    at.gate.pass(Spot::Writer);
-    let least = at.gate.merges_at();
-    try_at(&mut *at.shared.write(rt), alloc, seat, request, least)
-}
+impl<D: Disk, T: Trace, N: DeskId, G: Gate, H: HearsRoom, R: Wait + Clock> Workplace<
+    '_,
+    D,
+    T,
+    N,
+    G,
+    H,
+    R,
+> {
+    // Does a request under a guard of its own. Returns the result, and the work that may make room if it is refused for
+    // want of it.
+    fn try_request(&self, seat: &mut Seat<N>, request: &Request) -> (Option<Answer>, Option<Due>)
+        ensures { TriesOnce D.Disk T.Trace seat.old request.now result.0 result.1 seat.new }
+    {
+        self.gate.pass(Spot::Writer);
+        let least = self.gate.merges_at();
+        try_at(
+            &mut *self.shared.write(self.rt),
+            self.alloc,
+            seat,
+            request,
+            least,
+        )
+    }
 
-// Does a request that was refused for want of room once more, as soon as a worker may have made room, and again if it is
-// still refused for that. Returns the last result.
-fn try_again<D: Disk, T: Trace, N: DeskId, G: Gate, H: HearsRoom, R: Wait + Clock>(
-    rt: &R,
-    alloc: Global,
-    at: &Workplace<'_, D, T, N, G, H>,
-    seat: &mut Seat<N>,
-    request: &Request,
-) -> Option<Answer>
-    ensures { TriesAgain D.Disk T.Trace (H.has_ended at.now.room.now.heard) seat.old request.now result seat.new }
-{
-    let until = at.room.deadline(rt);
-    for _tried in 0..TRIES_BETWEEN {
-        at.gate.rest(Spot::Writer);
-        let came = at.room.heard.comes(rt, until);
-        let (answer, due) = try_request(rt, alloc, at, seat, request);
+    // Does a request that was refused for want of room once more, as soon as a worker may have made room, and again if it
+    // is still refused for that. Returns the last result.
+    fn try_again(&self, seat: &mut Seat<N>, request: &Request) -> Option<Answer>
+        ensures { TriesAgain D.Disk T.Trace (H.has_ended self.now.room.now.heard) seat.old request.now result seat.new }
+    {
+        let until = self.room.deadline(self.rt);
+        for _tried in 0..TRIES_BETWEEN {
+            self.gate.rest(Spot::Writer);
+            let came = self.room.heard.comes(self.rt, until);
+            let (answer, due) = self.try_request(seat, request);
+            let Some(due) = due else {
+                return answer;
+            };
+            if !came {
+                return answer;
+            }
+            self.room.wakes.go(self.rt, due);
+        }
+        let _ = self.room.heard.comes(self.rt, until);
+        let (answer, _) = self.try_request(seat, request);
+        answer
+    }
+
+    // Flushes, and sends the replies to the jobs that are done.
+    fn end_round(&self, seat: &mut Seat<N>, batch: &mut Batch)
+        requires { IsBatch batch.old }
+        ensures round { EndsRound D.Disk T.Trace (writer_at seat.old batch.old) seat.new }
+        ensures none { done_in batch.new ≡ [] }
+        ensures left { KeepsLeft batch.old batch.new }
+    {
+        self.gate.pass(Spot::Writer);
+        let least = self.gate.merges_at();
+        let (flushed, _) = flush(&mut *self.shared.write(self.rt), self.alloc, seat, least);
+        batch.send_done(self.rt, &flushed);
+    }
+
+    // Does a request. If it is refused for want of room that a worker may make, it waits for room, and so that the jobs
+    // that are done need not wait too, they get their replies first. Returns the last result.
+    fn perform_request(
+        &self,
+        seat: &mut Seat<N>,
+        batch: &mut Batch,
+        request: &Request,
+    ) -> Option<Answer>
+        requires { IsBatch batch.old }
+        ensures does { PerformsRequest D.Disk T.Trace self.now.room.now.seconds (H.has_ended self.now.room.now.heard) (writer_at seat.old batch.old) request.now result (writer_at seat.new batch.new) }
+        ensures left { KeepsLeft batch.old batch.new }
+    {
+        let (answer, due) = self.try_request(seat, request);
         let Some(due) = due else {
             return answer;
         };
-        if !came {
+        if self.room.seconds == 0 {
             return answer;
         }
-        at.room.wakes.go(rt, due);
+        self.room.wakes.go(self.rt, due);
+        self.end_round(seat, batch);
+        self.try_again(seat, request)
     }
-    let _ = at.room.heard.comes(rt, until);
-    let (answer, _) = try_request(rt, alloc, at, seat, request);
-    answer
-}
 
-// Flushes, and sends the replies to the jobs that are done.
-fn end_round<D: Disk, T: Trace, N: DeskId, G: Gate, H: HearsRoom, R: Wait>(
-    rt: &R,
-    alloc: Global,
-    at: &Workplace<'_, D, T, N, G, H>,
-    seat: &mut Seat<N>,
-    batch: &mut Batch,
-)
-    requires { IsBatch batch.old }
-    ensures round { EndsRound D.Disk T.Trace (writer_at seat.old batch.old) seat.new }
-    ensures none { done_in batch.new ≡ [] }
-    ensures left { KeepsLeft batch.old batch.new }
-{
-    at.gate.pass(Spot::Writer);
-    let least = at.gate.merges_at();
-    let (flushed, _) = flush(&mut *at.shared.write(rt), alloc, seat, least);
-    batch.send_done(rt, &flushed);
-}
-
-// Does a request. If it is refused for want of room that a worker may make, it waits for room, and so that the jobs that
-// are done need not wait too, they get their replies first. Returns the last result.
-fn perform_request<D: Disk, T: Trace, N: DeskId, G: Gate, H: HearsRoom, R: Wait + Clock>(
-    rt: &R,
-    alloc: Global,
-    at: &Workplace<'_, D, T, N, G, H>,
-    seat: &mut Seat<N>,
-    batch: &mut Batch,
-    request: &Request,
-) -> Option<Answer>
-    requires { IsBatch batch.old }
-    ensures does { PerformsRequest D.Disk T.Trace at.now.room.now.seconds (H.has_ended at.now.room.now.heard) (writer_at seat.old batch.old) request.now result (writer_at seat.new batch.new) }
-    ensures left { KeepsLeft batch.old batch.new }
-{
-    let (answer, due) = try_request(rt, alloc, at, seat, request);
-    let Some(due) = due else {
-        return answer;
-    };
-    if at.room.seconds == 0 {
-        return answer;
+    // Does each task's request, in order.
+    fn perform_tasks(&self, seat: &mut Seat<N>, batch: &mut Batch, tasks: &mut Vec<Task>)
+        requires { IsBatch batch.old }
+        ensures steps { StepsThrough (PerformsTask D.Disk T.Trace self.now.room.now.seconds (H.has_ended self.now.room.now.heard)) (writer_at seat.old batch.old) tasks.old.items tasks.new.items (writer_at seat.new batch.new) }
+        ensures left { KeepsLeft batch.old batch.new }
+    {
+        for task in tasks.iter_mut() {
+            let answer = self.perform_request(seat, batch, &task.request);
+            task.answer = answer;
+        }
     }
-    at.room.wakes.go(rt, due);
-    end_round(rt, alloc, at, seat, batch);
-    try_again(rt, alloc, at, seat, request)
-}
 
-// Does each task's request, in order.
-fn perform_tasks<D: Disk, T: Trace, N: DeskId, G: Gate, H: HearsRoom, R: Wait + Clock>(
-    rt: &R,
-    alloc: Global,
-    at: &Workplace<'_, D, T, N, G, H>,
-    seat: &mut Seat<N>,
-    batch: &mut Batch,
-    tasks: &mut Vec<Task>,
-)
-    requires { IsBatch batch.old }
-    ensures steps { StepsThrough (PerformsTask D.Disk T.Trace at.now.room.now.seconds (H.has_ended at.now.room.now.heard)) (writer_at seat.old batch.old) tasks.old.items tasks.new.items (writer_at seat.new batch.new) }
-    ensures left { KeepsLeft batch.old batch.new }
-{
-    for task in tasks.iter_mut() {
-        let answer = perform_request(rt, alloc, at, seat, batch, &task.request);
-        task.answer = answer;
+    // Does the tasks of each job, in order.
+    fn perform_all(&self, seat: &mut Seat<N>, batch: &mut Batch)
+        requires within { IsBatch batch.old }
+        requires room { vec_len batch.old.jobs ≤ vec_capacity batch.old.jobs }
+        ensures steps { (done : List JobOf) × PerformsAll D.Disk T.Trace self.now.room.now.seconds (H.has_ended self.now.room.now.heard) (writer_at seat.old batch.old) (left_in batch.old) done (writer_at seat.new batch.new) }
+        ensures none { batch.new.left ≡ 0 }
+    {
+        while let Some(mut job) = batch.next() {
+            self.perform_tasks(seat, batch, &mut job.tasks);
+            batch.hold(job);
+        }
     }
-}
 
-// Does the tasks of each job, in order.
-fn perform_all<D: Disk, T: Trace, N: DeskId, G: Gate, H: HearsRoom, R: Wait + Clock>(
-    rt: &R,
-    alloc: Global,
-    at: &Workplace<'_, D, T, N, G, H>,
-    seat: &mut Seat<N>,
-    batch: &mut Batch,
-)
-    requires within { IsBatch batch.old }
-    requires room { vec_len batch.old.jobs ≤ vec_capacity batch.old.jobs }
-    ensures steps { (done : List JobOf) × PerformsAll D.Disk T.Trace at.now.room.now.seconds (H.has_ended at.now.room.now.heard) (writer_at seat.old batch.old) (left_in batch.old) done (writer_at seat.new batch.new) }
-    ensures none { batch.new.left ≡ 0 }
-{
-    while let Some(mut job) = batch.next() {
-        perform_tasks(rt, alloc, at, seat, batch, &mut job.tasks);
-        batch.hold(job);
+    /// Does the tasks of each job at the desk, in order, each call under a guard of its own. Then it flushes once and gives
+    /// each task its reply; that of an accepted command depends on the flush. It allocates no memory of its own. Returns
+    /// the jobs whose replies are not sent yet, and which background work there is to do after the flush.
+    ///
+    /// If a command is refused for want of room that a worker may make, it waits for room. Before that it flushes, and
+    /// sends the replies to the jobs that are done.
+    pub fn serve_batch(&self, seat: &mut Seat<N>, jobs: Vec<Job>) -> (Vec<Job>, Due)
+        ensures number { seat.new.number ≡ seat.old.number }
+        ensures batch { ServesBatch D.Disk T.Trace self.now.room.now.seconds (H.has_ended self.now.room.now.heard) seat.old jobs.items result.0.items seat.new result.1 }
+    {
+        let mut batch = Batch::new(jobs);
+        self.perform_all(seat, &mut batch);
+        self.gate.pass(Spot::Writer);
+        let least = self.gate.merges_at();
+        let (flushed, due) = flush(&mut *self.shared.write(self.rt), self.alloc, seat, least);
+        let mut jobs = batch.into_jobs();
+        reply_to_all(&mut jobs, &flushed);
+        (jobs, due)
     }
-}
-
-/// Does the tasks of each job at the desk, in order, each call under a guard of its own. Then it flushes once and gives
-/// each task its reply; that of an accepted command depends on the flush. It allocates no memory of its own. Returns the
-/// jobs whose replies are not sent yet, and which background work there is to do after the flush.
-///
-/// If a command is refused for want of room that a worker may make, it waits for room. Before that it flushes, and sends
-/// the replies to the jobs that are done.
-pub fn serve_batch<D: Disk, T: Trace, N: DeskId, G: Gate, H: HearsRoom, R: Wait + Clock>(
-    rt: &R,
-    alloc: Global,
-    at: &Workplace<'_, D, T, N, G, H>,
-    seat: &mut Seat<N>,
-    jobs: Vec<Job>,
-) -> (Vec<Job>, Due)
-    ensures number { seat.new.number ≡ seat.old.number }
-    ensures batch { ServesBatch D.Disk T.Trace at.now.room.now.seconds (H.has_ended at.now.room.now.heard) seat.old jobs.items result.0.items seat.new result.1 }
-{
-    let mut batch = Batch::new(jobs);
-    perform_all(rt, alloc, at, seat, &mut batch);
-    at.gate.pass(Spot::Writer);
-    let least = at.gate.merges_at();
-    let (flushed, due) = flush(&mut *at.shared.write(rt), alloc, seat, least);
-    let mut jobs = batch.into_jobs();
-    reply_to_all(&mut jobs, &flushed);
-    (jobs, due)
 }

@@ -1,12 +1,12 @@
 // The client side of one session: it gets the replies to the session's events.
-ghost use Rattle.std.specs.Prelude.{◌≡◌, ◌≤◌, ◌+◌, ◌++◌, ◌∷◌, [], List, IfErr, IfOk, false, vec_capacity, vec_len};
+ghost use Rattle.std.specs.Prelude.{◌≡◌, ◌≤◌, ◌+◌, ◌++◌, List, IfOk, false, vec_capacity, vec_len};
 ghost use Rattle.std.specs.List.{AllZip};
 ghost use Rattle.silt_event.specs.declared.event.Event.{Event as EventOf};
 ghost use Rattle.silt_event.specs.Events.{PlainReply};
 
 use crate::unanswered::Unanswered;
 use silt_event::{Answerer, Event, Reply};
-use std::alloc::{AllocError, Global};
+use std::alloc::Global;
 use std::marker::Model;
 use std::sync::atomic::{AtomicU64, Ordering};
 
@@ -18,37 +18,52 @@ pub trait Asking: Drop {
     /// An event and a reply that is given to it.
     ghost gives: { Self → EventOf → PlainReply → Type 0 };
 
+    /// The reply to an event.
+    ///
+    /// # Errors
+    ///
+    /// No reply comes, or out of memory before the event is done.
+    fn ask(&self, event: Event) -> Result<Reply<()>, Unanswered>
+        requires { can_ask self.now }
+        ensures { IfOk result (gives self.now event) };
+
     /// The replies to events that are asked at once, in order.
     ///
     /// # Errors
     ///
     /// No reply comes to one of them, or out of memory before any of them is done.
-    fn ask(&self, events: Vec<Event>) -> Result<Vec<Reply<()>>, Unanswered>
+    fn ask_all(&self, events: Vec<Event>) -> Result<Vec<Reply<()>>, Unanswered>
         requires { can_ask self.now }
         ensures { IfOk result (λ replies. AllZip (gives self.now) events.items replies.items) };
 }
 
-/// Asks by a closure, which gets what the sessions share and the number of this one. If it gives another number of replies
-/// than it is asked for, these do not count.
+/// Asks one event by a closure, and several at once by another one. If that one gives another number of replies than it is
+/// asked for, these do not count.
 #[derive(Drop)]
-pub struct AskBy<'a, S, F> {
-    pub ask: &'a F,
-    pub shared: &'a S,
-    pub number: usize,
+pub struct AskBy<'a, F, G> {
+    pub one: &'a F,
+    pub all: &'a G,
 }
 
-impl<S, F: Fn(&S, usize, Vec<Event>) -> Result<Vec<Reply<()>>, Unanswered>> Asking
-    for AskBy<'_, S, F> {
-    ghost use Rattle.std.specs.Prelude.{Ok};
+impl<
+    F: Fn(Event) -> Result<Reply<()>, Unanswered>,
+    G: Fn(Vec<Event>) -> Result<Vec<Reply<()>>, Unanswered>,
+> Asking for AskBy<'_, F, G> {
+    ghost use Rattle.std.specs.Prelude.{◌⊎◌, Ok};
     ghost use Rattle.silt_session.specs.Sessions.{ArePaired};
 
-    ghost can_ask = { λ by. F.IsAlwaysCallable by.ask.now };
+    ghost can_ask = { λ by. F.IsAlwaysCallable by.one.now × G.IsAlwaysCallable by.all.now };
 
-    ghost gives = { λ by event reply. (events : _) × (replies : _) × F.post by.ask.now by.shared by.number events (Ok replies) × ArePaired events.items replies.items event reply };
+    ghost gives = { λ by event reply. F.post by.one.now event (Ok reply)
+        ⊎ ((events : _) × (replies : _) × G.post by.all.now events (Ok replies) × ArePaired events.items replies.items event reply) };
 
-    fn ask(&self, events: Vec<Event>) -> Result<Vec<Reply<()>>, Unanswered> {
+    fn ask(&self, event: Event) -> Result<Reply<()>, Unanswered> {
+        (self.one)(event)
+    }
+
+    fn ask_all(&self, events: Vec<Event>) -> Result<Vec<Reply<()>>, Unanswered> {
         let count = events.len();
-        let replies = (self.ask)(self.shared, self.number, events)?;
+        let replies = (self.all)(events)?;
         if replies.len() != count {
             return Err(Unanswered::Lost);
         }
@@ -76,15 +91,6 @@ impl<'a, A: Asking> Model for Client<'a, A> {
     ghost view = { λ c. record { value_len = c.value_len; asking = c.asking; is_lost = c.is_lost } };
 
     ghost invariant = { λ c. A.can_ask c.asking };
-}
-
-// A list of one event.
-fn list_of(alloc: Global, event: Event) -> Result<Vec<Event>, AllocError>
-    ensures { IfOk result (λ events. events.items ≡ event ∷ []) }
-{
-    let mut events = Vec::new(alloc);
-    events.push(event)?;
-    Ok(events)
 }
 
 // Appends replies to a list that has room for them.
@@ -116,21 +122,18 @@ impl<'a, A: Asking> Client<'a, A> {
         }
     }
 
-    // The replies to events. If none come, the session is lost.
-    fn ask(&mut self, events: Vec<Event>) -> Result<Vec<Reply<()>>, Unanswered>
-        ensures replies { IfOk result (λ replies. (self.new ≡ self.old) × AllZip (A.gives self.old.asking) events.items replies.items) }
-        ensures without { IfErr result (IsWithout self.old self.new) }
+    // Notes why no reply came. If it is lost, the session is lost too.
+    fn note(&mut self, lack: Unanswered)
+        ensures without { IsWithout self.old self.new lack }
         ensures stays { self.new.value_len ≡ self.old.value_len }
     {
-        if self.is_lost {
-            return Err(Unanswered::Lost);
+        match lack {
+            Unanswered::Lost => {
+                self.is_lost = true;
+                self.cut.store(1, Ordering::SeqCst);
+            }
+            Unanswered::NoMemory => {}
         }
-        let asked = self.asking.ask(events);
-        if let Err(Unanswered::Lost) = asked {
-            self.is_lost = true;
-            self.cut.store(1, Ordering::SeqCst);
-        }
-        asked
     }
 
     // Asks events at once, and appends their replies.
@@ -143,9 +146,16 @@ impl<'a, A: Asking> Client<'a, A> {
         if count == 0 {
             return;
         }
-        match self.ask(events) {
+        if self.is_lost {
+            Unanswered::Lost.reply_to(count, replies);
+            return;
+        }
+        match self.asking.ask_all(events) {
             Ok(given) => append(replies, given),
-            Err(lack) => lack.reply_to(count, replies),
+            Err(lack) => {
+                self.note(lack);
+                lack.reply_to(count, replies);
+            }
         }
     }
 }
@@ -157,16 +167,16 @@ impl<A: Asking> Answerer for Client<'_, A> {
 
     ghost answers = { AnswersClient A.gives };
 
-    fn answer(&mut self, alloc: Global, event: Event) -> Reply<()> {
-        let Ok(events) = list_of(alloc, event) else {
-            return Unanswered::NoMemory.reply();
-        };
-        match self.ask(events) {
-            Ok(mut given) => match given.pop() {
-                Some(reply) => reply,
-                None => unreachable!(),
-            },
-            Err(lack) => lack.reply(),
+    fn answer(&mut self, _alloc: Global, event: Event) -> Reply<()> {
+        if self.is_lost {
+            return Unanswered::Lost.reply();
+        }
+        match self.asking.ask(event) {
+            Ok(reply) => reply,
+            Err(lack) => {
+                self.note(lack);
+                lack.reply()
+            }
         }
     }
 

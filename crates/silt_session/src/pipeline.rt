@@ -5,16 +5,17 @@ ghost use Rattle.silt_event.specs.Events.{PlainReply};
 ghost use Rattle.silt_inbox.specs.Answers.{event_kind};
 ghost use Rattle.silt_session.specs.Pipelines.{Allows, GathersTask, HasReply, IsEmpty};
 ghost use Rattle.silt_session.specs.Requests.{asked_event};
+ghost use Rattle.silt_session.specs.declared.job.Task.{Task as TaskOf};
 
-use crate::job::{Job, Request, Task};
-use crate::session_slots::SessionSlot;
+use crate::job::{Request, Task};
+use crate::session::Session;
 use crate::unanswered::Unanswered;
 use crossbeam_channel::Receiver;
 use silt_event::Reply;
-use silt_inbox::{EventKind, Feeder, Inbox, InboxId, NotPutReason};
+use silt_inbox::{EventKind, InboxId, NotPutReason};
 use std::alloc::{AllocError, Global};
 use std::mem;
-use std::sync::{Mutex, Wait};
+use std::sync::Wait;
 
 /// The replies to the first events, and the requests after them that wait for the writer.
 #[derive(Drop)]
@@ -73,12 +74,9 @@ impl Pipeline {
     /// # Errors
     ///
     /// No reply comes, or one that does not fit.
-    pub fn settle<P: InboxId, R: Wait>(
+    pub fn settle<S, N: InboxId, R: Wait>(
         &mut self,
-        rt: &R,
-        alloc: Global,
-        inbox: &Inbox<Job, P>,
-        slot: &Mutex<SessionSlot<P>>,
+        session: &Session<'_, S, N, R>,
     ) -> Result<(), Unanswered>
         requires room { vec_len self.old.replies + vec_len self.old.kinds ≤ vec_capacity self.old.replies }
         ensures replies { OnOk result ((given : List PlainReply) × (self.new.replies.items ≡ self.old.replies.items ++ given) × AllZip Allows self.old.kinds.items given) }
@@ -88,8 +86,8 @@ impl Pipeline {
         if self.kinds.is_empty() {
             return Ok(());
         }
-        match self.put_tasks(rt, alloc, inbox, slot) {
-            Ok(back) => forward_all(rt, &back, self.kinds.as_slice(), &mut self.replies)?,
+        match self.put_tasks(session) {
+            Ok(back) => forward_all(session.rt, &back, self.kinds.as_slice(), &mut self.replies)?,
             Err(NotPutReason::NoMemory) => {
                 Unanswered::NoMemory.reply_to(self.kinds.len(), &mut self.replies);
             }
@@ -100,40 +98,18 @@ impl Pipeline {
     }
 
     // Puts the tasks into the inbox as one job, and returns where they will come back. If out of memory, nothing is put.
-    fn put_tasks<P: InboxId, R: Wait>(
+    fn put_tasks<S, N: InboxId, R: Wait>(
         &mut self,
-        rt: &R,
-        alloc: Global,
-        inbox: &Inbox<Job, P>,
-        slot: &Mutex<SessionSlot<P>>,
+        session: &Session<'_, S, N, R>,
     ) -> Result<Receiver<Vec<Task>>, NotPutReason>
         ensures none { (self.new.tasks.items ≡ []) × (self.new.lacks_memory ≡ false) }
         ensures same { (self.new.replies ≡ self.old.replies) × (self.new.kinds ≡ self.old.kinds) }
     {
-        let tasks = mem::replace(&mut self.tasks, Vec::new(alloc));
+        let tasks = mem::replace(&mut self.tasks, Vec::new(session.alloc));
         if mem::replace(&mut self.lacks_memory, false) {
             return Err(NotPutReason::NoMemory);
         }
-        put_job(rt, alloc, inbox, slot.lock(rt).feeder(), tasks)
-    }
-}
-
-// Puts tasks into the inbox as one job, and returns where they will come back.
-fn put_job<P: InboxId, R: Wait>(
-    rt: &R,
-    alloc: Global,
-    inbox: &Inbox<Job, P>,
-    feeder: &mut Feeder<P>,
-    tasks: Vec<Task>,
-) -> Result<Receiver<Vec<Task>>, NotPutReason>
-    ensures { MatchResult result (λ _. feeder.new ≡ feeder.old + 1) (λ _. feeder.new ≡ feeder.old) }
-{
-    let Ok((replies, from)) = crossbeam_channel::bounded(alloc, 1) else {
-        return Err(NotPutReason::NoMemory);
-    };
-    match inbox.put(rt, feeder, Job { tasks, replies }) {
-        Ok(()) => Ok(from),
-        Err(refused) => Err(refused.reason),
+        session.hand_over(tasks)
     }
 }
 
@@ -148,6 +124,37 @@ fn forwarded(task: Task, kind: EventKind) -> Option<Reply<()>>
         return None;
     }
     Some(answered.into_reply())
+}
+
+// The reply of a task that came back alone, if it is one to an event of this kind.
+fn forwarded_alone(tasks: Vec<Task>, kind: EventKind) -> Option<Reply<()>>
+    ensures reply { IfSome result (λ reply. (task : TaskOf) × (tasks.items ≡ task ∷ []) × HasReply task reply) }
+    ensures allowed { IfSome result (Allows kind) }
+{
+    let mut tasks = tasks;
+    let task = tasks.pop()?;
+    if !tasks.is_empty() {
+        return None;
+    }
+    forwarded(task, kind)
+}
+
+/// Waits for the task of a request, and returns its reply.
+///
+/// # Errors
+///
+/// No reply comes, or one that does not fit.
+pub(crate) fn forward_one<R: Wait>(
+    rt: &R,
+    back: &Receiver<Vec<Task>>,
+    kind: EventKind,
+) -> Result<Reply<()>, Unanswered>
+    ensures { IfOk result (Allows kind) }
+{
+    match back.recv(rt) {
+        Ok(tasks) => forwarded_alone(tasks, kind).ok_or(Unanswered::Lost),
+        Err(_) => Err(Unanswered::Lost),
+    }
 }
 
 // Waits for the tasks, and appends their replies.

@@ -3,73 +3,67 @@ ghost use Rattle.std.specs.Prelude.{◌≡◌, ◌+◌, List, MatchOption, vec_l
 ghost use Rattle.silt_session.specs.Batches.{ServesBatches};
 ghost use Rattle.silt_session.specs.declared.job.Job.{Job as JobOf};
 
-use crate::batch::{Workplace, serve_batch};
+use crate::batch::Workplace;
 use crate::job::Job;
 use crate::replier::send_replies;
-use crate::room::{HearsRoom, RoomWait};
+use crate::room::HearsRoom;
 use crossbeam_channel::Sender;
-use silt_desk::{DeskId, Gate, Seat, Shared, Trace};
+use silt_desk::{DeskId, Gate, Seat, Trace};
 use silt_disk::Disk;
 use silt_inbox::{Inbox, InboxId, Taker};
-use std::alloc::Global;
 use std::sync::Wait;
 use std::time::Clock;
 
 /// The source of the writer's jobs.
-pub trait Jobs<P: InboxId> {
+pub trait Jobs<N: InboxId> {
     /// There are no more jobs.
     ghost has_ended: { Self → Type 0 };
 
     /// Waits for jobs and takes all of them, in order. None if there are no more.
-    fn take_all<R: Wait>(&self, rt: &R, taker: &mut Taker<P>) -> Option<Vec<Job>>
+    fn take_all<R: Wait>(&self, rt: &R, taker: &mut Taker<N>) -> Option<Vec<Job>>
         ensures { MatchOption result (has_ended self.now × (taker.new ≡ taker.old)) (λ jobs. taker.new ≡ taker.old + vec_len jobs) };
 }
 
-impl<P: InboxId> Jobs<P> for Inbox<Job, P> {
+impl<N: InboxId> Jobs<N> for Inbox<Job, N> {
     ghost has_ended = { λ inbox. Unit {0} };
 
-    fn take_all<R: Wait>(&self, rt: &R, taker: &mut Taker<P>) -> Option<Vec<Job>> {
+    fn take_all<R: Wait>(&self, rt: &R, taker: &mut Taker<N>) -> Option<Vec<Job>> {
         self.take_all(rt, taker)
     }
 }
 
-/// Takes all jobs that wait, does their tasks, each call under a guard of its own, flushes once and then replies, until
-/// there are no more. It hands the replies of many jobs to the replier, so that it can go on with the next batch. After
-/// each batch it wakes the converter and the merger if they have work. A command that is refused for want of room waits
-/// for it, behind a flush and the replies of the jobs that are done. Gives its seat and its taker back.
-pub fn writer<
-    D: Disk,
-    T: Trace,
-    N: DeskId,
-    P: InboxId,
-    I: Jobs<P>,
-    G: Gate,
-    H: HearsRoom,
-    R: Wait + Clock,
->(
-    rt: &R,
-    alloc: Global,
-    shared: &Shared<D, T, N>,
-    mut seat: Seat<N>,
-    gate: &G,
-    inbox: &I,
-    mut taker: Taker<P>,
-    room: RoomWait<H>,
-    replier: Sender<Vec<Job>>,
-) -> (Seat<N>, Taker<P>)
-    ensures number { result.0.number ≡ seat.number }
-    ensures ended { I.has_ended inbox.now }
-    ensures batches { (batches : List (List JobOf)) × ServesBatches D.Disk T.Trace room.seconds (H.has_ended room.heard) seat taker batches result.0 result.1 }
-{
-    let room = &room;
-    let at = Workplace { shared, gate, room };
-    for _ in rt.forever() {
-        let Some(jobs) = inbox.take_all(rt, &mut taker) else {
-            return (seat, taker);
-        };
-        let (left, due) = serve_batch(rt, alloc, &at, &mut seat, jobs);
-        send_replies(rt, &replier, left);
-        room.wakes.go(rt, due);
+impl<D: Disk, T: Trace, N: DeskId + InboxId, G: Gate, H: HearsRoom, R: Wait + Clock> Workplace<
+    '_,
+    D,
+    T,
+    N,
+    G,
+    H,
+    R,
+> {
+    /// Takes all jobs that wait, does their tasks, each call under a guard of its own, flushes once and then replies, until
+    /// there are no more. It hands the replies of many jobs to the replier, so that it can go on with the next batch.
+    /// After each batch it wakes the converter and the merger if they have work. A command that is refused for want of
+    /// room waits for it, behind a flush and the replies of the jobs that are done. Gives its seat and its taker back.
+    pub fn serve_all<I: Jobs<N>>(
+        &self,
+        mut seat: Seat<N>,
+        inbox: &I,
+        mut taker: Taker<N>,
+        replier: Sender<Vec<Job>>,
+    ) -> (Seat<N>, Taker<N>)
+        ensures number { result.0.number ≡ seat.number }
+        ensures ended { I.has_ended inbox.now }
+        ensures batches { (batches : List (List JobOf)) × ServesBatches D.Disk T.Trace self.now.room.now.seconds (H.has_ended self.now.room.now.heard) seat taker batches result.0 result.1 }
+    {
+        for _ in self.rt.forever() {
+            let Some(jobs) = inbox.take_all(self.rt, &mut taker) else {
+                return (seat, taker);
+            };
+            let (left, due) = self.serve_batch(&mut seat, jobs);
+            send_replies(self.rt, &replier, left);
+            self.room.wakes.go(self.rt, due);
+        }
+        unreachable!()
     }
-    unreachable!()
 }

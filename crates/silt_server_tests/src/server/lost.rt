@@ -10,7 +10,7 @@ use std::net::{Net, TcpListener, TcpStream};
 use std::sync::atomic::AtomicU64;
 use std::test::Fail;
 
-/// What comes back for the events that a session asks together.
+/// What comes back for events.
 #[derive(Clone, Copy)]
 enum Back {
     /// So many replies that no key has a value.
@@ -18,7 +18,15 @@ enum Back {
     Nothing(Unanswered),
 }
 
-// What comes back, as the session gets it.
+// What comes back for one event.
+fn reply_of(back: Back) -> Result<Reply<()>, Unanswered> {
+    match back {
+        Back::Absent(_) => Ok(Reply::Absent),
+        Back::Nothing(why) => Err(why),
+    }
+}
+
+// What comes back for events that a session asks together.
 fn replies_of(alloc: Global, back: Back) -> Result<Vec<Reply<()>>, Unanswered> {
     match back {
         Back::Absent(count) => absent(alloc, count),
@@ -47,29 +55,41 @@ fn both_ends<R: Net<Listener = TcpListener, Stream = TcpStream>>(
     Ok((near, far))
 }
 
-// How a session ends at this end of a connection if the events of all lines are asked together in this way.
-fn end_of<A: Asking>(alloc: Global, stream: &TcpStream, asking: A, lines: &[u8]) -> SessionEnd
+// How a session ends at this end of a connection if events are asked in this way: those of all lines together if it
+// pipelines, and else one by one.
+fn end_of<A: Asking>(
+    alloc: Global,
+    stream: &TcpStream,
+    asking: A,
+    pipelines: bool,
+    lines: &[u8],
+) -> SessionEnd
     requires { A.can_ask asking }
 {
     let cut = AtomicU64::new(0);
-    let mut client = Client::new(2, asking, true, &cut);
+    let mut client = Client::new(2, asking, pipelines, &cut);
     let mut outlet = Outlet { stream, cut: &cut };
     let mut reader = lines;
     session(alloc, 2, &mut reader, &mut outlet, &mut client)
 }
 
 // How a session ends at this end of a connection, which is then closed, if this comes back.
-fn end_with(alloc: Global, stream: TcpStream, back: Back, lines: &[u8]) -> SessionEnd {
-    let ask = |_shared: &(), _number: usize, _events: Vec<Event>| -> Result<
-        Vec<Reply<()>>,
-        Unanswered,
-    > { replies_of(alloc, back) };
-    let asking = AskBy {
-        ask: &ask,
-        shared: &(),
-        number: 0,
+fn end_with(
+    alloc: Global,
+    stream: TcpStream,
+    back: Back,
+    pipelines: bool,
+    lines: &[u8],
+) -> SessionEnd {
+    let one = |_event: Event| -> Result<Reply<()>, Unanswered> { reply_of(back) };
+    let all = |_events: Vec<Event>| -> Result<Vec<Reply<()>>, Unanswered> {
+        replies_of(alloc, back)
     };
-    end_of(alloc, &stream, asking, lines)
+    let asking = AskBy {
+        one: &one,
+        all: &all,
+    };
+    end_of(alloc, &stream, asking, pipelines, lines)
 }
 
 // How the session ends if this comes back. Appends the bytes that the other end of the connection
@@ -78,11 +98,12 @@ fn sent<R: Net<Listener = TcpListener, Stream = TcpStream>>(
     rt: &R,
     alloc: Global,
     back: Back,
+    pipelines: bool,
     lines: &[u8],
     got: &mut Vec<u8>,
 ) -> io::Result<SessionEnd> {
     let (mut near, far) = both_ends(rt)?;
-    let end = end_with(alloc, far, back, lines);
+    let end = end_with(alloc, far, back, pipelines, lines);
     near.read_to_end(got)?;
     Ok(end)
 }
@@ -92,11 +113,12 @@ fn ends_so<R: Net<Listener = TcpListener, Stream = TcpStream>>(
     rt: &R,
     alloc: Global,
     back: Back,
+    pipelines: bool,
     lines: &[u8],
     due: (SessionEnd, &[u8]),
 ) -> io::Result<bool> {
     let mut got = Vec::new(alloc);
-    let end = sent(rt, alloc, back, lines, &mut got)?;
+    let end = sent(rt, alloc, back, pipelines, lines, &mut got)?;
     Ok(end == due.0 && got.as_slice() == due.1)
 }
 
@@ -106,21 +128,34 @@ const TWO_GETS: &[u8] = b"get =a\nget =b\n";
 fn sends_nothing_once_a_reply_did_not_come(rt: HostRuntime) -> Result<(), Fail> {
     let back = Back::Nothing(Unanswered::Lost);
     let due = (SessionEnd::WriteFault, b"".as_slice());
-    assert!(rt; ends_so(&rt, rt.alloc(), back, b"put =a 0102\nget =a\n", due)?);
+    for pipelines in [false, true] {
+        assert!(rt;
+            ends_so(
+                &rt,
+                rt.alloc(),
+                back,
+                pipelines,
+                b"put =a 0102\nget =a\n",
+                due
+            )?
+        );
+    }
     Ok(())
 }
 
 #[test]
 fn sends_the_replies_that_come(rt: HostRuntime) -> Result<(), Fail> {
     let due = (SessionEnd::End, b"absent\nabsent\n".as_slice());
-    assert!(rt; ends_so(&rt, rt.alloc(), Back::Absent(2), TWO_GETS, due)?);
+    for pipelines in [false, true] {
+        assert!(rt; ends_so(&rt, rt.alloc(), Back::Absent(2), pipelines, TWO_GETS, due)?);
+    }
     Ok(())
 }
 
 #[test]
 fn sends_nothing_if_too_few_replies_come(rt: HostRuntime) -> Result<(), Fail> {
     let due = (SessionEnd::WriteFault, b"".as_slice());
-    assert!(rt; ends_so(&rt, rt.alloc(), Back::Absent(1), TWO_GETS, due)?);
+    assert!(rt; ends_so(&rt, rt.alloc(), Back::Absent(1), true, TWO_GETS, due)?);
     Ok(())
 }
 
@@ -131,6 +166,8 @@ fn goes_on_if_memory_runs_out(rt: HostRuntime) -> Result<(), Fail> {
         SessionEnd::End,
         b"refused 6 NoMemory\nrefused 6 NoMemory\n".as_slice(),
     );
-    assert!(rt; ends_so(&rt, rt.alloc(), back, TWO_GETS, due)?);
+    for pipelines in [false, true] {
+        assert!(rt; ends_so(&rt, rt.alloc(), back, pipelines, TWO_GETS, due)?);
+    }
     Ok(())
 }

@@ -5,7 +5,7 @@ use silt_desk::OpenGate;
 use silt_device::Disk;
 use silt_fixtures::opened;
 use silt_recovery::check;
-use silt_server::{Listens, serve_on};
+use silt_server::{Listens, Server};
 use std::alloc::Global;
 use std::io::{self, ErrorKind};
 use std::net::TcpStream;
@@ -45,15 +45,14 @@ fn serve_portless<R: Threads + Wait + Clock + Sync>(
     written: &mut Vec<u8>,
 ) -> Result<(u8, bool), Fail> {
     let core = opened(alloc)?;
-    let (disk, status) = serve_on(
+    let server = Server {
         rt,
         alloc,
-        &Portless,
-        core,
-        limits_of(1, None),
-        &OpenGate,
-        written,
-    );
+        listener: &Portless,
+        limits: limits_of(1, None),
+        gate: &OpenGate,
+    };
+    let (disk, status) = server.serve(core, written);
     let is_empty = is_empty(alloc, &disk);
     drop(disk);
     Ok((status?, is_empty))

@@ -8,7 +8,7 @@ use silt_device::{Disk, Fill, MemDisk, Stop};
 use silt_event::Reply;
 use silt_fixtures::{formatted, key, opened_on};
 use silt_frame::Value;
-use silt_session::{Job, Request, RoomWait, Task, Workplace, room_channel, serve_batch};
+use silt_session::{Job, Request, RoomWait, Task, Workplace, room_channel};
 use silt_store_set::Core;
 use std::alloc::{AllocError, Global};
 use std::marker::Brand;
@@ -167,11 +167,13 @@ fn serve_jobs<D: Disk, N: DeskId, R: Wait + Clock>(
     let room = no_wait(alloc)?;
     let shared: Shared<D, Count, N> = RwLock::new(desk);
     let at = Workplace {
+        rt,
+        alloc,
         shared: &shared,
         gate: &OpenGate,
         room: &room,
     };
-    let (jobs, _) = serve_batch(rt, alloc, &at, &mut seat, jobs);
+    let (jobs, _) = at.serve_batch(&mut seat, jobs);
     Some(jobs)
 }
 

@@ -15,12 +15,12 @@ returns-in_default-clause-printed g c = status_told c.refuse_network.result.1 (�
 pub returns-clause-served : goal.returns-clause-served
 returns-clause-served g c = λ is.
     let was = (c.status_served.ensures.done is).0 in
-    (c.serve_on-disk.ensures.served was, rw (c.limits_of-limits.ensures.audit) at (c.serve_on-disk.ensures.kept was))
+    (c.serve-disk.ensures.served was, rw (c.limits_of-limits.ensures.audit) at (c.serve-disk.ensures.kept was))
 
 pub returns-clause-quiet : goal.returns-clause-quiet
 returns-clause-quiet g c = λ is. c.report_listener.ensures (c.status_served.ensures.done is).0
 
 pub returns-clause-printed : goal.returns-clause-printed
 returns-clause-printed g c =
-    served_ended c.serve_on-disk.result.1 c.status_served.result c.serve_on-disk.ensures.printed
-    (λ was. (c.serve_on-disk.ensures.served was, rw (c.limits_of-limits.ensures.audit) at (c.serve_on-disk.ensures.kept was))) c.status_served.ensures.printed
+    served_ended c.serve-disk.result.1 c.status_served.result c.serve-disk.ensures.printed
+    (λ was. (c.serve-disk.ensures.served was, rw (c.limits_of-limits.ensures.audit) at (c.serve-disk.ensures.kept was))) c.status_served.ensures.printed

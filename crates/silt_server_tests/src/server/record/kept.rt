@@ -9,7 +9,7 @@ use silt_desk::{Desk, DeskId, Kept, OpenGate, Seat};
 use silt_device::{Disk, Geometry, MemDisk};
 use silt_fixtures::{are_those, formatted_with, opened_with};
 use silt_inbox::InboxId;
-use silt_server::{ServerState, serve_desk};
+use silt_server::{Server, ServerState};
 use silt_store_set::Core;
 use std::alloc::Global;
 use std::io;
@@ -63,11 +63,7 @@ fn printed_by<D: Disk, N: DeskId>(alloc: Global, desk: Desk<D, Kept, N>) -> Opti
 type Ended = Option<(Printed, u8)>;
 
 // Serves the store of a desk with these seats. Returns what its record shows, and the status.
-fn serve_seated<
-    D: Disk,
-    N: DeskId + InboxId + Send + Sync,
-    R: Threads + Wait + Clock + Sync,
->(
+fn serve_seated<D: Disk, N: DeskId + InboxId + Send + Sync, R: Threads + Wait + Clock + Sync>(
     rt: &R,
     alloc: Global,
     listener: &TcpListener,
@@ -80,28 +76,21 @@ fn serve_seated<
     requires taken { (taken.name ≡ N.taken_name) × (taken.parts ≡ 1) }
 {
     let state = ServerState::<N>::new(alloc, seats, put, taken)?;
-    let limits = limits_of(SESSIONS, None);
-    let mut written = Vec::new(alloc);
-    let (desk, status) = serve_desk(
+    let server = Server {
         rt,
         alloc,
         listener,
-        desk,
-        state,
-        limits,
-        &OpenGate,
-        &mut written,
-    );
+        limits: limits_of(SESSIONS, None),
+        gate: &OpenGate,
+    };
+    let mut written = Vec::new(alloc);
+    let (desk, status) = server.serve_desk(desk, state, &mut written);
     let printed = printed_by(alloc, desk);
     Some((printed?, status.ok()?))
 }
 
 // Serves a store and records all calls. The blanks become the ledgers.
-fn serve_recorded<
-    D: Disk,
-    N: DeskId + InboxId + Send + Sync,
-    R: Threads + Wait + Clock + Sync,
->(
+fn serve_recorded<D: Disk, N: DeskId + InboxId + Send + Sync, R: Threads + Wait + Clock + Sync>(
     rt: &R,
     alloc: Global,
     listener: &TcpListener,

@@ -1,5 +1,8 @@
-use Rattle.silt_session.proofs.Answering.{found_answers}
+use Rattle.std.proofs.Common.{inl, inr, refl}
 use Rattle.silt_session.proofs.answers.find.Goals as goal
 
-pub returns : goal.returns
-returns g c = found_answers g.D.Disk _ c.args.key.now c.look_up.result c.look_up.ensures.found
+pub returns-in-Ok : goal.returns-in-Ok
+returns-in-Ok g c = inr (_, c.look_up.ensures)
+
+pub returns-in-Err : goal.returns-in-Err
+returns-in-Err g c = inl refl

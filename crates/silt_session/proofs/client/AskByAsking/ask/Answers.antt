@@ -1,10 +1,5 @@
-use Rattle.std.proofs.Common.{sym, ◌∙◌}
-use Rattle.silt_session.proofs.Clients.{zip_places}
+use Rattle.silt_session.proofs.Clients.{given_alone}
 use Rattle.silt_session.proofs.client.AskByAsking.ask.Goals as goal
 
 pub returns : goal.returns
-returns g c =
-    let events = c.args.events in
-    let replies = c.in_ok-replies.replies in
-    zip_places _ events.items replies.items (sym replies.ok.0 ∙ sym c.len.ensures ∙ c.if-len-count.false ∙ c.len-count.ensures ∙ events.ok.0)
-    (λ i event reply at_event at_reply. (events, replies, c.in_ok-replies.ensures, (i, at_event, at_reply)))
+returns g c = given_alone c.one.result _ _ c.one.ensures

@@ -1,7 +1,0 @@
-use Rattle.silt_server.proofs.serve.serve_on.Given as goal
-
-abbrev pub ghosts-serve_traced-N-DeskId : goal.ghosts-serve_traced-N-DeskId
-ghosts-serve_traced-N-DeskId g a = record { calls_name = a.blanks.calls.name; accepted_name = a.blanks.accepted.name; seats = a.blanks.calls.parts }
-
-abbrev pub ghosts-serve_traced-N-InboxId : goal.ghosts-serve_traced-N-InboxId
-ghosts-serve_traced-N-InboxId g a = record { put_name = a.blanks.put.name; taken_name = a.blanks.taken.name; feeders = a.blanks.put.parts }

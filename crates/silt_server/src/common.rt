@@ -1,0 +1,230 @@
+// What the threads of a server share, and what each of them does.
+ghost use Rattle.std.specs.Prelude.{◌≡◌};
+
+use crate::admission::accept_clients;
+use crate::connection::answer_lines;
+use crate::counting_listener::Listens;
+use crate::limits::Limits;
+use crate::threads::{Parts, run_beside};
+use crate::workers::{Worker, Workers, WriterParts};
+use silt_desk::{DeskId, Gate, Seat, Shared, Trace, converter, merger};
+use silt_disk::Disk;
+use silt_event::{Event, Reply};
+use silt_inbox::{Inbox, InboxId, Taker};
+use silt_session::{AskBy, Job, RoomGate, RoomWait, Session, SessionSlot, Unanswered, Workplace};
+use std::alloc::Global;
+use std::io;
+use std::sync::{Mutex, Wait};
+use std::thread::Threads;
+use std::time::Clock;
+
+/// What the threads of a server share. `S` is the desk under its lock.
+#[derive(Drop)]
+pub struct Serving<'a, S, N: InboxId, G, R> {
+    pub rt: &'a R,
+    pub alloc: Global,
+    pub desk: &'a S,
+    pub inbox: &'a Inbox<Job, N>,
+    pub slots: &'a [Mutex<SessionSlot<N>>],
+    pub value_len: usize,
+    pub limits: Limits,
+    pub gate: &'a G,
+}
+
+/// What one of the workers needs, or the writer.
+#[derive(Drop)]
+pub enum Part<N: DeskId + InboxId> {
+    Merger(Worker<N>),
+    Converter(Worker<N>),
+    Writer(WriterParts<N>, Taker<N>),
+}
+
+/// What comes back when the sessions have ended: the seats, and whether the listener failed.
+#[derive(Drop)]
+pub struct Served<N: DeskId> {
+    pub seats: (Seat<N>, Seat<N>, Seat<N>),
+    pub accepted: io::Result<()>,
+}
+
+// What came back from the merger, the converter, and the writer and the sessions. None if the writer had no thread.
+fn gather_served<N: DeskId>(
+    back: (Seat<N>, Seat<N>, Option<(Seat<N>, io::Result<()>)>),
+) -> Option<Served<N>> {
+    let (merged, converted, written) = back;
+    match written {
+        Some((writer, accepted)) => Some(Served {
+            seats: (writer, converted, merged),
+            accepted,
+        }),
+        None => None,
+    }
+}
+
+impl<D: Disk, T: Trace, N: DeskId + InboxId, G: Gate, R: Wait + Clock> Serving<
+    '_,
+    Shared<D, T, N>,
+    N,
+    G,
+    R,
+> {
+    // Does steps of conversion until the converter is told to end, and gives its seat back. The writer hears when there
+    // may be room.
+    fn convert(&self, worker: Worker<N>) -> Seat<N>
+        ensures { result.number ≡ worker.seat.number }
+    {
+        let gate = RoomGate {
+            rt: self.rt,
+            gate: self.gate,
+            room: worker.room,
+        };
+        converter(
+            self.rt,
+            self.alloc,
+            self.desk,
+            worker.seat,
+            &gate,
+            worker.wakes,
+            worker.other,
+        )
+    }
+
+    // Does steps of merging until the merger is told to end, and gives its seat back. The writer hears when there may be
+    // room.
+    fn merge(&self, worker: Worker<N>) -> Seat<N>
+        ensures { result.number ≡ worker.seat.number }
+    {
+        let gate = RoomGate {
+            rt: self.rt,
+            gate: self.gate,
+            room: worker.room,
+        };
+        merger(
+            self.rt,
+            self.alloc,
+            self.desk,
+            worker.seat,
+            &gate,
+            worker.wakes,
+            worker.other,
+        )
+    }
+
+    // Does the requests of the sessions until there are no more, and gives the writer's seat back. A command waits for room
+    // as long as the limits say.
+    fn write(&self, parts: WriterParts<N>, taker: Taker<N>) -> Seat<N>
+        ensures { result.number ≡ parts.seat.number }
+    {
+        let room = RoomWait {
+            wakes: parts.wakes,
+            heard: parts.heard,
+            seconds: self.limits.wait,
+        };
+        let at = Workplace {
+            rt: self.rt,
+            alloc: self.alloc,
+            shared: self.desk,
+            gate: self.gate,
+            room: &room,
+        };
+        let (seat, _) = at.serve_all(parts.seat, self.inbox, taker, parts.replier);
+        seat
+    }
+
+    // Does the work of one worker or of the writer until it is to end, and gives its seat back.
+    fn work(&self, part: Part<N>) -> Seat<N> {
+        match part {
+            Part::Merger(worker) => self.merge(worker),
+            Part::Converter(worker) => self.convert(worker),
+            Part::Writer(parts, taker) => self.write(parts, taker),
+        }
+    }
+
+    // Runs the session in the slot of this number, and then frees the slot.
+    fn serve_slot(&self, number: usize) {
+        let Some(slot) = self.slots.get(number) else {
+            return;
+        };
+        let stream = slot.lock(self.rt).connection();
+        if let Some(stream) = stream {
+            let session = Session {
+                rt: self.rt,
+                alloc: self.alloc,
+                desk: self.desk,
+                inbox: self.inbox,
+                slot,
+            };
+            let one = |event: Event| -> Result<Reply<()>, Unanswered> { session.answer(event) };
+            let all = |events: Vec<Event>| -> Result<Vec<Reply<()>>, Unanswered> {
+                session.answer_all(events)
+            };
+            let asking = AskBy {
+                one: &one,
+                all: &all,
+            };
+            answer_lines(self.alloc, asking, self.value_len, self.limits, &stream);
+        }
+        slot.lock(self.rt).leave();
+    }
+}
+
+impl<
+    D: Disk,
+    T: Trace + Send + Sync,
+    N: DeskId + InboxId + Send + Sync,
+    G: Gate + Sync,
+    R: Threads + Wait + Clock + Sync,
+> Serving<'_, Shared<D, T, N>, N, G, R> {
+    // Serves the connections of a listener, and then closes the inbox.
+    fn serve_sessions<L: Listens>(&self, listener: &L) -> io::Result<()> {
+        let accepted = accept_clients(
+            self.rt,
+            listener,
+            self.limits.sessions,
+            self,
+            self.slots,
+            &|serving: &Serving<'_, Shared<D, T, N>, N, G, R>, number: usize| {
+                serving.serve_slot(number)
+            },
+        );
+        self.inbox.close(self.rt);
+        match accepted {
+            Ok(_) => Ok(()),
+            Err(error) => Err(error),
+        }
+    }
+
+    /// Runs the workers, the writer and the replier beside the sessions of a listener's connections, until these have ended
+    /// and all their requests are done. None if the writer has no thread.
+    pub fn run<L: Listens>(
+        &self,
+        listener: &L,
+        workers: Workers<N>,
+        taker: Taker<N>,
+    ) -> Option<Served<N>> {
+        let Workers {
+            writer,
+            converter,
+            merger,
+            stops,
+            batches,
+        } = workers;
+        let parts = Parts {
+            merger: Part::Merger(merger),
+            converter: Part::Converter(converter),
+            writer: Part::Writer(writer, taker),
+            stops,
+            batches,
+        };
+        gather_served(run_beside(
+            self.rt,
+            self,
+            parts,
+            &|serving: &Serving<'_, Shared<D, T, N>, N, G, R>, part: Part<N>| -> Seat<N> {
+                serving.work(part)
+            },
+            &|serving: &Serving<'_, Shared<D, T, N>, N, G, R>| -> io::Result<()> {
+                serving.serve_sessions(listener)
+            },
+        ))
+    }
+}

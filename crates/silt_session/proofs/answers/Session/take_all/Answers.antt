@@ -1,0 +1,41 @@
+use Rattle.std.proofs.Common.{◌++◌, ◌∷◌, [], List, append_assoc, length, refl, sym, ◌∙◌, ap, arith}
+use Rattle.std.proofs.lemmas.List.{append-nil, nil_from_length}
+use Rattle.std.specs.Vec.Iter.{into_iter_items}
+use Rattle.silt_event.specs.declared.event.Event.{Event as EventOf}
+use Rattle.silt_session.proofs.Pipelines.{answers_none, settles_last}
+use Rattle.silt_session.proofs.answers.Session.take_all.Goals as goal
+
+pub loop-event-init : goal.loop-event-init
+loop-event-init g c =
+    let given = c.into_iter-event-iterator.ensures.into_iter_gives in
+    record {
+      can = tt;
+      finite = tt;
+      room = (omega (arith, c.requires.room.0, ap length given.0, c.args.events.ok.0), omega (arith, c.requires.room.1, ap length given.0, c.args.events.ok.0));
+      so_far = ([], refl, answers_none g.D.Disk c.args.pipeline.now c.requires.empty);
+    }
+
+pub loop-event-preserved : goal.loop-event-preserved
+loop-event-preserved g c =
+    let before = c.loop-event.invariant in
+    let (done, whole, some) = before.so_far in
+    let items = c.in-Some.ensures.steps.0 in
+    record {
+      can = tt;
+      finite = tt;
+      room = c.in_ok-take.ensures.room (length (into_iter_items c.next.new.self)) (omega (arith, before.room.0, ap length items), omega (arith, before.room.1, ap length items));
+      so_far = (
+        done ++ c.in-Some.event ∷ [],
+        append_assoc done (c.in-Some.event ∷ []) (into_iter_items c.next.new.self) ∙ ap (λ (l : List EventOf). done ++ l) (sym items) ∙ whole,
+        c.in_ok-take.ensures.answers done some,
+      );
+    }
+
+pub returns : goal.returns
+returns g c =
+    let (done, whole, some) = c.loop-event.invariant.so_far in
+    let given = c.into_iter-event-iterator.ensures.into_iter_gives in
+    let left = c.loop-event.event-iterator in
+    let ended = nil_from_length (into_iter_items left) (omega (arith, c.in-None.ensures.steps.0, left.rest.ok.0)) in
+    settles_last g.D.Disk c.settle.result c.args.events.items done c.loop-event.pipeline c.settle.new.self
+    (sym (append-nil done) ∙ ap (λ (l : List EventOf). done ++ l) (sym ended) ∙ whole ∙ given.0) some c.settle.ensures.replies

@@ -1,0 +1,17 @@
+use Rattle.std.proofs.Common.{◌≡◌, ◌≤◌, ◌++◌, List, vec_len}
+use Rattle.std.specs.Prelude.{vec_capacity}
+use Rattle.silt_session.specs.Batches.{IsBatch, PerformsAll, left_in, writer_at}
+use Rattle.silt_session.specs.declared.job.Job.{Job}
+use Rattle.silt_session.proofs.batch.Workplace.perform_all.Given as goal
+
+-- the jobs so far are done in order, and the others are left to do
+abbrev pub invariant-loop-job : goal.invariant-loop-job
+invariant-loop-job g l = record {
+  within : IsBatch l.batch;
+  room : vec_len l.batch.jobs ≤ vec_capacity l.batch.jobs;
+  so_far : (old : List Job) × (done : List Job) × (old ++ left_in l.batch ≡ left_in l.initial.batch)
+      × PerformsAll g.D.Disk g.T.Trace l.self.room.now.seconds (g.H.HearsRoom.has_ended l.self.room.now.heard) (writer_at l.initial.seat l.initial.batch) old done (writer_at l.seat l.batch);
+}
+
+abbrev pub decreases-loop-job : goal.decreases-loop-job
+decreases-loop-job g l = l.batch.left

@@ -1,0 +1,11 @@
+use Rattle.std.proofs.Common.{◌≡◌, List}
+use Rattle.silt_session.specs.Batches.{ServesBatches}
+use Rattle.silt_session.specs.declared.job.Job.{Job}
+use Rattle.silt_session.proofs.work.Workplace.serve_all.Given as goal
+
+-- the seat keeps its number, and all jobs that were taken were done in batches
+abbrev pub invariant-loop : goal.invariant-loop
+invariant-loop g l = record {
+  number : l.seat.number ≡ l.fn.seat.number;
+  batches : (batches : List (List Job)) × ServesBatches g.D.Disk g.T.Trace l.self.room.now.seconds (g.H.HearsRoom.has_ended l.self.room.now.heard) l.fn.seat l.fn.taker batches l.seat l.taker;
+}
