@@ -1,7 +1,7 @@
 -- Replies to events that a client asks at once.
-use Rattle.std.proofs.Common.{◌≡◌, ◌≢◌, ℕ, suc, List, [], ◌∷◌, Some, length, inl, inr, refl, sym, subst, arith}
+use Rattle.std.proofs.Common.{◌≡◌, ◌≢◌, ◌⊎◌, ℕ, suc, List, [], ◌∷◌, Some, length, inl, inr, refl, sym, subst, arith}
 use Rattle.std.specs.List.{AllZip}
-use Rattle.std.specs.Prelude.{replicate, slice_get, true}
+use Rattle.std.specs.Prelude.{IfOk, Result, Ok, Err, replicate, slice_get, true}
 use Rattle.silt_event.specs.Events.{AnswersEach, PlainReply}
 use Rattle.silt_event.specs.declared.event.Event.{Event}
 use Rattle.silt_session.specs.Sessions.{AnswersClient, ClientState, IsWithout}
@@ -17,7 +17,18 @@ zip_places R (x ∷ xs) (y ∷ ys) len each = (each 0 x y refl refl, zip_places 
 zip_places R [] (y ∷ ys) len each = omega (arith, len)
 zip_places R (x ∷ xs) [] len each = omega (arith, len)
 
+-- the reply that is given to one event
+pub given_alone : {E : Type 0} (result : Result PlainReply E) (Gave : Result PlainReply E → Type 0) (More : PlainReply → Type 0) → Gave result
+    → IfOk result (λ reply. Gave (Ok reply) ⊎ More reply)
+given_alone (Ok reply) Gave More gave = inl gave
+given_alone (Err e) Gave More gave = tt
+
 module _ {A : Type 0} (gives : A → Event → PlainReply → Type 0) where
+  -- an event has the reply that is due if none comes
+  pub without_alone : (old new : ClientState A) (event : Event) (lack : Unanswered) → IsWithout old new lack → AnswersClient gives old new event (reply_without lack)
+  without_alone old new event Lost without = inl (without, refl)
+  without_alone old new event NoMemory without = inr (inl refl)
+
   -- each event has the reply that is given to it
   pub given_each : (client : ClientState A) (events : List Event) (replies : List PlainReply) → AllZip (gives client.asking) events replies
       → AnswersEach (AnswersClient gives) client events replies client
@@ -26,7 +37,7 @@ module _ {A : Type 0} (gives : A → Event → PlainReply → Type 0) where
   given_each client [] (r ∷ replies) all = absurd all
   given_each client (e ∷ events) [] all = absurd all
 
-  lost_each : (client : ClientState A) (events : List Event) → client.is_lost ≡ true
+  pub lost_each : (client : ClientState A) (events : List Event) → client.is_lost ≡ true
       → AnswersEach (AnswersClient gives) client events (replicate (length events) (reply_without Lost)) client
   lost_each client [] lost = refl
   lost_each client (e ∷ events) lost = (client, inl (lost, refl), lost_each client events lost)

@@ -132,10 +132,12 @@ fn forwarded_alone(tasks: Vec<Task>, kind: EventKind) -> Option<Reply<()>>
     ensures allowed { IfSome result (Allows kind) }
 {
     let mut tasks = tasks;
-    let task = tasks.pop()?;
-    if !tasks.is_empty() {
+    if tasks.len() != 1 {
         return None;
     }
+    let Some(task) = tasks.pop() else {
+        return None;
+    };
     forwarded(task, kind)
 }
 

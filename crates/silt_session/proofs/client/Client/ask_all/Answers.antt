@@ -3,22 +3,28 @@ use Rattle.std.proofs.lemmas.Slice.Zip.{AllZip-long}
 use Rattle.silt_event.specs.Events.{AnswersEach}
 use Rattle.silt_session.specs.Sessions.{AnswersClient}
 use Rattle.silt_session.specs.Unanswered.{reply_without}
-use Rattle.silt_session.proofs.Clients.{given_each, without_each}
+use Rattle.silt_session.specs.declared.unanswered.Unanswered.TheVariants.{Lost}
+use Rattle.silt_session.proofs.Clients.{given_each, lost_each, without_each}
 use Rattle.silt_session.proofs.client.Client.ask_all.Goals as goal
 
 pub append-requires : goal.append-requires
 append-requires g c =
-    let long = AllZip-long _ _ _ c.in-Ok.ensures.replies.1 in
+    let long = AllZip-long _ _ _ c.in-Ok.ensures in
     omega (arith, c.requires, long, c.args.events.ok.0, c.in-Ok.given.ok.0)
+
+pub returns-then-self-clause-answers : goal.returns-then-self-clause-answers
+returns-then-self-clause-answers g c =
+    let events = c.args.events in
+    let count = c.len-count.ensures ∙ events.ok.0 in
+    rw (← c.self.view_is) (
+      replicate c.len-count.result (reply_without Lost),
+      c.reply_to.ensures.items,
+      rw count (lost_each g.A.Asking.gives _ events.items c.if-self.true),
+    )
 
 pub returns-in-Ok-clause-answers : goal.returns-in-Ok-clause-answers
 returns-in-Ok-clause-answers g c =
-    let (same, all) = c.in-Ok.ensures.replies in (
-      c.in-Ok.given.items,
-      c.append.ensures,
-      subst (λ client. AnswersEach (AnswersClient g.A.Asking.gives) c.args.self.now c.args.events.items c.in-Ok.given.items client) (sym same)
-          (given_each g.A.Asking.gives c.args.self.now c.args.events.items c.in-Ok.given.items all),
-    )
+    rw (← c.self.view_is) (c.in-Ok.given.items, c.append.ensures, given_each g.A.Asking.gives _ c.args.events.items c.in-Ok.given.items c.in-Ok.ensures)
 
 pub returns-in-Err-clause-answers : goal.returns-in-Err-clause-answers
 returns-in-Err-clause-answers g c =
@@ -27,7 +33,7 @@ returns-in-Err-clause-answers g c =
     let count = c.len-count.ensures ∙ events.ok.0 in
     let some : events.items ≢ [] = λ is. c.if-count-eq0.false (count ∙ ap length is) in (
       replicate c.len-count.result (reply_without lack),
-      c.reply_to.ensures.items,
-      subst (λ (n : ℕ). AnswersEach (AnswersClient g.A.Asking.gives) c.args.self.now events.items (replicate n (reply_without lack)) c.ask.new.self) (sym count)
-          (without_each g.A.Asking.gives c.args.self.now c.ask.new.self events.items lack some c.in-Err.ensures.without),
+      c.reply_to-in-Err.ensures.items,
+      subst (λ (n : ℕ). AnswersEach (AnswersClient g.A.Asking.gives) c.args.self.now events.items (replicate n (reply_without lack)) c.note.new.self) (sym count)
+          (without_each g.A.Asking.gives c.args.self.now c.note.new.self events.items lack some c.note.ensures.without),
     )

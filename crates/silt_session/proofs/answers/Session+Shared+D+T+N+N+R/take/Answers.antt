@@ -2,7 +2,7 @@ use Rattle.std.proofs.Common.{◌++◌, ◌∷◌, [], List, OnOk, subst}
 use Rattle.silt_event.specs.declared.event.Event.{Event as EventOf}
 use Rattle.silt_session.specs.Pipelines.{AnswersSoFar}
 use Rattle.silt_session.proofs.Pipelines.{gathers_one, room_gathered}
-use Rattle.silt_session.proofs.answers.Session.take.Goals as goal
+use Rattle.silt_session.proofs.answers.Session+Shared+D+T+N+N+R.take.Goals as goal
 
 pub returns-in-Ok-clause-answers : goal.returns-in-Ok-clause-answers
 returns-in-Ok-clause-answers g c =

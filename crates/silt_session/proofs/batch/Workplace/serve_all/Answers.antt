@@ -1,6 +1,6 @@
 use Rattle.std.proofs.Common.{◌∙◌, ◌++◌, ◌∷◌, [], arith}
 use Rattle.silt_session.proofs.Batches.{batches_more}
-use Rattle.silt_session.proofs.work.Workplace.serve_all.Goals as goal
+use Rattle.silt_session.proofs.batch.Workplace.serve_all.Goals as goal
 
 pub loop-preserved : goal.loop-preserved
 loop-preserved g c =

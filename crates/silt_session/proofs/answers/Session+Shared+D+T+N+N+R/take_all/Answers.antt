@@ -3,7 +3,7 @@ use Rattle.std.proofs.lemmas.List.{append-nil, nil_from_length}
 use Rattle.std.specs.Vec.Iter.{into_iter_items}
 use Rattle.silt_event.specs.declared.event.Event.{Event as EventOf}
 use Rattle.silt_session.proofs.Pipelines.{answers_none, settles_last}
-use Rattle.silt_session.proofs.answers.Session.take_all.Goals as goal
+use Rattle.silt_session.proofs.answers.Session+Shared+D+T+N+N+R.take_all.Goals as goal
 
 pub loop-event-init : goal.loop-event-init
 loop-event-init g c =

@@ -1,7 +1,7 @@
 use Rattle.std.proofs.Common.{◌≡◌, List}
 use Rattle.silt_session.specs.Batches.{ServesBatches}
 use Rattle.silt_session.specs.declared.job.Job.{Job}
-use Rattle.silt_session.proofs.work.Workplace.serve_all.Given as goal
+use Rattle.silt_session.proofs.batch.Workplace.serve_all.Given as goal
 
 -- the seat keeps its number, and all jobs that were taken were done in batches
 abbrev pub invariant-loop : goal.invariant-loop

@@ -2,7 +2,7 @@ use Rattle.std.proofs.Common.{◌≡◌, ◌++◌, List, length}
 use Rattle.std.specs.Vec.Iter.{into_iter_items}
 use Rattle.silt_event.specs.declared.event.Event.{Event as EventOf}
 use Rattle.silt_session.specs.Pipelines.{AnswersSoFar, HasRoom}
-use Rattle.silt_session.proofs.answers.Session.take_all.Given as goal
+use Rattle.silt_session.proofs.answers.Session+Shared+D+T+N+N+R.take_all.Given as goal
 
 -- the events so far have their replies or wait, and there is room for the others
 abbrev pub invariant-loop-event : goal.invariant-loop-event

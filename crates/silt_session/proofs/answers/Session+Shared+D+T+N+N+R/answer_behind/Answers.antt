@@ -1,6 +1,6 @@
 use Rattle.std.proofs.Common.{◌+◌, ◌∙◌, ap, arith}
 use Rattle.silt_session.proofs.Pipelines.{answers_one, room_one, room_settled, settles_all}
-use Rattle.silt_session.proofs.answers.Session.answer_behind.Goals as goal
+use Rattle.silt_session.proofs.answers.Session+Shared+D+T+N+N+R.answer_behind.Goals as goal
 
 pub push-requires : goal.push-requires
 push-requires g c =
