@@ -70,16 +70,18 @@ fn serve_beside<D: Disk, G: Gate + Sync, C: Clients, R: Threads + Wait + Clock +
     written: &mut Vec<u8>,
     got: &mut Vec<u8>,
 ) -> (D, io::Result<u8>) {
-    let server = Server {
-        rt,
-        alloc,
-        listener,
-        limits,
-        gate,
-    };
     let (ended, ()) = thread::join(
         rt,
-        || -> (D, io::Result<u8>) { server.serve(core, written) },
+        || -> (D, io::Result<u8>) {
+            let server = Server {
+                rt,
+                alloc,
+                listener,
+                limits,
+                gate,
+            };
+            server.serve(core, written)
+        },
         || ask_at(listener, clients, got),
     );
     ended
