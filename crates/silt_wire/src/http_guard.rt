@@ -91,7 +91,7 @@ fn look_through(line: FirstLine, bytes: &[u8]) -> (FirstLine, usize)
 
 /// Passes on the bytes of a reader, but ends at an HTTP request, before any line of the request has ended.
 #[derive(Drop)]
-pub(crate) struct HttpGuard<R> {
+pub struct HttpGuard<R> {
     inner: R,
     line: FirstLine,
 }
@@ -99,8 +99,8 @@ pub(crate) struct HttpGuard<R> {
 impl<R: Read> HttpGuard<R> {
     ghost use Rattle.silt_wire.specs.Http.{Guards, guard_remaining};
 
-    // A guard of a reader that has not been read yet.
-    fn new(inner: R) -> HttpGuard<R>
+    /// A guard of a reader that has not been read yet.
+    pub fn new(inner: R) -> HttpGuard<R>
         ensures { Guards (R.remaining inner) (guard_remaining R.remaining result) }
     {
         HttpGuard {

@@ -18,12 +18,12 @@ mod reply;
 mod report;
 mod sessions;
 
-pub use http_guard::client_session;
+pub use http_guard::{HttpGuard, client_session};
 pub use keys::key_of;
 pub use line::{LONGEST_LINE, LineFault, cut_word, is_blank, parse_line, without_carriage_return};
 pub use line_buffer::{LineBuffer, Taken};
 pub use number::number_of;
 pub use reply::{print_fault, print_refusal, print_reply, refuse_line, write_refusal, write_reply};
 pub use report::{print_report, write_report};
-pub use sessions::{SessionEnd, session, session_over};
+pub use sessions::{SessionEnd, session, session_over, write_texts};
 pub use silt_event::Answerer;

@@ -166,8 +166,8 @@ fn answer_part<A: Answerer, W: Write>(
     }
 }
 
-// Writes texts and flushes them, and returns whether that succeeded.
-fn write_texts<W: Write>(writer: &mut W, texts: &[u8]) -> bool
+/// Writes texts and flushes them, and returns whether that succeeded. An interrupted write is tried again.
+pub fn write_texts<W: Write>(writer: &mut W, texts: &[u8]) -> bool
     ensures some { (out : List ℕ) × IsBeginning out texts.now × Appends (W.contents writer.old) (W.contents writer.new) out }
     ensures all { result ≡ true → Appends (W.contents writer.old) (W.contents writer.new) texts.now }
 {
