@@ -52,7 +52,7 @@ fn show(alloc: Global, command: &Command<'_>, out: &mut Vec<u8>) -> Result<(), A
         Command::Complete(words) => show_words(words, out)?,
         Command::ManyWords => out.extend_from_slice(b"(many words)")?,
         Command::ManyBytes => out.extend_from_slice(b"(many bytes)")?,
-        Command::Broken(fault) => out.extend_from_slice(fault.to_string(alloc)?.as_bytes())?,
+        Command::Broken(fault) => out.extend_from_slice(fault.text().as_bytes())?,
     }
     out.extend_from_slice(b"\n")
 }
@@ -136,7 +136,7 @@ fn makes_values_of_strings(rt: HostRuntime) -> Result<(), Fail> {
 // The reply to a command of this form, of two replies to its events.
 fn replied(
     alloc: Global,
-    form: &Form,
+    form: Form,
     first: Reply<()>,
     second: Reply<()>,
 ) -> Result<Vec<u8>, AllocError> {
@@ -156,7 +156,7 @@ fn prints_errors(rt: HostRuntime) -> Result<(), Fail> {
             "-UNSETTLED the flush was refused, a crash may lose this\r\n",
         ),
     ] {
-        let out = replied(rt.alloc(), &Form::Stored, Reply::Accepted(1), reply)?;
+        let out = replied(rt.alloc(), Form::Stored, Reply::Accepted(1), reply)?;
         assert!(rt; out.as_slice() == text.as_bytes(), "{text}");
     }
     Ok(())
@@ -166,12 +166,12 @@ fn prints_errors(rt: HostRuntime) -> Result<(), Fail> {
 fn prints_values(rt: HostRuntime) -> Result<(), Fail> {
     let alloc = rt.alloc();
     let found = Reply::Found(string_value(alloc, 8, b"abc")?);
-    let out = replied(alloc, &Form::Values, Reply::Absent, found)?;
+    let out = replied(alloc, Form::Values, Reply::Absent, found)?;
     assert!(rt; out.as_slice() == b"*2\r\n$-1\r\n$3\r\nabc\r\n".as_slice());
     let found = Reply::Found(string_value(alloc, 8, b"")?);
-    let out = replied(alloc, &Form::Counted, Reply::Absent, found)?;
+    let out = replied(alloc, Form::Counted, Reply::Absent, found)?;
     assert!(rt; out.as_slice() == b":1\r\n".as_slice());
-    let out = replied(alloc, &Form::Swapped, Reply::Differs, Reply::Absent)?;
+    let out = replied(alloc, Form::Swapped, Reply::Differs, Reply::Absent)?;
     assert!(rt; out.as_slice() == b"$-1\r\n".as_slice());
     Ok(())
 }

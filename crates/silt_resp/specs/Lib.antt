@@ -1,7 +1,13 @@
+pub mod Arguments
+pub mod Batches
 pub mod Buffers
+pub mod Commands
+pub mod Faults
 pub mod Heads
 pub mod Seen
+pub mod Sessions
 pub mod Stream
+pub mod Table
 pub mod Texts
 pub mod Values
 pub mod Words

@@ -1,8 +1,11 @@
--- The commands of a stream as values of the code.
+-- The commands of a stream, and what they ask for, as values of the code.
 use Rattle.silt_resp.specs.declared.command.Command.{Command}
 use Rattle.silt_resp.specs.declared.command.Command.TheVariants.{Complete, ManyWords, ManyBytes, Broken}
 use Rattle.silt_resp.specs.declared.command.Word.{Word}
 use Rattle.silt_resp.specs.declared.command.Word.TheVariants.{Whole, Long}
+use Rattle.silt_resp.specs.declared.asked.Asked.{Asked}
+use Rattle.silt_resp.specs.declared.asked.Asked.TheVariants.{Text, Events}
+use Rattle.silt_resp.specs.Commands.{Asked as AskedOf, asks, says}
 use Rattle.silt_resp.specs.Stream.{Command as CommandOf, Word as WordOf, broken, complete, long, many_bytes, many_words, whole}
 
 -- the word that this is
@@ -16,3 +19,8 @@ command_seen (Complete words) = complete words
 command_seen ManyWords = many_words
 command_seen ManyBytes = many_bytes
 command_seen (Broken fault) = broken fault
+
+-- what is asked for
+abbrev pub asked_seen : Asked → AskedOf
+asked_seen (Text text) = says text.items
+asked_seen (Events events form) = asks events.items form

@@ -8,7 +8,7 @@ use Rattle.silt_event.specs.declared.reply.Reply.TheVariants.{Accepted, Found, R
 use Rattle.silt_event.specs.Events.{PlainReply, refusal_label}
 use Rattle.silt_wire.specs.Replies.{label_text}
 use Rattle.silt_resp.specs.declared.texts.Form.{Form}
-use Rattle.silt_resp.specs.declared.texts.Form.TheVariants.{Text, Value, Len, Stored, Swapped, Values, Counted}
+use Rattle.silt_resp.specs.declared.texts.Form.TheVariants.{Value, Len, Stored, Swapped, Changed, Values, Counted}
 use Rattle.silt_resp.specs.Values.{string_of}
 
 -- ---- the texts of the protocol
@@ -91,7 +91,6 @@ length_or_error (Some s) = number_text (length s)
 
 -- the reply to a command of this form, if no event of it was refused
 abbrev pub plain_text : Form → List PlainReply → List ℕ
-plain_text (Text text) replies = text.items
 plain_text Value (Found value ∷ replies) = string_or_error (string_of value)
 plain_text Value replies = null_text
 plain_text Len (Found value ∷ replies) = length_or_error (string_of value)
@@ -99,6 +98,8 @@ plain_text Len replies = number_text 0
 plain_text Stored replies = ok_text
 plain_text Swapped (Accepted n ∷ replies) = ok_text
 plain_text Swapped replies = null_text
+plain_text Changed (Accepted n ∷ replies) = number_text 1
+plain_text Changed replies = number_text 0
 plain_text Values replies = marked_line 42 (decimal (length replies)) ++ flat_map item_text replies
 plain_text Counted replies = number_text (count_by is_found replies)
 

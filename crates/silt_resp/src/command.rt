@@ -1,5 +1,5 @@
 // The command that a client's bytes ended.
-ghost use Rattle.std.specs.Prelude.{◌≡◌, length, slice_get, slice_range};
+ghost use Rattle.std.specs.Prelude.{◌≡◌, drop, length, slice_get, slice_range};
 ghost use Rattle.std.specs.Option.{option_map};
 
 use crate::fault::ProtocolFault;
@@ -67,6 +67,16 @@ impl<'a> Words<'a> {
         ensures { result ≡ length self.now }
     {
         self.spans.len()
+    }
+
+    /// The words behind the first one.
+    pub fn rest(&self) -> Words<'a>
+        ensures { result ≡ drop 1 self.now }
+    {
+        match self.spans {
+            [_, spans @ ..] => Words::new(self.bytes, spans),
+            [] => Words::new(self.bytes, self.spans),
+        }
     }
 
     /// The word with this number, counted from 0.

@@ -12,18 +12,31 @@
 //! (`string_value`), and `string_of` reads it back.
 #![tactic(auto)]
 
+mod arguments;
+mod asked;
+mod asking;
+mod batch;
 mod command;
 mod command_buffer;
+mod connection_commands;
 mod fault;
 mod heads;
+mod key_commands;
 mod laws;
+mod session;
+mod settings;
+mod table;
 mod texts;
 mod values;
 mod words;
 
+pub use asked::Asked;
+pub use asking::{asked_by, visitor_after};
 pub use command::{Command, Word, Words};
 pub use command_buffer::{CommandBuffer, Taken};
 pub use fault::ProtocolFault;
 pub use laws::{cut_law, resp_law};
+pub use session::{RespEnd, resp_session};
+pub use settings::{Settings, Visitor};
 pub use texts::{Form, push_text};
 pub use values::{LENGTH_LEN, key_of, string_of, string_value, values_law};

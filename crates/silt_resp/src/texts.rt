@@ -12,26 +12,26 @@ use silt_event::{Refusal, Reply};
 use std::alloc::{AllocError, Global};
 
 /// What the one reply to a command is made of.
-#[derive(Debug, Drop)]
+#[derive(Clone, Copy, Debug, PartialEq, Eq)]
 pub enum Form {
-    /// This text.
-    Text(Vec<u8>),
     /// The string of the value that is found.
     Value,
     /// The length of the string of the value that is found.
     Len,
     /// That all is stored.
     Stored,
-    /// Whether the key had the value to compare with.
+    /// Whether the key had the value to compare with: `+OK`, or no string.
     Swapped,
+    /// The same as a number: 1, or 0.
+    Changed,
     /// The strings of the values that are found, one for each event.
     Values,
     /// How many values are found.
     Counted,
 }
 
-// Appends a line of text behind its mark.
-fn push_line(out: &mut Vec<u8>, mark: u8, text: &[u8]) -> Result<(), AllocError>
+/// Appends a line of text behind its mark.
+pub(crate) fn push_line(out: &mut Vec<u8>, mark: u8, text: &[u8]) -> Result<(), AllocError>
     ensures { OnOk result (out.new.items ≡ out.old.items ++ marked_line mark text.now) }
 {
     out.push(mark)?;
@@ -39,16 +39,16 @@ fn push_line(out: &mut Vec<u8>, mark: u8, text: &[u8]) -> Result<(), AllocError>
     out.extend_from_slice(b"\r\n")
 }
 
-// Appends a number behind its mark.
-fn push_number(alloc: Global, out: &mut Vec<u8>, mark: u8, number: usize) -> Result<(), AllocError>
+/// Appends a number behind its mark.
+pub(crate) fn push_number(alloc: Global, out: &mut Vec<u8>, mark: u8, number: usize) -> Result<(), AllocError>
     ensures { OnOk result (out.new.items ≡ out.old.items ++ marked_line mark (decimal number)) }
 {
     let digits = number.to_string(alloc)?;
     push_line(out, mark, digits.as_bytes())
 }
 
-// Appends a string.
-fn push_string(alloc: Global, out: &mut Vec<u8>, string: &[u8]) -> Result<(), AllocError>
+/// Appends a string.
+pub(crate) fn push_string(alloc: Global, out: &mut Vec<u8>, string: &[u8]) -> Result<(), AllocError>
     ensures { OnOk result (out.new.items ≡ out.old.items ++ string_text string.now) }
 {
     push_number(alloc, out, b'$', string.len())?;
@@ -56,8 +56,8 @@ fn push_string(alloc: Global, out: &mut Vec<u8>, string: &[u8]) -> Result<(), Al
     out.extend_from_slice(b"\r\n")
 }
 
-// Appends that there is no string.
-fn push_null(out: &mut Vec<u8>) -> Result<(), AllocError>
+/// Appends that there is no string.
+pub(crate) fn push_null(out: &mut Vec<u8>) -> Result<(), AllocError>
     ensures { OnOk result (out.new.items ≡ out.old.items ++ null_text) }
 {
     push_line(out, b'$', b"-1")
@@ -198,6 +198,16 @@ fn push_swapped(out: &mut Vec<u8>, replies: &[Reply<()>]) -> Result<(), AllocErr
     }
 }
 
+// Appends as a number whether the key had the value to compare with.
+fn push_changed(alloc: Global, out: &mut Vec<u8>, replies: &[Reply<()>]) -> Result<(), AllocError>
+    ensures { OnOk result (out.new.items ≡ out.old.items ++ plain_text Form.Changed replies.now) }
+{
+    match replies.first() {
+        Some(Reply::Accepted(_)) => push_number(alloc, out, b':', 1),
+        _ => push_number(alloc, out, b':', 0),
+    }
+}
+
 // Appends how many values are found.
 fn push_count(alloc: Global, out: &mut Vec<u8>, replies: &[Reply<()>]) -> Result<(), AllocError>
     ensures { OnOk result (out.new.items ≡ out.old.items ++ plain_text Form.Counted replies.now) }
@@ -214,21 +224,21 @@ fn push_values(alloc: Global, out: &mut Vec<u8>, replies: &[Reply<()>]) -> Resul
     push_items(alloc, out, replies)
 }
 
-// Appends the reply to a command of which no event was refused.
+// Appends the reply of this form, if no event was refused.
 fn push_plain(
     alloc: Global,
     out: &mut Vec<u8>,
-    form: &Form,
+    form: Form,
     replies: &[Reply<()>],
 ) -> Result<(), AllocError>
-    ensures { OnOk result (out.new.items ≡ out.old.items ++ plain_text form.now replies.now) }
+    ensures { OnOk result (out.new.items ≡ out.old.items ++ plain_text form replies.now) }
 {
     match form {
-        Form::Text(text) => out.extend_from_slice(text),
         Form::Value => push_value(alloc, out, replies),
         Form::Len => push_len(alloc, out, replies),
         Form::Stored => push_line(out, b'+', b"OK"),
         Form::Swapped => push_swapped(out, replies),
+        Form::Changed => push_changed(alloc, out, replies),
         Form::Values => push_values(alloc, out, replies),
         Form::Counted => push_count(alloc, out, replies),
     }
@@ -241,14 +251,14 @@ fn first_error(replies: &[Reply<()>]) -> Option<&Reply<()>>
     replies.iter().find(|reply| is_error(*reply))
 }
 
-/// Appends the reply to a command, of the replies to its events: the first error, and if there is none what its form says.
+/// Appends one reply of this form, made of the replies to events: the first error, and if there is none what the form says.
 pub fn push_text(
     alloc: Global,
     out: &mut Vec<u8>,
-    form: &Form,
+    form: Form,
     replies: &[Reply<()>],
 ) -> Result<(), AllocError>
-    ensures { OnOk result (out.new.items ≡ out.old.items ++ text_of form.now replies.now) }
+    ensures { OnOk result (out.new.items ≡ out.old.items ++ text_of form replies.now) }
 {
     match first_error(replies) {
         Some(reply) => push_error(alloc, out, reply),

@@ -1,0 +1,90 @@
+-- What was gathered of a client's bytes.
+use Rattle.std.specs.Prelude.{◌≡◌, ◌≤◌, ◌<◌, ℕ, Bool, List, [], ◌∷◌, ◌++◌, All, MatchBool, length, map, take, drop}
+use Rattle.silt_event.specs.Events.{HasValueOf, PlainReply}
+use Rattle.silt_wire.specs.Sessions.{IsBeginning}
+use Rattle.silt_resp.specs.declared.batch.Batch.{Batch}
+use Rattle.silt_resp.specs.declared.batch.Due.{Due}
+use Rattle.silt_resp.specs.declared.batch.Due.TheVariants.{Text, Replies}
+use Rattle.silt_resp.specs.declared.session.Talk.{Talk}
+use Rattle.silt_resp.specs.declared.settings.Settings.{Settings}
+use Rattle.silt_resp.specs.declared.texts.Form.{Form}
+use Rattle.silt_resp.specs.Buffers.{HoldsStream}
+use Rattle.silt_resp.specs.Commands.{Asked, asked_by, asks, events_of, says, visitor_after}
+use Rattle.silt_resp.specs.Sessions.{Client, all_events, asked_after, client_after}
+use Rattle.silt_resp.specs.Stream.{Command, closed, closes, start, stream_after}
+use Rattle.silt_resp.specs.Texts.{text_of}
+
+-- each value of the events has this length
+abbrev pub IsAnswerable : ℕ → Batch → Type 0
+IsAnswerable value_len batch = All (HasValueOf value_len) batch.events.items
+
+-- ---- replies that are due
+
+-- a reply that is due: this text, or one of this form, made of so many replies to events
+pub data Part : Type 0 where
+  text : List ℕ → Part
+  replies : Form → ℕ → Part
+
+abbrev pub due_seen : Due → Part
+due_seen (Text bytes) = text bytes.items
+due_seen (Replies form count) = replies form count
+
+abbrev pub part_of : Asked → Part
+part_of (says bytes) = text bytes
+part_of (asks events form) = replies form (length events)
+
+abbrev pub part_len : Part → ℕ
+part_len (text bytes) = 0
+part_len (replies form count) = count
+
+abbrev pub part_text : Part → List PlainReply → List ℕ
+part_text (text bytes) given = bytes
+part_text (replies form count) given = text_of form given
+
+abbrev pub part_texts : List Part → List PlainReply → List ℕ
+part_texts [] given = []
+part_texts (part ∷ parts) given = part_text part (take (part_len part) given) ++ part_texts parts (drop (part_len part) given)
+
+-- a batch has the events of these commands, and the replies that are due to them
+pub record HoldsAsked (batch : Batch) (asked : List Asked) : Type 0 where
+  pub events : batch.events.items ≡ all_events asked
+  pub dues : map due_seen batch.dues.items ≡ map part_of asked
+
+-- the batch gained a command
+pub record GainsAsked (old new : Batch) (asked : Asked) : Type 0 where
+  pub events : new.events.items ≡ old.events.items ++ events_of asked
+  pub dues : map due_seen new.dues.items ≡ map due_seen old.dues.items ++ part_of asked ∷ []
+
+-- the batch has the commands that it had
+pub record KeepsAsked (old new : Batch) : Type 0 where
+  pub events : new.events.items ≡ old.events.items
+  pub dues : new.dues.items ≡ old.dues.items
+
+-- ---- clients
+
+-- bounded memory holds a client
+pub record HoldsClient (talk : Talk) (client : Client) : Type 0 where
+  pub stream : HoldsStream talk.buffer client.stream
+  pub visitor : talk.visitor ≡ client.visitor
+
+-- These bytes of a client were taken. Its stream is closed behind them, or the client is kept.
+abbrev pub IsBehind : Settings → Client → List ℕ → Bool → Talk → Type 0
+IsBehind settings client bytes closes talk =
+    MatchBool closes ((stream_after client.stream bytes).place ≡ closed) (HoldsClient talk (client_after settings client bytes))
+
+-- This command is added to the batch, and the client is behind it. The buffer is cleared, unless the command closes the stream.
+pub record AsksFor (settings : Settings) (command : Command) (ends : Bool) (old new : Talk) (before after : Batch) : Type 0 where
+  pub asked : GainsAsked before after (asked_by settings old.visitor command)
+  pub visitor : new.visitor ≡ visitor_after settings old.visitor command
+  pub closes : ends ≡ closes command
+  pub buffer : MatchBool ends (Unit {0}) (HoldsStream new.buffer start)
+
+-- the batch gained what these bytes of a client ask for
+abbrev pub Gathers : Settings → Client → List ℕ → Batch → Batch → Type 0
+Gathers settings client bytes old new = (asked : List Asked) → HoldsAsked old asked → HoldsAsked new (asked ++ asked_after settings client bytes)
+
+-- the batch gained a beginning of that
+abbrev pub GathersSome : Settings → Client → List ℕ → Batch → Batch → Type 0
+GathersSome settings client bytes old new =
+    (asked : List Asked) → HoldsAsked old asked
+    → (more : List Asked) × IsBeginning more (asked_after settings client bytes) × HoldsAsked new (asked ++ more)

@@ -1,0 +1,120 @@
+-- What a session with a client reads, does and writes.
+use Rattle.std.specs.Prelude.{◌≡◌, ℕ, List, [], ◌∷◌, ◌++◌, length, take, drop, MatchBool, Option}
+use Rattle.std.specs.Io.KnownBytes.{Appends, Consumes, IsAtEnd}
+use Rattle.std.specs.List.{flat_map}
+use Rattle.silt_event.specs.declared.event.Event.{Event}
+use Rattle.silt_event.specs.Events.{AnswersEach, PlainReply}
+use Rattle.silt_wire.specs.Sessions.{IsBeginning, SessionState}
+use Rattle.silt_resp.specs.declared.fault.ProtocolFault.{ProtocolFault}
+use Rattle.silt_resp.specs.declared.settings.Settings.{Settings}
+use Rattle.silt_resp.specs.declared.settings.Visitor.{Visitor}
+use Rattle.silt_resp.specs.declared.session.RespEnd.{RespEnd}
+use Rattle.silt_resp.specs.declared.session.RespEnd.TheVariants.{End, Closed, ReadFault, WriteFault, NoMemory}
+use Rattle.silt_resp.specs.Commands.{Asked, asked_by, asks, broken_text, events_of, says, visitor_after, visitor_at_first}
+use Rattle.silt_resp.specs.Stream.{Command, Stream, closed, commands_after, start, stream_after}
+use Rattle.silt_resp.specs.Texts.{text_of}
+
+-- ---- what commands ask for, one after the other
+
+-- a client: the command in progress, and whether it is let in
+pub record Client : Type 0 where
+  pub stream : Stream
+  pub visitor : Visitor
+
+-- a client that has sent nothing
+abbrev pub new_client : Settings → ℕ → Client
+new_client settings id = record { stream = start; visitor = visitor_at_first settings id }
+
+-- what each command asks for
+abbrev pub asked_each : Settings → Visitor → List Command → List Asked
+asked_each settings visitor [] = []
+asked_each settings visitor (command ∷ commands) =
+    asked_by settings visitor command ∷ asked_each settings (visitor_after settings visitor command) commands
+
+-- the visitor behind all of them
+abbrev pub visitor_behind : Settings → Visitor → List Command → Visitor
+visitor_behind settings visitor [] = visitor
+visitor_behind settings visitor (command ∷ commands) = visitor_behind settings (visitor_after settings visitor command) commands
+
+-- what the commands ask for that a client's bytes end
+abbrev pub asked_after : Settings → Client → List ℕ → List Asked
+asked_after settings client bytes = asked_each settings client.visitor (commands_after client.stream bytes)
+
+-- the client behind these bytes
+abbrev pub client_after : Settings → Client → List ℕ → Client
+client_after settings client bytes = record {
+  stream = stream_after client.stream bytes;
+  visitor = visitor_behind settings client.visitor (commands_after client.stream bytes);
+}
+
+-- ---- replies
+
+-- the events of all commands
+abbrev pub all_events : List Asked → List Event
+all_events asked = flat_map events_of asked
+
+-- the reply to a command, of the replies to its events
+abbrev pub reply_text : Asked → List PlainReply → List ℕ
+reply_text (says text) replies = text
+reply_text (asks events form) replies = text_of form replies
+
+-- the replies to commands, of the replies to all their events: each takes as many as it has events
+abbrev pub texts_of : List Asked → List PlainReply → List ℕ
+texts_of [] replies = []
+texts_of (asked ∷ more) replies =
+    reply_text asked (take (length (events_of asked)) replies) ++ texts_of more (drop (length (events_of asked)) replies)
+
+-- ---- ends
+
+-- only an end at the end of the reader says so
+abbrev pub IsLast : RespEnd → Option (List ℕ) → Type 0
+IsLast End remaining = IsAtEnd remaining
+IsLast end remaining = Unit {0}
+
+-- the ends that come from the commands of a read
+abbrev pub IsCut : RespEnd → Type 0
+IsCut End = ⊥
+IsCut ReadFault = ⊥
+IsCut end = Unit {0}
+
+-- at most one reply was written, that to bytes that begin no command
+abbrev pub WritesAtMostFault : Option (List ℕ) → Option (List ℕ) → Type 0
+WritesAtMostFault before after =
+    (fault : ProtocolFault) × (out : List ℕ) × IsBeginning out (broken_text fault) × Appends before after out
+
+-- ---- what an answerer does
+
+module _ {A : Type 0} (answers : A → A → Event → PlainReply → Type 0) where
+  -- all commands were done, and exactly their replies were written
+  abbrev pub AnswersAll : List Asked → A → A → Option (List ℕ) → Option (List ℕ) → Type 0
+  AnswersAll asked old new before after =
+      (replies : List PlainReply) × AnswersEach answers old (all_events asked) replies new × Appends before after (texts_of asked replies)
+
+  -- the first commands were done, some of them all, and a beginning of their replies was written
+  abbrev pub AnswersSome : List Asked → A → A → Option (List ℕ) → Option (List ℕ) → Type 0
+  AnswersSome asked old new before after =
+      (some : List Asked) × (replies : List PlainReply) × (out : List ℕ) × IsBeginning some asked × AnswersEach answers old (all_events some) replies new
+      × IsBeginning out (texts_of some replies) × Appends before after out
+
+  -- so it was with the commands that these bytes of a client end
+  abbrev pub ServesAll : Settings → Client → List ℕ → A → A → Option (List ℕ) → Option (List ℕ) → Type 0
+  ServesAll settings client bytes old new before after = AnswersAll (asked_after settings client bytes) old new before after
+
+  abbrev pub ServesSome : Settings → Client → List ℕ → A → A → Option (List ℕ) → Option (List ℕ) → Type 0
+  ServesSome settings client bytes old new before after = AnswersSome (asked_after settings client bytes) old new before after
+
+  -- What a session with this end did for the bytes that it read. If it closed, one of the commands closes the stream, and nothing behind it
+  -- was done.
+  abbrev pub EndsWith : RespEnd → Settings → Client → List ℕ → A → A → Option (List ℕ) → Option (List ℕ) → Type 0
+  EndsWith End settings client bytes old new before after = ServesAll settings client bytes old new before after
+  EndsWith ReadFault settings client bytes old new before after = ServesAll settings client bytes old new before after
+  EndsWith Closed settings client bytes old new before after =
+      ServesAll settings client bytes old new before after × ((stream_after client.stream bytes).place ≡ closed)
+  EndsWith WriteFault settings client bytes old new before after = ServesSome settings client bytes old new before after
+  EndsWith NoMemory settings client bytes old new before after = ServesSome settings client bytes old new before after
+
+  -- which bytes a session took from its reader, and what it did for them
+  abbrev pub RespEnds : RespEnd → Settings → Client → SessionState A → SessionState A → Type 0
+  RespEnds end settings client old new =
+      (read : List ℕ) × Consumes old.remaining new.remaining read × IsLast end new.remaining
+      × EndsWith end settings client read old.answerer new.answerer old.contents new.contents

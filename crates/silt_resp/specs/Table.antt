@@ -1,0 +1,63 @@
+-- The table of commands.
+use Rattle.std.specs.Prelude.{ℕ, Bool, ◌&&◌, nat_le, List, [], ◌∷◌, codes, Option, None}
+use Rattle.std.specs.List.{find}
+use Rattle.std.specs.Str.{str_eq_ignore_ascii_case}
+use Rattle.silt_resp.specs.declared.table.CommandName.{CommandName}
+use Rattle.silt_resp.specs.declared.table.CommandName.TheVariants.{Get, Strlen, Mget, Exists, Touch, Set, Setnx, Delifeq, Mset, Del, Unlink, Ping, Echo, Quit, Select, Auth, Hello, Client, Command, Config, Cluster}
+use Rattle.silt_resp.specs.Stream.{Word, whole, long}
+
+-- a command's name in lower case, and the fewest and the most words that may follow it
+pub record Row : Type 0 where
+  pub name : List ℕ
+  pub least : ℕ
+  pub most : ℕ
+
+abbrev pub row : List ℕ → ℕ → ℕ → Row
+row name least most = record { name = name; least = least; most = most }
+
+-- as many words behind the name as are kept
+abbrev pub many : ℕ
+many = 1023
+
+abbrev pub row_of : CommandName → Row
+row_of Get = row (codes "get") 1 1
+row_of Strlen = row (codes "strlen") 1 1
+row_of Mget = row (codes "mget") 1 many
+row_of Exists = row (codes "exists") 1 many
+row_of Touch = row (codes "touch") 1 many
+row_of Set = row (codes "set") 2 many
+row_of Setnx = row (codes "setnx") 2 2
+row_of Delifeq = row (codes "delifeq") 2 2
+row_of Mset = row (codes "mset") 2 many
+row_of Del = row (codes "del") 1 many
+row_of Unlink = row (codes "unlink") 1 many
+row_of Ping = row (codes "ping") 0 1
+row_of Echo = row (codes "echo") 1 1
+row_of Quit = row (codes "quit") 0 many
+row_of Select = row (codes "select") 1 1
+row_of Auth = row (codes "auth") 1 many
+row_of Hello = row (codes "hello") 0 many
+row_of Client = row (codes "client") 1 many
+row_of Command = row (codes "command") 0 many
+row_of Config = row (codes "config") 1 many
+row_of Cluster = row (codes "cluster") 1 many
+
+-- all commands
+abbrev pub all_commands : List CommandName
+all_commands =
+    Get ∷ Strlen ∷ Mget ∷ Exists ∷ Touch ∷ Set ∷ Setnx ∷ Delifeq ∷ Mset ∷ Del ∷ Unlink ∷ Ping ∷ Echo ∷ Quit ∷ Select ∷ Auth ∷ Hello ∷ Client ∷ Command
+    ∷ Config ∷ Cluster ∷ []
+
+-- the command with this name, in either case
+abbrev pub command_named : List ℕ → Option CommandName
+command_named name = find (λ command. str_eq_ignore_ascii_case name (row_of command).name) all_commands
+
+-- the command that the first of these words names
+abbrev pub command_of : List Word → Option CommandName
+command_of [] = None
+command_of (whole name ∷ args) = command_named name
+command_of (long ∷ args) = None
+
+-- whether so many words may follow a command's name
+abbrev pub takes : CommandName → ℕ → Bool
+takes command count = nat_le (row_of command).least count && nat_le count (row_of command).most
