@@ -1,5 +1,8 @@
 // Commands of Redis clients, the replies to them and values of strings, letter for letter.
 
+mod batches;
+mod sessions;
+
 use silt_event::{Refusal, Reply};
 use silt_resp::{Command, CommandBuffer, Form, Word, Words, push_text, string_of, string_value};
 use std::alloc::{AllocError, Global};
