@@ -1,5 +1,9 @@
+pub mod Browsers
+pub mod Doing
 pub mod Encoded
+pub mod Gathering
 pub mod Kept
+pub mod Named
 pub mod Runs
 pub mod Streams
 pub mod Strings

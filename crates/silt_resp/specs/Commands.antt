@@ -1,5 +1,5 @@
 -- What commands ask of a store, and replies that need no store.
-use Rattle.std.specs.Prelude.{◌==◌, ◌&&◌, ◌||◌, ◌+◌, ◌/◌, ◌%◌, ℕ, Bool, true, false, nat_le, List, [], ◌∷◌, ◌++◌, length, map, take, drop, All, slice_get, codes, Option, Some, None, is_none, Result, Ok, Err, is_ok, if◌then◌else◌}
+use Rattle.std.specs.Prelude.{◌==◌, ◌&&◌, ◌||◌, ◌/◌, ◌%◌, ℕ, Bool, true, false, nat_le, List, [], ◌∷◌, ◌++◌, length, map, take, drop, All, slice_get, codes, Option, Some, None, is_none, Result, Ok, Err, is_ok, if◌then◌else◌}
 use Rattle.std.specs.Fmt.{decimal}
 use Rattle.std.specs.Str.{bytes_eq}
 use Rattle.sha1.specs.Sha1.{sha1}
@@ -119,15 +119,15 @@ password_verdict None word = Err NoPassword
 password_verdict (Some digest) (Some (whole password)) = if bytes_eq (sha1 password) digest then Ok tt else Err WrongPassword
 password_verdict (Some digest) word = Err WrongPassword
 
--- whether this user is let in; there is only one
-abbrev pub user_verdict : Settings → List Word → ℕ → Result (Unit {0}) CommandFault
-user_verdict settings args index =
-    password_verdict settings.password (if has_word args index (codes "default") then slice_get args (index + 1) else None)
+-- whether the user and the password with these numbers let in; there is only one user
+abbrev pub user_verdict : Settings → List Word → ℕ → ℕ → Result (Unit {0}) CommandFault
+user_verdict settings args user password =
+    password_verdict settings.password (if has_word args user (codes "default") then slice_get args password else None)
 
 abbrev pub auth_verdict : Settings → List Word → Result (Unit {0}) CommandFault
 auth_verdict settings args =
     if length args == 1 then password_verdict settings.password (slice_get args 0)
-    else if length args == 2 then user_verdict settings args 0
+    else if length args == 2 then user_verdict settings args 0 1
     else Err BadSyntax
 
 abbrev pub auth_made : Settings → List Word → Result Asked CommandFault
@@ -150,7 +150,7 @@ has_version args = (length args == 0) || has_word args 0 (codes "2")
 abbrev pub hello_verdict : Settings → Visitor → List Word → Result (Unit {0}) CommandFault
 hello_verdict settings visitor args =
     if has_version args then
-        (if has_login args then user_verdict settings args 2
+        (if has_login args then user_verdict settings args 2 3
         else if has_no_login args then (if visitor.is_let_in then Ok tt else Err NotLetIn)
         else Err BadSyntax)
     else Err OtherProtocol
@@ -229,13 +229,12 @@ abbrev pub is_free : CommandName → Bool
 is_free Auth = true
 is_free Hello = true
 is_free Quit = true
-is_free command = false
+is_free name = false
 
 -- what a command makes, if the visitor may give it and has given as many words as it takes
 abbrev pub checked : Settings → Visitor → CommandName → List Word → Result Asked CommandFault
-checked settings visitor command args =
-    if visitor.is_let_in || is_free command then
-        (if takes command (length args) then made settings visitor command args else Err (WrongCount command))
+checked settings visitor name args =
+    if visitor.is_let_in || is_free name then (if takes name (length args) then made settings visitor name args else Err (WrongCount name))
     else Err NotLetIn
 
 -- a fault is told
@@ -258,7 +257,7 @@ unknown_text words = error_text (codes "ERR unknown command '" ++ (shown_name wo
 
 abbrev pub words_asked : Settings → Visitor → Option CommandName → List Word → Asked
 words_asked settings visitor None words = if visitor.is_let_in then says (unknown_text words) else told (Err NotLetIn)
-words_asked settings visitor (Some command) words = told (checked settings visitor command (drop 1 words))
+words_asked settings visitor (Some name) words = told (checked settings visitor name (drop 1 words))
 
 -- a command that is not kept
 abbrev pub unkept : Visitor → CommandFault → Asked
@@ -285,7 +284,7 @@ visitor_at_first settings id = record { id = id; is_let_in = is_none settings.pa
 abbrev pub lets_in : Settings → Visitor → Option CommandName → List Word → Bool
 lets_in settings visitor (Some Auth) args = is_ok (auth_verdict settings args)
 lets_in settings visitor (Some Hello) args = is_ok (hello_verdict settings visitor args)
-lets_in settings visitor command args = false
+lets_in settings visitor name args = false
 
 -- the visitor after a command: only the password lets in
 abbrev pub visitor_after : Settings → Visitor → Command → Visitor

@@ -110,8 +110,9 @@ pub(crate) fn puts_named(
     ensures fits { IfOk result (λ puts. All (HasValueOf settings.now.value_len) puts.items) }
 {
     let mut puts = Vec::new(alloc);
+    let count = args.len();
     let mut at = 0;
-    while at < args.len() {
+    while at < count {
         let key = key_at(args, at)?;
         let value = value_at(alloc, settings, args, at + 1)?;
         puts.push(Event::Put(key, value))?;

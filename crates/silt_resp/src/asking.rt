@@ -103,10 +103,10 @@ fn value_error(alloc: Global, most: usize) -> Result<String, AllocError>
 }
 
 // The error of a number of words that a command does not take.
-fn count_error(alloc: Global, command: CommandName) -> Result<String, AllocError>
-    ensures { IfOk result (λ text. string_bytes text ≡ fault_text (CommandFault.WrongCount command)) }
+fn count_error(alloc: Global, name: CommandName) -> Result<String, AllocError>
+    ensures { IfOk result (λ text. string_bytes text ≡ fault_text (CommandFault.WrongCount name)) }
 {
-    let name = command.row().name;
+    let name = name.row().name;
     format!(in alloc; "ERR wrong number of arguments for '{name}' command")
 }
 
@@ -123,8 +123,8 @@ fn push_fault(alloc: Global, out: &mut Vec<u8>, fault: CommandFault) -> Result<(
         CommandFault::ManyKeys => push_error(out, "ERR too many keys"),
         CommandFault::ManyWords => push_error(out, "ERR too many words"),
         CommandFault::ManyBytes => push_error(out, "ERR command is longer than 262144 bytes"),
-        CommandFault::WrongCount(command) => {
-            let text = count_error(alloc, command)?;
+        CommandFault::WrongCount(name) => {
+            let text = count_error(alloc, name)?;
             push_error(out, &text)
         }
         CommandFault::BadSyntax => push_error(out, "ERR syntax error"),
@@ -171,7 +171,8 @@ fn told(alloc: Global, made: Result<Asked, CommandFault>) -> Result<Asked, Alloc
 fn push_name(out: &mut Vec<u8>, name: &[u8]) -> Result<(), AllocError>
     ensures { OnOk result (out.new.items ≡ out.old.items ++ map shown_byte (take 32 name.now)) }
 {
-    for byte in name.split_at(name.len().min(SHOWN)).0 {
+    let (shown, _) = name.split_at(name.len().min(SHOWN));
+    for byte in shown {
         out.push(shown_byte(*byte))?;
     }
     Ok(())
@@ -200,7 +201,8 @@ fn push_unknown(out: &mut Vec<u8>, words: &Words<'_>) -> Result<(), AllocError>
 {
     out.extend_from_slice(b"-ERR unknown command '")?;
     push_shown(out, words)?;
-    out.extend_from_slice(b"'\r\n")
+    out.extend_from_slice(b"'\r\n")?;
+    Ok(())
 }
 
 // The error of a command that is not known.

@@ -1,10 +1,10 @@
 // Commands that need no store.
-ghost use Rattle.std.specs.Prelude.{◌≡◌, ◌++◌, ◌<◌, Ok, OnOk, length, slice_get};
+ghost use Rattle.std.specs.Prelude.{◌≡◌, ◌++◌, IfOk, Ok, OnOk, length, slice_get};
 ghost use Rattle.std.specs.Option.{option_map};
 ghost use Rattle.std.specs.Str.{bytes_eq};
 ghost use Rattle.sha1.specs.Sha1.{sha1};
 ghost use Rattle.silt_resp.specs.Arguments.{Gives};
-ghost use Rattle.silt_resp.specs.Commands.{auth_made, auth_verdict, client_made, command_made, config_made, echoed, has_login, has_no_login, has_version, hello_made, hello_text, hello_verdict, is_subcommand, pair_text, parameters, password_verdict, ping_made, says, select_made, user_verdict};
+ghost use Rattle.silt_resp.specs.Commands.{Fits, auth_made, auth_verdict, client_made, command_made, config_made, echoed, has_login, has_no_login, has_version, hello_made, hello_text, hello_verdict, is_subcommand, pair_text, parameters, password_verdict, ping_made, says, select_made, user_verdict};
 ghost use Rattle.silt_resp.specs.Seen.{asked_seen, word_seen};
 ghost use Rattle.silt_resp.specs.Texts.{number_text, ok_text};
 
@@ -94,13 +94,17 @@ fn password_verdict(settings: &Settings, word: Option<Word<'_>>) -> Result<(), C
     }
 }
 
-// Whether the user with this number, and the password behind it, are let in. There is only one user.
-fn user_verdict(settings: &Settings, args: &Words<'_>, index: usize) -> Result<(), CommandFault>
-    requires { index < length args.now }
-    ensures { result ≡ user_verdict settings.now args.now index }
+// Whether the user and the password with these numbers let in. There is only one user.
+fn user_verdict(
+    settings: &Settings,
+    args: &Words<'_>,
+    user: usize,
+    password: usize,
+) -> Result<(), CommandFault>
+    ensures { result ≡ user_verdict settings.now args.now user password }
 {
-    if has_word(args, index, b"default") {
-        return password_verdict(settings, args.get(index + 1));
+    if has_word(args, user, b"default") {
+        return password_verdict(settings, args.get(password));
     }
     password_verdict(settings, None)
 }
@@ -111,7 +115,7 @@ pub(crate) fn auth_verdict(settings: &Settings, args: &Words<'_>) -> Result<(), 
 {
     match args.len() {
         1 => password_verdict(settings, args.get(0)),
-        2 => user_verdict(settings, args, 0),
+        2 => user_verdict(settings, args, 0, 1),
         _ => Err(CommandFault::BadSyntax),
     }
 }
@@ -172,7 +176,7 @@ pub(crate) fn hello_verdict(
         return Err(CommandFault::OtherProtocol);
     }
     if has_login(args) {
-        return user_verdict(settings, args, 2);
+        return user_verdict(settings, args, 2, 3);
     }
     if !has_no_login(args) {
         return Err(CommandFault::BadSyntax);
@@ -190,7 +194,8 @@ fn push_hello(alloc: Global, out: &mut Vec<u8>, id: u32) -> Result<(), AllocErro
 {
     out.extend_from_slice(GREETING)?;
     push_number(alloc, out, b':', id as usize)?;
-    out.extend_from_slice(GREETING_END)
+    out.extend_from_slice(GREETING_END)?;
+    Ok(())
 }
 
 /// What a greeting is told.
@@ -200,7 +205,8 @@ pub(crate) fn hello(
     visitor: Visitor,
     args: &Words<'_>,
 ) -> Result<Asked, CommandFault>
-    ensures { Gives asked_seen (hello_made settings.now visitor args.now) result }
+    ensures asked { Gives asked_seen (hello_made settings.now visitor args.now) result }
+    ensures fits { IfOk result (λ asked. Fits settings.now.value_len (asked_seen asked)) }
 {
     hello_verdict(settings, visitor, args)?;
     let mut out = Vec::new(alloc);

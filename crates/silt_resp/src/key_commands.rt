@@ -63,7 +63,7 @@ pub(crate) fn look_all(
     form: Form,
 ) -> Result<Asked, CommandFault>
     ensures asked { Gives asked_seen (look_all_made settings.now args.now form) result }
-    ensures fits { (len : ℕ) → IfOk result (λ asked. Fits len (asked_seen asked)) }
+    ensures fits { IfOk result (λ asked. Fits settings.now.value_len (asked_seen asked)) }
 {
     if !is_few(settings, args.len()) {
         return Err(CommandFault::ManyKeys);
@@ -81,7 +81,7 @@ pub(crate) fn delete(
     args: &Words<'_>,
 ) -> Result<Asked, CommandFault>
     ensures asked { Gives asked_seen (delete_made settings.now args.now) result }
-    ensures fits { (len : ℕ) → IfOk result (λ asked. Fits len (asked_seen asked)) }
+    ensures fits { IfOk result (λ asked. Fits settings.now.value_len (asked_seen asked)) }
 {
     if !is_few(settings, args.len()) {
         return Err(CommandFault::ManyKeys);

@@ -85,8 +85,7 @@ impl Talk {
             → IsBehind settings.now client (take gathered.count bytes.now) gathered.closes self.new) }
         ensures all { IfOk result (λ gathered. (client : Client) → HoldsClient self.old client
             → Gathers settings.now client (take gathered.count bytes.now) batch.old batch.new) }
-        ensures some { OnErr result ((client : Client) → HoldsClient self.old client
-            → GathersSome settings.now client bytes.now batch.old batch.new) }
+        ensures some { (client : Client) → HoldsClient self.old client → GathersSome settings.now client bytes.now batch.old batch.new }
     {
         let mut count = 0;
         while count < bytes.len() {
@@ -244,8 +243,12 @@ fn answer_part<A: Answerer, W: Write>(
         return Err(RespEnd::WriteFault);
     }
     match taken {
-        Ok(Gathered { closes: true, .. }) => Err(RespEnd::Closed),
-        Ok(gathered) => Ok(gathered.count),
+        Ok(gathered) => {
+            if gathered.closes {
+                return Err(RespEnd::Closed);
+            }
+            Ok(gathered.count)
+        }
         Err(_) => Err(RespEnd::NoMemory),
     }
 }

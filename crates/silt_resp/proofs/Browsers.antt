@@ -1,0 +1,106 @@
+-- A session with a browser: its bytes end no line.
+use Rattle.std.proofs.Common.{◌≡◌, ◌<◌, ◌≤◌, ◌==◌, ℕ, Bool, true, false, cond, List, [], ◌∷◌, ◌++◌, length, refl, sym, ap, subst, ◌∙◌, append-nil, arith, inl, inr, Option, Some, None}
+use Rattle.std.specs.Prelude.{IfSome}
+use Rattle.std.specs.Io.KnownBytes.{Appends, Consumes}
+use Rattle.std.proofs.lemmas.Bool.{cases_lt}
+use Rattle.silt_event.specs.declared.event.Event.{Event}
+use Rattle.silt_event.specs.Events.{AnswersEach, PlainReply}
+use Rattle.silt_wire.specs.Http.{Guards, IsHttp, ends_line}
+use Rattle.silt_wire.specs.Sessions.{IsBeginning, SessionState}
+use Rattle.silt_resp.specs.declared.fault.ProtocolFault.{ProtocolFault}
+use Rattle.silt_resp.specs.declared.fault.ProtocolFault.TheVariants.{BadCount}
+use Rattle.silt_resp.specs.declared.settings.Settings.{Settings}
+use Rattle.silt_resp.specs.declared.session.RespEnd.{RespEnd}
+use Rattle.silt_resp.specs.declared.session.RespEnd.TheVariants.{End, Closed, ReadFault, WriteFault, NoMemory}
+use Rattle.silt_resp.specs.Buffers.{NoFeed}
+use Rattle.silt_resp.specs.Commands.{Asked, asks, broken_text, says, visitor_at_first}
+use Rattle.silt_resp.specs.Sessions.{AnswersAll, AnswersSome, EndsWith, RespEnds, WritesAtMostFault, all_events, asked_after, asked_each, new_client, texts_of}
+use Rattle.silt_resp.specs.Stream.{line_kind, line_limit, start, too_long}
+use Rattle.silt_resp.proofs.Doing.{begins-trans}
+use Rattle.silt_resp.proofs.Runs.{line_over, line_run}
+
+-- ---- bytes without a line feed
+
+no_feed : (xs : List ℕ) → ends_line xs ≡ false → NoFeed xs
+no_feed [] e = tt
+no_feed (x ∷ xs) e =
+    elim (x == 10) as (λ b. cond b true (ends_line xs) ≡ false → (b ≡ false) × NoFeed xs) [
+      | true ↦ λ told. absurd (cc)
+      | false ↦ λ told. (refl, no_feed xs told)
+    ] e
+
+no_feed-front : (xs ys : List ℕ) → NoFeed (xs ++ ys) → NoFeed xs
+no_feed-front [] ys h = tt
+no_feed-front (x ∷ xs) ys h = (h.0, no_feed-front xs ys h.1)
+
+read_no_feed : (given read : List ℕ) (left : Option (List ℕ)) → ends_line given ≡ false → Consumes (Some given) left read → NoFeed read
+read_no_feed given read None none took = absurd took
+read_no_feed given read (Some ys) none took = no_feed-front read ys (subst (λ xs. NoFeed xs) took (no_feed given none))
+
+-- they end at most one command, which is none
+at_most_fault : (s : Settings) (id : ℕ) (read : List ℕ) → NoFeed read
+    → (fault : ProtocolFault) × IsBeginning (asked_after s (new_client s id) read) (says (broken_text fault) ∷ [])
+at_most_fault s id read none =
+    let kind = line_kind 0 read in
+    elim (cases_lt (line_limit kind) (length read)) [
+      | inl over ↦ (
+            too_long kind,
+            [],
+            append-nil (asked_after s (new_client s id) read) ∙ ap (asked_each s (visitor_at_first s id)) (line_over [] 0 [] read none (omega arith) over).commands_are,
+          )
+      | inr within ↦ (
+            BadCount,
+            says (broken_text BadCount) ∷ [],
+            ap (λ cs. asked_each s (visitor_at_first s id) cs ++ says (broken_text BadCount) ∷ []) (line_run [] 0 [] read none within).commands_are,
+          )
+    ]
+
+-- ---- nothing is done
+
+text_only : (asked : List Asked) (text : List ℕ) → IsBeginning asked (says text ∷ []) → (all_events asked ≡ []) × IsBeginning (texts_of asked []) text
+text_only [] text h = (refl, text, refl)
+text_only (x ∷ []) text h =
+    let is : x ≡ says text = cc (h.1) in
+    (ap (λ a. all_events (a ∷ [])) is, subst (λ a. IsBeginning (texts_of (a ∷ []) []) text) (sym is) ([], append-nil (text ++ []) ∙ append-nil text))
+text_only (x ∷ y ∷ asked) text h = absurd (cc (h.1))
+
+module _ {A : Type 0} (answers : A → A → Event → PlainReply → Type 0) where
+  none_each : (a b : A) (replies : List PlainReply) → AnswersEach answers a [] replies b → (b ≡ a) × (replies ≡ [])
+  none_each a b [] each = (each, refl)
+  none_each a b (r ∷ replies) each = absurd each
+
+  none_done : (asked : List Asked) (text : List ℕ) (a b : A) (replies : List PlainReply) → IsBeginning asked (says text ∷ []) → AnswersEach answers a (all_events asked) replies b
+      → (b ≡ a) × IsBeginning (texts_of asked replies) text
+  none_done asked text a b replies begins each =
+      let only = text_only asked text begins in
+      let told = none_each a b replies (subst (λ es. AnswersEach answers a es replies b) only.0 each) in
+      (told.0, subst (λ rs. IsBeginning (texts_of asked rs) text) (sym told.1) only.1)
+
+  all_told : (asked : List Asked) (fault : ProtocolFault) (a b : A) (before after : Option (List ℕ)) → IsBeginning asked (says (broken_text fault) ∷ [])
+      → AnswersAll answers asked a b before after → (b ≡ a) × WritesAtMostFault before after
+  all_told asked fault a b before after begins all =
+      let done = none_done asked (broken_text fault) a b all.0 begins all.1 in
+      (done.0, fault, texts_of asked all.0, done.1, all.2)
+
+  some_told : (asked : List Asked) (fault : ProtocolFault) (a b : A) (before after : Option (List ℕ)) → IsBeginning asked (says (broken_text fault) ∷ [])
+      → AnswersSome answers asked a b before after → (b ≡ a) × WritesAtMostFault before after
+  some_told asked fault a b before after begins k =
+      let done = none_done k.0 (broken_text fault) a b k.1 (begins-trans k.0 asked (says (broken_text fault) ∷ []) k.3 begins) k.4 in
+      (done.0, fault, k.2, begins-trans k.2 (texts_of k.0 k.1) (broken_text fault) k.5 done.1, k.6)
+
+  told_ends : (end : RespEnd) (s : Settings) (id : ℕ) (read : List ℕ) (a b : A) (before after : Option (List ℕ)) → NoFeed read
+      → EndsWith answers end s (new_client s id) read a b before after → (b ≡ a) × WritesAtMostFault before after
+  told_ends End s id read a b before after none h = let m = at_most_fault s id read none in all_told _ m.0 a b before after m.1 h
+  told_ends ReadFault s id read a b before after none h = let m = at_most_fault s id read none in all_told _ m.0 a b before after m.1 h
+  told_ends Closed s id read a b before after none h = let m = at_most_fault s id read none in all_told _ m.0 a b before after m.1 h.0
+  told_ends WriteFault s id read a b before after none h = let m = at_most_fault s id read none in some_told _ m.0 a b before after m.1 h
+  told_ends NoMemory s id read a b before after none h = let m = at_most_fault s id read none in some_told _ m.0 a b before after m.1 h
+
+  -- an HTTP request does nothing, and has at most one error
+  pub http_nothing : (end : RespEnd) (s : Settings) (id : ℕ) (known given left before after : Option (List ℕ)) (a b : A) → Guards known given
+      → RespEnds answers end s (new_client s id) (record { answerer = a; remaining = given; contents = before }) (record { answerer = b; remaining = left; contents = after })
+      → IfSome known (λ bytes. IsHttp bytes → (b ≡ a) × WritesAtMostFault before after)
+  http_nothing end s id None given left before after a b guards ends = tt
+  http_nothing end s id (Some bytes) None left before after a b guards ends = absurd guards
+  http_nothing end s id (Some bytes) (Some given) left before after a b guards ends = λ http.
+      told_ends end s id ends.0 a b before after (read_no_feed given ends.0 left (guards.0 http) ends.1) ends.3

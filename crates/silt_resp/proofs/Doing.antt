@@ -1,0 +1,318 @@
+-- Doing commands in two parts is doing them at once, and a beginning of a part is a beginning of the whole.
+use Rattle.std.proofs.Common.{◌≡◌, ◌+◌, ◌-◌, ◌≤◌, ℕ, suc, true, false, Bool, Result, Ok, Err, List, [], ◌∷◌, ◌++◌, length, map, take, drop, take-append-drop, refl, sym, ap, subst, ◌∙◌, append_assoc, get_or, inl, inr, ◌<◌, Option, Some, None, arith, length-append, append-nil}
+use Rattle.std.specs.Prelude.{IfOk, IfSome, MatchBool, OnErr, OnOk, min}
+use Rattle.std.proofs.Math.ListN.{drop_of_length-le}
+use Rattle.std.proofs.Math.Seq.{drop-cons}
+use Rattle.std.proofs.lemmas.Bool.{cases_lt}
+use Rattle.std.specs.List.{flat_map}
+use Rattle.std.specs.Io.KnownBytes.{Appends, Consumes}
+use Rattle.std.proofs.lemmas.Grind.{flat_map-append}
+use Rattle.std.proofs.lemmas.List.{drop-append-le, length-drop, map-append, take_all, take-append-le}
+use Rattle.std.proofs.Math.Seq.{take-add}
+use Rattle.silt_event.specs.declared.event.Event.{Event}
+use Rattle.silt_event.specs.Events.{AnswersEach, PlainReply}
+use Rattle.silt_wire.specs.Http.{Guards, IsHttp, ends_line}
+use Rattle.silt_wire.specs.Sessions.{IsBeginning, SessionState}
+use Rattle.silt_wire.proofs.Answering.{IsBeginning-all}
+use Rattle.silt_wire.proofs.Streams.{Appends-append, Appends-none, Consumes-append}
+use Rattle.silt_resp.specs.declared.fault.ProtocolFault.{ProtocolFault}
+use Rattle.silt_resp.specs.declared.fault.ProtocolFault.TheVariants.{BadCount}
+use Rattle.silt_resp.specs.declared.settings.Settings.{Settings}
+use Rattle.silt_resp.specs.declared.settings.Visitor.{Visitor}
+use Rattle.silt_resp.specs.declared.session.RespEnd.{RespEnd}
+use Rattle.silt_resp.specs.declared.session.RespEnd.TheVariants.{End, Closed, ReadFault, WriteFault, NoMemory}
+use Rattle.silt_resp.specs.declared.session.Talk.{Talk}
+use Rattle.silt_resp.specs.declared.batch.Batch.{Batch}
+use Rattle.silt_resp.specs.declared.batch.Due.{Due}
+use Rattle.silt_resp.specs.Batches.{GainsAsked, Gathers, GathersSome, HoldsAsked, HoldsClient, IsBehind, KeepsAsked, due_seen, part_len, part_of, part_text, part_texts, Part}
+use Rattle.silt_resp.specs.Commands.{Asked, asked_by, asks, broken_text, events_of, says, visitor_after}
+use Rattle.silt_resp.specs.Sessions.{AnswersAll, AnswersSome, Client, EndsWith, IsCut, IsLast, RespEnds, ServesAll, ServesSome, WritesAtMostFault, all_events, asked_after, asked_each, client_after, new_client, reply_text, texts_of, visitor_behind}
+use Rattle.silt_resp.specs.Stream.{Command, Stream, broken, closed, commands_after, start, stream_after}
+use Rattle.silt_resp.proofs.Runs.{Goes, closed_run}
+use Rattle.silt_resp.proofs.Streams.{commands_after-append, stream_after-append}
+
+-- ---- parts
+
+-- three parts that are appended one after the other
+pub three_appended : (out a b d one two three : List ℕ) → one ≡ out ++ a → two ≡ one ++ b → three ≡ two ++ d → three ≡ out ++ (a ++ (b ++ d))
+three_appended out a b d one two three e f g =
+    g ∙ ap (λ l. l ++ d) f ∙ ap (λ l. (l ++ b) ++ d) e ∙ append_assoc (out ++ a) b d ∙ append_assoc out a (b ++ d)
+
+-- ---- beginnings
+
+none_begins : {X : Type 0} (xs : List X) → IsBeginning [] xs
+none_begins xs = (xs, refl)
+
+pub begins-trans : {X : Type 0} (xs ys zs : List X) → IsBeginning xs ys → IsBeginning ys zs → IsBeginning xs zs
+begins-trans xs ys zs h k = (h.0 ++ k.0, sym (append_assoc xs h.0 k.0) ∙ ap (λ l. l ++ k.0) h.1 ∙ k.1)
+
+-- a beginning of what follows a front
+begins-behind : {X : Type 0} (front xs ys : List X) → IsBeginning xs ys → IsBeginning (front ++ xs) (front ++ ys)
+begins-behind front xs ys h = (h.0, append_assoc front xs h.0 ∙ ap (λ l. front ++ l) h.1)
+
+pub begins-more : {X : Type 0} (xs ys more : List X) → IsBeginning xs ys → IsBeginning xs (ys ++ more)
+begins-more xs ys more h = (h.0 ++ more, sym (append_assoc xs h.0 more) ∙ ap (λ l. l ++ more) h.1)
+
+-- ---- what is asked for
+
+visitor_behind-append : (s : Settings) (v : Visitor) (cs ds : List Command) → visitor_behind s v (cs ++ ds) ≡ visitor_behind s (visitor_behind s v cs) ds
+visitor_behind-append s v [] ds = refl
+visitor_behind-append s v (c ∷ cs) ds = visitor_behind-append s (visitor_after s v c) cs ds
+
+asked_each-append : (s : Settings) (v : Visitor) (cs ds : List Command) → asked_each s v (cs ++ ds) ≡ asked_each s v cs ++ asked_each s (visitor_behind s v cs) ds
+asked_each-append s v [] ds = refl
+asked_each-append s v (c ∷ cs) ds = ap (λ l. asked_by s v c ∷ l) (asked_each-append s (visitor_after s v c) cs ds)
+
+-- the commands of two parts of the bytes
+pub asked_after-append : (s : Settings) (c : Client) (xs ys : List ℕ) → asked_after s c (xs ++ ys) ≡ asked_after s c xs ++ asked_after s (client_after s c xs) ys
+asked_after-append s c xs ys =
+    ap (asked_each s c.visitor) (commands_after-append c.stream xs ys)
+    ∙ asked_each-append s c.visitor (commands_after c.stream xs) (commands_after (stream_after c.stream xs) ys)
+
+-- the client behind two parts
+pub client_after-append : (s : Settings) (c : Client) (xs ys : List ℕ) → client_after s c (xs ++ ys) ≡ client_after s (client_after s c xs) ys
+client_after-append s c xs ys =
+    let stream = stream_after-append c.stream xs ys in
+    let visitor = ap (visitor_behind s c.visitor) (commands_after-append c.stream xs ys)
+        ∙ visitor_behind-append s c.visitor (commands_after c.stream xs) (commands_after (stream_after c.stream xs) ys) in
+    ap (λ st. record { stream = st; visitor = visitor_behind s c.visitor (commands_after c.stream (xs ++ ys)) }) stream
+    ∙ ap (λ v. record { stream = stream_after (stream_after c.stream xs) ys; visitor = v }) visitor
+
+-- a closed stream asks for nothing
+closed_asks : (s : Settings) (c : Client) (ys : List ℕ) → c.stream.place ≡ closed → (asked_after s c ys ≡ []) × ((stream_after c.stream ys).place ≡ closed)
+closed_asks s c ys e =
+    let is : c.stream ≡ record { words = c.stream.words; left = c.stream.left; place = closed } =
+    ap (λ p. record { words = c.stream.words; left = c.stream.left; place = p }) e in
+    let run = closed_run c.stream.words c.stream.left ys in
+    (ap (λ st. asked_each s c.visitor (commands_after st ys)) is ∙ ap (asked_each s c.visitor) run.commands_are, ap (λ st. (stream_after st ys).place) is ∙ ap (λ st. st.place) run.stream)
+
+all_events-append : (xs ys : List Asked) → all_events (xs ++ ys) ≡ all_events xs ++ all_events ys
+all_events-append xs ys = flat_map-append events_of xs ys
+
+module _ {A : Type 0} (answers : A → A → Event → PlainReply → Type 0) where
+  each-append : (a b c : A) (es fs : List Event) (rs ss : List PlainReply) → AnswersEach answers a es rs b → AnswersEach answers b fs ss c
+      → AnswersEach answers a (es ++ fs) (rs ++ ss) c
+  each-append a b c [] fs [] ss h k = subst (λ s. AnswersEach answers s fs ss c) h k
+  each-append a b c [] fs (r ∷ rs) ss h k = absurd h
+  each-append a b c (e ∷ es) fs [] ss h k = absurd h
+  each-append a b c (e ∷ es) fs (r ∷ rs) ss h k = (h.0, h.1, each-append h.0 b c es fs rs ss h.2 k)
+
+  -- each event has one reply
+  each-length : (a b : A) (es : List Event) (rs : List PlainReply) → AnswersEach answers a es rs b → length rs ≡ length es
+  each-length a b [] [] h = refl
+  each-length a b [] (r ∷ rs) h = absurd h
+  each-length a b (e ∷ es) [] h = absurd h
+  each-length a b (e ∷ es) (r ∷ rs) h = ap (λ n. suc n) (each-length h.0 b es rs h.2)
+
+-- the replies of the first commands and then the others
+texts_of-append : (xs ys : List Asked) (rs ss : List PlainReply) → length rs ≡ length (all_events xs) → texts_of (xs ++ ys) (rs ++ ss) ≡ texts_of xs rs ++ texts_of ys ss
+texts_of-append [] ys [] ss e = refl
+texts_of-append [] ys (r ∷ rs) ss e = absurd (omega arith)
+texts_of-append (x ∷ xs) ys rs ss e =
+    let n = length (events_of x) in
+    let sizes = length-append (events_of x) (all_events xs) in
+    let room : n ≤ length rs = omega arith in
+    let left : length (drop n rs) ≡ length (all_events xs) = omega (arith, length-drop n rs) in
+    let front = reply_text x (take n rs) in
+    ap (λ l. reply_text x l ++ texts_of (xs ++ ys) (drop n (rs ++ ss))) (take-append-le n rs ss room)
+    ∙ ap (λ l. front ++ texts_of (xs ++ ys) l) (drop-append-le n rs ss room)
+    ∙ ap (λ l. front ++ l) (texts_of-append xs ys (drop n rs) ss left)
+    ∙ sym (append_assoc front (texts_of xs (drop n rs)) (texts_of ys ss))
+
+-- the replies that are due are those of the commands
+part_texts-asked : (asked : List Asked) (rs : List PlainReply) → part_texts (map part_of asked) rs ≡ texts_of asked rs
+part_texts-asked [] rs = refl
+part_texts-asked (says text ∷ asked) rs = ap (λ t. text ++ t) (part_texts-asked asked rs)
+part_texts-asked (asks events form ∷ asked) rs = ap (λ t. reply_text (asks events form) (take (length events) rs) ++ t) (part_texts-asked asked (drop (length events) rs))
+
+module _ {A : Type 0} (answers : A → A → Event → PlainReply → Type 0) where
+  -- ---- one part after the other
+
+  some-none : (asked : List Asked) (a : A) (w : Option (List ℕ)) → AnswersSome answers asked a a w w
+  some-none asked a w = ([], [], [], none_begins asked, refl, none_begins [], Appends-none w)
+
+  pub some-from_all : (asked : List Asked) (a b : A) (w v : Option (List ℕ)) → AnswersAll answers asked a b w v → AnswersSome answers asked a b w v
+  some-from_all asked a b w v h = (asked, h.0, texts_of asked h.0, IsBeginning-all asked, h.1, IsBeginning-all (texts_of asked h.0), h.2)
+
+  all-append : (a b c : A) (xs ys : List Asked) (w v u : Option (List ℕ)) → AnswersAll answers xs a b w v → AnswersAll answers ys b c v u
+      → AnswersAll answers (xs ++ ys) a c w u
+  all-append a b c xs ys w v u h k = (
+    h.0 ++ k.0,
+    subst (λ es. AnswersEach answers a es (h.0 ++ k.0) c) (sym (all_events-append xs ys)) (each-append answers a b c (all_events xs) (all_events ys) h.0 k.0 h.1 k.1),
+    subst (λ t. Appends w u t) (sym (texts_of-append xs ys h.0 k.0 (each-length answers a b (all_events xs) h.0 h.1))) (Appends-append w v u _ _ h.2 k.2),
+  )
+
+  -- all of the first part, and a beginning of the second
+  some-append : (a b c : A) (xs ys : List Asked) (w v u : Option (List ℕ)) → AnswersAll answers xs a b w v → AnswersSome answers ys b c v u
+      → AnswersSome answers (xs ++ ys) a c w u
+  some-append a b c xs ys w v u h k =
+      let (some, replies, out, begins, each, beginning, appends) = k in (
+        xs ++ some,
+        h.0 ++ replies,
+        texts_of xs h.0 ++ out,
+        begins-behind xs some ys begins,
+        subst (λ es. AnswersEach answers a es (h.0 ++ replies) c) (sym (all_events-append xs some)) (each-append answers a b c (all_events xs) (all_events some) h.0 replies h.1 each),
+        subst (λ t. IsBeginning (texts_of xs h.0 ++ out) t) (sym (texts_of-append xs some h.0 replies (each-length answers a b (all_events xs) h.0 h.1))) (begins-behind (texts_of xs h.0) out (texts_of some replies) beginning),
+        Appends-append w v u _ _ h.2 appends,
+      )
+
+  -- what was done of the first commands is done of all
+  pub some-begun : (first asked : List Asked) (a b : A) (w v : Option (List ℕ)) → IsBeginning first asked → AnswersSome answers first a b w v → AnswersSome answers asked a b w v
+  some-begun first asked a b w v begins k = (k.0, k.1, k.2, begins-trans k.0 first asked k.3 begins, k.4, k.5, k.6)
+
+  -- ---- bytes
+
+  pub all-bytes : (s : Settings) (c : Client) (xs ys : List ℕ) (a b d : A) (w v u : Option (List ℕ)) → ServesAll answers s c xs a b w v
+      → ServesAll answers s (client_after s c xs) ys b d v u → ServesAll answers s c (xs ++ ys) a d w u
+  all-bytes s c xs ys a b d w v u h k = subst (λ q. AnswersAll answers q a d w u) (sym (asked_after-append s c xs ys)) (all-append a b d _ _ w v u h k)
+
+  some-bytes : (s : Settings) (c : Client) (xs ys : List ℕ) (a b d : A) (w v u : Option (List ℕ)) → ServesAll answers s c xs a b w v
+      → ServesSome answers s (client_after s c xs) ys b d v u → ServesSome answers s c (xs ++ ys) a d w u
+  some-bytes s c xs ys a b d w v u h k = subst (λ q. AnswersSome answers q a d w u) (sym (asked_after-append s c xs ys)) (some-append a b d _ _ w v u h k)
+
+  -- an end in the second part is one of both
+  pub ends-bytes : (end : RespEnd) (s : Settings) (c : Client) (xs ys : List ℕ) (a b d : A) (w v u : Option (List ℕ)) → ServesAll answers s c xs a b w v
+      → EndsWith answers end s (client_after s c xs) ys b d v u → EndsWith answers end s c (xs ++ ys) a d w u
+  ends-bytes End s c xs ys a b d w v u h k = all-bytes s c xs ys a b d w v u h k
+  ends-bytes ReadFault s c xs ys a b d w v u h k = all-bytes s c xs ys a b d w v u h k
+  ends-bytes Closed s c xs ys a b d w v u h k = (all-bytes s c xs ys a b d w v u h k.0, ap (λ st. st.place) (stream_after-append c.stream xs ys) ∙ k.1)
+  ends-bytes WriteFault s c xs ys a b d w v u h k = some-bytes s c xs ys a b d w v u h k
+  ends-bytes NoMemory s c xs ys a b d w v u h k = some-bytes s c xs ys a b d w v u h k
+
+  -- one part more of a slice
+  pub all-part : (s : Settings) (c : Client) (bytes : List ℕ) (done count : ℕ) (a b d : A) (w v u : Option (List ℕ)) → ServesAll answers s c (take done bytes) a b w v
+      → ServesAll answers s (client_after s c (take done bytes)) (take count (drop done bytes)) b d v u → ServesAll answers s c (take (done + count) bytes) a d w u
+  all-part s c bytes done count a b d w v u h k =
+      subst (λ xs. ServesAll answers s c xs a d w u) (sym (take-add done count bytes)) (all-bytes s c (take done bytes) (take count (drop done bytes)) a b d w v u h k)
+
+  -- a part of a slice, when the session ends in that part
+  pub ends-part : (end : RespEnd) (s : Settings) (c : Client) (bytes : List ℕ) (done : ℕ) (a b d : A) (w v u : Option (List ℕ)) → ServesAll answers s c (take done bytes) a b w v
+      → EndsWith answers end s (client_after s c (take done bytes)) (drop done bytes) b d v u → EndsWith answers end s c bytes a d w u
+  ends-part end s c bytes done a b d w v u h k =
+      subst (λ xs. EndsWith answers end s c xs a d w u) (take-append-drop done bytes) (ends-bytes end s c (take done bytes) (drop done bytes) a b d w v u h k)
+
+  -- all that a part asks for is a beginning of what the whole asks for
+  pub some-taken : (s : Settings) (c : Client) (bytes : List ℕ) (count : ℕ) (a b : A) (w v : Option (List ℕ)) → ServesAll answers s c (take count bytes) a b w v
+      → ServesSome answers s c bytes a b w v
+  some-taken s c bytes count a b w v h =
+      let front = asked_after s c (take count bytes) in
+      let begins : IsBeginning front (asked_after s c bytes) = (
+        asked_after s (client_after s c (take count bytes)) (drop count bytes),
+        sym (asked_after-append s c (take count bytes) (drop count bytes)) ∙ ap (asked_after s c) (take-append-drop count bytes),
+      ) in
+      some-begun front (asked_after s c bytes) a b w v begins (some-from_all front a b w v h)
+
+  -- bytes behind those that close the stream are dropped
+  pub closed-part : (s : Settings) (c : Client) (bytes : List ℕ) (count : ℕ) (a b : A) (w v : Option (List ℕ)) → (stream_after c.stream (take count bytes)).place ≡ closed
+      → ServesAll answers s c (take count bytes) a b w v → EndsWith answers Closed s c bytes a b w v
+  closed-part s c bytes count a b w v e h =
+      let front = take count bytes in
+      let behind = closed_asks s (client_after s c front) (drop count bytes) e in
+      let same : asked_after s c bytes ≡ asked_after s c front =
+      ap (asked_after s c) (sym (take-append-drop count bytes)) ∙ asked_after-append s c front (drop count bytes) ∙ ap (λ l. asked_after s c front ++ l) behind.0
+      ∙ append-nil (asked_after s c front) in (
+        subst (λ q. AnswersAll answers q a b w v) (sym same) h,
+        ap (λ xs. (stream_after c.stream xs).place) (sym (take-append-drop count bytes)) ∙ ap (λ st. st.place) (stream_after-append c.stream front (drop count bytes)) ∙ behind.1,
+      )
+
+  -- ---- what was gathered is written
+
+  pub some-written : (asked : List Asked) (a b : A) (before texts out : List ℕ) (w v : Option (List ℕ)) → before ≡ [] → AnswersSome answers asked a b (Some before) (Some texts)
+      → IsBeginning out texts → Appends w v out → AnswersSome answers asked a b w v
+  some-written asked a b before texts out w v none h begins appends =
+      let k = subst (λ t. AnswersSome answers asked a b (Some t) (Some texts)) none h in
+      (k.0, k.1, out, k.3, k.4, begins-trans out k.2 (texts_of k.0 k.1) (subst (λ t. IsBeginning out t) k.6 begins) k.5, appends)
+
+  pub all-wrote : (asked : List Asked) (a b : A) (before texts : List ℕ) (w v : Option (List ℕ)) → before ≡ [] → AnswersAll answers asked a b (Some before) (Some texts)
+      → Appends w v texts → AnswersAll answers asked a b w v
+  all-wrote asked a b before texts w v none h appends =
+      let k = subst (λ t. AnswersAll answers asked a b (Some t) (Some texts)) none h in (k.0, k.1, subst (λ t. Appends w v t) k.2 appends)
+
+  -- ---- a batch
+
+  pub all-batch : (batch : Batch) (asked : List Asked) (a b : A) (rs : List PlainReply) (text more : List ℕ) → HoldsAsked batch asked
+      → AnswersEach answers a batch.events.items rs b → more ≡ text ++ part_texts (map due_seen batch.dues.items) rs → AnswersAll answers asked a b (Some text) (Some more)
+  all-batch batch asked a b rs text more h each e = (
+    rs,
+    subst (λ es. AnswersEach answers a es rs b) h.events each,
+    e ∙ ap (λ ps. text ++ part_texts ps rs) h.dues ∙ ap (λ t. text ++ t) (part_texts-asked asked rs),
+  )
+
+  -- the texts of the first replies are there
+  pub some-batch : (batch : Batch) (asked : List Asked) (a b : A) (rs : List PlainReply) (text more : List ℕ) → HoldsAsked batch asked
+      → AnswersEach answers a batch.events.items rs b
+      → (out : List ℕ) × IsBeginning out (part_texts (map due_seen batch.dues.items) rs) × (more ≡ text ++ out) → AnswersSome answers asked a b (Some text) (Some more)
+  some-batch batch asked a b rs text more h each cut = (
+    asked,
+    rs,
+    cut.0,
+    IsBeginning-all asked,
+    subst (λ es. AnswersEach answers a es rs b) h.events each,
+    subst (λ t. IsBeginning cut.0 t) (ap (λ ps. part_texts ps rs) h.dues ∙ part_texts-asked asked rs) cut.1,
+    cut.2,
+  )
+
+  -- nothing was done
+  pub none-batch : (asked : List Asked) (a : A) (w : Option (List ℕ)) → AnswersSome answers asked a a w w
+  none-batch asked a w = some-none asked a w
+
+-- ---- the texts of a batch
+
+take_within : {X : Type 0} (n : ℕ) (xs : List X) → take (min n (length xs)) xs ≡ take n xs
+take_within n xs = elim (cases_lt n (length xs)) [
+  | inl below ↦ let e : min n (length xs) ≡ n = omega arith in ap (λ k. take k xs) e
+  | inr above ↦ let e : min n (length xs) ≡ length xs = omega arith in
+      ap (λ k. take k xs) e ∙ take_all (length xs) xs (omega arith) ∙ sym (take_all n xs above)
+]
+
+drop_within : {X : Type 0} (n : ℕ) (xs : List X) → drop (min n (length xs)) xs ≡ drop n xs
+drop_within n xs = elim (cases_lt n (length xs)) [
+  | inl below ↦ let e : min n (length xs) ≡ n = omega arith in ap (λ k. drop k xs) e
+  | inr above ↦ let e : min n (length xs) ≡ length xs = omega arith in
+      ap (λ k. drop k xs) e ∙ drop_of_length-le xs (omega arith) ∙ sym (drop_of_length-le xs above)
+]
+
+-- one due more
+pub due_more : (dues : List Due) (index : ℕ) (due : Due) (rest front back : List PlainReply) (out : List ℕ) (all : List ℕ) → index < length dues → due ≡ get_or dues index due
+    → front ≡ take (min (part_len (due_seen due)) (length rest)) rest → back ≡ drop (min (part_len (due_seen due)) (length rest)) rest
+    → out ++ part_texts (map due_seen (drop index dues)) rest ≡ all
+    → (out ++ part_text (due_seen due) front) ++ part_texts (map due_seen (drop (index + 1) dues)) back ≡ all
+due_more dues index due rest front back out all within is is_front is_back h =
+    let n = part_len (due_seen due) in
+    let next : suc index ≡ index + 1 = omega arith in
+    let cut : drop index dues ≡ due ∷ drop (index + 1) dues =
+    drop-cons dues index due within ∙ ap (λ d. d ∷ drop (suc index) dues) (sym is) ∙ ap (λ k. due ∷ drop k dues) next in
+    let fronts = is_front ∙ take_within n rest in
+    let backs = is_back ∙ drop_within n rest in
+    append_assoc out (part_text (due_seen due) front) (part_texts (map due_seen (drop (index + 1) dues)) back)
+    ∙ ap (λ f. out ++ (part_text (due_seen due) f ++ part_texts (map due_seen (drop (index + 1) dues)) back)) fronts
+    ∙ ap (λ b. out ++ (part_text (due_seen due) (take n rest) ++ part_texts (map due_seen (drop (index + 1) dues)) b)) backs
+    ∙ ap (λ ds. out ++ part_texts (map due_seen ds) rest) (sym cut) ∙ h
+
+-- ---- ends
+
+pub on-err : {T E P : Type 0} (r : Result T E) → P → OnErr r P
+on-err (Ok x) p = tt
+on-err (Err e) p = p
+
+pub on-ok : {T E P : Type 0} (r : Result T E) → P → OnOk r P
+on-ok (Ok x) p = p
+on-ok (Err e) p = tt
+
+pub if-ok : {T E : Type 0} {P Q : T → Type 0} (r : Result T E) → ((x : T) → P x → Q x) → IfOk r P → IfOk r Q
+if-ok (Ok x) f p = f x p
+if-ok (Err e) f p = tt
+
+-- an end that comes from a read says nothing of the reader
+pub last_cut : (end : RespEnd) (remaining : Option (List ℕ)) → IsCut end → IsLast end remaining
+last_cut End remaining cut = absurd cut
+last_cut ReadFault remaining cut = absurd cut
+last_cut Closed remaining cut = tt
+last_cut WriteFault remaining cut = tt
+last_cut NoMemory remaining cut = tt
+
+-- the first bytes of a name that are shown
+pub shown_part : (name shown : List ℕ) (mid len : ℕ) → shown ≡ take mid name → mid ≡ min len 32 → len ≡ length name → shown ≡ take 32 name
+shown_part name shown mid len e is size =
+    let same : mid ≡ min 32 (length name) = omega arith in
+    e ∙ ap (λ n. take n name) same ∙ take_within 32 name

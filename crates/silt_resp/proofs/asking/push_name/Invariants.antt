@@ -1,0 +1,7 @@
+use Rattle.std.proofs.Common.{◌≡◌, ◌++◌, map, take}
+use Rattle.silt_resp.specs.Commands.{shown_byte}
+use Rattle.silt_resp.proofs.asking.push_name.Given as goal
+
+-- the bytes so far are there
+abbrev pub invariant-loop-byte : goal.invariant-loop-byte
+invariant-loop-byte l = l.out.items ≡ l.fn.out.items ++ map shown_byte (take l.byte-index l.shown)

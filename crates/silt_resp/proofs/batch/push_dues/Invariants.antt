@@ -1,0 +1,9 @@
+use Rattle.std.proofs.Common.{◌≡◌, ◌++◌, ℕ, List, drop, map}
+use Rattle.silt_resp.specs.Batches.{due_seen, part_texts}
+use Rattle.silt_resp.proofs.batch.push_dues.Given as goal
+
+-- these texts are there, and with those of the rest they are all
+abbrev pub invariant-loop-due : goal.invariant-loop-due
+invariant-loop-due l =
+    (out : List ℕ) × (l.texts.items ≡ l.initial.texts.items ++ out)
+    × (out ++ part_texts (map due_seen (drop l.due-index l.dues)) l.rest ≡ part_texts (map due_seen l.dues) l.replies)

@@ -1,0 +1,52 @@
+use Rattle.std.proofs.Common.{◌+◌, Bool, arith, subst, take}
+use Rattle.silt_resp.specs.Batches.{IsBehind}
+use Rattle.silt_resp.specs.Sessions.{client_after}
+use Rattle.silt_resp.proofs.Gathering.{behind_part, client_part, gathers_keeps, gathers_part, gathers_some}
+use Rattle.silt_resp.proofs.session.Talk.gather.Goals as goal
+
+pub returns-in_err-piece-clause-some : goal.returns-in_err-piece-clause-some
+returns-in_err-piece-clause-some c = λ client h.
+    let before = c.loop-count.invariant.told client h in
+    let s = c.args.settings.now in
+    let done = c.loop-count.count in
+    gathers_some s client c.args.bytes.now done c.args.batch.now c.gather_command.new.batch
+    (gathers_keeps s client (take done c.args.bytes.now) c.args.batch.now c.loop-count.batch c.gather_command.new.batch before.all c.in_err-piece.ensures.err)
+
+pub returns-then-piece-clause-behind : goal.returns-then-piece-clause-behind
+returns-then-piece-clause-behind c = λ client h.
+    let before = c.loop-count.invariant.told client h in
+    behind_part c.args.settings.now client c.args.bytes.now _ c.loop-count.count c.in_ok-piece.piece.count c.in_ok-piece.piece.closes c.gather_command.new.self
+    c.split_at.ensures.back (c.in_ok-piece.ensures.behind _ before.holds)
+
+pub returns-then-piece-clause-all : goal.returns-then-piece-clause-all
+returns-then-piece-clause-all c = λ client h.
+    let before = c.loop-count.invariant.told client h in
+    gathers_part c.args.settings.now client c.args.bytes.now _ c.loop-count.count c.in_ok-piece.piece.count c.args.batch.now c.loop-count.batch c.gather_command.new.batch
+    c.split_at.ensures.back before.all (c.in_ok-piece.ensures.all _ before.holds)
+
+pub returns-then-piece-clause-some : goal.returns-then-piece-clause-some
+returns-then-piece-clause-some c = λ client h.
+    let before = c.loop-count.invariant.told client h in
+    gathers_some c.args.settings.now client c.args.bytes.now (c.loop-count.count + c.in_ok-piece.piece.count) c.args.batch.now c.gather_command.new.batch
+    (gathers_part c.args.settings.now client c.args.bytes.now _ c.loop-count.count c.in_ok-piece.piece.count c.args.batch.now c.loop-count.batch c.gather_command.new.batch
+    c.split_at.ensures.back before.all (c.in_ok-piece.ensures.all _ before.holds))
+
+pub loop-count-preserved : goal.loop-count-preserved
+loop-count-preserved c =
+    let bound = c.in_ok-piece.ensures.count.1 in
+    let rest = c.split_at.ensures.back_len in
+    let s = c.args.settings.now in
+    let bytes = c.args.bytes.now in
+    let done = c.loop-count.count in
+    let count = c.in_ok-piece.piece.count in
+    record {
+      within = omega arith;
+      ready = c.gather_command.ensures.ready;
+      told = λ client h.
+          let before = c.loop-count.invariant.told client h in
+          let Behind = λ (b : Bool). IsBehind s (client_after s client (take done bytes)) (take count c.split_at.result.1.now) b c.gather_command.new.self in
+          record {
+            holds = client_part s client bytes _ done count c.gather_command.new.self c.split_at.ensures.back (subst Behind c.if-piece.false (c.in_ok-piece.ensures.behind _ before.holds));
+            all = gathers_part s client bytes _ done count c.args.batch.now c.loop-count.batch c.gather_command.new.batch c.split_at.ensures.back before.all (c.in_ok-piece.ensures.all _ before.holds);
+          };
+    }

@@ -1,0 +1,18 @@
+use Rattle.std.proofs.Common.{◌≤◌, ◌-◌, length, take}
+use Rattle.silt_resp.specs.Batches.{Gathers, HoldsClient, IsAnswerable}
+use Rattle.silt_resp.specs.Sessions.{Client, client_after}
+use Rattle.silt_resp.proofs.session.Talk.gather.Given as goal
+
+abbrev pub invariant-loop-count : goal.invariant-loop-count
+invariant-loop-count l =
+    record {
+      within : l.count ≤ length l.bytes;
+      ready : IsAnswerable l.settings.value_len l.batch;
+      told : (client : Client) → HoldsClient l.initial.self client → record {
+        holds : HoldsClient l.self (client_after l.settings client (take l.count l.bytes));
+        all : Gathers l.settings client (take l.count l.bytes) l.initial.batch l.batch;
+      };
+    }
+
+abbrev pub decreases-loop-count : goal.decreases-loop-count
+decreases-loop-count l = length l.bytes - l.count
