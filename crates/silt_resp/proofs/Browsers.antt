@@ -1,21 +1,21 @@
 -- A session with a browser: its bytes end no line.
-use Rattle.std.proofs.Common.{◌≡◌, ◌<◌, ◌≤◌, ◌==◌, ℕ, Bool, true, false, cond, List, [], ◌∷◌, ◌++◌, length, refl, sym, ap, subst, ◌∙◌, append-nil, arith, inl, inr, Option, Some, None}
+use Rattle.std.proofs.Common.{◌≡◌, ◌==◌, ℕ, true, false, cond, List, [], ◌∷◌, ◌++◌, length, refl, sym, ap, subst, ◌∙◌, append-nil, arith, inl, inr, Option, Some, None}
 use Rattle.std.specs.Prelude.{IfSome}
-use Rattle.std.specs.Io.KnownBytes.{Appends, Consumes}
+use Rattle.std.specs.Io.KnownBytes.{Consumes}
 use Rattle.std.proofs.lemmas.Bool.{cases_lt}
 use Rattle.silt_event.specs.declared.event.Event.{Event}
 use Rattle.silt_event.specs.Events.{AnswersEach, PlainReply}
 use Rattle.silt_wire.specs.Http.{Guards, IsHttp, ends_line}
-use Rattle.silt_wire.specs.Sessions.{IsBeginning, SessionState}
+use Rattle.silt_wire.specs.Sessions.{IsBeginning}
 use Rattle.silt_resp.specs.declared.fault.ProtocolFault.{ProtocolFault}
 use Rattle.silt_resp.specs.declared.fault.ProtocolFault.TheVariants.{BadCount}
 use Rattle.silt_resp.specs.declared.settings.Settings.{Settings}
 use Rattle.silt_resp.specs.declared.session.RespEnd.{RespEnd}
 use Rattle.silt_resp.specs.declared.session.RespEnd.TheVariants.{End, Closed, ReadFault, WriteFault, NoMemory}
 use Rattle.silt_resp.specs.Buffers.{NoFeed}
-use Rattle.silt_resp.specs.Commands.{Asked, asks, broken_text, says, visitor_at_first}
+use Rattle.silt_resp.specs.Commands.{Asked, broken_text, says, visitor_at_first}
 use Rattle.silt_resp.specs.Sessions.{AnswersAll, AnswersSome, EndsWith, RespEnds, WritesAtMostFault, all_events, asked_after, asked_each, new_client, texts_of}
-use Rattle.silt_resp.specs.Stream.{line_kind, line_limit, start, too_long}
+use Rattle.silt_resp.specs.Stream.{line_kind, line_limit, too_long}
 use Rattle.silt_resp.proofs.Doing.{begins-trans}
 use Rattle.silt_resp.proofs.Runs.{line_over, line_run}
 
@@ -44,21 +44,19 @@ at_most_fault s id read none =
     let kind = line_kind 0 read in
     elim (cases_lt (line_limit kind) (length read)) [
       | inl over ↦ (
-            too_long kind,
-            [],
-            append-nil (asked_after s (new_client s id) read) ∙ ap (asked_each s (visitor_at_first s id)) (line_over [] 0 [] read none (omega arith) over).commands_are,
-          )
+        too_long kind,
+        ([], append-nil (asked_after s (new_client s id) read) ∙ ap (asked_each s (visitor_at_first s id)) (line_over [] 0 [] read none (omega arith) over).commands_are),
+      )
       | inr within ↦ (
-            BadCount,
-            says (broken_text BadCount) ∷ [],
-            ap (λ cs. asked_each s (visitor_at_first s id) cs ++ says (broken_text BadCount) ∷ []) (line_run [] 0 [] read none within).commands_are,
-          )
+        BadCount,
+        (says (broken_text BadCount) ∷ [], ap (λ cs. asked_each s (visitor_at_first s id) cs ++ says (broken_text BadCount) ∷ []) (line_run [] 0 [] read none within).commands_are),
+      )
     ]
 
 -- ---- nothing is done
 
 text_only : (asked : List Asked) (text : List ℕ) → IsBeginning asked (says text ∷ []) → (all_events asked ≡ []) × IsBeginning (texts_of asked []) text
-text_only [] text h = (refl, text, refl)
+text_only [] text h = (refl, (text, refl))
 text_only (x ∷ []) text h =
     let is : x ≡ says text = cc (h.1) in
     (ap (λ a. all_events (a ∷ [])) is, subst (λ a. IsBeginning (texts_of (a ∷ []) []) text) (sym is) ([], append-nil (text ++ []) ∙ append-nil text))
@@ -80,13 +78,13 @@ module _ {A : Type 0} (answers : A → A → Event → PlainReply → Type 0) wh
       → AnswersAll answers asked a b before after → (b ≡ a) × WritesAtMostFault before after
   all_told asked fault a b before after begins all =
       let done = none_done asked (broken_text fault) a b all.0 begins all.1 in
-      (done.0, fault, texts_of asked all.0, done.1, all.2)
+      (done.0, (fault, texts_of asked all.0, done.1, all.2))
 
   some_told : (asked : List Asked) (fault : ProtocolFault) (a b : A) (before after : Option (List ℕ)) → IsBeginning asked (says (broken_text fault) ∷ [])
       → AnswersSome answers asked a b before after → (b ≡ a) × WritesAtMostFault before after
   some_told asked fault a b before after begins k =
       let done = none_done k.0 (broken_text fault) a b k.1 (begins-trans k.0 asked (says (broken_text fault) ∷ []) k.3 begins) k.4 in
-      (done.0, fault, k.2, begins-trans k.2 (texts_of k.0 k.1) (broken_text fault) k.5 done.1, k.6)
+      (done.0, (fault, k.2, begins-trans k.2 (texts_of k.0 k.1) (broken_text fault) k.5 done.1, k.6))
 
   told_ends : (end : RespEnd) (s : Settings) (id : ℕ) (read : List ℕ) (a b : A) (before after : Option (List ℕ)) → NoFeed read
       → EndsWith answers end s (new_client s id) read a b before after → (b ≡ a) × WritesAtMostFault before after

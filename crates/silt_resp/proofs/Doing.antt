@@ -1,34 +1,29 @@
 -- Doing commands in two parts is doing them at once, and a beginning of a part is a beginning of the whole.
-use Rattle.std.proofs.Common.{◌≡◌, ◌+◌, ◌-◌, ◌≤◌, ℕ, suc, true, false, Bool, Result, Ok, Err, List, [], ◌∷◌, ◌++◌, length, map, take, drop, take-append-drop, refl, sym, ap, subst, ◌∙◌, append_assoc, get_or, inl, inr, ◌<◌, Option, Some, None, arith, length-append, append-nil}
-use Rattle.std.specs.Prelude.{IfOk, IfSome, MatchBool, OnErr, OnOk, min}
+use Rattle.std.proofs.Common.{◌≡◌, ◌+◌, ◌≤◌, ℕ, suc, Result, Ok, Err, List, [], ◌∷◌, ◌++◌, length, map, take, drop, take-append-drop, refl, sym, ap, subst, ◌∙◌, append_assoc, get_or, inl, inr, ◌<◌, Option, Some, arith, length-append, append-nil}
+use Rattle.std.specs.Prelude.{IfOk, OnErr, OnOk, min}
 use Rattle.std.proofs.Math.ListN.{drop_of_length-le}
 use Rattle.std.proofs.Math.Seq.{drop-cons}
 use Rattle.std.proofs.lemmas.Bool.{cases_lt}
-use Rattle.std.specs.List.{flat_map}
-use Rattle.std.specs.Io.KnownBytes.{Appends, Consumes}
+use Rattle.std.specs.Io.KnownBytes.{Appends}
 use Rattle.std.proofs.lemmas.Grind.{flat_map-append}
-use Rattle.std.proofs.lemmas.List.{drop-append-le, length-drop, map-append, take_all, take-append-le}
+use Rattle.std.proofs.lemmas.List.{drop-append-le, length-drop, take_all, take-append-le}
 use Rattle.std.proofs.Math.Seq.{take-add}
 use Rattle.silt_event.specs.declared.event.Event.{Event}
 use Rattle.silt_event.specs.Events.{AnswersEach, PlainReply}
-use Rattle.silt_wire.specs.Http.{Guards, IsHttp, ends_line}
-use Rattle.silt_wire.specs.Sessions.{IsBeginning, SessionState}
+use Rattle.silt_wire.specs.Sessions.{IsBeginning}
 use Rattle.silt_wire.proofs.Answering.{IsBeginning-all}
-use Rattle.silt_wire.proofs.Streams.{Appends-append, Appends-none, Consumes-append}
-use Rattle.silt_resp.specs.declared.fault.ProtocolFault.{ProtocolFault}
-use Rattle.silt_resp.specs.declared.fault.ProtocolFault.TheVariants.{BadCount}
+use Rattle.silt_wire.proofs.Streams.{Appends-append, Appends-none}
 use Rattle.silt_resp.specs.declared.settings.Settings.{Settings}
 use Rattle.silt_resp.specs.declared.settings.Visitor.{Visitor}
 use Rattle.silt_resp.specs.declared.session.RespEnd.{RespEnd}
 use Rattle.silt_resp.specs.declared.session.RespEnd.TheVariants.{End, Closed, ReadFault, WriteFault, NoMemory}
-use Rattle.silt_resp.specs.declared.session.Talk.{Talk}
 use Rattle.silt_resp.specs.declared.batch.Batch.{Batch}
 use Rattle.silt_resp.specs.declared.batch.Due.{Due}
-use Rattle.silt_resp.specs.Batches.{GainsAsked, Gathers, GathersSome, HoldsAsked, HoldsClient, IsBehind, KeepsAsked, due_seen, part_len, part_of, part_text, part_texts, Part}
-use Rattle.silt_resp.specs.Commands.{Asked, asked_by, asks, broken_text, events_of, says, visitor_after}
-use Rattle.silt_resp.specs.Sessions.{AnswersAll, AnswersSome, Client, EndsWith, IsCut, IsLast, RespEnds, ServesAll, ServesSome, WritesAtMostFault, all_events, asked_after, asked_each, client_after, new_client, reply_text, texts_of, visitor_behind}
-use Rattle.silt_resp.specs.Stream.{Command, Stream, broken, closed, commands_after, start, stream_after}
-use Rattle.silt_resp.proofs.Runs.{Goes, closed_run}
+use Rattle.silt_resp.specs.Batches.{HoldsAsked, due_seen, part_len, part_of, part_text, part_texts}
+use Rattle.silt_resp.specs.Commands.{Asked, asked_by, asks, events_of, says, visitor_after}
+use Rattle.silt_resp.specs.Sessions.{AnswersAll, AnswersSome, Client, EndsWith, IsCut, IsLast, ServesAll, ServesSome, all_events, asked_after, asked_each, client_after, reply_text, texts_of, visitor_behind}
+use Rattle.silt_resp.specs.Stream.{Command, closed, commands_after, stream_after}
+use Rattle.silt_resp.proofs.Runs.{closed_run}
 use Rattle.silt_resp.proofs.Streams.{commands_after-append, stream_after-append}
 
 -- ---- parts
@@ -74,7 +69,7 @@ pub client_after-append : (s : Settings) (c : Client) (xs ys : List ℕ) → cli
 client_after-append s c xs ys =
     let stream = stream_after-append c.stream xs ys in
     let visitor = ap (visitor_behind s c.visitor) (commands_after-append c.stream xs ys)
-        ∙ visitor_behind-append s c.visitor (commands_after c.stream xs) (commands_after (stream_after c.stream xs) ys) in
+    ∙ visitor_behind-append s c.visitor (commands_after c.stream xs) (commands_after (stream_after c.stream xs) ys) in
     ap (λ st. record { stream = st; visitor = visitor_behind s c.visitor (commands_after c.stream (xs ++ ys)) }) stream
     ∙ ap (λ v. record { stream = stream_after (stream_after c.stream xs) ys; visitor = v }) visitor
 
@@ -164,11 +159,11 @@ module _ {A : Type 0} (answers : A → A → Event → PlainReply → Type 0) wh
 
   pub all-bytes : (s : Settings) (c : Client) (xs ys : List ℕ) (a b d : A) (w v u : Option (List ℕ)) → ServesAll answers s c xs a b w v
       → ServesAll answers s (client_after s c xs) ys b d v u → ServesAll answers s c (xs ++ ys) a d w u
-  all-bytes s c xs ys a b d w v u h k = subst (λ q. AnswersAll answers q a d w u) (sym (asked_after-append s c xs ys)) (all-append a b d _ _ w v u h k)
+  all-bytes s c xs ys a b d w v u h k = subst (λ q. AnswersAll answers q a d w u) (sym (asked_after-append s c xs ys)) (all-append a b d (asked_after s c xs) (asked_after s (client_after s c xs) ys) w v u h k)
 
   some-bytes : (s : Settings) (c : Client) (xs ys : List ℕ) (a b d : A) (w v u : Option (List ℕ)) → ServesAll answers s c xs a b w v
       → ServesSome answers s (client_after s c xs) ys b d v u → ServesSome answers s c (xs ++ ys) a d w u
-  some-bytes s c xs ys a b d w v u h k = subst (λ q. AnswersSome answers q a d w u) (sym (asked_after-append s c xs ys)) (some-append a b d _ _ w v u h k)
+  some-bytes s c xs ys a b d w v u h k = subst (λ q. AnswersSome answers q a d w u) (sym (asked_after-append s c xs ys)) (some-append a b d (asked_after s c xs) (asked_after s (client_after s c xs) ys) w v u h k)
 
   -- an end in the second part is one of both
   pub ends-bytes : (end : RespEnd) (s : Settings) (c : Client) (xs ys : List ℕ) (a b d : A) (w v u : Option (List ℕ)) → ServesAll answers s c xs a b w v

@@ -1,5 +1,5 @@
 -- The words behind a command's name: keys, values and options.
-use Rattle.std.specs.Prelude.{◌≡◌, ◌⊎◌, ◌-◌, ℕ, Bool, false, min, nat_lt, List, [], ◌∷◌, ◌++◌, length, slice_get, ok_or, Option, Some, None, Result, Ok, Err, MatchResult, if◌then◌else◌}
+use Rattle.std.specs.Prelude.{◌≡◌, ◌⊎◌, ◌-◌, ℕ, Bool, false, min, nat_lt, List, [], ◌∷◌, length, slice_get, ok_or, Option, Some, None, Result, Ok, Err, MatchResult, if◌then◌else◌}
 use Rattle.std.specs.Str.{str_eq_ignore_ascii_case}
 use Rattle.sha1.specs.Sha1.{sha1}
 use Rattle.silt_frame.specs.declared.key.Key.{Key}

@@ -1,5 +1,5 @@
 -- What was gathered of a client's bytes.
-use Rattle.std.specs.Prelude.{◌≡◌, ◌≤◌, ◌<◌, ℕ, Bool, List, [], ◌∷◌, ◌++◌, All, MatchBool, length, map, take, drop}
+use Rattle.std.specs.Prelude.{◌≡◌, ℕ, Bool, List, [], ◌∷◌, ◌++◌, All, MatchBool, length, map, take, drop}
 use Rattle.silt_event.specs.Events.{HasValueOf, PlainReply}
 use Rattle.silt_wire.specs.Sessions.{IsBeginning}
 use Rattle.silt_resp.specs.declared.batch.Batch.{Batch}

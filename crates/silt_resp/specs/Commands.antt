@@ -1,6 +1,5 @@
 -- What commands ask of a store, and replies that need no store.
 use Rattle.std.specs.Prelude.{◌==◌, ◌&&◌, ◌||◌, ◌/◌, ◌%◌, ℕ, Bool, true, false, nat_le, List, [], ◌∷◌, ◌++◌, length, map, take, drop, All, slice_get, codes, Option, Some, None, is_none, Result, Ok, Err, is_ok, if◌then◌else◌}
-use Rattle.std.specs.Fmt.{decimal}
 use Rattle.std.specs.Str.{bytes_eq}
 use Rattle.sha1.specs.Sha1.{sha1}
 use Rattle.silt_event.specs.declared.event.Event.{Event}
@@ -61,7 +60,7 @@ look_all_made settings args form =
 abbrev pub delete_made : Settings → List Word → Result Asked CommandFault
 delete_made settings args =
     if is_few settings (length args) then
-        and_then (keys_named args) (λ keys. Ok (asks (map (λ key. LookUp key) keys ++ map (λ key. Delete key) keys) Counted))
+    and_then (keys_named args) (λ keys. Ok (asks (map (λ key. LookUp key) keys ++ map (λ key. Delete key) keys) Counted))
     else Err ManyKeys
 
 -- a value for a key
@@ -150,9 +149,9 @@ has_version args = (length args == 0) || has_word args 0 (codes "2")
 abbrev pub hello_verdict : Settings → Visitor → List Word → Result (Unit {0}) CommandFault
 hello_verdict settings visitor args =
     if has_version args then
-        (if has_login args then user_verdict settings args 2 3
-        else if has_no_login args then (if visitor.is_let_in then Ok tt else Err NotLetIn)
-        else Err BadSyntax)
+    (if has_login args then user_verdict settings args 2 3
+    else if has_no_login args then (if visitor.is_let_in then Ok tt else Err NotLetIn)
+    else Err BadSyntax)
     else Err OtherProtocol
 
 -- what a greeting is told

@@ -31,11 +31,7 @@ fn key_named(word: Word<'_>) -> Result<Key, CommandFault>
 }
 
 // The value that a word gives.
-fn value_named(
-    alloc: Global,
-    settings: &Settings,
-    word: Word<'_>,
-) -> Result<Value, CommandFault>
+fn value_named(alloc: Global, settings: &Settings, word: Word<'_>) -> Result<Value, CommandFault>
     ensures value { Gives (λ value. value) (value_named settings.now.value_len (word_seen word.entry)) result }
     ensures len { IfOk result (λ value. length value ≡ settings.now.value_len) }
 {

@@ -10,7 +10,9 @@ ghost use Rattle.silt_resp.specs.Texts.{error_text};
 
 use crate::asked::{Asked, line};
 use crate::command::{Command, Word, Words};
-use crate::connection_commands::{auth, auth_verdict, client, command, config, echo, hello, hello_verdict, ok, ping, select};
+use crate::connection_commands::{
+    auth, auth_verdict, client, command, config, echo, hello, hello_verdict, ok, ping, select,
+};
 use crate::fault::{CommandFault, ProtocolFault};
 use crate::key_commands::{delete, insert, look, look_all, remove, set, set_all};
 use crate::settings::{Settings, Visitor};

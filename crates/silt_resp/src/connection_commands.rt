@@ -19,7 +19,8 @@ use sha1::Sha1;
 use std::alloc::{AllocError, Global};
 
 /// What a greeting is told before the number of the client.
-const GREETING: &[u8] = b"*14\r\n$6\r\nserver\r\n$5\r\nredis\r\n$7\r\nversion\r\n$5\r\n7.0.0\r\n$5\r\nproto\r\n:2\r\n$2\r\nid\r\n";
+const GREETING: &[u8] =
+    b"*14\r\n$6\r\nserver\r\n$5\r\nredis\r\n$7\r\nversion\r\n$5\r\n7.0.0\r\n$5\r\nproto\r\n:2\r\n$2\r\nid\r\n";
 
 /// And what behind it.
 const GREETING_END: &[u8] =

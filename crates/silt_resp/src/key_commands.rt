@@ -126,7 +126,11 @@ fn replace(alloc: Global, settings: &Settings, args: &Words<'_>) -> Result<Asked
     let key = key_at(args, 0)?;
     let value = value_at(alloc, settings, args, 1)?;
     let old = value_at(alloc, settings, args, 3)?;
-    one(alloc, Event::Swap(key, Some(old), Some(value)), Form::Swapped)
+    one(
+        alloc,
+        Event::Swap(key, Some(old), Some(value)),
+        Form::Swapped,
+    )
 }
 
 /// No value for a key that has the old one.

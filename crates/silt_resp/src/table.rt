@@ -115,10 +115,9 @@ impl CommandName {
     fn named(name: &[u8]) -> Option<CommandName>
         ensures { result ≡ command_named name.now }
     {
-        COMMANDS
-            .iter()
-            .copied()
-            .find(|command| name.eq_ignore_ascii_case(command.row().name.as_bytes()))
+        COMMANDS.iter().copied().find(|command| name.eq_ignore_ascii_case(
+            command.row().name.as_bytes(),
+        ))
     }
 
     /// The command that the first of these words names.

@@ -40,7 +40,12 @@ pub(crate) fn push_line(out: &mut Vec<u8>, mark: u8, text: &[u8]) -> Result<(), 
 }
 
 /// Appends a number behind its mark.
-pub(crate) fn push_number(alloc: Global, out: &mut Vec<u8>, mark: u8, number: usize) -> Result<(), AllocError>
+pub(crate) fn push_number(
+    alloc: Global,
+    out: &mut Vec<u8>,
+    mark: u8,
+    number: usize,
+) -> Result<(), AllocError>
     ensures { OnOk result (out.new.items ≡ out.old.items ++ marked_line mark (decimal number)) }
 {
     let digits = number.to_string(alloc)?;

@@ -55,12 +55,7 @@ impl Answerer for Calls {
 }
 
 // How many calls and events a session makes of these bytes, and what it writes.
-fn counted(
-    alloc: Global,
-    value_len: usize,
-    buffer: &mut [u8],
-    bytes: &[u8],
-) -> (u64, u64, Vec<u8>)
+fn counted(alloc: Global, value_len: usize, buffer: &mut [u8], bytes: &[u8]) -> (u64, u64, Vec<u8>)
     requires some { 0 < length buffer.old }
     requires room { 2 ≤ value_len }
 {

@@ -122,10 +122,7 @@ fn served(
 // What clients send, each to a new store, and the replies.
 const REPLIES: [(&str, &str); 29] = [
     ("PING\r\nping a\r\n", "+PONG\r\n$1\r\na\r\n"),
-    (
-        "*2\r\n$4\r\nECHO\r\n$4\r\na\r\nb\r\n",
-        "$4\r\na\r\nb\r\n",
-    ),
+    ("*2\r\n$4\r\nECHO\r\n$4\r\na\r\nb\r\n", "$4\r\na\r\nb\r\n"),
     (
         "SET k abc\r\nGET k\r\nSTRLEN k\r\n",
         "+OK\r\n$3\r\nabc\r\n:3\r\n",
@@ -256,7 +253,10 @@ const GUARDED: [(&str, &str); 6] = [
         "AUTH someone secret\r\nAUTH a b c\r\nPING\r\n",
         "-WRONGPASS invalid username-password pair or user is disabled.\r\n-ERR syntax error\r\n-NOAUTH Authentication required.\r\n",
     ),
-    ("*x\r\n", "-ERR Protocol error: invalid multibulk length\r\n"),
+    (
+        "*x\r\n",
+        "-ERR Protocol error: invalid multibulk length\r\n",
+    ),
 ];
 
 #[test]

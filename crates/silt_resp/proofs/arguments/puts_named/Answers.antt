@@ -10,8 +10,8 @@ pub returns-in_err-key-clause-puts : goal.returns-in_err-key-clause-puts
 returns-in_err-key-clause-puts c =
     let len = c.args.settings.now.value_len in
     let within : c.loop-at.at < length c.args.args.now = omega arith in
-    let told : puts_named len c.args.args.now ≡ Err c.in_err-key.field-0 =
-    puts_key_fault len c.args.args.now c.loop-at.at c.in_err-key.field-0 c.loop-at.puts.items (sym c.in_err-key.ensures) within c.loop-at.invariant.puts in
+    let told : puts_named len c.args.args.now ≡ Err c.in_err-key.field-0.0 =
+    puts_key_fault len c.args.args.now c.loop-at.at c.in_err-key.field-0.0 c.loop-at.puts.items (sym c.in_err-key.ensures) within c.loop-at.invariant.puts in
     search (rules, told)
 
 pub returns-in_err-value-clause-puts : goal.returns-in_err-value-clause-puts
@@ -20,8 +20,8 @@ returns-in_err-value-clause-puts c =
     elim c.in_err-value.ensures.value [
       | inl none ↦ search (rules, none)
       | inr bad ↦
-          let told : puts_named len c.args.args.now ≡ Err c.in_err-value.field-0 =
-          puts_value_fault len c.args.args.now c.loop-at.at c.in_ok-key.key c.in_err-value.field-0 c.loop-at.puts.items (sym c.in_ok-key.ensures) bad c.loop-at.invariant.puts in
+          let told : puts_named len c.args.args.now ≡ Err c.in_err-value.field-0.0 =
+          puts_value_fault len c.args.args.now c.loop-at.at c.in_ok-key.key c.in_err-value.field-0.0 c.loop-at.puts.items (sym c.in_ok-key.ensures) bad c.loop-at.invariant.puts in
           search (rules, told)
     ]
 

@@ -1,4 +1,4 @@
-use Rattle.std.proofs.Common.{◌≡◌, ◌≤◌, ◌++◌, ◌∙◌, ap, arith, length, map, take}
+use Rattle.std.proofs.Common.{◌≡◌, ◌≤◌, ◌++◌, ◌∙◌, ap, arith, length, map, rules, take}
 use Rattle.std.proofs.lemmas.List.{take_all}
 use Rattle.silt_resp.specs.Commands.{shown_byte}
 use Rattle.silt_resp.proofs.Doing.{shown_part}

@@ -1,4 +1,4 @@
-use Rattle.std.proofs.Common.{◌≡◌, ◌<◌, ◌++◌, ◌∙◌, ap, append_assoc, arith, drop, length, map}
+use Rattle.std.proofs.Common.{◌<◌, ◌++◌, ◌∙◌, ap, append_assoc, arith, drop, length, map, rules}
 use Rattle.silt_resp.specs.Batches.{due_seen, part_text, part_texts}
 use Rattle.silt_resp.proofs.Doing.{due_more, on-err}
 use Rattle.silt_resp.proofs.batch.push_dues.Goals as goal

@@ -1,4 +1,4 @@
-use Rattle.std.proofs.Common.{List, arith, rules, subst, sym, take, ℕ}
+use Rattle.std.proofs.Common.{List, arith, rules, subst, take, ℕ}
 use Rattle.silt_resp.specs.Batches.{HoldsClient}
 use Rattle.silt_resp.specs.Sessions.{Client, EndsWith, ServesAll, client_after}
 use Rattle.silt_resp.proofs.Doing.{all-part, ends-part}
@@ -11,14 +11,14 @@ returns-in_err-done-clause-ends g c =
     let s = c.args.settings.now in
     let done = c.loop-done.done in
     let bytes = c.args.bytes.now in
-    let end = c.in_err-done.field-0 in
+    let end = c.in_err-done.field-0.0 in
     let before = g.W.Write.contents c.args.writer.now in
     let after = g.W.Write.contents c.answer_part.new.writer in
     let told : (client : Client) → HoldsClient c.args.talk.now client → EndsWith answers end s client bytes c.args.answerer.now c.answer_part.new.answerer before after =
     λ client h.
-        let so_far = c.loop-done.invariant.told client h in
-        let P = λ (r : List ℕ). EndsWith answers end s (client_after s client (take done bytes)) r c.loop-done.answerer c.answer_part.new.answerer (g.W.Write.contents c.loop-done.writer) after in
-        ends-part answers end s client bytes done _ _ _ _ _ _ so_far.all (subst P c.split_at.ensures.back (c.in_err-done.ensures.ends _ so_far.holds)) in
+    let so_far = c.loop-done.invariant.told client h in
+    let P = λ (r : List ℕ). EndsWith answers end s (client_after s client (take done bytes)) r c.loop-done.answerer c.answer_part.new.answerer (g.W.Write.contents c.loop-done.writer) after in
+    ends-part answers end s client bytes done _ _ _ _ _ _ so_far.all (subst P c.split_at.ensures.back (c.in_err-done.ensures.ends _ so_far.holds)) in
     search (rules, told)
 
 pub loop-done-preserved : goal.loop-done-preserved

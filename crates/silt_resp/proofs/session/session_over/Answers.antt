@@ -4,15 +4,15 @@ use Rattle.silt_resp.specs.Batches.{HoldsClient}
 use Rattle.silt_resp.specs.Sessions.{Client, new_client}
 use Rattle.silt_resp.proofs.Doing.{all-bytes, client_after-append, ends-bytes, last_cut}
 use Rattle.silt_resp.proofs.session.session_over.Goals as goal
-use Rattle.silt_resp.proofs.session.session_over.Goals.{in-Err, in-Ok-read+in-Ok-answer_read}
+use Rattle.silt_resp.proofs.session.session_over.Goals.{in-Err, in-Ok+in-Ok-answer_read}
 
 pub returns-in-Err-answer_read : goal.returns-in-Err-answer_read
 returns-in-Err-answer_read g c =
     let i = c.loop.invariant in
-    let more = take c.in-Ok-read.count c.read.new.buf in
+    let more = take c.in-Ok.count c.read.new.buf in
     let end = c.in-Err-answer_read.end in (
       i.1 ++ more,
-      Consumes-append _ _ _ i.1 more i.2 c.in-Ok-read.ensures.bytes.0,
+      Consumes-append _ _ _ i.1 more i.2 c.in-Ok.ensures.bytes.0,
       last_cut end _ c.in-Err-answer_read.ensures.cut,
       ends-bytes g.A.Answerer.answers end c.args.settings.now (new_client c.args.settings.now c.args.id) i.1 more _ _ _ _ _ _ i.4 (c.in-Err-answer_read.ensures.ends _ i.3),
     )
@@ -23,13 +23,13 @@ loop-preserved g c =
     let s = c.args.settings.now in
     let client = new_client s c.args.id in
     elim c.match-read.branch [
-      | in-Ok-read+in-Ok-answer_read w ↦
-          let more = take w.in-Ok-read.count c.read.new.buf in
+      | in-Ok+in-Ok-answer_read w ↦
+          let more = take w.in-Ok.count c.read.new.buf in
           let P = λ (cl : Client). HoldsClient w.answer_read.new.talk cl in
           rw (w.writer-is, w.answerer-is, w.talk-is) (
             w.answer_read.ensures.stays,
             i.1 ++ more,
-            Consumes-append _ _ _ i.1 more i.2 w.in-Ok-read.ensures.bytes.0,
+            Consumes-append _ _ _ i.1 more i.2 w.in-Ok.ensures.bytes.0,
             subst P (sym (client_after-append s client i.1 more)) (w.in-Ok-answer_read.ensures.holds _ i.3),
             all-bytes g.A.Answerer.answers s client i.1 more _ _ _ _ _ _ i.4 (w.in-Ok-answer_read.ensures.all _ i.3),
           )

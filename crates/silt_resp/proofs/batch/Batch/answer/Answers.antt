@@ -1,7 +1,6 @@
 use Rattle.std.proofs.Common.{◌≡◌, ◌++◌, ◌∙◌, List, Some, ap, map}
 use Rattle.std.proofs.lemmas.Result.{on_err_weaker, on_ok_weaker}
 use Rattle.silt_event.specs.Events.{PlainReply}
-use Rattle.silt_wire.specs.Sessions.{IsBeginning}
 use Rattle.silt_resp.specs.Batches.{due_seen, part_texts}
 use Rattle.silt_resp.proofs.Doing.{all-batch, none-batch, on-err, some-batch}
 use Rattle.silt_resp.proofs.batch.Batch.answer.Goals as goal
