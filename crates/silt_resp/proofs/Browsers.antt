@@ -88,8 +88,8 @@ module _ {A : Type 0} (answers : A → A → Event → PlainReply → Type 0) wh
 
   told_ends : (end : RespEnd) (s : Settings) (id : ℕ) (read : List ℕ) (a b : A) (before after : Option (List ℕ)) → NoFeed read
       → EndsWith answers end s (new_client s id) read a b before after → (b ≡ a) × WritesAtMostFault before after
-  told_ends End s id read a b before after none h = let m = at_most_fault s id read none in all_told _ m.0 a b before after m.1 h
-  told_ends ReadFault s id read a b before after none h = let m = at_most_fault s id read none in all_told _ m.0 a b before after m.1 h
+  told_ends End s id read a b before after none h = let m = at_most_fault s id read none in all_told _ m.0 a b before after m.1 h.0
+  told_ends ReadFault s id read a b before after none h = let m = at_most_fault s id read none in all_told _ m.0 a b before after m.1 h.0
   told_ends Closed s id read a b before after none h = let m = at_most_fault s id read none in all_told _ m.0 a b before after m.1 h.0
   told_ends WriteFault s id read a b before after none h = let m = at_most_fault s id read none in some_told _ m.0 a b before after m.1 h
   told_ends NoMemory s id read a b before after none h = let m = at_most_fault s id read none in some_told _ m.0 a b before after m.1 h

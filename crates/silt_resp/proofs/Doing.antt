@@ -168,8 +168,8 @@ module _ {A : Type 0} (answers : A → A → Event → PlainReply → Type 0) wh
   -- an end in the second part is one of both
   pub ends-bytes : (end : RespEnd) (s : Settings) (c : Client) (xs ys : List ℕ) (a b d : A) (w v u : Option (List ℕ)) → ServesAll answers s c xs a b w v
       → EndsWith answers end s (client_after s c xs) ys b d v u → EndsWith answers end s c (xs ++ ys) a d w u
-  ends-bytes End s c xs ys a b d w v u h k = all-bytes s c xs ys a b d w v u h k
-  ends-bytes ReadFault s c xs ys a b d w v u h k = all-bytes s c xs ys a b d w v u h k
+  ends-bytes End s c xs ys a b d w v u h k = (all-bytes s c xs ys a b d w v u h k.0, λ e. k.1 (sym (ap (λ st. st.place) (stream_after-append c.stream xs ys)) ∙ e))
+  ends-bytes ReadFault s c xs ys a b d w v u h k = (all-bytes s c xs ys a b d w v u h k.0, λ e. k.1 (sym (ap (λ st. st.place) (stream_after-append c.stream xs ys)) ∙ e))
   ends-bytes Closed s c xs ys a b d w v u h k = (all-bytes s c xs ys a b d w v u h k.0, ap (λ st. st.place) (stream_after-append c.stream xs ys) ∙ k.1)
   ends-bytes WriteFault s c xs ys a b d w v u h k = some-bytes s c xs ys a b d w v u h k
   ends-bytes NoMemory s c xs ys a b d w v u h k = some-bytes s c xs ys a b d w v u h k

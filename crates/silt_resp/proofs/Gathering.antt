@@ -1,5 +1,5 @@
 -- What is gathered of a client's bytes, part by part.
-use Rattle.std.proofs.Common.{◌≡◌, ◌+◌, ℕ, true, false, Bool, List, [], ◌∷◌, ◌++◌, map, take, drop, take-append-drop, refl, sym, ap, subst, ◌∙◌, append_assoc, append-nil}
+use Rattle.std.proofs.Common.{◌≡◌, ◌≢◌, ◌+◌, ℕ, true, false, Bool, List, [], ◌∷◌, ◌++◌, map, take, drop, take-append-drop, refl, sym, ap, subst, ◌∙◌, append_assoc, append-nil}
 use Rattle.std.specs.Prelude.{MatchBool, if◌then◌else◌}
 use Rattle.std.proofs.lemmas.Grind.{flat_map-append}
 use Rattle.std.proofs.lemmas.List.{map-append}
@@ -8,7 +8,9 @@ use Rattle.silt_resp.specs.declared.settings.Settings.{Settings}
 use Rattle.silt_resp.specs.declared.session.Talk.{Talk}
 use Rattle.silt_resp.specs.declared.batch.Batch.{Batch}
 use Rattle.silt_resp.specs.Batches.{AsksFor, GainsAsked, Gathers, GathersSome, HoldsAsked, HoldsClient, IsBehind, KeepsAsked, part_of}
-use Rattle.silt_resp.specs.Buffers.{HoldsCommand, HoldsStream, TakesInput}
+use Rattle.silt_resp.specs.Buffers.{HoldsCommand, HoldsStream, HoldsStreamPlace, TakesInput}
+use Rattle.silt_resp.specs.declared.command_buffer.BufferPlace.{BufferPlace}
+use Rattle.silt_resp.specs.declared.command_buffer.BufferPlace.TheVariants.{Broken, Line, Word}
 use Rattle.silt_resp.specs.Commands.{Asked, asked_by, events_of}
 use Rattle.silt_resp.specs.Sessions.{Client, all_events, asked_after, asked_each, client_after, visitor_behind}
 use Rattle.silt_resp.specs.Stream.{Command, Stream, closed, closes, commands_after, line, next_stream, start, stream_after}
@@ -26,6 +28,17 @@ holds_push old new asked a h k = record {
 
 pub holds_keeps : (old new : Batch) (asked : List Asked) → HoldsAsked old asked → KeepsAsked old new → HoldsAsked new asked
 holds_keeps old new asked h k = record { events = k.events ∙ h.events; dues = ap (map _) k.dues ∙ h.dues }
+
+-- ---- what is held is not closed
+
+open_place : (left : ℕ) (place : BufferPlace) (piece : List ℕ) → HoldsStreamPlace left place piece closed → ⊥
+open_place left Line piece h = h
+open_place left (Word due is_long) piece h = h
+open_place left (Broken fault) piece h = h
+
+pub held_open : (talk : Talk) (c : Client) → HoldsClient talk c → c.stream.place ≢ closed
+held_open talk c h = λ e.
+    open_place c.stream.left talk.buffer.place talk.buffer.piece.items (subst (λ p. HoldsStreamPlace c.stream.left talk.buffer.place talk.buffer.piece.items p) e h.stream.place)
 
 -- ---- bytes that end no command
 

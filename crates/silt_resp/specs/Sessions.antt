@@ -1,5 +1,5 @@
 -- What a session with a client reads, does and writes.
-use Rattle.std.specs.Prelude.{◌≡◌, ℕ, List, [], ◌∷◌, ◌++◌, length, take, drop, Option}
+use Rattle.std.specs.Prelude.{◌≡◌, ◌≢◌, ℕ, List, [], ◌∷◌, ◌++◌, length, take, drop, Option}
 use Rattle.std.specs.Io.KnownBytes.{Appends, Consumes, IsAtEnd}
 use Rattle.std.specs.List.{flat_map}
 use Rattle.silt_event.specs.declared.event.Event.{Event}
@@ -103,11 +103,13 @@ module _ {A : Type 0} (answers : A → A → Event → PlainReply → Type 0) wh
   abbrev pub ServesSome : Settings → Client → List ℕ → A → A → Option (List ℕ) → Option (List ℕ) → Type 0
   ServesSome settings client bytes old new before after = AnswersSome (asked_after settings client bytes) old new before after
 
-  -- What a session with this end did for the bytes that it read. If it closed, one of the commands closes the stream, and nothing behind it
-  -- was done.
+  -- What a session with this end did for the bytes that it read. It says that it was closed exactly if one of the commands closes the
+  -- stream. Nothing behind that one was done.
   abbrev pub EndsWith : RespEnd → Settings → Client → List ℕ → A → A → Option (List ℕ) → Option (List ℕ) → Type 0
-  EndsWith End settings client bytes old new before after = ServesAll settings client bytes old new before after
-  EndsWith ReadFault settings client bytes old new before after = ServesAll settings client bytes old new before after
+  EndsWith End settings client bytes old new before after =
+      ServesAll settings client bytes old new before after × ((stream_after client.stream bytes).place ≢ closed)
+  EndsWith ReadFault settings client bytes old new before after =
+      ServesAll settings client bytes old new before after × ((stream_after client.stream bytes).place ≢ closed)
   EndsWith Closed settings client bytes old new before after =
       ServesAll settings client bytes old new before after × ((stream_after client.stream bytes).place ≡ closed)
   EndsWith WriteFault settings client bytes old new before after = ServesSome settings client bytes old new before after

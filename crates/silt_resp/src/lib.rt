@@ -6,7 +6,11 @@
 //! what a client encodes is read (`resp_law`). A command comes as an array of words with their lengths in front, or as a line of
 //! words between spaces. Words, commands and lines that are too long cost no memory.
 //!
-//! `push_text` appends the one reply to a command, made of the store's replies to its events as a [`Form`] says.
+//! What a command asks for is `asked_by` of `specs/Commands`: events and the [`Form`] of their one reply, or a text. `specs/Table` has
+//! the commands and how many words each takes. `push_text` appends the one reply, made of the store's replies to the events.
+//!
+//! `resp_session` reads commands from any reader, hands their events to a store, or another `Answerer`, and writes one reply for
+//! each command to any writer. [`Settings`] has what it has to know.
 //!
 //! A key is the SHA-1 digest of a name (`key_of`). A string becomes a value of a store with its length in front and zeros behind
 //! (`string_value`), and `string_of` reads it back.
@@ -30,13 +34,11 @@ mod texts;
 mod values;
 mod words;
 
-pub use asked::Asked;
-pub use asking::{asked_by, visitor_after};
 pub use command::{Command, Word, Words};
 pub use command_buffer::{CommandBuffer, Taken};
 pub use fault::ProtocolFault;
 pub use laws::{cut_law, resp_law};
 pub use session::{RespEnd, resp_session};
-pub use settings::{Settings, Visitor};
+pub use settings::Settings;
 pub use texts::{Form, push_text};
 pub use values::{LENGTH_LEN, key_of, string_of, string_value, values_law};
