@@ -1,6 +1,6 @@
 // What no contract says: texts, letter for letter.
 
-mod batches;
+pub(crate) mod batches;
 mod sessions;
 mod swaps;
 

@@ -24,7 +24,7 @@ impl Answerer for Store {
     ghost answers = { λ old new event reply. Unit {0} };
 
     fn answer(&mut self, alloc: Global, event: Event) -> Reply<()> {
-        match reply(alloc, &mut self.entries, event) {
+        match answered(alloc, &mut self.entries, event) {
             Ok(reply) => reply,
             Err(_) => Reply::Refused(Refusal::NoMemory),
         }
@@ -76,7 +76,7 @@ fn swap(
     Ok(Reply::Accepted(1))
 }
 
-fn reply(
+fn answered(
     alloc: Global,
     entries: &mut Vec<(Key, Value)>,
     event: Event,

@@ -13,9 +13,9 @@ use std::test::Fail;
 
 // Replies with the number of the call, to a get with another word than to other events.
 #[derive(Drop)]
-struct InCall {
-    value_len: usize,
-    call: u64,
+pub(crate) struct InCall {
+    pub(crate) value_len: usize,
+    pub(crate) call: u64,
 }
 
 impl Answerer for InCall {
@@ -33,8 +33,8 @@ impl Answerer for InCall {
 
 // Counts the calls that are made of it.
 #[derive(Drop)]
-struct Calls {
-    inner: InCall,
+pub(crate) struct Calls {
+    pub(crate) inner: InCall,
 }
 
 impl Answerer for Calls {
