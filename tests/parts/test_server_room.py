@@ -288,8 +288,8 @@ class Workers(RoomCase):
 class Held(RoomCase):
     """A converter that begins only when the test lets it. Two logs take 16 rows."""
 
-    def serve_held(self, *options, sessions=2, hold=(), **plans):
-        self.store("2 4 8 2 4 400")
+    def serve_held(self, *options, sessions=2, lines=(), hold=(), **plans):
+        self.store("2 4 8 2 4 400", lines)
         hold = [f"thread:{CONVERTER}:convert", *hold]
         env = watching(self, log="record", hold=hold, **plans)
         return self.serve("--sessions", sessions, *options, env=env)
@@ -359,6 +359,25 @@ class Held(RoomCase):
         client = self.client(self.serve_held("--wait", 1))
         self.filled(client)
         self.assertEqual(client.ask("put =late 0001", "put =later 0001"), [NO_ROOM] * 2)
+
+    def test_a_merger_that_cannot_read_beside_a_converter_with_work(self):
+        """The merger answers each message with a refused step, which makes no room. That uses up no
+        try of a command, which waits for the converter."""
+        lines = [*puts(9), *["convert"] * 17, *puts(24)[9:], "flush"]
+        server = self.serve_held(
+            "--wait", FOREVER, "--merge-at", 1, lines=lines, fail=f"pread@{MERGER}:1+:EIO"
+        )
+        writer, reader = self.clients(server, 2)
+        writer.send("put =late 0001")
+        self.wait_until(lambda: len(self.failed_reads()) > 1, "the merger's second try")
+        for _ in range(20):
+            self.assertEqual(reader.ask("get =key/23"), ["value 0017"])
+        self.assertTrue(self.is_silent(writer))
+        self.let("convert")
+        self.assertEqual((writer.reply(), reader.ask("get =late")), ("accepted 1", ["value 0001"]))
+
+    def failed_reads(self):
+        return [it for it in read_record(self.path("record")) if it.name == "pread" and it.error]
 
     def test_a_client_that_goes_while_it_waits(self):
         server = self.serve_held("--wait", FOREVER)

@@ -24,11 +24,6 @@ given_alone (Ok reply) Gave More gave = inl gave
 given_alone (Err e) Gave More gave = tt
 
 module _ {A : Type 0} (gives : A → Event → PlainReply → Type 0) where
-  -- an event has the reply that is due if none comes
-  pub without_alone : (old new : ClientState A) (event : Event) (lack : Unanswered) → IsWithout old new lack → AnswersClient gives old new event (reply_without lack)
-  without_alone old new event Lost without = inl (without, refl)
-  without_alone old new event NoMemory without = inr (inl refl)
-
   -- each event has the reply that is given to it
   pub given_each : (client : ClientState A) (events : List Event) (replies : List PlainReply) → AllZip (gives client.asking) events replies
       → AnswersEach (AnswersClient gives) client events replies client

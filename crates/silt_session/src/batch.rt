@@ -174,7 +174,10 @@ impl<D: Disk, T: Trace, N: DeskId, G: Gate, H: HearsRoom, R: Wait + Clock> Workp
             if !came {
                 return answer;
             }
-            self.room.wakes.go(self.rt, due);
+
+            // A merger that can make no room speaks at once. Beside a conversion it would use up the tries.
+            let begins = due.begins && !due.converts;
+            self.room.wakes.go(self.rt, Due { begins, ..due });
         }
         let _ = self.room.heard.comes(self.rt, until);
         let (answer, _) = self.try_request(seat, request);
