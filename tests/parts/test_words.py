@@ -1,4 +1,5 @@
-"""The words that the program is called with: what is wrong with those that name no job, letter for letter."""
+"""The words that the program is called with: what is wrong with those that name no job, letter for
+letter."""
 from harness import Case, Ended
 
 FORMS = """silt format FILE V B CAP NL NH S [--force]  makes an empty store in a file
@@ -32,6 +33,7 @@ PORT  a port of this machine, at most 65535; 0 lets the system choose
 --wait SECONDS    how long a command waits for room; 10 if left out, 0 refuses at once
 --merge-at K      serve: merges once there are K hash stores; half of NH if left out
 --pipeline        does the commands that a connection sent together with one flush
+--resp            speaks the protocol of Redis clients in place of lines
 """
 
 # The values and the options of each job.
@@ -43,7 +45,7 @@ JOBS = {
     "dump": ("FILE", ""),
     "plan": ("KEYS V", "--memory"),
     "script": ("V B CAP NL NH S", ""),
-    "serve": ("FILE PORT", "--audit --sessions --idle --wait --merge-at --pipeline"),
+    "serve": ("FILE PORT", "--audit --sessions --idle --wait --merge-at --pipeline --resp"),
 }
 # What the help of a job with an input says of its lines.
 LINES = """put KEY VALUE     sets the value of a key
@@ -143,15 +145,27 @@ COMPLAINTS = {
     "serve disk 0 --pipeline --pipeline": "--pipeline is given twice",
     "serve disk 0 --pipeline --idle 1 --pipeline": "--pipeline is given twice",
     "serve disk 0 --pipeline=1": "'--pipeline=1' is no option here",
+    "serve disk 0 --resp --resp": "--resp is given twice",
+    "serve disk 0 --resp 3": "'3' is one word too many",
 }
 
 
 def form_of(job):
-    """The form of one job, with what its values and its options are. It is made of the lines of all forms."""
-    jobs, values, options = ([line + "\n" for line in part.splitlines()] for part in FORMS.split("\n\n"))
+    """The form of one job, with what its values and its options are. It is made of the lines of all
+    forms."""
+    jobs, values, options = (
+        [line + "\n" for line in part.splitlines()] for part in FORMS.split("\n\n")
+    )
     form = [line for line in jobs if line.startswith(f"silt {job} ")]
-    options = [line for line in options if not line.startswith("--merge-at") or line.split()[2].rstrip(":") == job]
-    named, chosen = ([line for line in part if line.split()[0] in names.split()] for part, names in zip((values, options), JOBS[job]))
+    options = [
+        line
+        for line in options
+        if not line.startswith("--merge-at") or line.split()[2].rstrip(":") == job
+    ]
+    named, chosen = (
+        [line for line in part if line.split()[0] in names.split()]
+        for part, names in zip((values, options), JOBS[job])
+    )
     return "".join([*form, "\n", *named, *(["\n", *chosen] if chosen else [])])
 
 
@@ -186,15 +200,30 @@ class Words(Case):
 
     def test_options_of_other_jobs(self):
         """Each option names a job only where it belongs."""
-        words = {"format": "disk 2 2 4 2 2 8", "plan": "1000 2", "script": "2 2 4 2 2 8", "serve": "disk 0"}
+        words = {
+            "format": "disk 2 2 4 2 2 8",
+            "plan": "1000 2",
+            "script": "2 2 4 2 2 8",
+            "serve": "disk 0",
+        }
         for option in ("--strict", "--wait", "--tend", "--force"):
             for job in JOBS:
                 if option not in JOBS[job][1].split():
-                    call = [job, *words.get(job, "disk").split(), option, *(["1"] if option == "--wait" else [])]
+                    call = [
+                        job,
+                        *words.get(job, "disk").split(),
+                        option,
+                        *(["1"] if option == "--wait" else []),
+                    ]
                     self.assert_usage(call, f"{form_of(job)}\nsilt: '{option}' is no option here\n")
 
     def test_help_and_the_version_have_no_complaint(self):
-        for words, said in ((["--help"], FORMS), (["-h"], FORMS), (["--version"], "silt 0.1.0\n"), (["-V"], "silt 0.1.0\n")):
+        for words, said in (
+            (["--help"], FORMS),
+            (["-h"], FORMS),
+            (["--version"], "silt 0.1.0\n"),
+            (["-V"], "silt 0.1.0\n"),
+        ):
             self.assert_usage(words, said)
 
     def test_help_of_a_job(self):
@@ -220,5 +249,7 @@ class Words(Case):
         """Why `usage` is not written comes behind what is wrong with the words."""
         with open("/dev/full", "wb") as full, self.start("prune", stdout=full) as running:
             ended = self.finish(running)
-        said = f"{FORMS}\nsilt: there is no job 'prune'\nsilt: No space left on device (os error 28)\n"
+        said = (
+            f"{FORMS}\nsilt: there is no job 'prune'\nsilt: No space left on device (os error 28)\n"
+        )
         self.assertEqual(ended, Ended(1, "", said))

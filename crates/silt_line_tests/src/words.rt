@@ -133,6 +133,21 @@ fn reads_whether_a_server_makes_batches(rt: HostRuntime) -> Result<(), Fail> {
     )
 }
 
+// Whether a command line names a service of Redis clients.
+fn is_for_redis<S: AllocGlobal + Abort>(rt: &S, call: &str, resp: bool) -> Result<(), Fail> {
+    let words = words(rt, call)?;
+    let service = service_named(read_words(rt.alloc(), words.as_slice()));
+    assert_eq!(rt; service.map(|service| service.resp), Some(resp));
+    Ok(())
+}
+
+#[test]
+fn reads_which_protocol_a_server_speaks(rt: HostRuntime) -> Result<(), Fail> {
+    is_for_redis(&rt, "silt serve disk 0 --pipeline", false)?;
+    is_for_redis(&rt, "silt serve disk 0 --resp", true)?;
+    is_for_redis(&rt, "silt serve --resp disk 0 --pipeline --idle 1", true)
+}
+
 /// A job on a file, by the first letter of its word, and whether its flag is given.
 #[derive(Clone, Copy)]
 struct OnFile<'a> {
@@ -146,7 +161,7 @@ fn on_file(job: Result<Job<'_>, WordsError>) -> Option<OnFile<'_>> {
     let (letter, file, is_given) = match job {
         Ok(Job::Format { file, force, .. }) => ('f', file, force),
         Ok(Job::Run { file, options }) => ('r', file, options.tend),
-        Ok(Job::Tend { file }) => ('t', file, false),
+        Ok(Job::Tend { file, .. }) => ('t', file, false),
         Ok(Job::Check { file }) => ('c', file, false),
         _ => return None,
     };
@@ -185,28 +200,45 @@ fn reads_the_options_without_a_number(rt: HostRuntime) -> Result<(), Fail> {
     has_flag(&rt, "silt check disk", 'c', false)
 }
 
-fn runs_with<S: AllocGlobal + Abort>(
-    rt: &S,
-    call: &str,
-    tend: bool,
-    strict: bool,
-) -> Result<(), Fail> {
+fn runs_with<S: AllocGlobal + Abort>(rt: &S, call: &str, expected: RunOptions) -> Result<(), Fail> {
     let words = words(rt, call)?;
     let options = match read_words(rt.alloc(), words.as_slice()) {
         Ok(Job::Run { options, .. }) => Some(options),
         _ => None,
     };
-    assert_eq!(rt; options, Some(RunOptions { tend, strict }));
+    assert_eq!(rt; options, Some(expected));
     Ok(())
 }
 
 #[test]
 fn reads_the_options_of_a_run(rt: HostRuntime) -> Result<(), Fail> {
-    runs_with(&rt, "silt run disk", false, false)?;
-    runs_with(&rt, "silt run disk --strict", false, true)?;
-    runs_with(&rt, "silt run --tend disk", true, false)?;
-    runs_with(&rt, "silt run --strict disk --tend", true, true)?;
-    runs_with(&rt, "silt run --tend --strict -- disk", true, true)
+    let plain = RunOptions {
+        tend: false,
+        strict: false,
+        merge_at: None,
+    };
+    let strict = RunOptions {
+        strict: true,
+        ..plain
+    };
+    let tending = RunOptions {
+        tend: true,
+        ..plain
+    };
+    let both = RunOptions {
+        tend: true,
+        ..strict
+    };
+    let merging = RunOptions {
+        merge_at: Some(3),
+        ..tending
+    };
+    runs_with(&rt, "silt run disk", plain)?;
+    runs_with(&rt, "silt run disk --strict", strict)?;
+    runs_with(&rt, "silt run --tend disk", tending)?;
+    runs_with(&rt, "silt run --strict disk --tend", both)?;
+    runs_with(&rt, "silt run --tend --strict -- disk", both)?;
+    runs_with(&rt, "silt run --merge-at 3 disk --tend", merging)
 }
 
 fn plans<S: AllocGlobal + Abort>(rt: &S, call: &str, expected: PlanRequest) -> Result<(), Fail> {
@@ -324,6 +356,8 @@ fn refuses_options_that_are_not_the_jobs(rt: HostRuntime) -> Result<(), Fail> {
         "silt plan 1,000 100",
         "silt run disk --idle 1",
         "silt run disk --pipeline",
+        "silt run disk --merge-at 3",
+        "silt run disk --tend --merge-at 0",
     ] {
         names_no_job(&rt, call)?;
     }
@@ -343,6 +377,9 @@ fn refuses_options_that_no_service_has(rt: HostRuntime) -> Result<(), Fail> {
         "silt serve disk 0 --wait 4294967296",
         "silt serve disk 0 --wait 1 --wait=1",
         "silt serve disk 0 --pipeline --pipeline",
+        "silt serve disk 0 --resp --resp",
+        "silt serve disk 0 --resp=true",
+        "silt run disk --resp",
         "silt serve disk 0 --pipeline=true",
         "silt serve disk 0 --pipeline=",
         "silt serve disk 0 -- --pipeline",

@@ -64,8 +64,8 @@ plan_app = with_option (with_value (with_value (new_app (codes "plan")) (codes "
 
 abbrev pub serve_app : App
 serve_app =
-    with_flag (with_option (with_option (with_option (with_option (with_option (with_value (with_file (new_app (codes "serve"))) (codes "PORT"))
-    (codes "audit")) (codes "sessions")) (codes "idle")) (codes "wait")) (codes "merge-at")) (codes "pipeline")
+    with_flag (with_flag (with_option (with_option (with_option (with_option (with_option (with_value (with_file (new_app (codes "serve"))) (codes "PORT"))
+    (codes "audit")) (codes "sessions")) (codes "idle")) (codes "wait")) (codes "merge-at")) (codes "pipeline")) (codes "resp")
 
 -- the program
 abbrev pub silt : App
@@ -139,7 +139,17 @@ run_options_in rows =
 abbrev pub service_in : List Row → Option NamedService
 service_in rows =
     option_and_then (λ file. option_and_then (λ port. option_and_then (λ audit. option_and_then (λ sessions. option_and_then (λ idle. option_and_then (λ wait. option_map (λ merge_at.
-    record { file = file; port = port; audit = audit; sessions = sessions; idle = idle; wait = wait; merge_at = merge_at; pipeline = flag_in rows (codes "pipeline") })
+    record {
+      file = file;
+      port = port;
+      audit = audit;
+      sessions = sessions;
+      idle = idle;
+      wait = wait;
+      merge_at = merge_at;
+      pipeline = flag_in rows (codes "pipeline");
+      resp = flag_in rows (codes "resp");
+    })
     (count_in rows (codes "merge-at"))) (option_in rows (codes "wait"))) (limit_in rows (codes "idle"))) (limit_in rows (codes "sessions"))) (option_in rows (codes "audit"))) (port_in rows)) (file_in rows)
 
 -- what a store is to be planned for

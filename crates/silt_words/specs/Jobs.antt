@@ -17,6 +17,7 @@ pub record NamedService : Type 0 where
   pub wait : Option ℕ
   pub merge_at : Option ℕ
   pub pipeline : Bool
+  pub resp : Bool
 
 -- what a service is by that text
 abbrev pub named_service : Service → NamedService
@@ -29,6 +30,7 @@ named_service service = record {
   wait = service.wait;
   merge_at = service.merge_at;
   pipeline = service.pipeline;
+  resp = service.resp;
 }
 
 -- a job, by the text of its file's name

@@ -118,7 +118,8 @@ fn serve<'a>(alloc: Global) -> Result<Command<'a>, AllocError>
     let with_idle = add_option(with_sessions, alloc, "idle");
     let with_wait = add_option(with_idle, alloc, "wait");
     let with_merge_at = add_option(with_wait, alloc, "merge-at");
-    add_flag(with_merge_at, alloc, "pipeline")
+    let with_pipeline = add_flag(with_merge_at, alloc, "pipeline");
+    add_flag(with_pipeline, alloc, "resp")
 }
 
 // The command with one more below it, if that one was made.

@@ -13,6 +13,9 @@ pub struct Choice {
     line: &'static str,
 }
 
+/// The most options that a job has.
+pub const MOST_OPTIONS: usize = 7;
+
 /// How a job is called: what may follow its word.
 #[derive(Clone, Copy, Debug)]
 pub struct Form {
@@ -21,7 +24,7 @@ pub struct Form {
     line: &'static str,
     /// The names of its values, in order.
     pub values: &'static [&'static str],
-    /// Its options, at most six.
+    /// Its options, at most [`MOST_OPTIONS`].
     pub options: &'static [Choice],
     /// The lines that it replies to, in parts.
     input: &'static [&'static str],
@@ -111,6 +114,13 @@ const PIPELINE: Choice = Choice {
     line: "--pipeline        does the commands that a connection sent together with one flush",
 };
 
+const RESP: Choice = Choice {
+    name: "--resp",
+    has_number: false,
+    needs: None,
+    line: "--resp            speaks the protocol of Redis clients in place of lines",
+};
+
 /// The lines that every job with an input replies to.
 const EVENTS: &str = "put KEY VALUE     sets the value of a key
 delete KEY        deletes the value of a key
@@ -182,7 +192,7 @@ const FORMS: [Form; 8] = [
         job: "serve",
         line: "silt serve FILE PORT [OPTION]...            replies to the lines of a port's connections",
         values: &["FILE", "PORT"],
-        options: &[AUDIT, SESSIONS, IDLE, WAIT, SERVE_MERGE_AT, PIPELINE],
+        options: &[AUDIT, SESSIONS, IDLE, WAIT, SERVE_MERGE_AT, PIPELINE, RESP],
         input: &[EVENTS],
     },
 ];

@@ -42,6 +42,8 @@ pub struct Service<'a> {
     pub merge_at: Option<u32>,
     /// Whether the commands that a connection sent together are done as one batch, with one flush.
     pub pipeline: bool,
+    /// Whether clients speak the protocol of Redis. If not, they send lines.
+    pub resp: bool,
 }
 
 /// What a store is to be planned for.

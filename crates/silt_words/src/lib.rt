@@ -5,7 +5,7 @@
 //! digits, and at most 4,294,967,295; a port is at most 65,535.
 //!
 //! Options are `--force` of `format`, `--tend` and `--strict` of `run`, `--memory BYTES` of `plan`, and `--audit N`,
-//! `--sessions M`, `--idle SECONDS`, `--wait SECONDS` and `--pipeline` of `serve`. Each is given at most once, before,
+//! `--sessions M`, `--idle SECONDS`, `--wait SECONDS`, `--pipeline` and `--resp` of `serve`. Each is given at most once, before,
 //! between or after the values, and `--audit=N` is the same as two words. No other word of more than one character may
 //! begin with a hyphen, but after the first word `--` every word is a value. Without `--sessions`, or with 0, the server
 //! serves any number of sessions. Without `--idle`, or with 0, it closes no silent connection. With `--wait 0` no command

@@ -1,6 +1,6 @@
 // What is wrong with words that name no job, and what people are shown then.
 
-use crate::forms::{Form, Forms, form_of};
+use crate::forms::{Form, Forms, MOST_OPTIONS, form_of};
 use silt_wire::number_of;
 use std::fmt;
 
@@ -146,7 +146,7 @@ struct Walk {
     /// The option whose number is the next word.
     awaited: Option<&'static str>,
     /// Which options of the form were met.
-    met: [bool; 6],
+    met: [bool; MOST_OPTIONS],
     /// Whether the word `--` was met. After it every word is a value.
     is_past_options: bool,
 }
@@ -157,7 +157,7 @@ impl Walk {
             form,
             place: 0,
             awaited: None,
-            met: [false; 6],
+            met: [false; MOST_OPTIONS],
             is_past_options: false,
         }
     }

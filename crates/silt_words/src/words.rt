@@ -118,6 +118,7 @@ fn service_of<'a>(matches: &ArgMatches<'a>) -> Option<Service<'a>>
         wait: option_at(matches, "wait")?,
         merge_at: merge_at_of(matches)?,
         pipeline: is_given(matches, "pipeline"),
+        resp: is_given(matches, "resp"),
     })
 }
 

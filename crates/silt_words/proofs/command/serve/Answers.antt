@@ -13,4 +13,5 @@ returns c =
     let stands5 = one_more _ _ (λ old arg new adds. adds.globals) _ _ c.add_option-with_idle.ensures stands4 in
     let stands6 = one_more _ _ (λ old arg new adds. adds.globals) _ _ c.add_option-with_wait.ensures stands5 in
     let stands7 = one_more _ _ (λ old arg new adds. adds.globals) _ _ c.add_option-with_merge_at.ensures stands6 in
-    joins_as _ (λ old sub new adds. adds.shape) _ (one_more _ _ (λ old arg new adds. adds.globals) _ _ c.add_flag.ensures stands7)
+    let stands8 = one_more _ _ (λ old arg new adds. adds.globals) _ _ c.add_flag-with_pipeline.ensures stands7 in
+    joins_as _ (λ old sub new adds. adds.shape) _ (one_more _ _ (λ old arg new adds. adds.globals) _ _ c.add_flag.ensures stands8)
