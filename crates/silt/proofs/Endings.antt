@@ -84,13 +84,13 @@ module _ {A : Type 0} (Named Apart Done Reported Refused Clashed : A → Type 0)
   usage_at_2 status is (inr (NoMemory, cause, reported)) = absurd (omega (arith, is, reported.0))
 
 -- what a server with this status ended with, if it ends with 1 where a merge was refused
-pub served_ended : {E Unserved Served Refused : Type 0} (status ended : Result ℕ E) → IfOk status (IsStatus Unserved) → (status ≡ Ok 0 → Served)
+pub served_ended : {E : Type 0} (Unserved Served Refused : Type 0) (status ended : Result ℕ E) → IfOk status (IsStatus Unserved) → (status ≡ Ok 0 → Served)
     → IfOk ended (λ now. IsOkAnd status (λ before. (now ≡ before) ⊎ ((before ≡ 0) × (now ≡ 1) × Refused))) → IfOk ended (IsStatus (Unserved ⊎ Served))
-served_ended status (Err error) known served h = tt
-served_ended (Err error) (Ok now) known served h = absurd h
-served_ended (Ok before) (Ok now) (inl zero) served (inl same) = inl (same ∙ zero)
-served_ended (Ok before) (Ok now) (inr unserved) served (inl same) = inr (same ∙ unserved.0, inl unserved.1)
-served_ended (Ok before) (Ok now) known served (inr refused) = inr (refused.1, inr (served (ap Ok refused.0)))
+served_ended Unserved Served Refused status (Err error) known done h = tt
+served_ended Unserved Served Refused (Err error) (Ok now) known done h = absurd h
+served_ended Unserved Served Refused (Ok before) (Ok now) (inl zero) done (inl same) = inl (same ∙ zero)
+served_ended Unserved Served Refused (Ok before) (Ok now) (inr unserved) done (inl same) = inr (same ∙ unserved.0, inl unserved.1)
+served_ended Unserved Served Refused (Ok before) (Ok now) known done (inr refused) = inr (refused.1, inr (done (ap Ok refused.0)))
 
 -- what is true if a value was made
 pub if_made : {A P : Type 0} (made : Option A) → IfSome made (λ _. P) → is_some made ≡ true → P

@@ -84,7 +84,7 @@ module _ {N D F E W : Type 0} (facts : Ghosts D F) (notes : NotesOf N) (reported
       PrintsPlan request (first_planned request bucket_counts) 1 (contents before) (contents after) × notes.reported_no_plan old new request
   PrintsJob (Serve service) remaining left before after =
       (given : Option D)
-      × PrintsServeFile facts (ReportedUnserved notes.reported_port reported_refusal old new service.port service.file.now) service.merge_at service.audit
+      × PrintsServeFile facts (ReportedUnserved notes.reported_port reported_refusal old new service.port service.file.now) service.resp service.merge_at service.audit
       (Opened service.file.now) (NotOpenedReported NotOpened (reported_error old new) service.file.now) given (contents before) (contents after)
 
 -- the line that is written if no job was read from the words, and the status

@@ -13,7 +13,7 @@
 //! - `silt script V B CAP NL NH S` makes an empty store of this geometry on a disk in memory, reads lines to the end, and
 //!   writes one reply line for each. Lines `stop K FILL` divide them into lives. Such a line is a crash at the K-th write or
 //!   sync of the life before it. The next life opens what the crash leaves.
-//! - `silt serve FILE PORT [--audit N] [--sessions M] [--idle SECONDS] [--wait SECONDS] [--merge-at K] [--pipeline]`
+//! - `silt serve FILE PORT [--audit N] [--sessions M] [--idle SECONDS] [--wait SECONDS] [--merge-at K] [--pipeline] [--resp]`
 //!   serves the store in a file to the connections of a port of this machine. With `--pipeline` the commands that a
 //!   connection sent together are done with one flush.
 //!

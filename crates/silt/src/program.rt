@@ -15,8 +15,9 @@ use crate::standard_streams::StandardStreams;
 use silt_device::DiskSource;
 use silt_disk::Disk;
 use silt_jobs::{
-    FaultNotes, KeepsError, KeepsLines, KeepsTally, Notes, SourceNotes, Tended, Watched, check_file,
-    dump_file, format_file, report_error_of, run_file, run_script, tend_file, write_plan,
+    FaultNotes, KeepsError, KeepsLines, KeepsTally, Notes, SourceNotes, Tended, Watched,
+    check_file, dump_file, format_file, report_error_of, run_file, run_script, tend_file,
+    write_plan,
 };
 use silt_words::{Job, WordsError, read_words};
 use std::alloc::Global;

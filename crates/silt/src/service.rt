@@ -5,8 +5,9 @@ ghost use Rattle.silt_disk.specs.Layout.{Shape};
 ghost use Rattle.silt_store_set.specs.CoreInvariant.{LeavesBegun};
 ghost use Rattle.silt_wire.specs.Statuses.{IsStatus};
 ghost use Rattle.silt_server.specs.Serving.{PrintsNotServed};
-ghost use Rattle.silt.specs.Services.{EndsServe, LeavesServed, ServesFile, PrintsServe, PrintsServeFile, ReportedUnserved};
-ghost use Rattle.silt_jobs.specs.Jobs.{PrintsFewRegions};
+ghost use Rattle.silt.specs.Services.{EndsServe, LeavesServed, ServesFile, PrintsServe, PrintsServeFile, PrintsUnfit, ReportedUnserved, protocol_of};
+ghost use Rattle.silt_event.specs.declared.refusal.Refusal.TheVariants.{BadGeometry};
+ghost use Rattle.silt_jobs.specs.Jobs.{Prints};
 ghost use Rattle.silt_jobs.specs.Notes.{NotOpenedReported, ReportedFailures, ReportedRefusal};
 
 use crate::listener::PatientListener;
@@ -16,11 +17,12 @@ use silt_device::DiskSource;
 use silt_disk::{Disk, Geometry};
 use silt_event::Place;
 use silt_jobs::{
-    FaultNotes, Notes, SourceNotes, Watched, has_few_regions, merge_damage_at,
+    FaultNotes, Notes, SourceNotes, Watched, has_few_regions, merge_damage_at, refuse,
     refuse_few_regions, refuse_no_disk, refuse_opening, report_failures,
 };
-use silt_server::{Limits, Server, refuse_network};
-use silt_store_set::Core;
+use silt_resp::LENGTH_LEN;
+use silt_server::{Limits, Protocol, Server, refuse_network};
+use silt_store_set::{Core, Refusal};
 use silt_words::Service;
 use std::alloc::Global;
 use std::io::{self, Write};
@@ -57,7 +59,7 @@ where
     S::Disk: Watched,
     ensures printed { IfOk result.1 (IsStatus (PrintsServeFile S.Disk.Disk
         (ReportedUnserved N.reported_port (ReportedRefusal N.reported_fault N.reported_damage N.reported_no_store) notes.old notes.new service.now.port service.now.file.now)
-        service.now.merge_at service.now.audit (S.opened source service.now.file.now)
+        service.now.resp service.now.merge_at service.now.audit (S.opened source service.now.file.now)
         (NotOpenedReported (S.not_opened source) (N.reported_error notes.old notes.new) service.now.file.now) result.0 (W.contents writer.old) (W.contents writer.new))) }
     ensures served { result.1 ≡ Ok 0 → ServesFile S.Disk.Disk
         (ReportedFailures N.reported_failure S.Disk.Watched.kept_read S.Disk.Watched.last_failure notes.old notes.new service.now.file.now)
@@ -68,7 +70,10 @@ where
             let (disk, status) = serve_disk(rt, alloc, disk, service, writer, notes);
             (Some(disk), status)
         }
-        Err(error) => (None, refuse_no_disk(alloc, service.file, &error, writer, notes)),
+        Err(error) => (
+            None,
+            refuse_no_disk(alloc, service.file, &error, writer, notes),
+        ),
     }
 }
 
@@ -96,7 +101,7 @@ fn serve_disk<
     ensures failed { result.1 ≡ Ok 0 → ReportedFailures N.reported_failure D.kept_read D.last_failure notes.old notes.new service.now.file.now result.0 }
     ensures printed { IfOk result.1 (IsStatus (PrintsServe D.Disk
         (ReportedUnserved N.reported_port (ReportedRefusal N.reported_fault N.reported_damage N.reported_no_store) notes.old notes.new service.now.port service.now.file.now)
-        service.now.merge_at service.now.audit disk result.0 (W.contents writer.old) (W.contents writer.new))) }
+        service.now.resp service.now.merge_at service.now.audit disk result.0 (W.contents writer.old) (W.contents writer.new))) }
     ensures left { LeavesServed D.Disk disk result.0 }
 {
     let listener = bind(rt, service.port, notes);
@@ -129,7 +134,8 @@ fn bind<H: Net<Listener = TcpListener, Stream = TcpStream>, N: Notes>(
     }
 }
 
-// Serves an opened store to the connections of a listener, if it has as many hash regions as a merge is to begin with.
+// Serves an opened store to the connections of a listener, if it has as many hash regions as a merge is to begin with, and
+// values that can hold strings if clients send those.
 // Returns the store's disk and the status.
 fn serve_opened<
     D: Disk,
@@ -152,7 +158,7 @@ fn serve_opened<
 ) -> (D, io::Result<u8>)
     ensures served { result.1 ≡ Ok 0 → EndsServe D.Disk service.now.audit result.0 (W.contents writer.old) (W.contents writer.new) }
     ensures bound { result.1 ≡ Ok 0 → is_some listener ≡ true }
-    ensures printed { IfOk result.1 (IsStatus (PrintsFewRegions service.now.merge_at core result.0 (W.contents writer.old) (W.contents writer.new)
+    ensures printed { IfOk result.1 (IsStatus (PrintsUnfit service.now.resp service.now.merge_at core result.0 (W.contents writer.old) (W.contents writer.new)
         ⊎ (PrintsNotServed D.Disk (λ port. Unit {0}) core result.0 (W.contents writer.old) (W.contents writer.new)
         ⊎ EndsServe D.Disk service.now.audit result.0 (W.contents writer.old) (W.contents writer.new)))) }
     ensures left { (shape : Shape) × LeavesBegun (D.content result.0) shape }
@@ -161,7 +167,39 @@ fn serve_opened<
     if has_few_regions(&core, service.merge_at) {
         return refuse_few_regions(alloc, core, service.file, writer, notes);
     }
+    if has_short_values(&core, service.resp) {
+        return refuse_short_values(rt, alloc, core, service.file, writer);
+    }
     serve_store(rt, alloc, core, listener, service, writer, notes)
+}
+
+// Whether the values of a store for Redis clients have no room for a string's length.
+fn has_short_values<D: Disk>(core: &Core<D>, resp: bool) -> bool
+    ensures short { result ≡ true → (resp ≡ true) × (core.now.shape.value_len < 2) }
+    ensures enough { result ≡ false → resp ≡ true → 2 ≤ core.now.shape.value_len }
+{
+    match resp {
+        true => (core.geometry().value_len() as usize) < LENGTH_LEN,
+        false => false,
+    }
+}
+
+// Writes that the values of a store for Redis clients have no room for a string's length, and notes it at once. Returns the
+// store's disk and the status.
+fn refuse_short_values<D: Disk, H: StandardStreams, W: Write>(
+    rt: &H,
+    alloc: Global,
+    core: Core<D>,
+    file: &str,
+    writer: &mut W,
+) -> (D, io::Result<u8>)
+    ensures disk { result.0 ≡ core.disk }
+    ensures left { (shape : Shape) × LeavesBegun (D.content result.0) shape }
+    ensures printed { IfOk result.1 (λ status. (status ≡ 1) × Prints {F = Unit {0}} BadGeometry (W.contents writer.old) (W.contents writer.new)) }
+{
+    rt.note_short_values(file);
+    let status = refuse(alloc, &Refusal::<()>::BadGeometry, writer);
+    (core.close(), status)
 }
 
 // Serves a store to the connections of a listener, if there is one. Returns the store's disk and the status.
@@ -233,14 +271,25 @@ fn limits_of(service: &Service<'_>) -> Limits
     ensures audit { result.audit ≡ service.now.audit }
     ensures idle { result.idle ≡ service.now.idle }
     ensures wait { result.wait ≡ unwrap_or service.now.wait 10 }
-    ensures pipeline { result.pipeline ≡ service.now.pipeline }
+    ensures protocol { result.protocol ≡ protocol_of service.now.pipeline service.now.resp }
 {
     Limits {
         sessions: service.sessions.unwrap_or(0),
         audit: calls_kept(service.audit),
         idle: service.idle,
         wait: service.wait.unwrap_or(10),
-        pipeline: service.pipeline,
+        protocol: protocol_of(service.pipeline, service.resp),
+    }
+}
+
+// What a server and its clients send each other.
+fn protocol_of(pipeline: bool, resp: bool) -> Protocol
+    ensures { result ≡ protocol_of pipeline resp }
+{
+    match (pipeline, resp) {
+        (_, true) => Protocol::Resp,
+        (true, false) => Protocol::PipelinedLines,
+        (false, false) => Protocol::Lines,
     }
 }
 

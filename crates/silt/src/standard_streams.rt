@@ -111,6 +111,9 @@ pub trait StandardStreams {
     /// Notes on the standard error, at once, that a merge found this part of the store in a file damaged, and where it
     /// begins, if that is known.
     fn note_unmerged(&self, file: &str, place: Place, at: Option<u64>);
+
+    /// Notes on the standard error, at once, that the values of the store in a file have no room for a string's length.
+    fn note_short_values(&self, file: &str);
 }
 
 // Not for any system with files: rattle takes no such bound of `done` for granted in the threads of a server.
@@ -137,5 +140,9 @@ impl StandardStreams for HostRuntime {
 
     fn note_unmerged(&self, file: &str, place: Place, at: Option<u64>) {
         NoteLines::new(self.stderr()).report_unmerged(self.alloc(), file, place, at);
+    }
+
+    fn note_short_values(&self, file: &str) {
+        NoteLines::new(self.stderr()).report_short_values(file);
     }
 }

@@ -48,6 +48,14 @@ impl<W: Write> NoteLines<W> {
         };
         let _ = write_place(&mut self.writer, place, at);
     }
+
+    /// Writes that the values of the store in a file have no room for a string's length.
+    pub fn report_short_values(&mut self, file: &str) {
+        let _ = writeln!(
+            self.writer,
+            "silt: --resp: {file} has values of 1 byte, and a string needs 2 for its length"
+        );
+    }
 }
 
 // Writes the end of a line: what a damaged part is, and where it begins, if that is known.

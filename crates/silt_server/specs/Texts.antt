@@ -4,14 +4,17 @@ use Rattle.std.specs.Fmt.{decimal}
 use Rattle.silt_event.specs.declared.refusal.Refusal.{Refusal}
 use Rattle.silt_event.specs.declared.reply.Reply.TheVariants.{Refused}
 use Rattle.silt_wire.specs.Replies.{reply_text}
+use Rattle.silt_server.specs.declared.limits.Protocol.{Protocol}
+use Rattle.silt_server.specs.declared.limits.Protocol.TheVariants.{Resp}
 
 -- the line with the port on which the server listens
 abbrev pub listening_text : ℕ → List ℕ
 listening_text port = codes "listening " ++ (decimal port ++ codes "\n")
 
--- why a connection is closed that finds no free slot: no reply begins so
-abbrev pub busy_text : List ℕ
-busy_text = codes "busy: 64 connections are served already\n"
+-- why a connection is closed that finds no free slot: no reply to a line begins so
+abbrev pub busy_text : Protocol → List ℕ
+busy_text Resp = codes "-ERR max number of clients reached\r\n"
+busy_text protocol = codes "busy: 64 connections are served already\n"
 
 -- how many calls are recorded
 abbrev pub calls_text : ℕ → List ℕ

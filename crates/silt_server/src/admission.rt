@@ -2,6 +2,7 @@
 ghost use Rattle.std.specs.Prelude.{◌≡◌, ◌+◌, ◌^◌, ◌<◌, ◌≤◌, length, IfOk, IfSome, IsNone};
 
 use crate::counting_listener::{CountingListener, Listens};
+use crate::limits::{Limits, Protocol};
 use crate::written::turn_away;
 use silt_inbox::InboxId;
 use silt_session::{SessionSlot, free_slot};
@@ -21,10 +22,10 @@ fn is_passing(kind: ErrorKind) -> bool {
 
 // Writes to a connection that there is no slot for it. The listener waits for no client: it drops what the system does
 // not take at once.
-fn turn_connection_away(stream: &TcpStream) {
+fn turn_connection_away(protocol: Protocol, stream: &TcpStream) {
     if stream.set_nonblocking(true).is_ok() {
         let mut out = stream;
-        turn_away(&mut out);
+        turn_away(protocol, &mut out);
     }
 }
 
@@ -33,6 +34,7 @@ fn turn_connection_away(stream: &TcpStream) {
 fn admit<N: InboxId, R: Wait>(
     rt: &R,
     slots: &[Mutex<SessionSlot<N>>],
+    protocol: Protocol,
     stream: TcpStream,
 ) -> Option<usize>
     ensures { IfSome result (λ number. number < length slots.now) }
@@ -43,7 +45,7 @@ fn admit<N: InboxId, R: Wait>(
             Some(number)
         }
         None => {
-            turn_connection_away(&stream);
+            turn_connection_away(protocol, &stream);
             None
         }
     }
@@ -55,13 +57,14 @@ fn admit_next<L: Listens, N: InboxId, R: Wait>(
     rt: &R,
     listener: &mut CountingListener<'_, L>,
     slots: &[Mutex<SessionSlot<N>>],
+    protocol: Protocol,
 ) -> io::Result<Option<usize>>
     ensures slot { IfOk result (λ admitted. IfSome admitted (λ number. number < length slots.now)) }
     ensures more { IfOk result (λ admitted. IfSome admitted (λ _. listener.old.accepted < 2 ^ 32 → listener.new.accepted ≡ listener.old.accepted + 1)) }
     ensures least { listener.old.accepted ≤ listener.new.accepted }
 {
     match listener.accept() {
-        Ok(stream) => Ok(admit(rt, slots, stream)),
+        Ok(stream) => Ok(admit(rt, slots, protocol, stream)),
         Err(error) => pass(error),
     }
 }
@@ -81,7 +84,7 @@ fn free<N: InboxId, R: Wait>(rt: &R, slot: &Mutex<SessionSlot<N>>) {
     slot.lock(rt).leave();
 }
 
-/// Serves the connections of a listener, as many sessions as `sessions` says, and returns when all have ended. Each
+/// Serves the connections of a listener, as many sessions as the limits say, and returns when all have ended. Each
 /// session has a thread and a slot of its own, and `serve` runs the one in the slot of a number. A connection without a
 /// slot or a thread is closed and not counted.
 ///
@@ -98,14 +101,15 @@ pub fn accept_clients<
 >(
     rt: &R,
     listener: &'a L,
-    sessions: u32,
+    limits: Limits,
     shared: &S,
     slots: &[Mutex<SessionSlot<N>>],
     serve: &C,
 ) -> io::Result<CountingListener<'a, L>>
     requires { C.IsAlwaysCallable serve.now }
-    ensures { IfOk result (λ counting_listener. sessions ≤ counting_listener.accepted) }
+    ensures { IfOk result (λ counting_listener. limits.sessions ≤ counting_listener.accepted) }
 {
+    let (sessions, protocol) = (limits.sessions, limits.protocol);
     thread::scope(
         thread::scope_env(),
         rt,
@@ -116,7 +120,7 @@ pub fn accept_clients<
             let mut counting_listener = CountingListener::new(listener);
             let mut count = 0u32;
             for _ in rt.forever() {
-                let Some(number) = admit_next(rt, &mut counting_listener, slots)? else {
+                let Some(number) = admit_next(rt, &mut counting_listener, slots, protocol)? else {
                     continue;
                 };
                 let started = scope.spawn(

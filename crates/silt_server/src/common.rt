@@ -2,7 +2,7 @@
 ghost use Rattle.std.specs.Prelude.{◌≡◌};
 
 use crate::admission::accept_clients;
-use crate::connection::answer_lines;
+use crate::connection::answer_client;
 use crate::counting_listener::Listens;
 use crate::limits::Limits;
 use crate::threads::{Parts, run_beside};
@@ -161,7 +161,14 @@ impl<D: Disk, T: Trace, N: DeskId + InboxId, G: Gate, R: Wait + Clock> Serving<
                 one: &one,
                 all: &all,
             };
-            answer_lines(self.alloc, asking, self.value_len, self.limits, &stream);
+            answer_client(
+                self.alloc,
+                asking,
+                self.value_len,
+                self.limits,
+                u32::try_from(number).unwrap_or(u32::MAX),
+                &stream,
+            );
         }
         slot.lock(self.rt).leave();
     }
@@ -179,7 +186,7 @@ impl<
         let accepted = accept_clients(
             self.rt,
             listener,
-            self.limits.sessions,
+            self.limits,
             self,
             self.slots,
             &|serving: &Serving<'_, Shared<D, T, N>, N, G, R>, number: usize| {

@@ -2,8 +2,8 @@
 //!
 //! A [`Server`] serves a store on a listener. Each session is one thread that replies to the lines of its connection in
 //! order, with a slot and an inbox of silt_session. Beside the sessions run the writer that does their changes, the
-//! replier that sends its replies, and the converter and the merger, which do their steps while there is work. With
-//! [`Limits::pipeline`] all changes of one read are one job of the writer.
+//! replier that sends its replies, and the converter and the merger, which do their steps while there is work. Unless its
+//! [`Protocol`] is that of plain lines, all changes of one read are one job of the writer.
 //!
 //! A session's fault ends only that session. Nothing is proved of sockets, of whether threads run, or of whether messages
 //! arrive.
@@ -20,5 +20,5 @@ mod workers;
 mod written;
 
 pub use counting_listener::Listens;
-pub use limits::Limits;
+pub use limits::{Limits, Protocol};
 pub use serve::{Server, ServerState, refuse_network};

@@ -1,13 +1,33 @@
 // The limits of a server.
 ghost use Rattle.std.specs.Prelude.{◌≡◌, option_map};
 ghost use Rattle.std.specs.Duration.{as_nanos};
-ghost use Rattle.silt_server.specs.Limits.{longest_silence};
+ghost use Rattle.silt_server.specs.Limits.{longest_silence, pipelines};
 
 use std::io;
 use std::net::TcpStream;
 use std::time::Duration;
 
-/// The limits of a server.
+/// What a server and its clients send each other.
+#[derive(Clone, Copy, Debug, PartialEq, Eq)]
+pub enum Protocol {
+    /// Lines. Each that comes alone has a flush.
+    Lines,
+    /// Lines. All commands of one read are flushed together.
+    PipelinedLines,
+    /// The commands of Redis clients. All of one read are flushed together.
+    Resp,
+}
+
+impl Protocol {
+    /// Whether all commands of one read are flushed together.
+    pub fn pipelines(self) -> bool
+        ensures { result ≡ pipelines self }
+    {
+        !matches!(self, Protocol::Lines)
+    }
+}
+
+/// The limits of a server, and its protocol.
 #[derive(Clone, Copy, Debug, PartialEq, Eq)]
 pub struct Limits {
     /// How many sessions to serve in all, or 0 for no limit.
@@ -18,8 +38,7 @@ pub struct Limits {
     pub idle: Option<u32>,
     /// How many seconds a command waits for room at most. 0: not at all.
     pub wait: u32,
-    /// Whether all commands of one read are flushed together. If not, each line that comes alone has a flush.
-    pub pipeline: bool,
+    pub protocol: Protocol,
 }
 
 // The longest wait for a client. None is no limit.

@@ -5,6 +5,7 @@ ghost use Rattle.silt_server.specs.Serving.{network_text};
 ghost use Rattle.silt_wire.specs.Sessions.{IsBeginning};
 ghost use Rattle.silt_server.specs.Texts.{busy_text, calls_text, listening_text, refused_text};
 
+use crate::limits::Protocol;
 use silt_event::Refusal;
 use silt_wire::write_refusal;
 use std::alloc::Global;
@@ -42,11 +43,21 @@ pub fn write_calls<W: Write>(alloc: Global, calls: u64, out: &mut W) -> io::Resu
     Ok(0)
 }
 
-/// Writes that all slots are taken and the connection is closed, or as much of that as the system takes at once.
-pub fn turn_away<W: Write>(out: &mut W)
-    ensures { (written : List ℕ) × IsBeginning written busy_text × Appends (W.contents out.old) (W.contents out.new) written }
+// That all slots are taken.
+fn busy_text(protocol: Protocol) -> &'static [u8]
+    ensures { result.now ≡ busy_text protocol }
 {
-    let _ = out.write(b"busy: 64 connections are served already\n");
+    match protocol {
+        Protocol::Resp => b"-ERR max number of clients reached\r\n",
+        _ => b"busy: 64 connections are served already\n",
+    }
+}
+
+/// Writes that all slots are taken and the connection is closed, or as much of that as the system takes at once.
+pub fn turn_away<W: Write>(protocol: Protocol, out: &mut W)
+    ensures { (written : List ℕ) × IsBeginning written (busy_text protocol) × Appends (W.contents out.old) (W.contents out.new) written }
+{
+    let _ = out.write(busy_text(protocol));
 }
 
 /// Writes that the network failed, and returns the status.

@@ -15,7 +15,7 @@ mod work;
 use silt_desk::Gate;
 use silt_device::{Disk, Geometry, MemDisk};
 use silt_fixtures::{formatted_with, opened_on};
-use silt_server::{Limits, Server};
+use silt_server::{Limits, Protocol, Server};
 use silt_store_set::Core;
 use std::alloc::Global;
 use std::io::{self, Read, Write};
@@ -38,7 +38,7 @@ fn limits_of(sessions: u32, audit: Option<u64>) -> Limits {
         audit,
         idle: None,
         wait: 10,
-        pipeline: false,
+        protocol: Protocol::Lines,
     }
 }
 

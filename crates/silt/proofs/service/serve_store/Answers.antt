@@ -22,5 +22,5 @@ returns-clause-quiet g c = λ is. c.report_listener.ensures (c.status_served.ens
 
 pub returns-clause-printed : goal.returns-clause-printed
 returns-clause-printed g c =
-    served_ended c.serve-disk.result.1 c.status_served.result c.serve-disk.ensures.printed
+    served_ended _ _ _ c.serve-disk.result.1 c.status_served.result c.serve-disk.ensures.printed
     (λ was. (c.serve-disk.ensures.served was, rw (c.limits_of-limits.ensures.audit) at (c.serve-disk.ensures.kept was))) c.status_served.ensures.printed
