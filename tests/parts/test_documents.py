@@ -39,6 +39,8 @@ LEFT_OUT = {
     r"_tests_tests\b": "needs the test programs of crates",
     r"^git\b": "works on the repository",
 }
+if not shutil.which("redis-cli"):
+    LEFT_OUT[r"\bredis-cli\b"] = "needs Debian's package redis-tools"
 # The status of a command whose pipe was closed by the next one.
 CLOSED_PIPE = str(128 + signal.SIGPIPE)
 # The shell's part in front of a document's commands.

@@ -1,4 +1,5 @@
-"""The first day with silt: what a newcomer does wrong destroys no data, leaves no work undone, and is reported with its reason."""
+"""The first day with silt: what a newcomer does wrong destroys no data, leaves no work undone, and
+is reported with its reason."""
 import os
 import socket
 import unittest
@@ -19,8 +20,10 @@ OTHER = "silt: file: it holds other data; --force overwrites it\n"
 OVERWRITTEN = "silt: file holds a store{}; it is overwritten\n"
 KEPT = "silt: file: it holds a store{}; --force overwrites it\n"
 DAMAGED = " that is damaged or cannot be read"
-FULL = ("silt: 1 line refused 7 StoreFull, first line {}; merging drops what was overwritten or deleted (run with --tend, or silt "
-        "tend), and more keys need a larger S\n")
+FULL = (
+    "silt: 1 line refused 7 StoreFull, first line {}; merging drops what was overwritten or deleted (run with --tend, or silt "
+    "tend), and more keys need a larger S\n"
+)
 # Six numbers, and which one is out of its limits.
 OUT_OF_LIMITS = {
     "0 2 4 2 2 8": "V is 0, and may be 1 to 4096",
@@ -49,7 +52,13 @@ class Formats(WatchedCase):
         self.assertEqual(self.check_report("file").lines[-2:], ["charge 0", "layout 2"])
 
     def other_data(self):
-        return (b"x", b"the only copy of something\n" * 3, bytes(45056), self.random.randbytes(45056), self.random.randbytes(100_000))
+        return (
+            b"x",
+            b"the only copy of something\n" * 3,
+            bytes(45056),
+            self.random.randbytes(45056),
+            self.random.randbytes(100_000),
+        )
 
     def test_other_data_stay(self):
         for data in self.other_data():
@@ -79,8 +88,8 @@ class Formats(WatchedCase):
         self.assertEqual(ended.err, "")
 
     def check_kept(self, held, geometry=SMALL):
-        """A format is refused with a note of what the file holds, and changes no byte. By force it makes an empty store,
-        and says so before its first write."""
+        """A format is refused with a note of what the file holds, and changes no byte. By force it
+        makes an empty store, and says so before its first write."""
         before = self.path("file").read_bytes()
         ended, calls = self.recorded("format", "file", *geometry.split())
         self.assertEqual(ended, Ended(1, DEVICE, KEPT.format(held)))
@@ -106,9 +115,14 @@ class Formats(WatchedCase):
         self.check_kept(f" ({NAMED}) of at most 2 keys")
 
     def test_keys_that_are_not_in_a_log_stay(self):
-        """In hash stores and in the sorted store, also if they were deleted since and still take their places."""
-        puts, steps = [f"put =k{it} 0102" for it in range(5)], ["convert"] * 9
-        for lines in ([*puts, *steps, "delete =k4", "flush"], [*puts, *steps, *["merge"] * 13, "delete =k4", "flush"]):
+        """In hash stores and in the sorted store, also if they were deleted since and still take
+        their places."""
+        puts = [f"put =k{it} 0102" for it in range(5)]
+        steps = ["convert"] * 9
+        for lines in (
+            [*puts, *steps, "delete =k4", "flush"],
+            [*puts, *steps, *["merge"] * 13, "delete =k4", "flush"],
+        ):
             self.path("file").unlink(missing_ok=True)
             self.store(SMALL, lines, "file")
             self.check_kept(f" ({NAMED}) of at most 5 keys")
@@ -117,7 +131,8 @@ class Formats(WatchedCase):
         self.check_kept(f" ({NAMED}) of at most 1 keys")
 
     def test_a_store_without_keys(self):
-        """A new one, and one with deletes alone. Nothing that was accepted and not flushed counts."""
+        """A new one, and one with deletes alone. Nothing that was accepted and not flushed
+        counts."""
         for lines in ([], ["delete =a", "flush"], ["put =a 0102"]):
             self.path("file").unlink(missing_ok=True)
             self.store(SMALL, lines, "file")
@@ -142,7 +157,9 @@ class Formats(WatchedCase):
         self.store(SMALL, ["put =a 0102", "flush"], "file")
         before = self.path("file").read_bytes()
         for number in range(1, 5):
-            ended = self.silt("format", "file", *SMALL.split(), env=watching(self, fail=f"pread:{number}:EIO"))
+            ended = self.silt(
+                "format", "file", *SMALL.split(), env=watching(self, fail=f"pread:{number}:EIO")
+            )
             self.assertEqual((ended.status, ended.out), (1, DEVICE), (number, ended))
             self.assertTrue(self.path("file").read_bytes() == before, number)
 
@@ -168,13 +185,15 @@ class Formats(WatchedCase):
         self.assert_new()
         held = " (V 2, B 2, CAP 8, NL 2, NH 2, S 16) of at most 1 keys"
         self.assert_ends(f"format file {SMALL}", DEVICE, KEPT.format(held), 1)
-        self.assert_ends(f"format file {SMALL} --force", "formatted 45056\n", OVERWRITTEN.format(held))
+        self.assert_ends(
+            f"format file {SMALL} --force", "formatted 45056\n", OVERWRITTEN.format(held)
+        )
         self.assert_new()
         self.assertEqual(self.path("file").stat().st_size, 45056)
 
     def test_each_kind_of_what_is_overwritten(self):
-        """Other data, an empty store, a store of another length than its header says, and other data that
-        begin almost as a store."""
+        """Other data, an empty store, a store of another length than its header says, and other
+        data that begin almost as a store."""
         empty = OVERWRITTEN.format(f" ({NAMED}) of at most 0 keys")
         text = b"no store, but a text of more bytes than a header has"
         self.path("file").write_bytes(text)
@@ -182,7 +201,9 @@ class Formats(WatchedCase):
         self.assertEqual(self.path("file").read_bytes(), text)
         self.assert_ends(f"format file {SMALL} --force", "formatted 45056\n")
         self.assert_ends(f"format file {SMALL}", "formatted 45056\n", empty)
-        self.assert_ends("format file 100 1024 3000 4 4 100000 --force", "formatted 27471872\n", empty)
+        self.assert_ends(
+            "format file 100 1024 3000 4 4 100000 --force", "formatted 27471872\n", empty
+        )
         os.truncate(self.path("file"), 45056)
         self.check_kept(DAMAGED)
         with self.path("file").open("r+b") as file:
@@ -210,9 +231,22 @@ class Formats(WatchedCase):
         self.path("kept").write_bytes(b"kept")
         for numbers, said in OUT_OF_LIMITS.items():
             due = Ended(1, "refused 2 BadGeometry\n", f"silt: {said}\n")
-            for words in ("format kept", "format kept --force", "format none", "format none/none", "script"):
-                self.assertEqual(self.silt(*words.split(), *numbers.split(), text="flush\n"), due, (words, numbers))
-        self.assertEqual((self.path("kept").read_bytes(), [it.name for it in self.folder.iterdir()]), (b"kept", ["kept"]))
+            for words in (
+                "format kept",
+                "format kept --force",
+                "format none",
+                "format none/none",
+                "script",
+            ):
+                self.assertEqual(
+                    self.silt(*words.split(), *numbers.split(), text="flush\n"),
+                    due,
+                    (words, numbers),
+                )
+        self.assertEqual(
+            (self.path("kept").read_bytes(), [it.name for it in self.folder.iterdir()]),
+            (b"kept", ["kept"]),
+        )
 
     def test_numbers_within_their_limits(self):
         """A number may begin with zeros."""
@@ -234,13 +268,18 @@ class Runs(WatchedCase):
 
     def test_jobs_that_are_done_say_nothing(self):
         """But a check names the numbers of the store."""
-        report = "active log 0 rows {0}\nfrozen logs 0 rows 0\nhash stores 0 rows 0\nsorted entries 0\ncharge {0}\nlayout 2\n"
+        report = (
+            "active log 0 rows {0}\nfrozen logs 0 rows 0\nhash stores 0 rows 0\nsorted entries 0\n"
+            "charge {0}\nlayout 2\n"
+        )
         numbers = "silt: store: V 2, B 2, CAP 4, NL 2, NH 2, S 8; charge {} of 8\n"
         self.assert_ends(f"format store {SMALL}", "formatted 45056\n")
         self.assert_ends("run store", "opened\n")
         self.assert_ends("tend store", "opened\nconverted 0 steps, merged 0 steps\n")
         self.assert_ends("check store", "generation 0\n" + report.format(0), numbers.format(0))
-        self.assert_ends("run store", "opened\naccepted 1\nacknowledged 1\n", text="put =abc 0102\nflush\n")
+        self.assert_ends(
+            "run store", "opened\naccepted 1\nacknowledged 1\n", text="put =abc 0102\nflush\n"
+        )
         self.assert_ends("check store", "generation 0\n" + report.format(1), numbers.format(1))
 
     def test_several_runs(self):
@@ -248,39 +287,81 @@ class Runs(WatchedCase):
         rest = "silt: the last line has no line feed, and is not answered\n"
         bad = "silt: 1 line refused 20 BadLine, first line 2\n"
         self.store(SMALL)
-        self.assert_ends("run store", "opened\naccepted 1\nacknowledged 1\nvalue 0102\n", text="put =abc 0102\nflush\nget =abc\n")
-        self.assert_ends("run store", "opened\naccepted 1\nvalue 0304\naccepted 2\n", rest,
-                         text="put =abc 0304\nget =abc\nput =abc 0506\r\n\r\nflush")
+        self.assert_ends(
+            "run store",
+            "opened\naccepted 1\nacknowledged 1\nvalue 0102\n",
+            text="put =abc 0102\nflush\nget =abc\n",
+        )
+        self.assert_ends(
+            "run store",
+            "opened\naccepted 1\nvalue 0304\naccepted 2\n",
+            rest,
+            text="put =abc 0304\nget =abc\nput =abc 0506\r\n\r\nflush",
+        )
         self.assert_ends("run store", "opened\nvalue 0102\n", text="get =abc\n")
-        self.assert_ends("run store", "opened\nvalue 0102\nrefused 20 BadLine\naccepted 1\n", bad + rest,
-                         text="get =abc\nstop 0 old\ndelete =abc\nget =abc")
+        self.assert_ends(
+            "run store",
+            "opened\nvalue 0102\nrefused 20 BadLine\naccepted 1\n",
+            bad + rest,
+            text="get =abc\nstop 0 old\ndelete =abc\nget =abc",
+        )
         self.assert_ends("run store", "opened\n")
 
     def test_refusals_are_counted_by_their_reason(self):
         self.store(SMALL)
-        ended = self.run_lines("pot", "put =a 01", "put =a 0102", "get 12", "put =b 0", "", "get", "put =c 04", "flush")
+        ended = self.run_lines(
+            "pot", "put =a 01", "put =a 0102", "get 12", "put =b 0", "", "get", "put =c 04", "flush"
+        )
         self.assertEqual(ended.status, 0)
-        self.assertEqual(ended.err, "silt: 2 lines refused 20 BadLine, first line 1\n"
-                         "silt: 1 line refused 21 BadKey, first line 4\n"
-                         "silt: 3 lines refused 22 BadValue, first line 2; a value has 4 hexadecimal digits here (V is 2)\n")
+        self.assertEqual(
+            ended.err,
+            "silt: 2 lines refused 20 BadLine, first line 1\n"
+            "silt: 1 line refused 21 BadKey, first line 4\n"
+            "silt: 3 lines refused 22 BadValue, first line 2; a value has 4 hexadecimal digits here (V is 2)\n",
+        )
 
     def test_a_swap_of_two_hyphens(self):
-        """No value is wrong, and the note says what is. A key out of its form, a word more or a value is another fault."""
+        """No value is wrong, and the note says what is. A key out of its form, a word more or a
+        value is another fault."""
         self.store(SMALL)
-        swap, value = "OLD and NEW of a swap are not both a hyphen", "a value has 4 hexadecimal digits here (V is 2)"
+        swap = "OLD and NEW of a swap are not both a hyphen"
+        value = "a value has 4 hexadecimal digits here (V is 2)"
         digits = "0123456789abcdefABCD" * 2
-        for lines, said in ((["swap =a - -"], f"1 line refused 22 BadValue, first line 1; {swap}"),
-                            (["get =a", f"swap {digits} - -\r", "swap =a - -"], f"2 lines refused 22 BadValue, first line 2; {swap}"),
-                            ([f"swap ={'n' * 8000} - -"], f"1 line refused 22 BadValue, first line 1; {swap}"),
-                            (["put =a 01", "swap =a - -"], f"2 lines refused 22 BadValue, first line 1; {value}, and {swap}"),
-                            (["swap =a - -", "put =a 01"], f"2 lines refused 22 BadValue, first line 1; {value}, and {swap}"),
-                            (["swap =a - 01"], f"1 line refused 22 BadValue, first line 1; {value}"),
-                            (["swap =a - --"], f"1 line refused 22 BadValue, first line 1; {value}"),
-                            (["swap =a -- -"], f"1 line refused 22 BadValue, first line 1; {value}"),
-                            (["swap = - -", f"swap {digits}0 - -", f"swap ={'n' * 8001} - -", "swap a - -", "put =a 01"],
-                             f"4 lines refused 21 BadKey, first line 1\nsilt: 1 line refused 22 BadValue, first line 5; {value}"),
-                            (["swap =a - - -", "swaps =a - -", "swap  =a - -", "put =a 01"],
-                             f"3 lines refused 20 BadLine, first line 1\nsilt: 1 line refused 22 BadValue, first line 4; {value}")):
+        for lines, said in (
+            (["swap =a - -"], f"1 line refused 22 BadValue, first line 1; {swap}"),
+            (
+                ["get =a", f"swap {digits} - -\r", "swap =a - -"],
+                f"2 lines refused 22 BadValue, first line 2; {swap}",
+            ),
+            ([f"swap ={'n' * 8000} - -"], f"1 line refused 22 BadValue, first line 1; {swap}"),
+            (
+                ["put =a 01", "swap =a - -"],
+                f"2 lines refused 22 BadValue, first line 1; {value}, and {swap}",
+            ),
+            (
+                ["swap =a - -", "put =a 01"],
+                f"2 lines refused 22 BadValue, first line 1; {value}, and {swap}",
+            ),
+            (["swap =a - 01"], f"1 line refused 22 BadValue, first line 1; {value}"),
+            (["swap =a - --"], f"1 line refused 22 BadValue, first line 1; {value}"),
+            (["swap =a -- -"], f"1 line refused 22 BadValue, first line 1; {value}"),
+            (
+                [
+                    "swap = - -",
+                    f"swap {digits}0 - -",
+                    f"swap ={'n' * 8001} - -",
+                    "swap a - -",
+                    "put =a 01",
+                ],
+                f"4 lines refused 21 BadKey, first line 1\n"
+                f"silt: 1 line refused 22 BadValue, first line 5; {value}",
+            ),
+            (
+                ["swap =a - - -", "swaps =a - -", "swap  =a - -", "put =a 01"],
+                f"3 lines refused 20 BadLine, first line 1\n"
+                f"silt: 1 line refused 22 BadValue, first line 4; {value}",
+            ),
+        ):
             ended = self.run_lines(*lines)
             self.assertEqual((ended.status, ended.err), (0, f"silt: {said}\n"), lines)
 
@@ -288,16 +369,25 @@ class Runs(WatchedCase):
         self.store(SMALL)
         ended = self.run_lines(*(f"delete =k{n}" for n in range(12)), "flush")
         self.assertEqual(ended.lines[-2:], ["refused 8 NoRoom", "acknowledged 8"])
-        self.assertEqual(ended.err, "silt: 4 lines refused 8 NoRoom, first line 9; background work makes room: run with --tend, or silt tend\n")
+        self.assertEqual(
+            ended.err,
+            "silt: 4 lines refused 8 NoRoom, first line 9; "
+            "background work makes room: run with --tend, or silt tend\n",
+        )
 
     def test_lines_are_those_of_the_input(self):
         """Blank ones count. Reasons come in the order of their numbers."""
         self.store(SMALL, [f"delete =k{n}" for n in range(8)] + ["flush"])
         text = "get =a\n\nput =b 0102\n\r\n\r\nput =c 01\nput =d 0102\nnone\n"
-        out = "opened\nabsent\nrefused 8 NoRoom\nrefused 22 BadValue\nrefused 8 NoRoom\nrefused 20 BadLine\n"
-        err = ("silt: 2 lines refused 8 NoRoom, first line 3; background work makes room: run with --tend, or silt tend\n"
-               "silt: 1 line refused 20 BadLine, first line 8\n"
-               "silt: 1 line refused 22 BadValue, first line 6; a value has 4 hexadecimal digits here (V is 2)\n")
+        out = (
+            "opened\nabsent\nrefused 8 NoRoom\nrefused 22 BadValue\nrefused 8 NoRoom\n"
+            "refused 20 BadLine\n"
+        )
+        err = (
+            "silt: 2 lines refused 8 NoRoom, first line 3; background work makes room: run with --tend, or silt tend\n"
+            "silt: 1 line refused 20 BadLine, first line 8\n"
+            "silt: 1 line refused 22 BadValue, first line 6; a value has 4 hexadecimal digits here (V is 2)\n"
+        )
         self.assert_ends("run store", out, err, text=text)
 
     def test_lines_that_are_written_in_pieces(self):
@@ -315,10 +405,20 @@ class Runs(WatchedCase):
     def test_more_blank_lines_than_are_kept(self):
         """65,536 of them are kept by their numbers."""
         self.store(SMALL)
-        for blank, where in ((65_536, "first line 65538"), (65_537, "first far behind many blank lines")):
-            err = f"silt: 1 line refused 20 BadLine, first line 1\nsilt: 1 line refused 21 BadKey, {where}\n"
-            self.assert_ends("run store", "opened\nrefused 20 BadLine\nrefused 21 BadKey\n", err,
-                             text="pot\n" + "\n" * blank + "get =\n")
+        for blank, where in (
+            (65_536, "first line 65538"),
+            (65_537, "first far behind many blank lines"),
+        ):
+            err = (
+                f"silt: 1 line refused 20 BadLine, first line 1\n"
+                f"silt: 1 line refused 21 BadKey, {where}\n"
+            )
+            self.assert_ends(
+                "run store",
+                "opened\nrefused 20 BadLine\nrefused 21 BadKey\n",
+                err,
+                text="pot\n" + "\n" * blank + "get =\n",
+            )
 
     def test_a_full_store(self):
         self.store("2 2 4 2 2 3")
@@ -329,7 +429,12 @@ class Runs(WatchedCase):
     def test_a_full_store_and_a_last_line_without_its_end(self):
         self.store("2 2 4 2 2 1", ["put =a 0102", "flush"])
         rest = "silt: the last line has no line feed, and is not answered\n"
-        self.assert_ends("run store", "opened\nrefused 7 StoreFull\n", FULL.format(1) + rest, text="put =a 0102\nput")
+        self.assert_ends(
+            "run store",
+            "opened\nrefused 7 StoreFull\n",
+            FULL.format(1) + rest,
+            text="put =a 0102\nput",
+        )
 
     def test_a_last_line_without_its_end(self):
         self.store(SMALL)
@@ -346,7 +451,11 @@ class Tends(WatchedCase):
         lines = []
         for number in range(count):
             key = self.random.choice(keys)
-            lines.append(f"put {key} {value_of(number, 8)}" if self.random.random() < 0.8 else f"delete {key}")
+            lines.append(
+                f"put {key} {value_of(number, 8)}"
+                if self.random.random() < 0.8
+                else f"delete {key}"
+            )
             if self.random.random() < 0.05:
                 lines.append("flush")
         return keys, lines
@@ -387,14 +496,23 @@ class Tends(WatchedCase):
         self.assertEqual(report[2:4], ["frozen logs 0 rows 0", "hash stores 0 rows 0"])
         self.check_answers(keys, lines)
         again = self.silt("tend", "store")
-        self.assertEqual((again.status, again.out), (0, "opened\nconverted 0 steps, merged 0 steps\n"), again)
+        self.assertEqual(
+            (again.status, again.out), (0, "opened\nconverted 0 steps, merged 0 steps\n"), again
+        )
 
     def run_puts(self, *options):
-        """Puts of three keys, five times each, and a get. How many were accepted, and how many found no room."""
-        lines = [f"put ={key} 00{round}{number}" for round in range(5) for number, key in enumerate("abc", 1)]
+        """Puts of three keys, five times each, and a get. How many were accepted, and how many
+        found no room."""
+        lines = [
+            f"put ={key} 00{round}{number}"
+            for round in range(5)
+            for number, key in enumerate("abc", 1)
+        ]
         ended = self.silt("run", "store", *options, text="\n".join([*lines, "get =b", ""]))
         self.assertEqual((ended.status, len(ended.lines)), (0, 17), ended)
-        return sum(it.startswith("accepted") for it in ended.lines), ended.lines.count("refused 8 NoRoom")
+        return sum(it.startswith("accepted") for it in ended.lines), ended.lines.count(
+            "refused 8 NoRoom"
+        )
 
     def test_two_logs_of_four_rows(self):
         """They are full after eight rows, unless there is background work."""
@@ -404,8 +522,8 @@ class Tends(WatchedCase):
             self.assertEqual(self.run_puts(*options), counts)
 
     def test_the_steps_of_a_tend(self):
-        """A log is converted in nine steps, and a hash store of three rows merged in twelve. Then a run finds room,
-        also for the rows that no flush settled."""
+        """A log is converted in nine steps, and a hash store of three rows merged in twelve. Then a
+        run finds room, also for the rows that no flush settled."""
         self.store("2 2 4 2 2 16")
         self.assertEqual(self.run_puts(), (8, 7))
         self.assert_ends("tend store", "opened\nconverted 9 steps, merged 12 steps\n")
@@ -427,17 +545,28 @@ class Reasons(ServedCase):
     def test_a_file_in_use(self):
         self.store(SMALL)
         self.serve()
-        for words in (("run", "store"), ("check", "store"), ("tend", "store"), ("serve", "store", "0"), ("format", "store", *SMALL.split())):
+        for words in (
+            ("run", "store"),
+            ("check", "store"),
+            ("tend", "store"),
+            ("serve", "store", "0"),
+            ("format", "store", *SMALL.split()),
+        ):
             ended = self.silt(*words)
             self.assertEqual((ended.status, ended.out), (1, DEVICE), ended)
-            self.assertEqual(ended.err, "silt: store: the file is in use, and is free when the other program ends\n")
+            self.assertEqual(
+                ended.err,
+                "silt: store: the file is in use, and is free when the other program ends\n",
+            )
 
     def test_a_file_that_is_no_store(self):
         self.path("file").write_bytes(b"other data")
         for words in (("run", "file"), ("check", "file"), ("tend", "file"), ("serve", "file", "0")):
             ended = self.silt(*words)
             self.assertEqual((ended.status, ended.out), (1, "refused 1 NotFormatted\n"), ended)
-            self.assertEqual(ended.err, "silt: file: it is not a silt store; make one with silt format\n")
+            self.assertEqual(
+                ended.err, "silt: file: it is not a silt store; make one with silt format\n"
+            )
 
     def test_a_check_prints_the_geometry_and_how_full_the_store_is(self):
         self.store(SMALL, ["put =a 0102", "put =b 0304", "flush"])

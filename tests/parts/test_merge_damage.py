@@ -1,4 +1,5 @@
-"""Bytes that change under an open store: a merge compares what it reads with the digests that its stores had."""
+"""Bytes that change under an open store: a merge compares what it reads with the digests that its
+stores had."""
 import os
 import subprocess
 import time
@@ -12,7 +13,8 @@ from watch import WatchedCase, read_record, watching
 # Logs of four rows, and hash regions of eight slots.
 NUMBERS = "2 2 4 4 4 40"
 SLOTS = 8
-HASH, SORTED = "refused 3 Damaged hash {} digest", "refused 3 Damaged sorted digest"
+HASH = "refused 3 Damaged hash {} digest"
+SORTED = "refused 3 Damaged sorted digest"
 NOTE = "silt: store: a merge is {}: {} has another digest than the manifest says{}\n"
 
 
@@ -24,7 +26,8 @@ class Opened:
     """An open run: it replies to one line after the other."""
 
     def __init__(self, case, *options):
-        self.case, self.run = case, case.start("run", "store", *options)
+        self.case = case
+        self.run = case.start("run", "store", *options)
         case.addCleanup(self.run.kill)
         case.assertEqual(self.reply(), "opened")
 
@@ -55,7 +58,11 @@ class DamageCase(WatchedCase):
             lines += [*puts(5 + 4 * store, 4), *["convert"] * (SLOTS + 1)]
         self.store(NUMBERS, [*lines, "flush"])
         checked = self.check_report()
-        self.assertEqual(checked.lines[3:5], [f"hash stores {hashes} rows {4 * hashes}", "sorted entries 4"], checked)
+        self.assertEqual(
+            checked.lines[3:5],
+            [f"hash stores {hashes} rows {4 * hashes}", "sorted entries 4"],
+            checked,
+        )
 
     def flip(self, at):
         """Changes one byte of the file, and returns it as it was."""
@@ -73,24 +80,37 @@ class DamageCase(WatchedCase):
             store.write(byte)
 
     def hash_places(self, region):
-        """A byte of each kind in a hash region: the kind, key and value of each slot, and what an empty one has."""
+        """A byte of each kind in a hash region: the kind, key and value of each slot, and what an
+        empty one has."""
         length = self.geometry.row_length
-        return [self.geometry.hash_at(region) + slot * length + byte for slot in range(SLOTS) for byte in (0, 1, length - 1)]
+        return [
+            self.geometry.hash_at(region) + slot * length + byte
+            for slot in range(SLOTS)
+            for byte in (0, 1, length - 1)
+        ]
 
     def sorted_places(self):
-        """A byte of each kind of the entries, which are in the second region, since one merge has ended."""
+        """A byte of each kind of the entries, which are in the second region, since one merge has
+        ended."""
         length = self.geometry.entry_length
-        return [self.geometry.sorted_at(1) + entry * length + byte for entry in range(4) for byte in (0, 19, length - 1)]
+        return [
+            self.geometry.sorted_at(1) + entry * length + byte
+            for entry in range(4)
+            for byte in (0, 19, length - 1)
+        ]
 
 
 class Runs(DamageCase):
     """Lines of a run, one step each."""
 
     def check_refused(self, opened, steps, refusal):
-        """So many steps are done, and each further one is refused. The rest of the store goes on."""
+        """So many steps are done, and each further one is refused. The rest of the store goes
+        on."""
         self.assertEqual(opened.ask(*["merge"] * (steps + 3)), [*["moved"] * steps, *[refusal] * 3])
-        self.assertEqual(opened.ask("get =key/0", "put =key/0 ffff", "flush", "get =key/0", "merge"),
-                         ["value 0000", "accepted 1", "acknowledged 1", "value ffff", refusal])
+        self.assertEqual(
+            opened.ask("get =key/0", "put =key/0 ffff", "flush", "get =key/0", "merge"),
+            ["value 0000", "accepted 1", "acknowledged 1", "value ffff", refusal],
+        )
         ended = opened.end()
         self.assertEqual((ended.status, ended.out), (0, ""), ended)
 
@@ -126,7 +146,9 @@ class Runs(DamageCase):
                 self.flip(place)
                 replies = opened.ask(*["merge"] * (SLOTS + 12))
                 steps = replies.index(SORTED)
-                self.assertEqual((set(replies[:steps]), set(replies[steps:])), ({"moved"}, {SORTED}))
+                self.assertEqual(
+                    (set(replies[:steps]), set(replies[steps:])), ({"moved"}, {SORTED})
+                )
                 self.assertEqual(opened.end().status, 0)
 
     def test_a_byte_that_is_put_back(self):
@@ -142,12 +164,15 @@ class Runs(DamageCase):
         self.assert_checked(self.check_report())
 
     def test_what_was_read_before(self):
-        """The slots are read at once. A key that changes later is in no new store, and the old one is not named any more."""
+        """The slots are read at once. A key that changes later is in no new store, and the old one
+        is not named any more."""
         self.with_stores(1)
         opened = Opened(self)
         self.assertEqual(opened.ask("merge"), ["moved"])
         self.flip(self.hash_places(0)[1])
-        self.assertEqual(opened.ask(*["merge"] * (SLOTS + 8)), [*["moved"] * (SLOTS + 7), "finished"])
+        self.assertEqual(
+            opened.ask(*["merge"] * (SLOTS + 8)), [*["moved"] * (SLOTS + 7), "finished"]
+        )
         self.assertEqual(opened.end().status, 0)
         self.assert_checked(self.check_report())
         dump = self.silt("dump", "store")
@@ -176,7 +201,13 @@ class Tends(DamageCase):
                 filled += os.write(writing, filler)
         except BlockingIOError:
             os.set_blocking(writing, True)
-        running = self.start("tend", "store", stdin=subprocess.DEVNULL, stdout=writing, env=watching(self, log="record"))
+        running = self.start(
+            "tend",
+            "store",
+            stdin=subprocess.DEVNULL,
+            stdout=writing,
+            env=watching(self, log="record"),
+        )
         self.addCleanup(running.kill)
         os.close(writing)
         by = time.monotonic() + TIME_LIMIT
@@ -197,7 +228,9 @@ class Tends(DamageCase):
 
     def test_a_hash_store(self):
         self.with_stores(1)
-        self.assertEqual(self.tended(self.hash_places(0)[2])[:2], (1, f"opened\n{HASH.format(0)}\n"))
+        self.assertEqual(
+            self.tended(self.hash_places(0)[2])[:2], (1, f"opened\n{HASH.format(0)}\n")
+        )
 
     def test_the_entries(self):
         self.with_stores(1)
@@ -208,15 +241,19 @@ class RunsThatTend(DamageCase):
     """`run --tend`, whose store changes behind its opening."""
 
     def check_refused(self, hashes, options, place, refusal):
-        """Four puts freeze a log. Its hash store is one of the first merge, or waits for that merge. All lines have their replies,
-        and the refusal comes behind them."""
+        """Four puts freeze a log. Its hash store is one of the first merge, or waits for that
+        merge. All lines have their replies, and the refusal comes behind them."""
         self.with_stores(hashes)
         opened = Opened(self, "--tend", *options)
         self.assertEqual(opened.ask("get =key/1"), ["value 0001"])
         flipped = self.flip(place)
-        self.assertEqual(opened.ask(*puts(5 + 4 * hashes, 4)), [f"accepted {it + 1}" for it in range(4)])
-        self.assertEqual(opened.ask("get =key/1", "put =more 0102", "flush", "get =more"),
-                         ["value 0001", "accepted 5", "acknowledged 5", "value 0102"])
+        self.assertEqual(
+            opened.ask(*puts(5 + 4 * hashes, 4)), [f"accepted {it + 1}" for it in range(4)]
+        )
+        self.assertEqual(
+            opened.ask("get =key/1", "put =more 0102", "flush", "get =more"),
+            ["value 0001", "accepted 5", "acknowledged 5", "value 0102"],
+        )
         ended = opened.end()
         self.assertEqual((ended.status, ended.out, ended.err), (1, f"{refusal}\n", ""))
         checked = self.check_report()
@@ -239,21 +276,31 @@ class RunsThatTend(DamageCase):
         self.check_refused(1, ["--merge-at", "2"], self.hash_places(0)[2], HASH.format(0))
 
     def test_a_strict_run_with_a_refused_line(self):
-        """The status says that background work was refused. The line that was refused has its note."""
+        """The status says that background work was refused. The line that was refused has its
+        note."""
         self.with_stores(4)
         opened = Opened(self, "--tend", "--strict")
         self.flip(self.hash_places(0)[2])
-        self.assertEqual(opened.ask("put =a 01", *puts(21, 4), "get =key/1")[0], "refused 22 BadValue")
+        self.assertEqual(
+            opened.ask("put =a 01", *puts(21, 4), "get =key/1")[0], "refused 22 BadValue"
+        )
         ended = opened.end()
         self.assertEqual((ended.status, ended.out), (1, HASH.format(0) + "\n"))
-        self.assertEqual(ended.err, "silt: 1 line refused 22 BadValue, first line 1; a value has 4 hexadecimal digits here (V is 2)\n")
+        self.assertEqual(
+            ended.err,
+            "silt: 1 line refused 22 BadValue, first line 1; "
+            "a value has 4 hexadecimal digits here (V is 2)\n",
+        )
 
     def test_a_run_without_background_work(self):
         """It merges nothing, so it finds nothing."""
         self.with_stores(4)
         opened = Opened(self)
         self.flip(self.hash_places(0)[2])
-        self.assertEqual(opened.ask(*puts(21, 4), "get =key/1"), [*[f"accepted {it + 1}" for it in range(4)], "value 0001"])
+        self.assertEqual(
+            opened.ask(*puts(21, 4), "get =key/1"),
+            [*[f"accepted {it + 1}" for it in range(4)], "value 0001"],
+        )
         ended = opened.end()
         self.assertEqual((ended.status, ended.out, ended.err), (0, "", ""))
 
@@ -263,8 +310,15 @@ class Serves(ServedCase, DamageCase):
 
     def test_reports_it_at_once_and_goes_on(self):
         self.with_stores(1)
-        cases = ((self.hash_places(0)[2], HASH.format(0), "a hash store", f", at byte {self.geometry.hash_at(0)}"),
-                 (self.sorted_places()[2], SORTED, "the sorted store", ""))
+        cases = (
+            (
+                self.hash_places(0)[2],
+                HASH.format(0),
+                "a hash store",
+                f", at byte {self.geometry.hash_at(0)}",
+            ),
+            (self.sorted_places()[2], SORTED, "the sorted store", ""),
+        )
         for place, refusal, what, at in cases:
             with self.subTest(what=what):
                 whole = self.path("store").read_bytes()
@@ -275,7 +329,10 @@ class Serves(ServedCase, DamageCase):
                 self.assertEqual(client.ask(*puts(9, 4)), [f"accepted {it + 1}" for it in range(4)])
                 note = NOTE.format(refusal, what, at)
                 self.wait_until(lambda: note in server.error_file.read_text(), "the note")
-                self.assertEqual(client.ask("put =more 0102", "get =more", "get =key/5"), ["accepted 5", "value 0102", "value 0005"])
+                self.assertEqual(
+                    client.ask("put =more 0102", "get =more", "get =key/5"),
+                    ["accepted 5", "value 0102", "value 0005"],
+                )
                 client.end_input()
                 self.assertEqual(client.rest(), [])
                 ended = server.ended()

@@ -1,4 +1,5 @@
-"""When a merge begins, of a server and of background work without one: with how many hash stores."""
+"""When a merge begins, of a server and of background work without one: with how many hash
+stores."""
 from harness import Ended
 from served import ServedCase
 
@@ -8,13 +9,14 @@ ONE = "2 2 4 2 1 400"
 
 
 class Merges(ServedCase):
-    """After the last session the workers do what is due. So a store has at least as many hash stores as a merge takes, or
-    it has merged. A put may wait longer than a slow machine needs."""
+    """After the last session the workers do what is due. So a store has at least as many hash
+    stores as a merge takes, or it has merged. A put may wait longer than a slow machine needs."""
 
     options = ServedCase.patient
 
     def served(self, logs, *options):
-        """The lines of a check, after a server got rows for so many frozen logs, and one row more."""
+        """The lines of a check, after a server got rows for so many frozen logs, and one row
+        more."""
         server = self.serve("--sessions", 1, *options)
         client = self.client(server)
         lines = [f"put =key/{it} {it:04x}" for it in range(4 * logs + 1)]
@@ -25,7 +27,9 @@ class Merges(ServedCase):
         checked = self.check_report("store")
         self.assertEqual(checked.status, 0, checked)
         hashes, entries = (it.split() for it in checked.lines[3:5])
-        self.assertEqual((hashes[:2], entries[:2]), (["hash", "stores"], ["sorted", "entries"]), checked)
+        self.assertEqual(
+            (hashes[:2], entries[:2]), (["hash", "stores"], ["sorted", "entries"]), checked
+        )
         return int(hashes[2]), int(entries[2])
 
     def test_waits_for_half_of_the_regions(self):
@@ -72,14 +76,20 @@ class Tends(ServedCase):
         return int(checked.lines[3].split()[2]), int(checked.lines[4].split()[2])
 
     def run_logs(self, logs, *options):
-        """Rows for so many frozen logs, and one row more. The background work that the last put makes due is done before
-        the flush."""
+        """Rows for so many frozen logs, and one row more. The background work that the last put
+        makes due is done before the flush."""
         self.path("store").unlink(missing_ok=True)
         self.store(EIGHT)
         lines = [f"put =key/{it} {it:04x}" for it in range(4 * logs + 1)]
-        ended = self.silt("run", "store", "--tend", *options, text="".join(f"{it}\n" for it in [*lines, "flush"]))
+        ended = self.silt(
+            "run", "store", "--tend", *options, text="".join(f"{it}\n" for it in [*lines, "flush"])
+        )
         replies = [f"accepted {it + 1}" for it in range(len(lines))]
-        self.assertEqual((ended.status, ended.lines, ended.err), (0, ["opened", *replies, f"acknowledged {len(lines)}"], ""), ended)
+        self.assertEqual(
+            (ended.status, ended.lines, ended.err),
+            (0, ["opened", *replies, f"acknowledged {len(lines)}"], ""),
+            ended,
+        )
         return self.stores()
 
     def test_a_run_merges_when_no_region_is_free(self):
@@ -91,7 +101,9 @@ class Tends(ServedCase):
         for at in (1, 3, 8):
             for logs in (at - 1, at, at + 1, 2 * at):
                 with self.subTest(at=at, logs=logs):
-                    self.assertEqual(self.run_logs(logs, "--merge-at", at), (logs % at, logs // at * at * 4))
+                    self.assertEqual(
+                        self.run_logs(logs, "--merge-at", at), (logs % at, logs // at * at * 4)
+                    )
 
     def test_tend_merges_whatever_there_is(self):
         self.run_logs(3, "--merge-at", 8)
@@ -103,7 +115,10 @@ class Tends(ServedCase):
                 self.run_logs(3, "--merge-at", 8)
                 self.assert_tended(3, 0 if left[1] else 3, "--merge-at", at)
                 self.assertEqual(self.stores(), left)
-                self.assertEqual(self.silt("tend", "store", "--merge-at", at).out, "opened\nconverted 0 steps, merged 0 steps\n")
+                self.assertEqual(
+                    self.silt("tend", "store", "--merge-at", at).out,
+                    "opened\nconverted 0 steps, merged 0 steps\n",
+                )
 
     def assert_tended(self, stores, left, *options):
         """It merges all of these stores, four rows each in eight slots, or none of them."""
@@ -113,8 +128,12 @@ class Tends(ServedCase):
 
     def test_tend_merges_fewer_where_a_log_waits(self):
         """There is one hash region, and it is full when a second log is frozen."""
-        self.store(ONE, [f"put =key/{it} {it:04x}" for it in range(5)] + ["convert"] * 9
-                   + [f"put =key/{it} {it:04x}" for it in range(5, 9)] + ["flush"])
+        self.store(
+            ONE,
+            [f"put =key/{it} {it:04x}" for it in range(5)] + ["convert"] * 9 + [
+                f"put =key/{it} {it:04x}" for it in range(5, 9)
+            ] + ["flush"],
+        )
         ended = self.silt("tend", "store", "--merge-at", 1)
         self.assertEqual(ended, Ended(0, "opened\nconverted 9 steps, merged 30 steps\n", ""))
         self.assertEqual(self.stores(), (0, 8))
@@ -131,7 +150,10 @@ class Refusals(ServedCase):
             with self.subTest(job=job):
                 ended = self.silt(*job, "--merge-at", 0)
                 self.assertEqual((ended.status, ended.lines), (2, ["usage"]), ended)
-                self.assertIn("silt: --merge-at cannot be '0': a merge is of at least one hash store\n", ended.err)
+                self.assertIn(
+                    "silt: --merge-at cannot be '0': a merge is of at least one hash store\n",
+                    ended.err,
+                )
 
     def test_no_number_names_no_job(self):
         for job in self.JOBS:
@@ -147,7 +169,10 @@ class Refusals(ServedCase):
             with self.subTest(job=job):
                 ended = self.silt(*job, "--merge-at", 9, text="put =a 0102\n")
                 self.assertEqual((ended.status, ended.lines), (1, ["refused 2 BadGeometry"]), ended)
-                self.assertEqual(ended.err, "silt: --merge-at: store has 8 hash regions, and no more hash stores\n")
+                self.assertEqual(
+                    ended.err,
+                    "silt: --merge-at: store has 8 hash regions, and no more hash stores\n",
+                )
                 self.assertEqual(self.path("store").read_bytes(), before)
 
     def test_a_damaged_store_is_refused_first(self):
