@@ -1,4 +1,5 @@
 """Many clients of a server, slow ones, broken ones: each gets its replies and disturbs no other."""
+import hashlib
 import os
 import socket
 import threading
@@ -202,8 +203,8 @@ class ManyClients(ServedCase):
         """The last put of this connection was written, and two syncs followed: one settles its
         row, and one its commit byte."""
         line = next(it.data for it in reversed(calls) if it.name == "recv" and it.file == file)
-        value = bytes.fromhex(line.split()[2].decode())
-        row = max(at for at, it in enumerate(calls) if it.name == "pwrite" and value in it.data)
+        key = hashlib.sha1(line.split()[1].removeprefix(b"=")).digest()
+        row = max(at for at, it in enumerate(calls) if it.name == "pwrite" and key in it.data)
         self.assertGreaterEqual(sum(it.name == "fdatasync" for it in calls[row:]), 2, line)
 
 
