@@ -1,14 +1,14 @@
 #!/usr/bin/env python3
 """Measures how much memory a load takes: the resident memory of `silt run --tend` over time.
 
-    bench/measure_memory.py PROGRAM KEYS TABLE [STORE]
+    bench/measure_memory.py PROGRAM KEYS TABLE [STORE [K]]
     bench/measure_memory.py --plot TABLE PLOT
 
 It makes the store that `plan KEYS 100` gives, puts so many new keys with values of 100 bytes, as a run with --tend takes
 them, and reads the run's resident memory 20 times a second. TABLE gets a row for each second: how many rows were put by
 then, and the most memory since the row before. The last line on standard output has the greatest and the last memory.
-STORE is where the store's file is made (one in the system's folder for such files, if left out). The second form draws a
-table: memory over the rows that were put.
+STORE is where the store's file is made (one in the system's folder for such files, if left out). With K a merge begins at K
+hash stores (--merge-at). The second form draws a table: memory over the rows that were put.
 """
 import os
 import subprocess
@@ -65,11 +65,11 @@ def put_all(run, keys, samples):
     run.stdin.close()
 
 
-def measure(program, keys, table, store):
+def measure(program, keys, table, store, options=()):
     plan = subprocess.run([program, "plan", str(keys), str(VALUE)], capture_output=True, text=True, check=True)
     subprocess.run([program, "format", store, *plan.stdout.splitlines()[0].split(), "--force"], check=True, stdout=subprocess.DEVNULL)
     with open(os.devnull, "wb") as nothing:
-        run = subprocess.Popen([program, "run", store, "--tend"], stdin=subprocess.PIPE, stdout=nothing, env=ENV, bufsize=1 << 20)
+        run = subprocess.Popen([program, "run", store, "--tend", *options], stdin=subprocess.PIPE, stdout=nothing, env=ENV, bufsize=1 << 20)
         samples = Samples(run)
         put_all(run, keys, samples)
         status = run.wait()
@@ -97,11 +97,12 @@ def draw(table, picture):
 def main():
     if len(sys.argv) == 4 and sys.argv[1] == "--plot":
         return draw(*sys.argv[2:])
-    if len(sys.argv) not in (4, 5):
+    if len(sys.argv) not in (4, 5, 6):
         sys.exit(__doc__)
     program, keys, table = sys.argv[1], int(sys.argv[2]), sys.argv[3]
-    if len(sys.argv) == 5:
-        return measure(program, keys, table, sys.argv[4])
+    if len(sys.argv) > 4:
+        options = [it for number in sys.argv[5:] for it in ("--merge-at", number)]
+        return measure(program, keys, table, sys.argv[4], options)
     with tempfile.TemporaryDirectory() as folder:
         return measure(program, keys, table, f"{folder}/store.silt")
 
