@@ -17,6 +17,8 @@ REQUESTS = 20_000 if PROVED else 2_000
 
 
 def has_redis_py():
+    if not shutil.which(PYTHON):
+        return False
     return subprocess.run([PYTHON, "-c", "import redis"], capture_output=True).returncode == 0
 
 
