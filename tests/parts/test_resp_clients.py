@@ -9,7 +9,7 @@ import unittest
 from harness import PROVED, TIME_LIMIT
 from served import ServedCase
 
-# Room for what a benchmark writes: three bytes a value, and 100,000 names at most.
+# Room for what a benchmark and a bulk load write.
 GEOMETRY = "64 64 224 8 8 40000"
 # The Python that has Debian's modules.
 PYTHON = "/usr/bin/python3"
