@@ -167,8 +167,8 @@ fn is_right<D: Disk, N: DeskId>(
         return false;
     }
     match desk.look(&key_of(looks.first.wrapping_add(number)), out) {
-        Ok((_, found)) => {
-            found == looks.present && (!found || out.first() == Some(&byte_of(number)))
+        Ok(look) => {
+            look.found == looks.present && (!look.found || out.first() == Some(&byte_of(number)))
         }
         Err(_) => false,
     }

@@ -1,10 +1,9 @@
 -- What contracts see of a desk, and what its calls do.
-use Rattle.std.specs.Prelude.{◌≡◌, ◌⊎◌, ℕ, ◌+◌, Bool, MatchBool, Result, Ok, Err}
+use Rattle.std.specs.Prelude.{◌≡◌, ◌⊎◌, ℕ, ◌+◌, MatchBool}
 use Rattle.silt_disk.specs.declared.disk.Disk.{Ghosts}
 use Rattle.silt_store_set.specs.CoreState.{CoreState, Does}
 use Rattle.silt_event.specs.Events.{plain}
 use Rattle.silt_event.specs.declared.event.Event.{Event}
-use Rattle.silt_event.specs.declared.refusal.Refusal.{Refusal}
 use Rattle.silt_event.specs.declared.refusal.Refusal.TheVariants.{NoMemory, HistoryFull}
 use Rattle.silt_event.specs.declared.reply.Reply.{Reply}
 use Rattle.silt_event.specs.declared.reply.Reply.TheVariants.{Refused}
@@ -47,8 +46,3 @@ Notes extends old new totals after_totals seat after event reply =
     MatchBool (is_recorded reply)
     (extends old (call seat.number event reply) new × (after ≡ after_call seat (accepted_by reply)) × (after_totals.calls ≡ totals.calls + 1) × (after_totals.accepted ≡ totals.accepted + accepted_by reply))
     ((new ≡ old) × (after_totals ≡ totals) × (after ≡ seat))
-
--- whether a look found a value
-abbrev pub found_of : {F : Type 0} → Result (ℕ × Bool) (Refusal F) → Result Bool (Refusal F)
-found_of (Ok answer) = Ok answer.1
-found_of (Err refusal) = Err refusal

@@ -1,7 +1,7 @@
 // A store with its trace, whose callers have seats.
-ghost use Rattle.std.specs.Prelude.{◌≡◌, ◌≢◌, ℕ, ◌+◌, ◌≤◌, ◌<◌, ◌%◌, ◌^◌, [], Some, Ok, false, IsTrue, length, is_some, IfOk, IfErr, IfSome, OnOk, MatchResult, vec_len, vec_capacity, slice_get};
+ghost use Rattle.std.specs.Prelude.{◌≡◌, ◌≢◌, ℕ, ◌+◌, ◌≤◌, ◌<◌, ◌%◌, ◌^◌, [], Some, Ok, true, false, not, IsTrue, length, is_some, IfOk, IfErr, IfSome, OnOk, MatchResult, vec_len, vec_capacity, slice_get};
 ghost use Rattle.std.specs.Option.{option_map};
-ghost use Rattle.silt_event.specs.Events.{plain};
+ghost use Rattle.silt_event.specs.Events.{Step, plain};
 ghost use Rattle.silt_desk.specs.DeskState.{Notes};
 ghost use Rattle.silt_desk.specs.Notes.{given, noted_event, reply_of};
 ghost use Rattle.silt_desk.specs.Preparing.{unprepared_refusal};
@@ -14,7 +14,7 @@ use crate::worker::Due;
 use silt_disk::{Disk, Geometry};
 use silt_event::{Progress, Refusal};
 use silt_frame::Key;
-use silt_store_set::Core;
+use silt_store_set::{Core, Look};
 use std::alloc::Global;
 use std::marker::Model;
 use std::sync::ledger::Blank;
@@ -112,12 +112,13 @@ impl<D: Disk, T: Trace, N: DeskId> Desk<D, T, N> {
     ghost use Rattle.silt_disk.specs.Disk.{LeavesOnly};
     ghost use Rattle.silt_image.specs.Meaning.{StandsFor};
     ghost use Rattle.silt_engine.specs.Calls.{HasBegun};
+    ghost use Rattle.silt_engine.specs.Lookup.{changes_key};
     ghost use Rattle.silt_store_set.specs.CoreInvariant.{LeavesBegun};
     ghost use Rattle.silt_event.specs.Commands.{map_after};
     ghost use Rattle.silt_store_set.specs.CoreState.{Does, map_of, may_merge, wants_convert, wants_merge};
-    ghost use Rattle.silt_store_set.specs.Replies.{change_reply, flush_reply, get_reply, progress_reply, swap_reply};
+    ghost use Rattle.silt_store_set.specs.Replies.{change_reply, flush_reply, found_of, get_reply, progress_reply, swap_reply};
     ghost use Rattle.silt_event.specs.declared.event.Event.TheVariants.{Put, Delete, Swap, Get, Flush, Convert, Merge};
-    ghost use Rattle.silt_desk.specs.DeskState.{Serves, found_of};
+    ghost use Rattle.silt_desk.specs.DeskState.{Serves};
     ghost use Rattle.silt_desk.specs.Seeing.{seen};
 
     /// A desk with this many seats, numbered from 0. The two blanks become its ledgers.
@@ -357,19 +358,19 @@ impl<D: Disk, T: Trace, N: DeskId> Desk<D, T, N> {
         }
     }
 
-    /// Writes a key's value over `out`, and returns how many commands are accepted and whether the key has a value. It
-    /// records nothing and changes nothing: many threads may look at the same time.
-    pub fn look(&self, key: &Key, out: &mut [u8]) -> Result<(u64, bool), Refusal<D::Fault>>
+    /// Writes a key's value over `out`, and returns how many commands are accepted, whether the key has a value, and
+    /// whether a crash keeps this answer. It records nothing and changes nothing: many threads may look at the same time.
+    pub fn look(&self, key: &Key, out: &mut [u8]) -> Result<Look, Refusal<D::Fault>>
         requires { length out.old ≡ self.now.core.shape.value_len }
         ensures reply { Does D.Disk self.now.core self.now.core (Get key.now) (get_reply out.new (found_of result)) }
-        ensures count { IfOk result (λ r. r.0 ≡ self.now.core.count) }
+        ensures count { IfOk result (λ look. look.count ≡ self.now.core.count) }
+        ensures settled { IsTrue (D.content self.now.core.disk).honest → IfOk result (λ look. look.is_settled ≡ not (changes_key self.now.core.waiting key.now.0)) }
+        ensures kept { IsTrue (D.content self.now.core.disk).honest
+            → IfOk result (λ look. look.is_settled ≡ true → Step self.now.core.base (Get key.now) (get_reply out.new (found_of result)) self.now.core.base) }
         ensures absent { found_of result ≡ Ok false → out.new ≡ out.old }
         ensures memory { ¬ IsErrOf result Refusal.NoMemory }
     {
-        match self.core.get(key, out) {
-            Ok(found) => Ok((self.core.count(), found)),
-            Err(refusal) => Err(refusal),
-        }
+        self.core.look(key, out)
     }
 
     /// The trace, which agrees with the store as it is now.

@@ -115,7 +115,19 @@ fn look<D: Disk, T: Trace, N: DeskId>(desk: &Desk<D, T, N>, key: &Key) -> Look {
     }
     let mut out = [7; 2];
     match desk.look(key, &mut out) {
-        Ok((count, found)) => Some((count, found.then_some(out))),
+        Ok(look) => Some((look.count, look.found.then_some(out))),
+        Err(_) => None,
+    }
+}
+
+// Whether a crash keeps what a look at this key returns. None if the look is refused.
+fn is_settled<D: Disk, T: Trace, N: DeskId>(desk: &Desk<D, T, N>, key: &Key) -> Option<bool> {
+    if desk.geometry().value_len() != 2 {
+        return None;
+    }
+    let mut out = [7; 2];
+    match desk.look(key, &mut out) {
+        Ok(look) => Some(look.is_settled),
         Err(_) => None,
     }
 }

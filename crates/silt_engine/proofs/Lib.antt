@@ -12,6 +12,7 @@ pub mod Flushes
 pub mod Exits
 pub mod Lookups
 pub mod Walks
+pub mod Waits
 pub mod Freezes
 pub mod Digesting
 pub mod Said

@@ -59,7 +59,8 @@ newest_append older newer key = ap (find (λ (row : StoredRow). bytes_eq row.key
 newest_one : (row : StoredRow) (key : List ℕ) → newest_row (row ∷ []) key ≡ cond (bytes_eq row.key key) (Some row) None
 newest_one row key = refl
 
-other_key : (a b : List ℕ) → a ≢ b → bytes_eq a b ≡ false
+-- two keys that differ
+pub other_key : (a b : List ℕ) → a ≢ b → bytes_eq a b ≡ false
 other_key a b differ = elim (cases_Bool (bytes_eq a b)) [
   | inl same ↦ absurd (differ ((bytes_eq-Decides a b).0 same))
   | inr other ↦ other

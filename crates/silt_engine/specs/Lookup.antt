@@ -1,6 +1,8 @@
 -- Which rows the stores have, and what lookups return.
-use Rattle.std.specs.Prelude.{◌≡◌, ◌<◌, ℕ, false, if◌then◌else◌, List, [], length, get_or, Option, Some, None, IfSome}
+use Rattle.std.specs.Prelude.{◌≡◌, ◌<◌, ℕ, Bool, false, nat_le, if◌then◌else◌, List, [], length, get_or, Option, Some, None, IfSome}
+use Rattle.std.specs.List.{list_any}
 use Rattle.std.specs.Option.{option_and_then}
+use Rattle.std.specs.Str.{bytes_eq}
 use Rattle.std.specs.BTreeMap.{BTreeMap}
 use Rattle.std.specs.BTreeMap as tree
 use Rattle.std.specs.FinMap.{get}
@@ -9,7 +11,7 @@ use Rattle.silt_frame.specs.declared.key.Key.{Key}
 use Rattle.silt_hash_store.specs.Lookup.{FindsRow}
 use Rattle.silt_hash_store.specs.Slots.{slot_row, hash_rows}
 use Rattle.silt_hash_store.specs.State.{HashState}
-use Rattle.silt_event.specs.Commands.{Map}
+use Rattle.silt_event.specs.Commands.{Command, Map, delete, put}
 use Rattle.silt_frame.specs.Frame.{is_put}
 use Rattle.silt_event.specs.Rows.{newest_row, value_given}
 use Rattle.silt_hash_store.specs.Findings.{holds_key}
@@ -67,6 +69,20 @@ FindsHashed content s key (Some (number, found)) =
 abbrev pub FindsNewest : Content → EngineState → List ℕ → Option (Holder × Found) → Type 0
 FindsNewest content s key None = get (current_map content s) key ≡ option_and_then value_given (newest_row (entries_of content s.sorted) key)
 FindsNewest content s key (Some (holder, found)) = get (current_map content s) key ≡ value_found content s holder found
+
+-- whether a command changes this key
+abbrev pub is_of_key : List ℕ → Command → Bool
+is_of_key key (put other value) = bytes_eq other key
+is_of_key key (delete other) = bytes_eq other key
+
+-- whether one of these commands changes this key
+abbrev pub changes_key : List Command → List ℕ → Bool
+changes_key commands key = list_any (is_of_key key) commands
+
+-- whether the row that was found waits for a flush: it lies in the active log, and the settled rows are before it
+abbrev pub is_waiting_row : EngineState → Option (Holder × Found) → Bool
+is_waiting_row s (Some (Active, found)) = nat_le s.active.log.settled found.place
+is_waiting_row s other = false
 
 -- the entries are those of the map
 abbrev pub AreEntriesOf : Map → BTreeMap Key (List ℕ) → Type 0

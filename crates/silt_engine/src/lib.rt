@@ -43,5 +43,6 @@ pub use crate::engine::Engine;
 pub use conversion::ConvertError;
 pub use entries::EntriesError;
 pub use laws::{converts_law, merges_law, standing_law};
+pub use lookup::Lookup;
 pub use merge::MergeError;
 pub use row_write::WriteError;

@@ -109,6 +109,14 @@ impl LogStore {
         self.log.is_empty()
     }
 
+    /// The number of rows that are settled behind open gates. The rows from this one on wait.
+    pub fn settled(&self) -> u32
+        ensures value { result ≡ self.now.log.settled }
+        ensures bounds { InBounds self.now.log }
+    {
+        self.log.settled()
+    }
+
     /// Whether a row waits for its gate to be opened.
     pub fn has_waiting(&self) -> bool
         ensures value { result ≡ nat_lt self.now.log.settled self.now.log.used }

@@ -30,8 +30,8 @@ fn look_up<D: Disk, T: Trace, N: DeskId>(
     ensures { AnswersGet D.Disk desk.now.core key.now result }
 {
     match desk.look(key, out.as_mut_slice()) {
-        Ok((_, true)) => Reply::Found(Value::new(out)),
-        Ok((_, false)) => Reply::Absent,
+        Ok(look) if look.found => Reply::Found(Value::new(out)),
+        Ok(_) => Reply::Absent,
         Err(refusal) => Reply::Refused(refusal.plain()),
     }
 }

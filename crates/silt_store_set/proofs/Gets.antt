@@ -1,14 +1,17 @@
 -- What a get returns.
-use Rattle.std.proofs.Common.{◌≡◌, ℕ, Bool, true, false, IsTrue, List, Option, Some, None, Ok, refl, ap, ◌∙◌}
+use Rattle.std.proofs.Common.{◌≡◌, ℕ, Bool, true, false, not, IsTrue, List, Option, Some, None, Ok, refl, ap, sym, ◌∙◌}
 use Rattle.std.specs.FinMap.{get}
 use Rattle.silt_disk.specs.Disk.{GaveAny}
 use Rattle.silt_disk.specs.declared.disk.Disk.{Ghosts}
 use Rattle.silt_frame.specs.declared.key.Key.{Key}
 use Rattle.silt_event.specs.Commands.{Map}
 use Rattle.silt_image.specs.Meaning.{image_map}
-use Rattle.silt_standing.specs.Standing.{Stands, current_map, full_image}
+use Rattle.silt_standing.specs.Standing.{Stands, base_map, current_map, full_image, waiting_commands}
 use Rattle.silt_standing.specs.State.{EngineState}
+use Rattle.silt_engine.specs.Lookup.{changes_key}
 use Rattle.silt_engine.proofs.Meaning.{meaning}
+use Rattle.silt_engine.proofs.Waits.{others_stay}
+use Rattle.silt_event.specs.Events.{Step}
 use Rattle.silt_event.specs.declared.event.Event.TheVariants.{Get}
 use Rattle.silt_event.specs.declared.refusal.Refusal.{Refusal}
 use Rattle.silt_event.specs.declared.refusal.Refusal.TheVariants.{Device, NoMemory}
@@ -17,6 +20,11 @@ use Rattle.silt_store_set.specs.CoreState.{Does}
 use Rattle.silt_store_set.specs.Replies.{ReadCause, get_reply}
 use Rattle.silt_disk.proofs.Costs.{none_made}
 use Rattle.silt_store_set.proofs.Calls.{seen, answered, refused}
+
+-- a test that is not passed
+not_changed : (changes : Bool) → not changes ≡ true → changes ≡ false
+not_changed true is = absurd (cc)
+not_changed false is = refl
 
 module _ {D F : Type 0} (facts : Ghosts D F) (disk : D) (stores : EngineState) (count : ℕ) (key : Key) (stands : Stands (facts.content disk) stores) where
   -- the map that lookups read is that of the full image
@@ -37,6 +45,22 @@ module _ {D F : Type 0} (facts : Ghosts D F) (disk : D) (stores : EngineState) (
       → Does facts (seen facts disk stores count) (seen facts disk stores count) (Get key) (get_reply {F = F} out (Ok found))
   get_answered true out there none = get_found out (there refl)
   get_answered false out there none = get_absent (none refl)
+
+  -- if no waiting command changes the key, the base has what the map has
+  kept : (value : Option (List ℕ)) → changes_key (waiting_commands (facts.content disk) stores) key.0 ≡ false → IsTrue (facts.content disk).honest → get (current_map (facts.content disk) stores) key.0 ≡ value
+      → get (image_map (facts.content disk).shown) key.0 ≡ value
+  kept value none h found =
+      ap (λ (m : Map). get m key.0) ((meaning (facts.content disk) stores stands).shown h)
+      ∙ sym (others_stay (base_map (facts.content disk) stores) (waiting_commands (facts.content disk) stores) key.0 none)
+      ∙ found
+
+  -- so it gives the answer of the lookup
+  pub get_kept : (found is_settled : Bool) (out : List ℕ) → (found ≡ true → IsTrue (facts.content disk).honest → get (current_map (facts.content disk) stores) key.0 ≡ Some out)
+      → (found ≡ false → IsTrue (facts.content disk).honest → get (current_map (facts.content disk) stores) key.0 ≡ None)
+      → (IsTrue (facts.content disk).honest → is_settled ≡ not (changes_key (waiting_commands (facts.content disk) stores) key.0)) → IsTrue (facts.content disk).honest → is_settled ≡ true
+      → Step (image_map (facts.content disk).shown) (Get key) (get_reply {F = F} out (Ok found)) (image_map (facts.content disk).shown)
+  get_kept true is_settled out there none says h is = (kept (Some out) (not_changed (changes_key (waiting_commands (facts.content disk) stores) key.0) (sym (says h) ∙ is)) h (there refl h), refl)
+  get_kept false is_settled out there none says h is = (kept None (not_changed (changes_key (waiting_commands (facts.content disk) stores) key.0) (sym (says h) ∙ is)) h (none refl h), refl)
 
   -- a read failed
   pub get_faulted : (fault : F) → GaveAny facts.gave disk fault → Does facts (seen facts disk stores count) (seen facts disk stores count) (Get key) (Refused (Device fault))

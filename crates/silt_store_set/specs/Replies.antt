@@ -5,6 +5,7 @@ use Rattle.silt_event.specs.declared.refusal.Refusal.{Refusal}
 use Rattle.silt_event.specs.declared.refusal.Refusal.TheVariants.{Device, NoMemory}
 use Rattle.silt_event.specs.declared.reply.Reply.{Reply}
 use Rattle.silt_event.specs.declared.reply.Reply.TheVariants.{Accepted, Acknowledged, Found, Absent, Differs, Progress, Refused}
+use Rattle.silt_store_set.specs.declared.store_core.Look.{Look}
 
 abbrev pub change_reply : {F : Type 0} → Result ℕ (Refusal F) → Reply F
 change_reply (Ok n) = Accepted n
@@ -25,6 +26,11 @@ abbrev pub get_reply : {F : Type 0} → List ℕ → Result Bool (Refusal F) →
 get_reply out (Ok true) = Found out
 get_reply out (Ok false) = Absent
 get_reply out (Err refusal) = Refused refusal
+
+-- whether a look found a value
+abbrev pub found_of : {F : Type 0} → Result Look (Refusal F) → Result Bool (Refusal F)
+found_of (Ok look) = Ok look.found
+found_of (Err refusal) = Err refusal
 
 -- the reply for the result of a read
 abbrev pub read_reply : {F : Type 0} → Result (Option (List ℕ)) (Refusal F) → Reply F

@@ -32,7 +32,7 @@ mod remembered;
 mod replies;
 mod store_core;
 
-pub use crate::store_core::{Core, OpenFault};
+pub use crate::store_core::{Core, Look, OpenFault};
 pub use answerer::Served;
 pub use device_entries::read_entries;
 pub use laws::failed_law;

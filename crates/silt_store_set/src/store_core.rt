@@ -1,5 +1,5 @@
 // The store on one device: what it holds in memory, and its calls.
-ghost use Rattle.std.specs.Prelude.{◌≡◌, ◌<◌, ◌≤◌, ◌↔◌, length, false, Some, Ok, All, IsTrue, IfOk, IfErr, IfSome, OnErr, MatchResult};
+ghost use Rattle.std.specs.Prelude.{◌≡◌, ◌<◌, ◌≤◌, ◌↔◌, length, true, false, not, Some, Ok, All, IsTrue, IfOk, IfErr, IfSome, OnErr, MatchResult};
 ghost use Rattle.std.specs.Option.{option_map};
 ghost use Rattle.silt_event.specs.Events.{Legal};
 ghost use Rattle.silt_disk.specs.Disk.{LeavesOnly};
@@ -26,6 +26,18 @@ pub const MOST_COMMANDS: u64 = (1 << 63) - 1;
 pub struct OpenFault<D: Disk> {
     pub disk: D,
     pub refusal: Refusal<D::Fault>,
+}
+
+/// What a look at a key says.
+#[derive(Clone, Copy)]
+pub struct Look {
+    /// How many commands are accepted.
+    pub count: u64,
+    /// Whether the key has a value.
+    pub found: bool,
+    /// Whether no waiting command changes the key. Then the acknowledged commands alone give this answer, and a crash
+    /// keeps it.
+    pub is_settled: bool,
 }
 
 /// A store on a device. Gets see all accepted commands, and a crash keeps all acknowledged ones.
@@ -80,13 +92,14 @@ impl<D: Disk> Core<D> {
     ghost use Rattle.silt_image.specs.Meaning.{StandsFor};
     ghost use Rattle.silt_standing.specs.Standing.{SameDisk};
     ghost use Rattle.silt_engine.specs.Calls.{HasBegun};
+    ghost use Rattle.silt_engine.specs.Lookup.{changes_key};
     ghost use Rattle.silt_store_set.specs.CoreInvariant.{LeavesBegun};
     ghost use Rattle.silt_frame.specs.Rows.{key_cmp};
     ghost use Rattle.silt_store_set.specs.CoreState.{CoreState, Does, Runs, Opens, EntriesCause, IsRefusedRead, StandsKept, map_of, MayWrite, may_merge, row_event, wants_convert, wants_merge};
     ghost use Rattle.silt_store_set.specs.Costs.{RunMade};
-    ghost use Rattle.silt_event.specs.Events.{HasValueOf};
+    ghost use Rattle.silt_event.specs.Events.{HasValueOf, Step};
     ghost use Rattle.silt_store_set.specs.Opening.{OpeningCause, RefusalMakes};
-    ghost use Rattle.silt_store_set.specs.Replies.{change_reply, flush_reply, get_reply, read_reply, progress_reply, swap_reply};
+    ghost use Rattle.silt_store_set.specs.Replies.{change_reply, flush_reply, found_of, get_reply, read_reply, progress_reply, swap_reply};
     ghost use Rattle.silt_event.specs.declared.event.Event.TheVariants.{Put, Delete, Swap, Get, Flush, Convert, Merge};
 
     /// Opens a store on a device that a crash may have left. It costs one sync of the device. If the active log has open
@@ -294,6 +307,30 @@ impl<D: Disk> Core<D> {
         }
     }
 
+    /// Writes a key's value over `out`, and returns how many commands are accepted, whether the key has a value, and
+    /// whether a crash keeps this answer. If there is no value, `out` stays as it was.
+    pub fn look(&self, key: &Key, out: &mut [u8]) -> Result<Look, Refusal<D::Fault>>
+        requires { length out.old ≡ self.now.shape.value_len }
+        ensures reply { Does D.Disk self.now self.now (Get key.now) (get_reply out.new (found_of result)) }
+        ensures count { IfOk result (λ look. look.count ≡ self.now.count) }
+        ensures settled { IsTrue (D.content self.now.disk).honest → IfOk result (λ look. look.is_settled ≡ not (changes_key self.now.waiting key.now.0)) }
+        ensures kept { IsTrue (D.content self.now.disk).honest → IfOk result (λ look. look.is_settled ≡ true → Step self.now.base (Get key.now) (get_reply out.new (found_of result)) self.now.base) }
+        ensures absent { found_of result ≡ Ok false → out.new ≡ out.old }
+        ensures memory { ¬ IsErrOf result Refusal.NoMemory }
+    {
+        if self.failed {
+            return Err(Refusal::Failed);
+        }
+        match self.engine.look_up(&self.disk, key, out) {
+            Ok(lookup) => Ok(Look {
+                count: self.count,
+                found: lookup.found,
+                is_settled: lookup.is_settled,
+            }),
+            Err(fault) => Err(Refusal::Device(fault)),
+        }
+    }
+
     /// Writes a key's value over `out`, and returns whether there is one. If there is none, `out` stays as it was.
     pub fn get(&self, key: &Key, out: &mut [u8]) -> Result<bool, Refusal<D::Fault>>
         requires { length out.old ≡ self.now.shape.value_len }
@@ -301,12 +338,9 @@ impl<D: Disk> Core<D> {
         ensures absent { result ≡ Ok false → out.new ≡ out.old }
         ensures memory { ¬ IsErrOf result Refusal.NoMemory }
     {
-        if self.failed {
-            return Err(Refusal::Failed);
-        }
-        match self.engine.get(&self.disk, key, out) {
-            Ok(found) => Ok(found),
-            Err(fault) => Err(Refusal::Device(fault)),
+        match self.look(key, out) {
+            Ok(look) => Ok(look.found),
+            Err(refusal) => Err(refusal),
         }
     }
 

@@ -22,6 +22,8 @@ mod life_lines;
 #[cfg(test)]
 mod lines;
 #[cfg(test)]
+mod looks;
+#[cfg(test)]
 mod memory;
 #[cfg(test)]
 mod read_counts;

@@ -2,8 +2,8 @@
 ghost use Rattle.std.specs.Prelude.{◌≡◌};
 
 use crate::desk::{
-    HISTORY_FULL, Look, delete_alone, flush_alone, get_alone, look_beside, put_alone, seated,
-    settled,
+    HISTORY_FULL, Look, delete_alone, flush_alone, get_alone, is_settled, look_beside, put_alone,
+    seated, settled,
 };
 use crate::same;
 use silt_desk::{DeskId, Kept, MissingSeats, Seat, Shared, settle};
@@ -16,13 +16,15 @@ use std::sync::Wait;
 use std::sync::ledger::Blank;
 use std::test::Fail;
 
-// What a put, a flush, a get and a delete return, and what a look finds after all.
+// What a put, a flush, a get and a delete return, and what a look finds after all. Between the calls
+// looks say whether a crash keeps their answer: after the put, and after the flush.
 type Answers = (
     Result<u64, u32>,
     Result<u64, u32>,
     Result<Option<[u8; 2]>, u32>,
     Result<u64, u32>,
     Look,
+    [Option<bool>; 2],
 );
 
 // Three calls are recorded, and a fourth is refused.
@@ -32,6 +34,7 @@ const THREE: Answers = (
     Ok(Some([1, 2])),
     Err(HISTORY_FULL),
     Some((1, Some([1, 2]))),
+    [Some(false), Some(true)],
 );
 
 // A put and a get from the first seat, a flush and a delete from the second one.
@@ -43,10 +46,13 @@ fn four_calls<D: Disk, N: DeskId, R: Wait>(
     second: &mut Seat<N>,
 ) -> Answers {
     let put = put_alone(rt, alloc, shared, first, &key(1), [1, 2]);
+    let waits = is_settled(&*shared.read(rt), &key(1));
     let flushed = flush_alone(rt, alloc, shared, second);
+    let settled = is_settled(&*shared.read(rt), &key(1));
     let got = get_alone(rt, alloc, shared, first, &key(1));
     let deleted = delete_alone(rt, alloc, shared, second, &key(1));
-    (put, flushed, got, deleted, look_beside(rt, shared, &key(1)))
+    let looked = look_beside(rt, shared, &key(1));
+    (put, flushed, got, deleted, looked, [waits, settled])
 }
 
 // What a desk reports with the seat that was missing.

@@ -1,4 +1,5 @@
 use Rattle.silt_engine.proofs.Walks.{active_value, newest_active, newest_frozen, newest_hashed, newest_nowhere, none_of}
+use Rattle.silt_engine.proofs.Waits.{active_waits, nothing_waits}
 use Rattle.silt_engine.proofs.engine.Engine.get_newest.Goals as goal
 
 pub returns-in-Some-clause-found : goal.returns-in-Some-clause-found
@@ -23,3 +24,19 @@ returns-clause-found g c = λ stands honest.
     newest_hashed (g.D.Disk.content c.args.disk.now) _ c.args.self.now c.self.view_is c.args.key.now.0 _ c.in_ok-found.ensures.last (none_of _ c.in_default.not-Some)
     c.in_ok-index.field-0 c.in_ok-index.ensures.found stands honest (none_of _ c.in_default-2.not-Some) c.in_ok-number.field-0 c.in_ok-number.ensures.found
     c.in-Some-3.number c.in-Some-3.found c.in_ok-number.ensures.there c.in-Some-3.is
+
+pub returns-in-Some-clause-waits : goal.returns-in-Some-clause-waits
+returns-in-Some-clause-waits g c = λ stands honest.
+    active_waits (g.D.Disk.content c.args.disk.now) _ c.args.self.now c.self.view_is c.args.key.now.0 _ c.in_ok-found.ensures.last stands honest c.in-Some.found c.in-Some.is
+
+pub returns-in-Some-2-clause-waits : goal.returns-in-Some-2-clause-waits
+returns-in-Some-2-clause-waits g c = λ stands honest.
+    nothing_waits (g.D.Disk.content c.args.disk.now) _ c.args.self.now c.self.view_is c.args.key.now.0 _ c.in_ok-found.ensures.last stands honest (none_of _ c.in_default.not-Some)
+
+pub returns-in_default-3-clause-waits : goal.returns-in_default-3-clause-waits
+returns-in_default-3-clause-waits g c = λ stands honest.
+    nothing_waits (g.D.Disk.content c.args.disk.now) _ c.args.self.now c.self.view_is c.args.key.now.0 _ c.in_ok-found.ensures.last stands honest (none_of _ c.in_default.not-Some)
+
+pub returns-clause-waits : goal.returns-clause-waits
+returns-clause-waits g c = λ stands honest.
+    nothing_waits (g.D.Disk.content c.args.disk.now) _ c.args.self.now c.self.view_is c.args.key.now.0 _ c.in_ok-found.ensures.last stands honest (none_of _ c.in_default.not-Some)

@@ -1,0 +1,116 @@
+-- Whether the row that a lookup found waits for a flush.
+use Rattle.std.proofs.Common.{◌≡◌, ◌≢◌, ◌<◌, ◌≤◌, ◌+◌, ◌-◌, ◌||◌, ◌==◌, ℕ, Bool, true, false, cond, if◌then◌else◌, nat_le, IsTrue, List, [], ◌∷◌, ◌++◌, length, map, get_or, Option, Some, None, inl, inr, refl, ap, sym, ◌∙◌, subst, arith, length-append}
+use Rattle.std.specs.List.{list_any}
+use Rattle.std.specs.Str.{bytes_eq}
+use Rattle.std.specs.FinMap.{get, get-insert, get-remove}
+use Rattle.std.proofs.lemmas.Bool.{cases_lt, le-leb, lt-leb}
+use Rattle.std.proofs.lemmas.Cmp.{nat_list_cmp_total}
+use Rattle.std.proofs.lemmas.List.{get_or-append-add, get_or-append_right, get_or-map}
+use Rattle.std.proofs.lemmas.List.Folds.{list_any_at, list_any_none}
+use Rattle.std.proofs.lemmas.Option.{get_or_from_slice_get, slice_get_within}
+use Rattle.std.proofs.lemmas.Slice.Eq.{bytes_eq-Decides}
+use Rattle.silt_event.specs.Commands.{Command, Map, changed, delete, map_after, put}
+use Rattle.silt_event.specs.Rows.{command_of}
+use Rattle.silt_event.proofs.Rows.{same_key}
+use Rattle.silt_frame.specs.Rows.{StoredRow, keys_of}
+use Rattle.silt_log_store.specs.LastRow.{FindsLast, HasNoRow, IsLastRow}
+use Rattle.silt_log.specs.declared.found.Found.{Found}
+use Rattle.silt_log.specs.State.{all_rows, settled_rows, waiting_rows}
+use Rattle.silt_log.proofs.Elsewhere.{all_are_settled_and_waiting, all_count}
+use Rattle.silt_log_store.specs.State.{IsIndexed}
+use Rattle.silt_disk.specs.Disk.{Content}
+use Rattle.silt_standing.specs.State.{EngineState}
+use Rattle.silt_standing.specs.Standing.{Stands, waiting_commands}
+use Rattle.silt_engine.specs.declared.lookup.Holder.TheVariants.{Active}
+use Rattle.silt_engine.specs.Lookup.{changes_key, is_of_key, is_waiting_row}
+use Rattle.silt_engine.proofs.Lookups.{other_key}
+
+-- ---- commands of other keys
+
+-- what a map has for a key after a command of another one
+other_stays : (m : Map) (command : Command) (key : List ℕ) → is_of_key key command ≡ false → get (changed m command) key ≡ get m key
+other_stays m (put other value) key differs = get-insert nat_list_cmp_total m other value key ∙ ap (λ (b : Bool). cond b (Some value) (get m key)) (same_key key other ∙ differs)
+other_stays m (delete other) key differs = get-remove nat_list_cmp_total m other key ∙ ap (λ (b : Bool). cond b None (get m key)) (same_key key other ∙ differs)
+
+neither : (a b : Bool) → (a || b) ≡ false → (a ≡ false) × (b ≡ false)
+neither true b none = absurd (cc)
+neither false b none = (refl, none)
+
+-- and after commands of other ones
+pub others_stay : (m : Map) (commands : List Command) (key : List ℕ) → changes_key commands key ≡ false → get (map_after m commands) key ≡ get m key
+others_stay m [] key none = refl
+others_stay m (command ∷ commands) key none =
+    let differ = neither (is_of_key key command) (changes_key commands key) none in
+    others_stay (changed m command) commands key differ.1 ∙ other_stays m command key differ.0
+
+-- ---- rows and their commands
+
+of_row : (key : List ℕ) (row : StoredRow) → is_of_key key (command_of row) ≡ bytes_eq row.key key
+of_row key row = go (row.kind == 1)
+  where
+    go : (b : Bool) → is_of_key key (if b then put row.key row.value else delete row.key) ≡ bytes_eq row.key key
+    go true = refl
+    go false = refl
+
+of_rows : (key : List ℕ) (rows : List StoredRow) → changes_key (map command_of rows) key ≡ list_any (λ (row : StoredRow). bytes_eq row.key key) rows
+of_rows key [] = refl
+of_rows key (row ∷ rows) = ap (λ (b : Bool). b || changes_key (map command_of rows) key) (of_row key row) ∙ ap (λ (b : Bool). bytes_eq row.key key || b) (of_rows key rows)
+
+module _ (settled waiting : List StoredRow) (key : List ℕ) where
+  -- from this place on no row has the key
+  abbrev LacksFrom : ℕ → Type 0
+  LacksFrom from = (place : ℕ) → from ≤ place → place < length (settled ++ waiting) → get_or (keys_of (settled ++ waiting)) place [] ≢ key
+
+  -- the key of a waiting row, by its number
+  key_behind : (index : ℕ) (default : StoredRow) → index < length waiting → get_or (keys_of (settled ++ waiting)) (length settled + index) [] ≡ (get_or waiting index default).key
+  key_behind index default inside =
+      get_or-map (λ (row : StoredRow). row.key) (settled ++ waiting) (length settled + index) default [] (omega (arith, inside, length-append settled waiting))
+      ∙ ap (λ (row : StoredRow). row.key) (get_or-append-add settled waiting index default)
+
+  -- so none waits, if the place is not behind the settled rows
+  none_waits : (from : ℕ) → from ≤ length settled → LacksFrom from → changes_key (map command_of waiting) key ≡ false
+  none_waits from before lacks =
+      of_rows key waiting
+      ∙ list_any_none (λ (row : StoredRow). bytes_eq row.key key) waiting (λ index default inside. other_key (get_or waiting index default).key key
+      (λ same. lacks (length settled + index) (omega (arith, before)) (omega (arith, inside, length-append settled waiting)) (key_behind index default inside ∙ same)))
+
+  -- a row of the key behind the settled rows waits
+  one_waits : (place : ℕ) (row : StoredRow) → length settled ≤ place → IsLastRow (settled ++ waiting) key place row → changes_key (map command_of waiting) key ≡ true
+  one_waits place row behind is =
+      let inside = slice_get_within (settled ++ waiting) place row is.there in
+      let here : get_or waiting (place - length settled) row ≡ row = sym (get_or-append_right settled waiting (length settled) place row refl behind) ∙ get_or_from_slice_get (settled ++ waiting) place row row is.there in
+      of_rows key waiting
+      ∙ list_any_at (λ (row : StoredRow). bytes_eq row.key key) waiting (place - length settled) row (omega (arith, behind, inside, length-append settled waiting))
+      ((bytes_eq-Decides (get_or waiting (place - length settled) row).key key).1 (ap (λ (r : StoredRow). r.key) here ∙ is.has_key))
+
+  -- the last row of the key waits exactly if a waiting command changes the key
+  last_waits : (found : Found) → FindsLast (settled ++ waiting) key (Some found) → nat_le (length settled) found.place ≡ changes_key (map command_of waiting) key
+  last_waits found (row, is, kind) = elim (cases_lt found.place (length settled)) [
+    | inl before ↦ lt-leb (length settled) found.place before ∙ sym (none_waits (found.place + 1) (omega (arith, before)) (λ place past inside. is.last place (omega (arith, past)) inside))
+    | inr behind ↦ le-leb (length settled) found.place behind ∙ sym (one_waits found.place row behind is)
+  ]
+
+  -- and without a row of the key none does
+  lacking_waits : HasNoRow (settled ++ waiting) key → false ≡ changes_key (map command_of waiting) key
+  lacking_waits none = sym (none_waits 0 (omega arith) (λ place from inside. none place inside))
+
+-- ---- the row that a lookup finds
+
+-- in the active log, which is seen through the stores' fields
+module _ (content : Content) (view s : EngineState) (is : view ≡ s) (key : List ℕ) (o : Option Found)
+    (finds : IsTrue content.honest → IsIndexed content view.active → FindsLast (all_rows content view.active.log) key o) (stands : Stands content s) (honest : IsTrue content.honest) where
+  -- the last row of the key, among the settled and the waiting rows
+  finds_last : FindsLast (settled_rows content s.active.log ++ waiting_rows content s.active.log) key o
+  finds_last =
+      subst (λ (rows : List StoredRow). FindsLast rows key o) (all_are_settled_and_waiting content s.active.log stands.active.bounds.order)
+      (subst (λ (v : EngineState). IsTrue content.honest → IsIndexed content v.active → FindsLast (all_rows content v.active.log) key o) is finds honest stands.indexed)
+
+  -- it is there
+  pub active_waits : (found : Found) → o ≡ Some found → is_waiting_row s (Some (Active, found)) ≡ changes_key (waiting_commands content s) key
+  active_waits found some =
+      ap (λ (n : ℕ). nat_le n found.place) (sym (all_count content (record s.active.log { used = s.active.log.settled })))
+      ∙ last_waits (settled_rows content s.active.log) (waiting_rows content s.active.log) key found (subst (FindsLast (settled_rows content s.active.log ++ waiting_rows content s.active.log) key) some finds_last)
+
+  -- it is not, so no row of the key waits
+  pub nothing_waits : o ≡ None → false ≡ changes_key (waiting_commands content s) key
+  nothing_waits none = lacking_waits (settled_rows content s.active.log) (waiting_rows content s.active.log) key (subst (FindsLast (settled_rows content s.active.log ++ waiting_rows content s.active.log) key) none finds_last)
