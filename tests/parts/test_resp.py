@@ -26,6 +26,8 @@ from watch import read_record, watching
 # Values of 16 bytes hold strings of up to 14.
 SMALL = "16 16 64 4 4 400"
 LONGEST = 14
+# One log takes all rows of a test, so the calls of a server are the commands and the flushes.
+WIDE = "16 4096 16384 2 1 20000"
 # Room for what four clients set.
 ROOMY = "16 64 224 8 8 8000"
 LONGEST_NAME = 8_000
@@ -307,6 +309,8 @@ class Streams(RespCase):
     def test_a_long_string_is_passed_over(self):
         client = self.resp_client()
         size = 40_000_000 if PROVED else 1_000_000
+        # the session, and the program's own bytes that the commands take
+        self.assertEqual([client.ask("DEL", "a"), client.ask("SET", "b", "1")], [number(0), OK])
         before = self.resident()
         client.send(
             b"*3\r\n$3\r\nSET\r\n$1\r\na\r\n$%d\r\n" % size
@@ -323,6 +327,60 @@ class Streams(RespCase):
         self.assertEqual(client.ask("MGET", *names), array(*[NULL] * 1_023))
         self.assertEqual(client.ask("MGET", *names, b"a"), b"-ERR too many words\r\n")
         self.assertEqual(client.ask("PING"), PONG)
+
+
+class Gets(RespCase):
+    """What a get waits for."""
+
+    def setUp(self):
+        super().setUp()
+        self.server.kill()
+        self.store(WIDE)
+
+    def exchange(self, words, env=None):
+        """The replies to these commands, sent in one write, and the calls that the server made."""
+        server = self.serve("--sessions", 1, env=env)
+        client = self.resp_client(server)
+        client.send(b"".join(command(*it) for it in words))
+        replies = client.replies(len(words))
+        client.close()
+        ended = server.ended()
+        self.assertEqual(ended.status, 0, ended)
+        return replies, int(ended.lines[-1].removeprefix("calls "))
+
+    def check_flushes(self, words, least, most):
+        """The replies are right, and there were so many flushes."""
+        model = Model()
+        due = [model.reply(it) for it in words]
+        replies, calls = self.exchange(words)
+        self.assertEqual(replies, due)
+        sets = sum(it[0] == b"SET" for it in words)
+        self.assertIn(calls - sets, range(least, most + 1))
+
+    def test_half_sets(self):
+        words = []
+        for number in range(250):
+            words.append([b"SET", b"%d" % self.random.randrange(1_000), b"%d" % number])
+            words.append([b"GET", b"%d" % self.random.randrange(1_000)])
+        self.random.shuffle(words)
+        self.check_flushes(words, 1, 25)
+
+    def test_other_names(self):
+        words = [[b"SET", b"a", b"1"], [b"GET", b"b"], [b"SET", b"c", b"2"], [b"GET", b"d"]]
+        self.check_flushes(words, 1, 1)
+
+    def test_the_same_name(self):
+        words = [[b"SET", b"a", b"1"], [b"GET", b"a"], [b"SET", b"a", b"2"], [b"GET", b"a"], [b"GET", b"a"]]
+        self.check_flushes(words, 2, 2)
+
+    def test_gets_alone(self):
+        self.check_flushes([[b"GET", b"a"], [b"GET", b"b"]] * 50, 0, 0)
+
+    def test_a_refused_flush(self):
+        words = [[b"SET", b"a", b"1"], [b"GET", b"b"], [b"GET", b"a"]]
+        replies, _ = self.exchange(words, env=watching(self, fail="fdatasync:2:EIO"))
+        unsettled = b"-UNSETTLED the flush was refused, a crash may lose this\r\n"
+        self.assertEqual(replies, [unsettled, NULL, b"-MISCONF 9 Failed\r\n"])
 
 
 class Stores(RespCase):

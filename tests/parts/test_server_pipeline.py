@@ -40,7 +40,7 @@ class PipelineCase(ServedCase):
 
 class Pipelined(PipelineCase):
     """One client that sends all its lines in one write. Each flush serves all commands of one read
-    up to the next other line."""
+    up to a get of a key that one of them changes, or a line that is refused."""
 
     many = 10_000
     # What the flushes acknowledge behind the seventh command and behind the eighth, and the number
@@ -109,6 +109,23 @@ class Pipelined(PipelineCase):
         self.check_replies(lines, replies)
         self.check_calls_made(calls, commands=6, batches=3)
 
+    def test_gets_of_other_keys(self):
+        lines = ["put =a 0001", "get =b", "put =c 0002", "get =d", "get =b", "delete =e", "get =f"]
+        replies, calls = self.answers(*lines)
+        self.check_replies(lines, replies)
+        self.check_calls_made(calls, commands=3, batches=1)
+
+    def test_half_puts(self):
+        """A get waits only if one of the puts before it is of its key."""
+        lines = []
+        for number in range(250):
+            key = self.random.randrange(1000)
+            lines += [f"put =key/{key} {number:04x}", f"get =key/{self.random.randrange(1000)}"]
+        self.random.shuffle(lines)
+        replies, calls = self.answers(*lines)
+        self.check_few_flushes(calls, 250)
+        self.check_replies(lines, replies)
+
     def test_gets_alone(self):
         replies, calls = self.answers(*["get =a", "get =b"] * 200)
         self.assertEqual((replies, calls), (["absent"] * 400, 0))
@@ -145,7 +162,7 @@ class Pipelined(PipelineCase):
     def test_flushes_alone(self):
         replies, calls = self.answers("flush", "flush", "get =a", "flush")
         self.assertEqual(replies, ["acknowledged 0", "acknowledged 0", "absent", "acknowledged 0"])
-        self.check_calls_made(calls, commands=0, batches=2)
+        self.check_calls_made(calls, commands=0, batches=1)
 
     def test_refusals_have_their_places(self):
         lines = []

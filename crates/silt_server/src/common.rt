@@ -11,7 +11,9 @@ use silt_desk::{DeskId, Gate, Seat, Shared, Trace, converter, merger};
 use silt_disk::Disk;
 use silt_event::{Event, Reply};
 use silt_inbox::{Inbox, InboxId, Taker};
-use silt_session::{AskBy, Job, RoomGate, RoomWait, Session, SessionSlot, Unanswered, Workplace};
+use silt_session::{
+    AskBy, Job, RoomGate, RoomWait, Session, SessionSlot, Unanswered, Workplace, WriterLink,
+};
 use std::alloc::Global;
 use std::io;
 use std::sync::{Mutex, Wait};
@@ -150,8 +152,13 @@ impl<D: Disk, T: Trace, N: DeskId + InboxId, G: Gate, R: Wait + Clock> Serving<
                 rt: self.rt,
                 alloc: self.alloc,
                 desk: self.desk,
-                inbox: self.inbox,
-                slot,
+                writer: WriterLink {
+                    rt: self.rt,
+                    alloc: self.alloc,
+                    inbox: self.inbox,
+                    slot,
+                },
+                settles_gets: self.limits.protocol.settles_gets(),
             };
             let one = |event: Event| -> Result<Reply<()>, Unanswered> { session.answer(event) };
             let all = |events: Vec<Event>| -> Result<Vec<Reply<()>>, Unanswered> {

@@ -1,7 +1,7 @@
 // The limits of a server.
 ghost use Rattle.std.specs.Prelude.{◌≡◌, option_map};
 ghost use Rattle.std.specs.Duration.{as_nanos};
-ghost use Rattle.silt_server.specs.Limits.{longest_silence, pipelines};
+ghost use Rattle.silt_server.specs.Limits.{longest_silence, pipelines, settles_gets};
 
 use std::io;
 use std::net::TcpStream;
@@ -24,6 +24,13 @@ impl Protocol {
         ensures { result ≡ pipelines self }
     {
         !matches!(self, Protocol::Lines)
+    }
+
+    /// Whether a get waits for a flush if a crash may take away what it shows.
+    pub fn settles_gets(self) -> bool
+        ensures { result ≡ settles_gets self }
+    {
+        matches!(self, Protocol::Resp)
     }
 }
 

@@ -2,6 +2,7 @@
 //
 // What needs no Rust of a server is in the suite from outside.
 
+mod gets;
 mod held;
 mod looks;
 mod lost;
@@ -103,9 +104,27 @@ fn is_served<
     clients: &C,
     due: &[u8],
 ) -> Result<bool, Fail> {
+    let limits = limits_of(sessions, None);
+    is_served_within(rt, alloc, disk, limits, gate, clients, due)
+}
+
+// The same within these limits.
+fn is_served_within<
+    D: Disk,
+    G: Gate + Sync,
+    C: Clients,
+    R: Net<Listener = TcpListener, Stream = TcpStream> + Threads + Wait + Clock + Sync,
+>(
+    rt: &R,
+    alloc: Global,
+    disk: D,
+    limits: Limits,
+    gate: &G,
+    clients: &C,
+    due: &[u8],
+) -> Result<bool, Fail> {
     let listener = TcpListener::bind(rt, ("127.0.0.1", 0u16))?;
     let core = opened_on(alloc, disk)?;
-    let limits = limits_of(sessions, None);
     let mut written = Vec::new(alloc);
     let mut got = Vec::new(alloc);
     let (disk, status) = serve_beside(

@@ -1,4 +1,5 @@
 mod Batches
 mod Clients
 mod Lists
+mod Marks
 mod Pipelines

@@ -19,7 +19,7 @@ module _ {X : Type 0} where
   rest_next xs ys i new same = drop-set-lt (i + 1) ys i new (omega arith) ∙ drop_more_same ys xs i same
 
   -- a list that was written back whole
-  written_back : (xs ys zs : List X) (n : ℕ) → length ys ≡ length xs → xs ≡ zs → n ≡ length xs → take n (ys ++ drop (length ys) zs) ≡ ys
+  pub written_back : (xs ys zs : List X) (n : ℕ) → length ys ≡ length xs → xs ≡ zs → n ≡ length xs → take n (ys ++ drop (length ys) zs) ≡ ys
   written_back xs ys zs n len is count =
       let same : n ≡ length ys = omega (arith, len, count) in
       ap (λ (m : ℕ). take m (ys ++ drop (length ys) zs)) same ∙ take-append_seam ys (drop (length ys) zs)

@@ -1,5 +1,6 @@
 pub mod Requests
 pub mod Batches
-pub mod Pipelines
+pub mod Marks
 pub mod Sessions
+pub mod Pipelines
 pub mod Unanswered

@@ -1,41 +1,206 @@
 -- The events that a session asks at once, on their way to replies.
-use Rattle.std.specs.Prelude.{◌≡◌, ℕ, ◌+◌, ◌≤◌, false, true, Some, List, [], ◌∷◌, ◌++◌, map, vec_capacity, vec_len}
+use Rattle.std.specs.Prelude.{◌≡◌, ◌≢◌, ◌⊎◌, ◌↔◌, ℕ, ◌+◌, ◌≤◌, Bool, false, true, nat_le, if◌then◌else◌, All, IfSome, IsSomeAnd, IsTrue, not, ◌&&◌, is_some, MatchBool, MatchOption, Ok, Option, Some, None, List, [], ◌∷◌, ◌++◌, vec_capacity, vec_len}
 use Rattle.std.specs.List.{AllZip}
+use Rattle.std.specs.VecDeque.{deque_capacity, deque_len}
 use Rattle.silt_disk.specs.declared.disk.Disk.{Ghosts}
+use Rattle.silt_frame.specs.declared.key.Key.{Key}
 use Rattle.silt_event.specs.Events.{PlainReply}
 use Rattle.silt_event.specs.declared.event.Event.{Event}
-use Rattle.silt_inbox.specs.Answers.{is_allowed, event_kind}
-use Rattle.silt_inbox.specs.declared.answered.EventKind.{EventKind}
-use Rattle.silt_session.specs.Requests.{IsNew, asked_event, reply_in}
-use Rattle.silt_session.specs.Sessions.{IsAnswer}
+use Rattle.silt_event.specs.declared.event.Event.TheVariants.{Get, Convert, Merge}
+use Rattle.silt_event.specs.declared.refusal.Refusal.TheVariants.{NoMemory}
+use Rattle.silt_event.specs.declared.reply.Reply.TheVariants.{Acknowledged, NotServed, Refused}
+use Rattle.silt_inbox.specs.Answers.{event_kind}
+use Rattle.silt_inbox.specs.declared.answered.EventKind.TheVariants as kind
+use Rattle.silt_engine.specs.Lookup.{changes_key}
+use Rattle.silt_store_set.specs.CoreState.{CoreState}
+use Rattle.silt_store_set.specs.Replies.{get_reply}
+use Rattle.silt_store_set.specs.declared.store_core.Look.{Look}
+use Rattle.silt_session.specs.Marks.{IsMarked, mark_of}
+use Rattle.silt_session.specs.Requests.{Allows, HasReply, IsNew, asked_event, changed_key}
+use Rattle.silt_session.specs.Sessions.{AnswersGet, Came, IsAnswer, IsKept}
 use Rattle.silt_session.specs.declared.job.Request.{Request}
+use Rattle.silt_session.specs.declared.job.Request.TheVariants.{Flush}
 use Rattle.silt_session.specs.declared.job.Task.{Task}
+use Rattle.silt_session.specs.declared.key_marks.KeyMarks.{KeyMarks}
 use Rattle.silt_session.specs.declared.pipeline.Pipeline.{Pipeline}
+use Rattle.silt_session.specs.declared.place.Place.{Place}
+use Rattle.silt_session.specs.declared.place.Place.TheVariants.{Shows, Waits}
+use Rattle.silt_session.specs.declared.place.Shown.{Shown}
 
--- an event of this kind may have this reply
-abbrev pub Allows : EventKind → PlainReply → Type 0
-Allows kind reply = is_allowed kind reply ≡ true
+-- ---- one place
 
--- this is the reply of the task
-abbrev pub HasReply : Task → PlainReply → Type 0
-HasReply task reply = reply_in task.reply ≡ Some reply
+-- a reply that waits for a flush that acknowledges so many commands, by the reply to that flush, if there is one
+abbrev pub given_after : Option ℕ → Option PlainReply → PlainReply → Option PlainReply
+given_after None flushed reply = Some reply
+given_after (Some count) (Some (Acknowledged n)) reply = if nat_le count n then Some reply else None
+given_after (Some count) (Some (Refused refusal)) reply = Some (Refused refusal)
+given_after (Some count) flushed reply = None
 
--- no reply, and nothing that waits
-abbrev pub IsEmpty : Pipeline → Type 0
-IsEmpty pipeline = (pipeline.replies.items ≡ []) × (pipeline.kinds.items ≡ []) × (pipeline.tasks.items ≡ []) × (pipeline.lacks_memory ≡ false)
+-- the reply at a place that has one, by the reply to a flush
+abbrev pub given_by : Option PlainReply → Shown → Option PlainReply
+given_by flushed shown = given_after shown.until flushed shown.reply
+
+-- how many commands a flush has to acknowledge before a look is shown, if it waits for one
+abbrev pub awaited : Bool → Look → Option ℕ
+awaited settles look = if settles && not look.is_settled then Some look.count else None
+
+-- what is shown of a look that found this value, or none
+abbrev pub shown_of : Bool → List ℕ → Look → Shown
+shown_of settles value look = record { reply = get_reply value (Ok look.found); until = awaited settles look }
+
+-- the reply at a place if out of memory for the tasks
+abbrev pub reply_without_tasks : Place → PlainReply
+reply_without_tasks (Shows shown) = if is_some shown.until then Refused NoMemory else shown.reply
+reply_without_tasks (Waits kind) = Refused NoMemory
+
+-- what a place takes of the tasks that came back, the next one if its request waited, and its reply
+abbrev pub FillsOne : Option PlainReply → List Task → Place → PlainReply → List Task → Type 0
+FillsOne flushed tasks (Shows shown) reply left = (given_by flushed shown ≡ Some reply) × (left ≡ tasks)
+FillsOne flushed tasks (Waits kind) reply left = (task : Task) × (tasks ≡ task ∷ left) × HasReply task reply × Allows kind reply
+
+-- the same of places in order
+abbrev pub Fills : Option PlainReply → List Task → List Place → List PlainReply → List Task → Type 0
+Fills flushed tasks [] [] left = left ≡ tasks
+Fills flushed tasks (place ∷ places) (reply ∷ replies) left =
+    (mid : List Task) × FillsOne flushed tasks place reply mid × Fills flushed mid places replies left
+Fills flushed tasks places replies left = ⊥
+
+-- the last task leaves, with this reply to a flush
+abbrev pub TakesFlush : List Task → List Task → PlainReply → Type 0
+TakesFlush tasks left reply = (task : Task) × (tasks ≡ left ++ task ∷ []) × HasReply task reply × Allows kind.Flush reply
+
+-- Places have these replies by the tasks that came back: each task of a request fills the next place that waits. The last task is that of
+-- the flush if there is one.
+abbrev pub FillsAll : Bool → List Task → List Place → List PlainReply → Type 0
+FillsAll has_flush tasks places replies =
+    MatchBool has_flush
+    ((left : List Task) × (flushed : PlainReply) × TakesFlush tasks left flushed × Fills (Some flushed) left places replies [])
+    (Fills None tasks places replies [])
+
+-- these tasks were done, if there are any
+abbrev pub WereDone : (List Task → Type 0) → List Task → Type 0
+WereDone did tasks = (tasks ≡ []) ⊎ did tasks
+
+-- the reply to a flush came back, if there was one
+abbrev pub IsFlushedBy : (List Task → Type 0) → Option PlainReply → Type 0
+IsFlushedBy did flushed = IfSome flushed (Came did)
+
+-- a place has this reply once the tasks are back: that of its task, or what it shows, by the reply to the flush that it waits for
+abbrev pub Settles : (List Task → Type 0) → Place → PlainReply → Type 0
+Settles did (Waits kind) reply = (reply ≡ Refused NoMemory) ⊎ (Came did reply × Allows kind reply)
+Settles did (Shows shown) reply =
+    (reply ≡ reply_without_tasks (Shows shown)) ⊎ ((flushed : Option PlainReply) × IsFlushedBy did flushed × (given_by flushed shown ≡ Some reply))
+
+-- ---- the places of a pipeline
+
+-- no request waits, and no reply waits for a flush
+pub record NothingWaits (pipeline : Pipeline) : Type 0 where
+  pub tasks : pipeline.tasks.items ≡ []
+  pub memory : pipeline.lacks_memory ≡ false
+  pub flush : pipeline.needs_flush ≡ false
+  pub marks : (number : ℕ) → ¬ IsMarked pipeline.marks number
+
+-- the same, and each event has its reply
+abbrev pub IsSettled : Pipeline → Type 0
+IsSettled pipeline = (pipeline.places.items ≡ []) × NothingWaits pipeline
+
+-- no place is left, what waits stays, and there is as much room as before
+pub record MovesPlaces (old new : Pipeline) : Type 0 where
+  pub places : new.places.items ≡ []
+  pub same : new ≡ record old { replies = new.replies; places = new.places }
+  pub replies_room : vec_capacity new.replies ≡ vec_capacity old.replies
+  pub places_room : deque_capacity new.places ≡ deque_capacity old.places
+
+-- there is room for so many events more
+abbrev pub HasRoom : Pipeline → ℕ → Type 0
+HasRoom pipeline n =
+    (vec_len pipeline.replies + deque_len pipeline.places + n ≤ vec_capacity pipeline.replies) × (deque_len pipeline.places + n ≤ deque_capacity pipeline.places)
 
 -- the request's task, for which nothing is done yet, is behind those that wait, and memory sufficed for all of them
 abbrev pub GathersTask : Pipeline → Pipeline → Request → Type 0
 GathersTask old new request =
     (old.lacks_memory ≡ false) × ((task : Task) × IsNew request task × (new.tasks.items ≡ old.tasks.items ++ task ∷ []))
 
--- there is room for so many events more
-abbrev pub HasRoom : Pipeline → ℕ → Type 0
-HasRoom pipeline n =
-    (vec_len pipeline.replies + vec_len pipeline.kinds + n ≤ vec_capacity pipeline.replies) × (vec_len pipeline.kinds + n ≤ vec_capacity pipeline.kinds)
+-- the requests that waited came back, and each place has its reply
+pub record SettlesAll (did : List Task → Type 0) (old new : Pipeline) : Type 0 where
+  pub given : List PlainReply
+  pub replies : new.replies.items ≡ old.replies.items ++ given
+  pub fits : AllZip (Settles did) old.places.items given
+  pub settled : IsSettled new
+  pub replies_room : vec_capacity new.replies ≡ vec_capacity old.replies
+  pub places_room : deque_capacity new.places ≡ deque_capacity old.places
 
--- the first of these events have their replies, and the others are requests that wait
-abbrev pub AnswersSoFar : {D F : Type 0} → Ghosts D F → List Event → Pipeline → Type 0
-AnswersSoFar facts events pipeline =
-    (done : List Event) × (waiting : List Request) × (events ≡ done ++ map asked_event waiting)
-    × AllZip (IsAnswer facts) done pipeline.replies.items × (pipeline.kinds.items ≡ map (λ r. event_kind (asked_event r)) waiting)
+-- the same, or nothing happens
+abbrev pub MaySettle : (List Task → Type 0) → Pipeline → Pipeline → Type 0
+MaySettle did old new = (new ≡ old) ⊎ SettlesAll did old new
+
+-- the tasks that are handed over: those that wait, and behind them a new one of a flush if it is needed
+abbrev pub AddsFlush : Bool → List Task → List Task → Type 0
+AddsFlush needs_flush tasks all = MatchBool needs_flush ((task : Task) × IsNew Flush task × (all ≡ tasks ++ task ∷ [])) (all ≡ tasks)
+
+-- these marks are set, and that of a key if there is one
+abbrev pub MarksToo : KeyMarks → Option Key → KeyMarks → Type 0
+MarksToo old key new = (number : ℕ) → IsMarked new number ↔ (IsMarked old number ⊎ IsSomeAnd key (λ k. number ≡ mark_of k))
+
+-- no mark of an event's key is set, if it is a get
+abbrev pub IsFree : KeyMarks → Event → Type 0
+IsFree marks (Get key) = ¬ IsMarked marks (mark_of key)
+IsFree marks event = Unit {0}
+
+-- an event is no get of this key, if there is one
+abbrev pub IsNoGetOf : Option Key → Event → Type 0
+IsNoGetOf (Some key) (Get other) = other ≢ key
+IsNoGetOf key event = Unit {0}
+
+-- No get is looked up behind a request that waits and changes its key.
+abbrev pub NoneOvertakes : List Event → List Place → Type 0
+NoneOvertakes [] [] = Unit {0}
+NoneOvertakes (event ∷ events) (Shows shown ∷ places) = NoneOvertakes events places
+NoneOvertakes (event ∷ events) (Waits kind ∷ places) = All (IsNoGetOf (changed_key event)) events × NoneOvertakes events places
+NoneOvertakes events places = ⊥
+
+-- the events whose requests wait
+abbrev pub waiting_events : List Event → List Place → List Event
+waiting_events (event ∷ events) (Waits kind ∷ places) = event ∷ waiting_events events places
+waiting_events (event ∷ events) (place ∷ places) = waiting_events events places
+waiting_events events places = []
+
+-- nothing is done yet for this event's request
+abbrev pub IsTaskOf : Event → Task → Type 0
+IsTaskOf event task = (request : Request) × (asked_event request ≡ event) × IsNew request task
+
+module _ {D F : Type 0} (facts : Ghosts D F) (settles : Bool) where
+  -- a reply of this store that waits for a flush of all that was accepted, since a command that waits changes the key
+  abbrev pub AwaitsFlush : CoreState D → Key → ℕ → Type 0
+  AwaitsFlush core key count =
+      (settles ≡ true) × (count ≡ core.count) × (IsTrue (facts.content core.disk).honest → changes_key core.waiting key.0 ≡ true)
+
+  -- a look at some store gave this reply; if gets settle what they show, it waits for a flush, or a crash keeps it anyway
+  abbrev pub Looks : Key → Shown → Type 0
+  Looks key shown =
+      (core : CoreState D) × AnswersGet facts core key shown.reply
+      × MatchOption shown.until (settles ≡ true → IsKept facts core key shown.reply) (AwaitsFlush core key)
+
+  -- what is replied to an event that is not for the writer
+  abbrev pub IsShown : Event → Shown → Type 0
+  IsShown (Get key) shown = ((shown.reply ≡ Refused NoMemory) × (shown.until ≡ None)) ⊎ Looks key shown
+  IsShown Convert shown = (shown.reply ≡ NotServed) × (shown.until ≡ None)
+  IsShown Merge shown = (shown.reply ≡ NotServed) × (shown.until ≡ None)
+  IsShown event shown = ⊥
+
+  -- the place of an event has a reply to it, or its request waits and its key is marked
+  abbrev pub IsPlaceOf : KeyMarks → Event → Place → Type 0
+  IsPlaceOf marks event (Shows shown) = IsShown event shown
+  IsPlaceOf marks event (Waits kind) =
+      ((request : Request) × (asked_event request ≡ event) × (kind ≡ event_kind event)) × IfSome (changed_key event) (λ key. IsMarked marks (mark_of key))
+
+  -- The first of these events have their replies. Each other one has its place, in order, and the tasks are those of the requests that
+  -- wait. No get is looked up behind a request that changes its key and waits.
+  pub record AnswersSoFar (did : List Task → Type 0) (events : List Event) (pipeline : Pipeline) : Type 0 where
+    pub done : List Event
+    pub later : List Event
+    pub whole : events ≡ done ++ later
+    pub replied : AllZip (IsAnswer facts did settles) done pipeline.replies.items
+    pub placed : AllZip (IsPlaceOf pipeline.marks) later pipeline.places.items
+    pub tasks : pipeline.lacks_memory ≡ false → AllZip IsTaskOf (waiting_events later pipeline.places.items) pipeline.tasks.items
+    pub ordered : NoneOvertakes later pipeline.places.items

@@ -1,11 +1,14 @@
 -- Requests to the writer, and their replies.
-use Rattle.std.specs.Prelude.{◌≡◌, ℕ, Option, Some, None, Result, Ok, Err}
+use Rattle.std.specs.Prelude.{◌≡◌, ℕ, true, Option, Some, None, Result, Ok, Err}
+use Rattle.silt_frame.specs.declared.key.Key.{Key}
 use Rattle.silt_event.specs.Events.{PlainReply}
 use Rattle.silt_event.specs.declared.event.Event.{Event}
 use Rattle.silt_event.specs.declared.event.Event.TheVariants as event
 use Rattle.silt_event.specs.declared.refusal.Refusal.{Refusal}
 use Rattle.silt_event.specs.declared.reply.Reply.TheVariants.{Accepted, Acknowledged, Differs, Refused, Unsettled}
+use Rattle.silt_inbox.specs.Answers.{is_allowed}
 use Rattle.silt_inbox.specs.declared.answered.Answered.{Answered}
+use Rattle.silt_inbox.specs.declared.answered.EventKind.{EventKind}
 use Rattle.silt_session.specs.declared.job.Request.{Request}
 use Rattle.silt_session.specs.declared.job.Request.TheVariants.{Put, Delete, Swap, Flush}
 use Rattle.silt_session.specs.declared.job.Task.{Task}
@@ -29,6 +32,13 @@ asked_event (Put key value) = event.Put key value
 asked_event (Delete key) = event.Delete key
 asked_event (Swap key old new) = event.Swap key old new
 asked_event Flush = event.Flush
+
+-- the key that an event may change
+abbrev pub changed_key : Event → Option Key
+changed_key (event.Put key value) = Some key
+changed_key (event.Delete key) = Some key
+changed_key (event.Swap key old new) = Some key
+changed_key event = None
 
 -- an event that is not for the writer: a look-up or a step
 abbrev pub IsNoRequest : Event → Type 0
@@ -68,3 +78,11 @@ IsNew request task = (task.request ≡ request) × (task.answer ≡ None) × (ta
 abbrev pub reply_in : Option Answered → Option PlainReply
 reply_in None = None
 reply_in (Some answered) = Some answered.reply
+
+-- this is the reply of the task
+abbrev pub HasReply : Task → PlainReply → Type 0
+HasReply task reply = reply_in task.reply ≡ Some reply
+
+-- an event of this kind may have this reply
+abbrev pub Allows : EventKind → PlainReply → Type 0
+Allows kind reply = is_allowed kind reply ≡ true

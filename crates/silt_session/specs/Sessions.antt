@@ -1,15 +1,18 @@
 -- The replies to the events of a session.
-use Rattle.std.specs.Prelude.{◌≡◌, ◌⊎◌, ℕ, Bool, true, List, Some, slice_get}
+use Rattle.std.specs.Prelude.{◌≡◌, ◌⊎◌, ℕ, ◌≤◌, Bool, true, IsTrue, List, ◌∷◌, ◌++◌, Some, slice_get}
 use Rattle.silt_disk.specs.declared.disk.Disk.{Ghosts}
 use Rattle.silt_frame.specs.declared.key.Key.{Key}
-use Rattle.silt_event.specs.Events.{PlainReply, plain}
+use Rattle.silt_event.specs.Events.{PlainReply, Step, plain}
 use Rattle.silt_event.specs.declared.event.Event.{Event}
 use Rattle.silt_event.specs.declared.event.Event.TheVariants.{Get, Convert, Merge}
+use Rattle.silt_event.specs.declared.refusal.Refusal.{Refusal}
 use Rattle.silt_event.specs.declared.refusal.Refusal.TheVariants.{NoMemory}
 use Rattle.silt_event.specs.declared.reply.Reply.{Reply}
-use Rattle.silt_event.specs.declared.reply.Reply.TheVariants.{Refused, NotServed}
-use Rattle.silt_inbox.specs.Answers.{is_allowed, event_kind}
+use Rattle.silt_event.specs.declared.reply.Reply.TheVariants.{Acknowledged, Refused, NotServed}
+use Rattle.silt_inbox.specs.Answers.{event_kind}
 use Rattle.silt_store_set.specs.CoreState.{CoreState, Does}
+use Rattle.silt_session.specs.Requests.{Allows, HasReply}
+use Rattle.silt_session.specs.declared.job.Task.{Task}
 use Rattle.silt_session.specs.declared.unanswered.Unanswered.{Unanswered}
 use Rattle.silt_session.specs.declared.unanswered.Unanswered.TheVariants as unanswered
 
@@ -18,12 +21,34 @@ module _ {D F : Type 0} (facts : Ghosts D F) where
   abbrev pub AnswersGet : CoreState D → Key → PlainReply → Type 0
   AnswersGet core key reply = (reported : Reply F) × Does facts core core (Get key) reported × (reply ≡ plain reported)
 
-  -- a get has the reply of a look or of out of memory; a step is not served; every other event has a reply that its kind allows
+  -- the acknowledged commands alone give this reply, so a crash keeps what it shows
+  abbrev pub IsKept : CoreState D → Key → PlainReply → Type 0
+  IsKept core key reply = IsTrue (facts.content core.disk).honest → Step core.base (Get key) reply core.base
+
+-- one of the tasks that were done and came back has this reply
+abbrev pub Came : (List Task → Type 0) → PlainReply → Type 0
+Came did reply =
+    (tasks : List Task) × did tasks × (front : List Task) × (task : Task) × (rest : List Task) × (tasks ≡ front ++ task ∷ rest) × HasReply task reply
+
+module _ {D F : Type 0} (facts : Ghosts D F) (did : List Task → Type 0) (settles : Bool) where
+  -- a look at some store gives this reply; if gets settle what they show, the acknowledged commands give it too, or a flush
+  -- acknowledged all that were accepted
+  abbrev pub AnswersLook : Key → PlainReply → Type 0
+  AnswersLook key reply =
+      (core : CoreState D) × AnswersGet facts core key reply
+      × (settles ≡ true → IsKept facts core key reply ⊎ ((n : ℕ) × Came did (Acknowledged n) × (core.count ≤ n)))
+
+  -- the reply is why the flush behind a look is refused
+  abbrev pub IsUnsettledLook : PlainReply → Type 0
+  IsUnsettledLook reply = (settles ≡ true) × ((refusal : Refusal (Unit {0})) × (reply ≡ Refused refusal)) × Came did reply
+
+  -- A get has the reply of a look, or of the flush behind it, or of out of memory. A step is not served. Every other event has a reply
+  -- that came back and that its kind allows, or that of out of memory.
   abbrev pub IsAnswer : Event → PlainReply → Type 0
-  IsAnswer (Get key) reply = (reply ≡ Refused NoMemory) ⊎ ((core : CoreState D) × AnswersGet core key reply)
+  IsAnswer (Get key) reply = (reply ≡ Refused NoMemory) ⊎ (AnswersLook key reply ⊎ IsUnsettledLook reply)
   IsAnswer Convert reply = reply ≡ NotServed
   IsAnswer Merge reply = reply ≡ NotServed
-  IsAnswer event reply = is_allowed (event_kind event) reply ≡ true
+  IsAnswer event reply = (reply ≡ Refused NoMemory) ⊎ (Came did reply × Allows (event_kind event) reply)
 
 -- what contracts see of a session's client: what it asks, and whether its session is lost
 pub record ClientState (A : Type 0) : Type 0 where

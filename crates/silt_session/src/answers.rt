@@ -4,109 +4,170 @@ ghost use Rattle.std.specs.List.{AllZip};
 ghost use Rattle.silt_event.specs.declared.event.Event.{Event as EventOf};
 ghost use Rattle.silt_event.specs.declared.event.Event.TheVariants as event_case;
 ghost use Rattle.silt_inbox.specs.Answers.{event_kind};
-ghost use Rattle.silt_session.specs.Pipelines.{Allows, AnswersSoFar, HasRoom, IsEmpty};
-ghost use Rattle.silt_session.specs.Requests.{IsNoRequest, asked_event};
-ghost use Rattle.silt_session.specs.Sessions.{AnswersGet, IsAnswer};
+ghost use Rattle.silt_session.specs.Pipelines.{AnswersSoFar, HasRoom, IsFree, IsSettled, IsShown, Looks, MaySettle, Settles, awaited, shown_of};
+ghost use Rattle.silt_session.specs.Requests.{Allows, IsNoRequest, asked_event};
+ghost use Rattle.silt_session.specs.Sessions.{Came, IsAnswer};
+ghost use Rattle.silt_session.specs.declared.place.Place.TheVariants as place;
 
 use crate::job::{Request, Task};
-use crate::pipeline::{Pipeline, forward_one};
-use crate::session::Session;
+use crate::pipeline::{Pipeline, reply_alone};
+use crate::place::Shown;
+use crate::session::{Commits, Session};
 use crate::unanswered::Unanswered;
-use silt_desk::{Desk, DeskId, Shared, Trace};
+use silt_desk::{Desk, DeskId, Look, Shared, Trace};
 use silt_disk::Disk;
 use silt_event::{Event, Refusal, Reply};
 use silt_frame::{Key, Value};
-use silt_inbox::{InboxId, NotPutReason};
 use std::alloc::Global;
 use std::sync::Wait;
 
-// What a look at the desk finds.
+// How many commands a flush has to acknowledge before a look is shown, if it waits for one.
+fn awaited(look: Look, settles: bool) -> Option<u64>
+    ensures { result ≡ awaited settles look }
+{
+    if settles && !look.is_settled {
+        Some(look.count)
+    } else {
+        None
+    }
+}
+
+// What is shown of a look that found a value in the buffer, or none.
+fn shown(look: Look, out: Vec<u8>, settles: bool) -> Shown
+    ensures { result ≡ shown_of settles out.items look }
+{
+    let reply = if look.found {
+        Reply::Found(Value::new(out))
+    } else {
+        Reply::Absent
+    };
+    Shown {
+        reply,
+        until: awaited(look, settles),
+    }
+}
+
+// What a look at the desk finds. If gets settle what they show, and a command that waits changes the key, it waits for a
+// flush.
 fn look_up<D: Disk, T: Trace, N: DeskId>(
     desk: &Desk<D, T, N>,
     key: &Key,
     mut out: Vec<u8>,
-) -> Reply<()>
+    settles: bool,
+) -> Shown
     requires { vec_len out ≡ desk.now.core.shape.value_len }
-    ensures { AnswersGet D.Disk desk.now.core key.now result }
+    ensures { Looks D.Disk settles key.now result }
 {
     match desk.look(key, out.as_mut_slice()) {
-        Ok(look) if look.found => Reply::Found(Value::new(out)),
-        Ok(_) => Reply::Absent,
-        Err(refusal) => Reply::Refused(refusal.plain()),
+        Ok(look) => shown(look, out, settles),
+        Err(refusal) => Shown::now(Reply::Refused(refusal.plain())),
     }
 }
 
 // Looks a key up at the desk. If out of memory for the value's buffer, nothing is looked up.
-fn find<D: Disk, T: Trace, N: DeskId>(desk: &Desk<D, T, N>, alloc: Global, key: &Key) -> Reply<()>
-    ensures { IsAnswer D.Disk (event_case.Get key.now) result }
+fn find<D: Disk, T: Trace, N: DeskId>(
+    desk: &Desk<D, T, N>,
+    alloc: Global,
+    key: &Key,
+    settles: bool,
+) -> Shown
+    ensures { IsShown D.Disk settles (event_case.Get key.now) result }
 {
     match vec![in alloc; 0u8; desk.geometry().value_len() as usize] {
-        Ok(out) => look_up(desk, key, out),
-        Err(_) => Reply::Refused(Refusal::NoMemory),
+        Ok(out) => look_up(desk, key, out, settles),
+        Err(_) => Shown::now(Reply::Refused(Refusal::NoMemory)),
     }
 }
 
-impl<S, N: InboxId, R: Wait> Session<'_, S, N, R> {
-    // Hands one request to the writer, and waits for its reply.
+impl<S, W: Commits, R> Session<'_, S, W, R> {
+    // Has one request done, and returns its reply.
     fn request(&self, request: Request) -> Result<Reply<()>, Unanswered>
-        ensures { IfOk result (Allows (event_kind (asked_event request))) }
+        ensures came { IfOk result (Came (W.did self.now.writer)) }
+        ensures allowed { IfOk result (Allows (event_kind (asked_event request))) }
     {
         let kind = request.kind();
         let Ok(tasks) = vec![in self.alloc; Task::new(request)] else {
             return Err(Unanswered::NoMemory);
         };
-        match self.hand_over(tasks) {
-            Ok(back) => forward_one(self.rt, &back, kind),
-            Err(NotPutReason::NoMemory) => Err(Unanswered::NoMemory),
-            Err(NotPutReason::Closed) => Err(Unanswered::Lost),
+        match self.writer.commit(tasks) {
+            Ok(tasks) => reply_alone(tasks, kind).ok_or(Unanswered::Lost),
+            Err(lack) => Err(lack),
+        }
+    }
+
+    // The reply to an event that is not for the writer, after a flush if it waits for one.
+    fn give(&self, shown: Shown) -> Result<Reply<()>, Unanswered>
+        ensures { IfOk result (Settles (W.did self.now.writer) (place.Shows shown)) }
+    {
+        let flushed = match shown.until {
+            Some(_) => Some(self.request(Request::Flush)?),
+            None => None,
+        };
+        shown.given(&flushed).ok_or(Unanswered::Lost)
+    }
+
+    // Waits until no request waits that may change the key of this event.
+    fn settle_for(&self, pipeline: &mut Pipeline, event: &Event) -> Result<(), Unanswered>
+        requires { HasRoom pipeline.old 0 }
+        ensures free { OnOk result (IsFree pipeline.new.marks event.now) }
+        ensures settled { OnOk result (MaySettle (W.did self.now.writer) pipeline.old pipeline.new) }
+    {
+        if pipeline.may_change(event) {
+            pipeline.settle(self)
+        } else {
+            Ok(())
         }
     }
 }
 
-impl<D: Disk, T: Trace, N: DeskId + InboxId, R: Wait> Session<'_, Shared<D, T, N>, N, R> {
+impl<D: Disk, T: Trace, N: DeskId, W: Commits, R: Wait> Session<'_, Shared<D, T, N>, W, R> {
     // The reply to an event that is not for the writer: a get is looked up, and a step is not served.
-    fn answer_here(&self, event: &Event) -> Reply<()>
+    fn answer_here(&self, event: &Event) -> Shown
         requires { IsNoRequest event.now }
-        ensures { IsAnswer D.Disk event.now result }
+        ensures { IsShown D.Disk self.now.settles_gets event.now result }
     {
         match event {
-            Event::Get(key) => find(&*self.desk.read(self.rt), self.alloc, key),
-            _ => Reply::NotServed,
+            Event::Get(key) => find(
+                &*self.desk.read(self.rt),
+                self.alloc,
+                key,
+                self.settles_gets,
+            ),
+            _ => Shown::now(Reply::NotServed),
         }
     }
 
     /// The reply to an event. A get is looked up, a put, a delete, a swap and a flush are a job of the writer, and steps are
-    /// not served.
+    /// not served. If gets settle what they show, one that a crash may undo waits for a flush.
     ///
     /// # Errors
     ///
     /// No reply comes, or one that does not fit the event; or out of memory for the job.
     pub fn answer(&self, event: Event) -> Result<Reply<()>, Unanswered>
-        ensures { IfOk result (IsAnswer D.Disk event) }
+        ensures { IfOk result (IsAnswer D.Disk (W.did self.now.writer) self.now.settles_gets event) }
     {
         match Request::of(event) {
             Ok(request) => self.request(request),
-            Err(event) => Ok(self.answer_here(&event)),
+            Err(event) => self.give(self.answer_here(&event)),
         }
     }
 
-    // Waits until the requests before are done, and then replies to an event that is not for the writer.
-    fn answer_behind(&self, pipeline: &mut Pipeline, event: &Event) -> Result<(), Unanswered>
+    // Gives an event that is not for the writer its place, once no request waits that may change its key.
+    fn take_here(&self, pipeline: &mut Pipeline, event: &Event) -> Result<(), Unanswered>
         requires event { IsNoRequest event.now }
         requires room { HasRoom pipeline.old 1 }
-        ensures answers { OnOk result ((events : List EventOf) → AnswersSoFar D.Disk events pipeline.old → AnswersSoFar D.Disk (events ++ event.now ∷ []) pipeline.new) }
+        ensures answers { OnOk result ((events : List EventOf) → AnswersSoFar D.Disk self.now.settles_gets (W.did self.now.writer) events pipeline.old → AnswersSoFar D.Disk self.now.settles_gets (W.did self.now.writer) (events ++ event.now ∷ []) pipeline.new) }
         ensures room { OnOk result ((n : ℕ) → HasRoom pipeline.old (n + 1) → HasRoom pipeline.new n) }
     {
-        pipeline.settle(self)?;
+        self.settle_for(pipeline, event)?;
         pipeline.push(self.answer_here(event));
         Ok(())
     }
 
-    // Takes one more event. A request waits for the writer with those before it. Any other event waits until these are
-    // done.
+    // Takes one more event. A request waits for the writer.
     fn take(&self, pipeline: &mut Pipeline, event: Event) -> Result<(), Unanswered>
         requires { HasRoom pipeline.old 1 }
-        ensures answers { OnOk result ((events : List EventOf) → AnswersSoFar D.Disk events pipeline.old → AnswersSoFar D.Disk (events ++ event ∷ []) pipeline.new) }
+        ensures answers { OnOk result ((events : List EventOf) → AnswersSoFar D.Disk self.now.settles_gets (W.did self.now.writer) events pipeline.old → AnswersSoFar D.Disk self.now.settles_gets (W.did self.now.writer) (events ++ event ∷ []) pipeline.new) }
         ensures room { OnOk result ((n : ℕ) → HasRoom pipeline.old (n + 1) → HasRoom pipeline.new n) }
     {
         match Request::of(event) {
@@ -114,15 +175,16 @@ impl<D: Disk, T: Trace, N: DeskId + InboxId, R: Wait> Session<'_, Shared<D, T, N
                 pipeline.gather(request);
                 Ok(())
             }
-            Err(event) => self.answer_behind(pipeline, &event),
+            Err(event) => self.take_here(pipeline, &event),
         }
     }
 
     // Takes all events, and waits until the last requests are done.
     fn take_all(&self, pipeline: &mut Pipeline, events: Vec<Event>) -> Result<(), Unanswered>
-        requires empty { IsEmpty pipeline.old }
+        requires settled { IsSettled pipeline.old }
+        requires none { pipeline.old.replies.items ≡ [] }
         requires room { HasRoom pipeline.old (vec_len events) }
-        ensures { OnOk result (AllZip (IsAnswer D.Disk) events.items pipeline.new.replies.items) }
+        ensures { OnOk result (AllZip (IsAnswer D.Disk (W.did self.now.writer) self.now.settles_gets) events.items pipeline.new.replies.items) }
     {
         for event in events {
             self.take(pipeline, event)?;
@@ -130,14 +192,15 @@ impl<D: Disk, T: Trace, N: DeskId + InboxId, R: Wait> Session<'_, Shared<D, T, N
         pipeline.settle(self)
     }
 
-    /// The replies to events, in order. Puts, deletes, swaps and flushes that follow each other are one job of the writer.
-    /// A get is looked up when the requests before it are done. Steps are not served.
+    /// The replies to events, in order. Puts, deletes, swaps and flushes are gathered into one job of the writer. A get is
+    /// looked up at once, but if one of these may change its key, only when they are done. Steps are not served. If gets
+    /// settle what they show, those that a crash may undo wait for a flush, one for all of them.
     ///
     /// # Errors
     ///
     /// No reply comes, or one that does not fit its event; or out of memory for the replies.
     pub fn answer_all(&self, events: Vec<Event>) -> Result<Vec<Reply<()>>, Unanswered>
-        ensures { IfOk result (λ replies. AllZip (IsAnswer D.Disk) events.items replies.items) }
+        ensures { IfOk result (λ replies. AllZip (IsAnswer D.Disk (W.did self.now.writer) self.now.settles_gets) events.items replies.items) }
     {
         let Ok(mut pipeline) = Pipeline::new(self.alloc, events.len()) else {
             return Err(Unanswered::NoMemory);

@@ -1,7 +1,8 @@
 // What goes from the sessions to the writer.
-ghost use Rattle.std.specs.Prelude.{◌≡◌, MatchResult};
+ghost use Rattle.std.specs.Prelude.{◌≡◌, ◌≢◌, IfNone, IfSome, MatchResult};
+ghost use Rattle.std.specs.Option.{option_copied};
 ghost use Rattle.silt_inbox.specs.Answers.{event_kind};
-ghost use Rattle.silt_session.specs.Requests.{IsNew, IsNoRequest, acknowledged, changed, asked_event, reply_due, reply_in};
+ghost use Rattle.silt_session.specs.Requests.{Allows, HasReply, IsNew, IsNoRequest, acknowledged, changed, changed_key, asked_event, reply_due, reply_in};
 
 use crossbeam_channel::Sender;
 use silt_event::{Event, Refusal, Reply};
@@ -29,6 +30,16 @@ impl Request {
             Request::Delete(_) => EventKind::Delete,
             Request::Swap(_, _, _) => EventKind::Swap,
             Request::Flush => EventKind::Flush,
+        }
+    }
+
+    /// The key that the request may change.
+    pub(crate) fn key(&self) -> Option<&Key>
+        ensures { option_copied result ≡ changed_key (asked_event self.now) }
+    {
+        match self {
+            Request::Put(key, _) | Request::Delete(key) | Request::Swap(key, _, _) => Some(key),
+            Request::Flush => None,
         }
     }
 
@@ -71,6 +82,19 @@ impl Task {
             answer: None,
             reply: None,
         }
+    }
+
+    /// The reply, if it is one to an event of this kind.
+    pub(crate) fn into_reply(self, kind: EventKind) -> Option<Reply<()>>
+        ensures reply { IfSome result (HasReply self) }
+        ensures allowed { IfSome result (Allows kind) }
+        ensures none { IfNone result (IfSome self.reply (λ answered. answered.kind ≢ kind)) }
+    {
+        let answered = self.reply?;
+        if answered.kind() != kind {
+            return None;
+        }
+        Some(answered.into_reply())
     }
 }
 

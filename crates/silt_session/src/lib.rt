@@ -6,8 +6,8 @@
 //! sessions. Replies to many jobs are sent by a thread of its own, the *replier*, while the writer does the next batch
 //! ([`send_replies`]).
 //!
-//! A job has one [`Task`], or all changes of one read up to the next get. So a client that writes many lines before it
-//! reads waits for one flush, and its get still sees its changes before it.
+//! A job has one [`Task`], or all changes of one read up to a get of a key that one of them may change. So a client that
+//! writes many lines before it reads waits for one flush, and its get still sees its changes before it.
 //!
 //! The contract of [`Workplace::serve_batch`] states the replies to a batch of jobs. Nothing is proved of whether messages arrive.
 #![tactic(auto)]
@@ -17,8 +17,10 @@ mod batch;
 mod client;
 mod held;
 mod job;
+mod key_marks;
 mod outlet;
 mod pipeline;
+mod place;
 mod replier;
 mod room;
 mod session;
@@ -32,7 +34,7 @@ pub use job::{Job, Request, Task};
 pub use outlet::Outlet;
 pub use replier::{replier_channel, send_batches, send_replies};
 pub use room::{HearsRoom, RoomGate, RoomWait, room_channel};
-pub use session::Session;
+pub use session::{Commits, Session, WriterLink};
 pub use session_slots::{SessionSlot, free_slot, slots_of};
 pub use unanswered::Unanswered;
 pub use work::Jobs;

@@ -1,133 +1,239 @@
 // The events that a session asks at once, on their way to replies.
-ghost use Rattle.std.specs.Prelude.{◌≡◌, ◌≢◌, ◌≤◌, ◌<◌, ◌+◌, ◌++◌, ◌∷◌, [], List, false, IfNone, IfOk, IfSome, MatchResult, OnOk, length, vec_capacity, vec_len};
-ghost use Rattle.std.specs.List.{AllZip};
+ghost use Rattle.std.specs.Prelude.{◌≡◌, ◌≤◌, ◌<◌, ◌+◌, ◌++◌, ◌∷◌, ◌||◌, ◌↔◌, [], List, false, is_some, map, true, IfOk, IfSome, OnOk, vec_capacity, vec_len};
+ghost use Rattle.std.specs.VecDeque.{deque_capacity, deque_len};
 ghost use Rattle.silt_event.specs.Events.{PlainReply};
 ghost use Rattle.silt_inbox.specs.Answers.{event_kind};
-ghost use Rattle.silt_session.specs.Pipelines.{Allows, GathersTask, HasReply, IsEmpty};
-ghost use Rattle.silt_session.specs.Requests.{asked_event};
+ghost use Rattle.silt_session.specs.Pipelines.{AddsFlush, Fills, FillsAll, GathersTask, IsFree, IsSettled, MarksToo, MovesPlaces, NothingWaits};
+ghost use Rattle.silt_session.specs.Pipelines.{SettlesAll, TakesFlush, WereDone, reply_without_tasks};
+ghost use Rattle.silt_session.specs.Requests.{Allows, HasReply, asked_event, changed_key};
 ghost use Rattle.silt_session.specs.declared.job.Task.{Task as TaskOf};
+ghost use Rattle.silt_session.specs.declared.place.Place.TheVariants as place;
 
 use crate::job::{Request, Task};
-use crate::session::Session;
+use crate::key_marks::KeyMarks;
+use crate::place::{Place, Shown};
+use crate::session::{Commits, Session};
 use crate::unanswered::Unanswered;
-use crossbeam_channel::Receiver;
-use silt_event::Reply;
-use silt_inbox::{EventKind, InboxId, NotPutReason};
+use silt_event::{Event, Reply};
+use silt_inbox::EventKind;
 use std::alloc::{AllocError, Global};
+use std::collections::VecDeque;
 use std::mem;
-use std::sync::Wait;
 
-/// The replies to the first events, and the requests after them that wait for the writer.
+/// The replies to the first events, and the places of those behind them, in order.
 #[derive(Drop)]
 pub struct Pipeline {
     pub replies: Vec<Reply<()>>,
-    /// The kinds of the requests that wait.
-    pub kinds: Vec<EventKind>,
-    /// Their tasks, unless out of memory for one of them.
+    pub places: VecDeque<Place>,
+    /// The tasks of the requests that wait, in order, unless out of memory for one of them.
     pub tasks: Vec<Task>,
     pub lacks_memory: bool,
+    /// The keys that these requests may change.
+    pub marks: KeyMarks,
+    /// Whether a reply waits for a flush.
+    pub needs_flush: bool,
 }
 
 impl Pipeline {
     /// A pipeline for this many events. All memory for their replies is reserved.
     pub fn new(alloc: Global, count: usize) -> Result<Pipeline, AllocError>
-        ensures empty { IfOk result IsEmpty }
+        ensures settled { IfOk result IsSettled }
+        ensures none { IfOk result (λ pipeline. pipeline.replies.items ≡ []) }
         ensures replies { IfOk result (λ pipeline. count ≤ vec_capacity pipeline.replies) }
-        ensures kinds { IfOk result (λ pipeline. count ≤ vec_capacity pipeline.kinds) }
+        ensures places { IfOk result (λ pipeline. count ≤ deque_capacity pipeline.places) }
     {
         Ok(Pipeline {
             replies: Vec::with_capacity(alloc, count)?,
-            kinds: Vec::with_capacity(alloc, count)?,
+            places: VecDeque::with_capacity(alloc, count)?,
             tasks: Vec::new(alloc),
             lacks_memory: false,
+            marks: KeyMarks::new(),
+            needs_flush: false,
         })
+    }
+
+    // Marks the key that a request may change.
+    fn mark(&mut self, request: &Request)
+        ensures marks { MarksToo self.old.marks (changed_key (asked_event request.now)) self.new.marks }
+        ensures same { self.new ≡ record self.old { marks = self.new.marks } }
+    {
+        if let Some(key) = request.key() {
+            self.marks.mark(key);
+        }
     }
 
     /// Adds a request to those that wait. If out of memory for its task, none of them is done.
     pub fn gather(&mut self, request: Request)
-        requires room { vec_len self.old.kinds < vec_capacity self.old.kinds }
-        ensures kinds { self.new.kinds.items ≡ self.old.kinds.items ++ event_kind (asked_event request) ∷ [] }
+        requires room { deque_len self.old.places < deque_capacity self.old.places }
+        ensures places { self.new.places.items ≡ self.old.places.items ++ place.Waits (event_kind (asked_event request)) ∷ [] }
         ensures tasks { self.new.lacks_memory ≡ false → GathersTask self.old self.new request }
-        ensures room { vec_capacity self.new.kinds ≡ vec_capacity self.old.kinds }
-        ensures same { self.new.replies ≡ self.old.replies }
+        ensures marks { MarksToo self.old.marks (changed_key (asked_event request)) self.new.marks }
+        ensures room { deque_capacity self.new.places ≡ deque_capacity self.old.places }
+        ensures same { (self.new.replies ≡ self.old.replies) × (self.new.needs_flush ≡ self.old.needs_flush) }
     {
-        self.kinds.push_reserved(request.kind());
+        self.mark(&request);
+        self.places.push_back_reserved(Place::Waits(request.kind()));
         let Ok(()) = self.tasks.push(Task::new(request)) else {
             self.lacks_memory = true;
             return;
         };
     }
 
-    /// Adds a reply. No request waits.
-    pub fn push(&mut self, reply: Reply<()>)
-        requires room { vec_len self.old.replies < vec_capacity self.old.replies }
-        ensures replies { self.new.replies.items ≡ self.old.replies.items ++ reply ∷ [] }
-        ensures room { vec_capacity self.new.replies ≡ vec_capacity self.old.replies }
-        ensures same { self.new.kinds ≡ self.old.kinds }
+    /// Adds the reply to an event that is not for the writer.
+    pub fn push(&mut self, shown: Shown)
+        requires room { deque_len self.old.places < deque_capacity self.old.places }
+        ensures places { self.new.places.items ≡ self.old.places.items ++ place.Shows shown ∷ [] }
+        ensures flush { self.new.needs_flush ≡ (self.old.needs_flush || is_some shown.until) }
+        ensures room { deque_capacity self.new.places ≡ deque_capacity self.old.places }
+        ensures same { self.new ≡ record self.old { places = self.new.places; needs_flush = self.new.needs_flush } }
     {
-        self.replies.push_reserved(reply);
+        self.needs_flush = self.needs_flush || shown.until.is_some();
+        self.places.push_back_reserved(Place::Shows(shown));
     }
 
-    /// Hands the requests that wait to the writer as one job, and waits for the replies. If out of memory, none of them
-    /// is done.
+    /// Whether an event is a get of a key that a request may change that waits. It may also be true of another key with the same
+    /// mark.
+    pub fn may_change(&self, event: &Event) -> bool
+        ensures { result ≡ false ↔ IsFree self.now.marks event.now }
+    {
+        match event {
+            Event::Get(key) => self.marks.has(key),
+            _ => false,
+        }
+    }
+
+    /// Has the requests that wait done together, and a flush behind them if a reply waits for one, and waits until they come
+    /// back. Then each event has its reply. If out of memory, none of them is done.
     ///
     /// # Errors
     ///
     /// No reply comes, or one that does not fit.
-    pub fn settle<S, N: InboxId, R: Wait>(
+    pub fn settle<S, W: Commits, R>(
         &mut self,
-        session: &Session<'_, S, N, R>,
+        session: &Session<'_, S, W, R>,
     ) -> Result<(), Unanswered>
-        requires room { vec_len self.old.replies + vec_len self.old.kinds ≤ vec_capacity self.old.replies }
-        ensures replies { OnOk result ((given : List PlainReply) × (self.new.replies.items ≡ self.old.replies.items ++ given) × AllZip Allows self.old.kinds.items given) }
-        ensures none { OnOk result (self.new.kinds.items ≡ []) }
-        ensures room { OnOk result ((vec_capacity self.new.replies ≡ vec_capacity self.old.replies) × (vec_capacity self.new.kinds ≡ vec_capacity self.old.kinds)) }
+        requires room { vec_len self.old.replies + deque_len self.old.places ≤ vec_capacity self.old.replies }
+        ensures { OnOk result (SettlesAll (W.did session.now.writer) self.old self.new) }
     {
-        if self.kinds.is_empty() {
-            return Ok(());
-        }
-        match self.put_tasks(session) {
-            Ok(back) => forward_all(session.rt, &back, self.kinds.as_slice(), &mut self.replies)?,
-            Err(NotPutReason::NoMemory) => {
-                Unanswered::NoMemory.reply_to(self.kinds.len(), &mut self.replies);
+        let has_flush = self.needs_flush;
+        match self.commit(session) {
+            Ok(tasks) => self.fill(tasks, has_flush),
+            Err(Unanswered::NoMemory) => {
+                self.fill_without_tasks();
+                Ok(())
             }
-            Err(NotPutReason::Closed) => return Err(Unanswered::Lost),
+            Err(Unanswered::Lost) => Err(Unanswered::Lost),
         }
-        self.kinds.clear();
-        Ok(())
     }
 
-    // Puts the tasks into the inbox as one job, and returns where they will come back. If out of memory, nothing is put.
-    fn put_tasks<S, N: InboxId, R: Wait>(
-        &mut self,
-        session: &Session<'_, S, N, R>,
-    ) -> Result<Receiver<Vec<Task>>, NotPutReason>
-        ensures none { (self.new.tasks.items ≡ []) × (self.new.lacks_memory ≡ false) }
-        ensures same { (self.new.replies ≡ self.old.replies) × (self.new.kinds ≡ self.old.kinds) }
+    // Takes the tasks that wait, with that of a flush behind them if a reply waits for one. None if out of memory for one
+    // of them.
+    fn take_tasks(&mut self, alloc: Global) -> Option<Vec<Task>>
+        ensures tasks { IfSome result (λ tasks. (self.old.lacks_memory ≡ false) × AddsFlush self.old.needs_flush self.old.tasks.items tasks.items) }
+        ensures none { NothingWaits self.new }
+        ensures same { (self.new.replies ≡ self.old.replies) × (self.new.places ≡ self.old.places) }
     {
-        let tasks = mem::replace(&mut self.tasks, Vec::new(session.alloc));
-        if mem::replace(&mut self.lacks_memory, false) {
-            return Err(NotPutReason::NoMemory);
+        let tasks = mem::replace(&mut self.tasks, Vec::new(alloc));
+        let lacks_memory = mem::replace(&mut self.lacks_memory, false);
+        let needs_flush = mem::replace(&mut self.needs_flush, false);
+        self.marks.clear();
+        match (lacks_memory, needs_flush) {
+            (true, _) => None,
+            (false, true) => with_flush(tasks),
+            (false, false) => Some(tasks),
         }
-        session.hand_over(tasks)
+    }
+
+    // Has the tasks that wait done, if there are any.
+    fn commit<S, W: Commits, R>(
+        &mut self,
+        session: &Session<'_, S, W, R>,
+    ) -> Result<Vec<Task>, Unanswered>
+        ensures done { IfOk result (λ tasks. WereDone (W.did session.now.writer) tasks.items) }
+        ensures none { NothingWaits self.new }
+        ensures same { (self.new.replies ≡ self.old.replies) × (self.new.places ≡ self.old.places) }
+    {
+        let Some(tasks) = self.take_tasks(session.alloc) else {
+            return Err(Unanswered::NoMemory);
+        };
+        if tasks.is_empty() {
+            return Ok(tasks);
+        }
+        session.writer.commit(tasks)
+    }
+
+    // Moves each place to the replies, by the tasks that came back. The last of them is a flush's if there is one.
+    fn fill(&mut self, tasks: Vec<Task>, has_flush: bool) -> Result<(), Unanswered>
+        requires { vec_len self.old.replies + deque_len self.old.places ≤ vec_capacity self.old.replies }
+        ensures replies { OnOk result ((given : List PlainReply) × (self.new.replies.items ≡ self.old.replies.items ++ given) × FillsAll has_flush tasks.items self.old.places.items given) }
+        ensures moved { OnOk result (MovesPlaces self.old self.new) }
+    {
+        let mut tasks = VecDeque::from(tasks);
+        if !has_flush {
+            return self.fill_places(tasks, &None);
+        }
+        let Some(flushed) = take_flush(&mut tasks) else {
+            return Err(Unanswered::Lost);
+        };
+        self.fill_places(tasks, &Some(flushed))
+    }
+
+    // Moves each place to the replies, by the tasks and the reply to the flush behind them.
+    fn fill_places(
+        &mut self,
+        tasks: VecDeque<Task>,
+        flushed: &Option<Reply<()>>,
+    ) -> Result<(), Unanswered>
+        requires { vec_len self.old.replies + deque_len self.old.places ≤ vec_capacity self.old.replies }
+        ensures replies { OnOk result ((given : List PlainReply) × (self.new.replies.items ≡ self.old.replies.items ++ given) × Fills flushed.now tasks.items self.old.places.items given []) }
+        ensures moved { OnOk result (MovesPlaces self.old self.new) }
+    {
+        let mut tasks = tasks;
+        while let Some(place) = self.places.pop_front() {
+            let Some(reply) = place.given(&mut tasks, flushed) else {
+                return Err(Unanswered::Lost);
+            };
+            self.replies.push_reserved(reply);
+        }
+        if tasks.is_empty() {
+            Ok(())
+        } else {
+            Err(Unanswered::Lost)
+        }
+    }
+
+    // Moves each place to the replies, if out of memory for the tasks.
+    fn fill_without_tasks(&mut self)
+        requires { vec_len self.old.replies + deque_len self.old.places ≤ vec_capacity self.old.replies }
+        ensures replies { self.new.replies.items ≡ self.old.replies.items ++ map reply_without_tasks self.old.places.items }
+        ensures moved { MovesPlaces self.old self.new }
+    {
+        while let Some(place) = self.places.pop_front() {
+            self.replies.push_reserved(place.without_tasks());
+        }
     }
 }
 
-// The reply of a task, if it is one to an event of this kind.
-fn forwarded(task: Task, kind: EventKind) -> Option<Reply<()>>
-    ensures reply { IfSome result (HasReply task) }
-    ensures allowed { IfSome result (Allows kind) }
-    ensures none { IfNone result (IfSome task.reply (λ answered. answered.kind ≢ kind)) }
+// Adds the task of a flush. None if out of memory for it.
+fn with_flush(tasks: Vec<Task>) -> Option<Vec<Task>>
+    ensures { IfSome result (λ all. AddsFlush true tasks.items all.items) }
 {
-    let answered = task.reply?;
-    if answered.kind() != kind {
-        return None;
+    let mut tasks = tasks;
+    match tasks.push(Task::new(Request::Flush)) {
+        Ok(()) => Some(tasks),
+        Err(_) => None,
     }
-    Some(answered.into_reply())
+}
+
+// Takes the last task, and returns its reply if it is one to a flush.
+fn take_flush(tasks: &mut VecDeque<Task>) -> Option<Reply<()>>
+    ensures { IfSome result (TakesFlush tasks.old.items tasks.new.items) }
+{
+    tasks.pop_back()?.into_reply(EventKind::Flush)
 }
 
 // The reply of a task that came back alone, if it is one to an event of this kind.
-fn forwarded_alone(tasks: Vec<Task>, kind: EventKind) -> Option<Reply<()>>
+pub(crate) fn reply_alone(tasks: Vec<Task>, kind: EventKind) -> Option<Reply<()>>
     ensures reply { IfSome result (λ reply. (task : TaskOf) × (tasks.items ≡ task ∷ []) × HasReply task reply) }
     ensures allowed { IfSome result (Allows kind) }
 {
@@ -135,69 +241,5 @@ fn forwarded_alone(tasks: Vec<Task>, kind: EventKind) -> Option<Reply<()>>
     if tasks.len() != 1 {
         return None;
     }
-    let Some(task) = tasks.pop() else {
-        return None;
-    };
-    forwarded(task, kind)
-}
-
-/// Waits for the task of a request, and returns its reply.
-///
-/// # Errors
-///
-/// No reply comes, or one that does not fit.
-pub(crate) fn forward_one<R: Wait>(
-    rt: &R,
-    back: &Receiver<Vec<Task>>,
-    kind: EventKind,
-) -> Result<Reply<()>, Unanswered>
-    ensures { IfOk result (Allows kind) }
-{
-    match back.recv(rt) {
-        Ok(tasks) => forwarded_alone(tasks, kind).ok_or(Unanswered::Lost),
-        Err(_) => Err(Unanswered::Lost),
-    }
-}
-
-// Waits for the tasks, and appends their replies.
-fn forward_all<R: Wait>(
-    rt: &R,
-    back: &Receiver<Vec<Task>>,
-    kinds: &[EventKind],
-    replies: &mut Vec<Reply<()>>,
-) -> Result<(), Unanswered>
-    requires { vec_len replies.old + length kinds.now ≤ vec_capacity replies.old }
-    ensures replies { OnOk result ((given : List PlainReply) × (replies.new.items ≡ replies.old.items ++ given) × AllZip Allows kinds.now given) }
-    ensures room { vec_capacity replies.new ≡ vec_capacity replies.old }
-{
-    match back.recv(rt) {
-        Ok(tasks) => forward(tasks, kinds, replies),
-        Err(_) => Err(Unanswered::Lost),
-    }
-}
-
-// Appends the replies of tasks that came back, if they are one for each of these kinds.
-fn forward(
-    tasks: Vec<Task>,
-    kinds: &[EventKind],
-    replies: &mut Vec<Reply<()>>,
-) -> Result<(), Unanswered>
-    requires { vec_len replies.old + length kinds.now ≤ vec_capacity replies.old }
-    ensures replies { OnOk result ((given : List PlainReply) × (replies.new.items ≡ replies.old.items ++ given) × AllZip HasReply tasks.items given × AllZip Allows kinds.now given) }
-    ensures room { vec_capacity replies.new ≡ vec_capacity replies.old }
-{
-    if tasks.len() != kinds.len() {
-        return Err(Unanswered::Lost);
-    }
-    let mut tasks = tasks.into_iter();
-    for kind in kinds {
-        let Some(task) = tasks.next() else {
-            return Err(Unanswered::Lost);
-        };
-        let Some(reply) = forwarded(task, *kind) else {
-            return Err(Unanswered::Lost);
-        };
-        replies.push_reserved(reply);
-    }
-    Ok(())
+    tasks.pop()?.into_reply(kind)
 }

@@ -1,0 +1,68 @@
+-- Which marks are set.
+use Rattle.std.proofs.Common.{◌≡◌, ◌≢◌, ◌<◌, ◌⊎◌, ℕ, zero, suc, ◌+◌, ◌*◌, ◌/◌, ◌%◌, ◌^◌, List, [], ◌∷◌, inl, inr, length, get_or, replicate, refl, sym, ◌∙◌, ap, arith, slice_set, bit_or, w64}
+use Rattle.std.specs.Int.{bit_at}
+use Rattle.std.specs.Prelude.{◌↔◌}
+use Rattle.std.proofs.lemmas.Bool.{cases_order}
+use Rattle.std.proofs.lemmas.List.{get_or-set_other, get_or-set_same}
+use Rattle.std.proofs.lemmas.Nat.Bits.{bit_at-zero, bit_at_set_other, bit_at_set_same}
+
+zero_at : (n i : ℕ) → get_or {A = ℕ} (replicate n 0) i 0 ≡ 0
+zero_at zero i = refl
+zero_at (suc n) zero = refl
+zero_at (suc n) (suc i) = zero_at n i
+
+-- no mark is set in words that are zero
+pub none_marked : (number : ℕ) → bit_at (get_or (replicate 64 0) (number / 64) 0) (number % 64) ≡ 1 → ⊥
+none_marked number is =
+    let zero_word = ap (λ (w : ℕ). bit_at w (number % 64)) (zero_at 64 (number / 64)) ∙ bit_at-zero (number % 64) in
+    omega (arith, is, zero_word)
+
+-- the words in which this bit of this word is set
+abbrev set_in : List ℕ → ℕ → ℕ → List ℕ
+set_in words word bit = slice_set words word (bit_or (get_or words word 0) (1 * 2 ^ bit % 2 ^ 64))
+
+module _ (words : List ℕ) (word bit : ℕ) (in_word : bit < 64) (in_words : word < length words) where
+  set_same : bit_at (get_or (set_in words word bit) word 0) bit ≡ 1
+  set_same = ap (λ (w : ℕ). bit_at w bit) (get_or-set_same words word _ 0 in_words) ∙ bit_at_set_same w64 (get_or words word 0) bit in_word
+
+  set_other_word : (at i : ℕ) → at ≢ word → bit_at (get_or (set_in words word bit) at 0) i ≡ bit_at (get_or words at 0) i
+  set_other_word at i other = ap (λ (w : ℕ). bit_at w i) (get_or-set_other words word at _ 0 other)
+
+  set_other_bit : (i : ℕ) → i ≢ bit → bit_at (get_or (set_in words word bit) word 0) i ≡ bit_at (get_or words word 0) i
+  set_other_bit i other = ap (λ (w : ℕ). bit_at w i) (get_or-set_same words word _ 0 in_words) ∙ bit_at_set_other w64 (get_or words word 0) bit in_word i other
+
+  set_other : (at i : ℕ) → (at ≡ word → i ≢ bit) → bit_at (get_or (set_in words word bit) at 0) i ≡ bit_at (get_or words at 0) i
+  set_other at i other =
+      let go : (at ≡ word) ⊎ ((at < word) ⊎ (word < at)) → bit_at (get_or (set_in words word bit) at 0) i ≡ bit_at (get_or words at 0) i = elim [
+        | inl is ↦
+            ap (λ (a : ℕ). bit_at (get_or (set_in words word bit) a 0) i) is ∙ set_other_bit i (other is) ∙ ap (λ (a : ℕ). bit_at (get_or words a 0) i) (sym is)
+        | inr (inl below) ↦ set_other_word at i (λ is. omega (arith, is, below))
+        | inr (inr above) ↦ set_other_word at i (λ is. omega (arith, is, above))
+      ] in
+      go (cases_order at word)
+
+  -- a mark with another number stays as it was
+  set_none : (mark number : ℕ) → word ≡ mark / 64 → bit ≡ mark % 64 → number ≢ mark
+      → bit_at (get_or (set_in words word bit) (number / 64) 0) (number % 64) ≡ bit_at (get_or words (number / 64) 0) (number % 64)
+  set_none mark number is_word is_bit ne = set_other (number / 64) (number % 64) (λ at is. ne (omega (arith, at, is, is_word, is_bit)))
+
+  -- the mark with this number is set
+  set_its : (mark number : ℕ) → word ≡ mark / 64 → bit ≡ mark % 64 → number ≡ mark → bit_at (get_or (set_in words word bit) (number / 64) 0) (number % 64) ≡ 1
+  set_its mark number is_word is_bit is =
+      ap (λ (a : ℕ). bit_at (get_or (set_in words word bit) a 0) (number % 64)) (ap (λ (n : ℕ). n / 64) is ∙ sym is_word)
+      ∙ ap (λ (b : ℕ). bit_at (get_or (set_in words word bit) word 0) b) (ap (λ (n : ℕ). n % 64) is ∙ sym is_bit) ∙ set_same
+
+  -- the marks that were set, and this one, are set, and no other
+  pub marked_too : (mark number : ℕ) → word ≡ mark / 64 → bit ≡ mark % 64
+      → (bit_at (get_or (set_in words word bit) (number / 64) 0) (number % 64) ≡ 1) ↔ ((bit_at (get_or words (number / 64) 0) (number % 64) ≡ 1) ⊎ (number ≡ mark))
+  marked_too mark number is_word is_bit =
+      let Goal : Type 0 = (bit_at (get_or (set_in words word bit) (number / 64) 0) (number % 64) ≡ 1) ↔ ((bit_at (get_or words (number / 64) 0) (number % 64) ≡ 1) ⊎ (number ≡ mark)) in
+      let differs : number ≢ mark → Goal = λ ne.
+      let same = set_none mark number is_word is_bit ne in
+      (λ set. inl (sym same ∙ set), elim [ inl set ↦ same ∙ set | inr is ↦ absurd (ne is) ]) in
+      let go : (number ≡ mark) ⊎ ((number < mark) ⊎ (mark < number)) → Goal = elim [
+        | inl is ↦ (λ set. inr is, λ either. set_its mark number is_word is_bit is)
+        | inr (inl below) ↦ differs (λ is. omega (arith, is, below))
+        | inr (inr above) ↦ differs (λ is. omega (arith, is, above))
+      ] in
+      go (cases_order number mark)

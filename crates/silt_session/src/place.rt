@@ -1,0 +1,87 @@
+// The place of an event among the events that a session asks at once.
+ghost use Rattle.std.specs.Prelude.{◌≡◌, IfSome};
+ghost use Rattle.silt_session.specs.Pipelines.{FillsOne, given_by, reply_without_tasks};
+
+use crate::job::Task;
+use silt_event::{Refusal, Reply};
+use silt_inbox::EventKind;
+use std::collections::VecDeque;
+
+/// The reply to an event that is not for the writer.
+#[derive(Drop)]
+pub struct Shown {
+    pub reply: Reply<()>,
+    /// If the reply waits for a flush: how many commands that has to acknowledge.
+    pub until: Option<u64>,
+}
+
+/// The place of an event.
+#[derive(Drop)]
+pub enum Place {
+    Shows(Shown),
+    /// A request of this kind waits for the writer.
+    Waits(EventKind),
+}
+
+impl Shown {
+    /// A reply that waits for nothing.
+    pub(crate) fn now(reply: Reply<()>) -> Shown
+        ensures { result ≡ record { reply = reply; until = None } }
+    {
+        Shown { reply, until: None }
+    }
+
+    /// The reply, by the reply to the flush behind it. None if it waits for a flush and that acknowledges too few
+    /// commands. If the flush is refused, so is the event.
+    pub(crate) fn given(self, flushed: &Option<Reply<()>>) -> Option<Reply<()>>
+        ensures { result ≡ given_by flushed.now self }
+    {
+        let Some(count) = self.until else {
+            return Some(self.reply);
+        };
+        match flushed {
+            Some(Reply::Acknowledged(acknowledged)) => {
+                (count <= *acknowledged).then_some(self.reply)
+            }
+            Some(Reply::Refused(refusal)) => Some(Reply::Refused(*refusal)),
+            _ => None,
+        }
+    }
+
+    // The reply if out of memory for a flush.
+    fn without_flush(self) -> Reply<()>
+        ensures { result ≡ reply_without_tasks (Place.Shows self) }
+    {
+        match self.until {
+            None => self.reply,
+            Some(_) => Reply::Refused(Refusal::NoMemory),
+        }
+    }
+}
+
+impl Place {
+    /// The reply, by the tasks that came back in order, of which it takes the next one if its request waited, and by the
+    /// reply to the flush behind them. None if that task is missing, or has a reply that does not fit.
+    pub(crate) fn given(
+        self,
+        tasks: &mut VecDeque<Task>,
+        flushed: &Option<Reply<()>>,
+    ) -> Option<Reply<()>>
+        ensures { IfSome result (λ reply. FillsOne flushed.now tasks.old.items self reply tasks.new.items) }
+    {
+        match self {
+            Place::Shows(shown) => shown.given(flushed),
+            Place::Waits(kind) => tasks.pop_front()?.into_reply(kind),
+        }
+    }
+
+    /// The reply if out of memory for the tasks.
+    pub(crate) fn without_tasks(self) -> Reply<()>
+        ensures { result ≡ reply_without_tasks self }
+    {
+        match self {
+            Place::Shows(shown) => shown.without_flush(),
+            Place::Waits(_) => Reply::Refused(Refusal::NoMemory),
+        }
+    }
+}
