@@ -1,5 +1,5 @@
 // A store with its trace, whose callers have seats.
-ghost use Rattle.std.specs.Prelude.{◌≡◌, ◌≢◌, ℕ, ◌+◌, ◌≤◌, ◌<◌, ◌%◌, ◌^◌, [], Some, Ok, true, false, not, IsTrue, length, is_some, IfOk, IfErr, IfSome, OnOk, MatchResult, vec_len, vec_capacity, slice_get};
+ghost use Rattle.std.specs.Prelude.{◌≡◌, ◌≢◌, ℕ, ◌+◌, ◌≤◌, ◌<◌, ◌%◌, ◌^◌, [], Some, None, Ok, true, false, not, IsTrue, length, is_some, IfOk, IfErr, IfSome, OnOk, MatchResult, vec_len, vec_capacity, slice_get};
 ghost use Rattle.std.specs.Option.{option_map};
 ghost use Rattle.silt_event.specs.Events.{Step, plain};
 ghost use Rattle.silt_desk.specs.DeskState.{Notes};
@@ -14,7 +14,7 @@ use crate::worker::Due;
 use silt_disk::{Disk, Geometry};
 use silt_event::{Progress, Refusal};
 use silt_frame::Key;
-use silt_store_set::{Core, Look};
+use silt_store_set::{Core, LentBytes, Look};
 use std::alloc::Global;
 use std::marker::Model;
 use std::sync::ledger::Blank;
@@ -321,6 +321,23 @@ impl<D: Disk, T: Trace, N: DeskId> Desk<D, T, N> {
         let noted = Note::Merge(plain(&answer));
         note(&mut self.trace, &mut self.ledgers, seat, room, noted, &[]);
         answer
+    }
+
+    /// Lends bytes that the merge in progress has read and not hashed yet, if they are 16 KiB or more, to be hashed with
+    /// no guard held. Returns whether it did. It records nothing and changes nothing.
+    pub fn lend_unhashed(&self, lent: &mut LentBytes) -> bool
+        ensures none { result ≡ false → lent.new.bytes ≡ [] }
+        ensures unhashed { lent.new.after ≡ None }
+    {
+        self.core.lend_unhashed(lent)
+    }
+
+    /// Takes what was hashed meanwhile. If the merge in progress does not wait for it, it is ignored. It records nothing,
+    /// and the calls that follow do and return the same in either case.
+    pub fn take_hashed(&mut self, lent: &LentBytes)
+        ensures { self.new ≡ self.old }
+    {
+        self.core.take_hashed(lent);
     }
 
     /// Whether there is a step of conversion to do.

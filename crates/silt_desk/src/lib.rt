@@ -39,7 +39,7 @@ pub use silt_inbox::{
     Answered, EventKind, Feeder, Inbox, InboxId, MissingFeeders, NotPushed, NotPut, NotPutReason,
     Queue, Taker, answered_law,
 };
-pub use silt_store_set::Look;
+pub use silt_store_set::{LentBytes, Look};
 pub use threads::join_over;
 pub use trace::{NotPrepared, Room, Trace};
 pub use wakes::{Wakes, wake};

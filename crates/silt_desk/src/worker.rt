@@ -1,10 +1,11 @@
 // Workers that do a store's steps in the background, one under each guard.
-ghost use Rattle.std.specs.Prelude.{◌≡◌, false, true, Result};
+ghost use Rattle.std.specs.Prelude.{◌≡◌, false, true, IfSome, Result, Some};
 ghost use Rattle.silt_event.specs.declared.progress.Progress.{Progress as ProgressOf};
 ghost use Rattle.silt_store_set.specs.CoreState.{may_merge, wants_convert};
 ghost use Rattle.silt_store_set.specs.Replies.{progress_reply};
 ghost use Rattle.silt_event.specs.declared.event.Event.TheVariants.{Convert, Merge};
 ghost use Rattle.silt_event.specs.declared.refusal.Refusal.{Refusal as RefusalOf};
+ghost use Rattle.silt_hasher.specs.Taking.{taken_after};
 ghost use Rattle.silt_desk.specs.DeskState.{Serves};
 ghost use Rattle.silt_desk.specs.Turns.{turn_of};
 ghost use Rattle.silt_desk.specs.declared.worker.Turn.TheVariants as TurnOf;
@@ -17,6 +18,7 @@ use crate::wakes::wake;
 use crossbeam_channel::{Receiver, Sender};
 use silt_disk::Disk;
 use silt_event::{Place, Progress, Refusal};
+use silt_store_set::LentBytes;
 use std::alloc::Global;
 use std::sync::Wait;
 
@@ -140,6 +142,36 @@ pub fn merge_once<D: Disk, T: Trace, N: DeskId>(
     turn_after(desk.merge(alloc, seat))
 }
 
+// Takes what was hashed of the lent bytes, does a turn of merging, and lends what then waits to be hashed.
+fn merge_ahead<D: Disk, T: Trace, N: DeskId>(
+    desk: &mut Desk<D, T, N>,
+    alloc: Global,
+    seat: &mut Seat<N>,
+    least: u32,
+    lent: &mut Option<LentBytes>,
+) -> Turn
+    ensures waits { may_merge desk.old.core least ≡ false → (result ≡ TurnOf.Wait) × (desk.new ≡ desk.old) × (seat.new ≡ seat.old) }
+    ensures steps { may_merge desk.old.core least ≡ true → (answer : Result ProgressOf (RefusalOf D.Fault)) × (result ≡ turn_of answer)
+        × Serves D.Disk T.Trace desk.old desk.new seat.old seat.new Merge (progress_reply answer) }
+{
+    let Some(lent) = lent else {
+        return merge_once(desk, alloc, seat, least);
+    };
+    desk.take_hashed(lent);
+    let turn = merge_once(desk, alloc, seat, least);
+    desk.lend_unhashed(lent);
+    turn
+}
+
+// Hashes the lent bytes.
+fn hash_lent(lent: &mut Option<LentBytes>)
+    ensures { IfSome lent.new (λ new. IfSome lent.old (λ old. new.after ≡ Some (taken_after old.before old.bytes))) }
+{
+    if let Some(lent) = lent {
+        lent.hash();
+    }
+}
+
 /// How a worker learns that there may be work.
 pub trait Hears: Drop {
     /// The worker was told to end, or no thread is left that could wake it.
@@ -212,7 +244,8 @@ pub fn converter<D: Disk, T: Trace, N: DeskId, G: Gate, W: Hears, R: Wait>(
     unreachable!()
 }
 
-/// Does steps of merging, each under a guard of its own, until it hears that it is to end. Gives its seat back.
+/// Does steps of merging, each under a guard of its own, until it hears that it is to end. Gives its seat back. Between two
+/// steps, with no guard, it hashes what the merge has read. Without memory for that, the steps hash it.
 pub fn merger<D: Disk, T: Trace, N: DeskId, G: Gate, W: Hears, R: Wait>(
     rt: &R,
     alloc: Global,
@@ -225,9 +258,12 @@ pub fn merger<D: Disk, T: Trace, N: DeskId, G: Gate, W: Hears, R: Wait>(
     ensures number { result.number ≡ seat.number }
     ensures ended { W.has_ended wakes }
 {
+    let mut lent = LentBytes::new(alloc).ok();
     for _ in rt.forever() {
         gate.pass(Spot::Merger);
-        let turn = merge_once(&mut *shared.write(rt), alloc, &mut seat, gate.merges_at());
+        let least = gate.merges_at();
+        let turn = merge_ahead(&mut *shared.write(rt), alloc, &mut seat, least, &mut lent);
+        hash_lent(&mut lent);
         if !rest(rt, turn, Spot::Merger, gate, &wakes, &other) {
             return seat;
         }

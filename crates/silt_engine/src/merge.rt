@@ -1,6 +1,7 @@
 // The merge of the hash stores and the sorted store into a new sorted store, one slot or one key a step.
-ghost use Rattle.std.specs.Prelude.{◌≡◌, ◌<◌, ◌≤◌, ◌-◌, ◌^◌, [], length, false, true, None, IsSome, IsTrue, IfOk, IfErr, IfSome, OnOk, MatchResult};
+ghost use Rattle.std.specs.Prelude.{◌≡◌, ◌<◌, ◌≤◌, ◌-◌, ◌^◌, [], length, false, true, None, IsSome, IsTrue, IfOk, IfErr, IfSome, IsSomeAnd, OnOk, MatchResult};
 ghost use Rattle.silt_disk.specs.Disk.{Costs, MakesAtMost};
+ghost use Rattle.silt_hasher.specs.Taking.{taken_after};
 ghost use Rattle.silt_event.specs.declared.progress.Progress.TheVariants.{Finished, Moved};
 ghost use Rattle.silt_engine.specs.Calls.{BreaksOff, Works};
 ghost use Rattle.silt_engine.specs.Conversion.{is_work};
@@ -15,6 +16,7 @@ use crate::engine::{Engine, LAST_GENERATION};
 use silt_disk::Disk;
 use silt_event::{Place, Progress};
 use silt_hash_store::HashStore;
+use silt_hasher::LentBytes;
 use silt_manifest::{Body, Digests, Manifest};
 use silt_merge::{Merge, StepError};
 use silt_sorted_store::SortedStore;
@@ -88,6 +90,29 @@ impl Engine {
             Some(_) => Progress::Moved,
             None if self.hashes.is_empty() => Progress::Idle,
             None => Progress::Moved,
+        }
+    }
+
+    /// Lends bytes that the merge in progress has read and not hashed yet, if they are 16 KiB or more, to be hashed
+    /// elsewhere. Returns whether it did.
+    pub fn lend_unhashed(&self, lent: &mut LentBytes) -> bool
+        ensures all { result ≡ true → IsSomeAnd self.now.merging (λ merge. merge.input ≡ taken_after lent.new.before lent.new.bytes) }
+        ensures none { result ≡ false → lent.new.bytes ≡ [] }
+        ensures unhashed { lent.new.after ≡ None }
+    {
+        let Some(merge) = &self.merging else {
+            lent.clear();
+            return false;
+        };
+        merge.lend(lent)
+    }
+
+    /// Takes what was hashed elsewhere. If the merge in progress does not wait for it, nothing changes.
+    pub fn take_hashed(&mut self, lent: &LentBytes)
+        ensures { self.new ≡ self.old }
+    {
+        if let Some(merge) = &mut self.merging {
+            merge.take_back(lent);
         }
     }
 

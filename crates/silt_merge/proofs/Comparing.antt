@@ -5,7 +5,7 @@ use Rattle.std.proofs.lemmas.Bool.{and_parts, cases_eq, cases_lt, cond-true, con
 use Rattle.std.proofs.Math.Nat.{add-mul}
 use Rattle.std.proofs.lemmas.List.{take_all, take_more}
 use Rattle.std.proofs.lemmas.Option.{get_or_from_slice_get, slice_get_within}
-use Rattle.sha1.specs.Sha1.{Holds, sha1}
+use Rattle.sha1.specs.Sha1.{sha1}
 use Rattle.sha1.specs.declared.Sha1.{Sha1}
 use Rattle.silt_disk.specs.Disk.{Content}
 use Rattle.silt_disk.specs.Layout.{Shape, entry_len, row_len, slots_len}
@@ -26,6 +26,7 @@ use Rattle.silt_merge.specs.State.{IsHeldMerge, MergeState, ends_entries, ends_s
 use Rattle.silt_merge.specs.declared.source.Source.{Source}
 use Rattle.silt_merge.proofs.Pieces.{first_entry, first_slot}
 use Rattle.silt_merge.proofs.Reading.{store_at}
+use Rattle.silt_hasher.specs.Taking.{HasTaken, Taken}
 
 -- ---- on an honest disk
 
@@ -52,7 +53,7 @@ module _ (content : Content) (stores : List HashState) (sorted : SortedState) (d
 
   -- the last slot of a store is not refused
   pub slot_agrees : (store : HashState) → merge.store < merge.stores → 0 < length merge.slots → length (get_or merge.slots 0 []) ≡ row_len merge.shape → All (λ (s : HashState). s.shape ≡ merge.shape) stores
-      → store ≡ get_or stores merge.store store → ((bytes : List ℕ) → Holds merge.input bytes → MayTake (ends_store merge) (bytes ++ get_or merge.slots 0 []) store.digest false) → ⊥
+      → store ≡ get_or stores merge.store store → ((bytes : List ℕ) → HasTaken merge.input bytes → MayTake (ends_store merge) (bytes ++ get_or merge.slots 0 []) store.digest false) → ⊥
   slot_agrees store below some long shapes here may =
       let inside : merge.store < length stores = omega (arith, below, matches.merged.counted) in
       let shape = matches.merged.shape in
@@ -75,7 +76,7 @@ module _ (content : Content) (stores : List HashState) (sorted : SortedState) (d
 
   -- nor is the last entry
   pub entry_agrees : (passes : Bool) → merge.store ≡ merge.stores → (merge.passed < sorted.count → 0 < length merge.ahead)
-      → ((bytes : List ℕ) → Holds merge.input bytes → MayTake (ends_entries passes merge.passed sorted.count) (bytes ++ get_or merge.ahead 0 []) digest false) → ⊥
+      → ((bytes : List ℕ) → HasTaken merge.input bytes → MayTake (ends_entries passes merge.passed sorted.count) (bytes ++ get_or merge.ahead 0 []) digest false) → ⊥
   entry_agrees passes all there may =
       let past : length stores ≤ merge.store = omega (arith, all, matches.merged.counted) in
       let was = (matches.merged.merged matches.honest matches.sound).gathered in
@@ -94,7 +95,7 @@ more_parts : (n next len front part : ℕ) → n + 1 ≡ next → front ≡ n * 
 more_parts n next len front part one front_is part_is = omega (arith, add-mul n 1 len, ap (λ (k : ℕ). k * len) one, front_is, part_is)
 
 -- nothing is compared at the start
-pub none_compared : (stores : List HashState) (sorted : SortedState) (digest : List ℕ) (merge : MergeState) → merge.store ≡ 0 → merge.slot ≡ 0 → merge.passed ≡ 0 → Holds merge.input [] → HasCompared stores sorted digest merge
+pub none_compared : (stores : List HashState) (sorted : SortedState) (digest : List ℕ) (merge : MergeState) → merge.store ≡ 0 → merge.slot ≡ 0 → merge.passed ≡ 0 → HasTaken merge.input [] → HasCompared stores sorted digest merge
 none_compared stores sorted digest merge store slot passed fresh = record {
   hashes = λ place its below. absurd (omega (arith, below, store));
   entries = λ some past. absurd (omega (arith, some, past, passed));
@@ -111,9 +112,9 @@ module _ (stores : List HashState) (sorted : SortedState) (digest : List ℕ) (m
   compared_with slots ahead is = record { hashes = is.hashes; entries = is.entries; input = is.input }
 
   -- a slot more
-  pub compared_slot : (store : HashState) (next : ℕ × ℕ) (waiting : List (Key × Source)) (slots : List (List ℕ)) (input : Sha1) → IsHeldMerge merge → merge.store < merge.stores → length (get_or merge.slots 0 []) ≡ row_len merge.shape
-      → store ≡ get_or stores merge.store store → ((bytes : List ℕ) → Holds merge.input bytes → MayTake (ends_store merge) (bytes ++ get_or merge.slots 0 []) store.digest true)
-      → ((bytes : List ℕ) → Holds merge.input bytes → Holds input (input_after (ends_store merge) bytes (get_or merge.slots 0 []))) → next ≡ slot_after merge.store merge.slot (4 * merge.shape.buckets)
+  pub compared_slot : (store : HashState) (next : ℕ × ℕ) (waiting : List (Key × Source)) (slots : List (List ℕ)) (input : Taken) → IsHeldMerge merge → merge.store < merge.stores → length (get_or merge.slots 0 []) ≡ row_len merge.shape
+      → store ≡ get_or stores merge.store store → ((bytes : List ℕ) → HasTaken merge.input bytes → MayTake (ends_store merge) (bytes ++ get_or merge.slots 0 []) store.digest true)
+      → ((bytes : List ℕ) → HasTaken merge.input bytes → HasTaken input (input_after (ends_store merge) bytes (get_or merge.slots 0 []))) → next ≡ slot_after merge.store merge.slot (4 * merge.shape.buckets)
       → HasCompared stores sorted digest merge → HasCompared stores sorted digest (record merge { store = next.0; slot = next.1; waiting = waiting; slots = slots; input = input })
   compared_slot store next waiting slots input held below long here may hashed next_is is = go (ends_store merge) refl
     where
@@ -151,7 +152,7 @@ module _ (stores : List HashState) (sorted : SortedState) (digest : List ℕ) (m
             input = (
               [],
               len_after (nat_lt next.0 merge.stores) ∙ ap (λ n. if nat_lt next.0 merge.stores then n * row_len merge.shape else merge.passed * entry_len merge.shape) (sym next_slot),
-              subst (λ b. Holds input (input_after b bytes part)) last (hashed bytes is.input.2),
+              subst (λ b. HasTaken input (input_after b bytes part)) last (hashed bytes is.input.2),
             );
           }
       go false other =
@@ -166,15 +167,15 @@ module _ (stores : List HashState) (sorted : SortedState) (digest : List ℕ) (m
                   ∙ more_parts merge.slot (merge.slot + 1) (row_len merge.shape) (length bytes) (length part) refl hashed_len long
                   ∙ ap (λ n. n * row_len merge.shape) (sym next_slot)
                   ∙ sym (cond-true _ _ _ (lt-ltb next.0 merge.stores (omega (arith, below, next_store)))),
-              subst (λ b. Holds input (input_after b bytes part)) other (hashed bytes is.input.2),
+              subst (λ b. HasTaken input (input_after b bytes part)) other (hashed bytes is.input.2),
             );
           }
 
   -- a key more, with the next entry or without it
-  pub compared_key : (passes : Bool) (waiting : List (Key × Source)) (written : ℕ) (index : Building) (decided : ℕ) (last : Option Key) (ahead : List (List ℕ)) (input hasher : Sha1) → IsHeldMerge merge → merge.store ≡ merge.stores
+  pub compared_key : (passes : Bool) (waiting : List (Key × Source)) (written : ℕ) (index : Building) (decided : ℕ) (last : Option Key) (ahead : List (List ℕ)) (input : Taken) (hasher : Sha1) → IsHeldMerge merge → merge.store ≡ merge.stores
       → (passes ≡ true → length (get_or merge.ahead 0 []) ≡ entry_len merge.shape)
-      → ((bytes : List ℕ) → Holds merge.input bytes → MayTake (ends_entries passes merge.passed sorted.count) (bytes ++ get_or merge.ahead 0 []) digest true)
-      → ((bytes : List ℕ) → Holds merge.input bytes → Holds input (hashed_after passes bytes (get_or merge.ahead 0 []))) → HasCompared stores sorted digest merge
+      → ((bytes : List ℕ) → HasTaken merge.input bytes → MayTake (ends_entries passes merge.passed sorted.count) (bytes ++ get_or merge.ahead 0 []) digest true)
+      → ((bytes : List ℕ) → HasTaken merge.input bytes → HasTaken input (hashed_after passes bytes (get_or merge.ahead 0 []))) → HasCompared stores sorted digest merge
       → HasCompared stores sorted digest (record merge { waiting = waiting; passed = passed_after passes merge.passed; written = written; index = index; decided = decided; last = last; ahead = ahead; input = input; hasher = hasher })
   compared_key passes waiting written index decided last ahead input hasher held all long may hashed is = go passes refl
     where
@@ -199,7 +200,7 @@ module _ (stores : List HashState) (sorted : SortedState) (digest : List ℕ) (m
             input = (
               bytes,
               hashed_len ∙ ap (λ n. n * entry_len merge.shape) (sym as_before) ∙ sym (cond-false _ _ _ past_all),
-              subst (λ b. Holds input (hashed_after b bytes part)) stays (hashed bytes is.input.2),
+              subst (λ b. HasTaken input (hashed_after b bytes part)) stays (hashed bytes is.input.2),
             );
           }
       go true skips =
@@ -222,6 +223,6 @@ module _ (stores : List HashState) (sorted : SortedState) (digest : List ℕ) (m
                   ∙ more_parts merge.passed (merge.passed + 1) (entry_len merge.shape) (length bytes) (length part) refl hashed_len (long skips)
                   ∙ ap (λ n. n * entry_len merge.shape) (sym one_more)
                   ∙ sym (cond-false _ _ _ past_all),
-              subst (λ b. Holds input (hashed_after b bytes part)) skips (hashed bytes is.input.2),
+              subst (λ b. HasTaken input (hashed_after b bytes part)) skips (hashed bytes is.input.2),
             );
           }

@@ -30,6 +30,7 @@ use Rattle.silt_merge.specs.declared.source.Source.{Source}
 use Rattle.silt_trie.specs.Building.{IsBuildingOf}
 use Rattle.sha1.specs.Sha1.{Holds}
 use Rattle.silt_merge.proofs.Pieces.{slots_same}
+use Rattle.silt_hasher.specs.Taking.{HasTaken}
 
 -- there are as many regions as stores
 pub regions_count : (stores : List HashState) → length (regions_of stores) ≡ length stores
@@ -127,9 +128,9 @@ module _ (old new : List ℕ) (stores : List HashState) (sorted : SortedState) (
               ∙ ap (has_row_with (get_or (keys_of (entries_in old sorted)) place [])) decided
               ∙ is.passes place below;
           slots_hashed = λ below.
-              subst (λ l. Holds merge.input (rows_bytes l)) (sym (before_same sorted.shape old new (get_or (regions_of stores) merge.store 0) merge.slot (λ slot inside. same.rows merge.store slot (omega (arith, below, regions_count stores)) (omega (arith, inside, most)))))
+              subst (λ l. HasTaken merge.input (rows_bytes l)) (sym (before_same sorted.shape old new (get_or (regions_of stores) merge.store 0) merge.slot (λ slot inside. same.rows merge.store slot (omega (arith, below, regions_count stores)) (omega (arith, inside, most)))))
               (is.slots_hashed below);
-          entries_hashed = λ past. subst (λ l. Holds merge.input (entries_bytes (take merge.passed l))) (sym same.entries) (is.entries_hashed past);
+          entries_hashed = λ past. subst (λ l. HasTaken merge.input (entries_bytes (take merge.passed l))) (sym same.entries) (is.entries_hashed past);
         };
         writes = writes ∙ ap (λ l. take merge.shape.sorted_capacity (filter is_put_row l)) (sym decided);
         index = index;

@@ -45,6 +45,7 @@ use Rattle.silt_sorted_store.proofs.Entries.{entry_count, key_of_row}
 use Rattle.silt_sorted_store.proofs.Rising.{key_at, lower_below}
 use Rattle.sha1.specs.Sha1.{Holds}
 use Rattle.sha1.specs.declared.Sha1.{Sha1}
+use Rattle.silt_hasher.specs.Taking.{HasTaken, Taken}
 
 -- entries in which nothing is found rise
 rises_of : (rows : List StoredRow) → sorted_findings rows ≡ [] → Rises rows
@@ -75,7 +76,7 @@ module _ (image : List ℕ) (stores : List HashState) (sorted : SortedState) whe
   -- and the other way round
   pub gathered_of : (merge : MergeState) → length (regions_of stores) ≤ merge.store → merge.slot ≡ 0 → merge.decided ≤ length (newest_rows (entries ++ hashed))
       → ((key : Key) → merge.last ≡ Some key → has_row_with key.0 (take merge.decided (newest_rows (entries ++ hashed))) ≡ true)
-      → AreEntries entries merge.passed merge.ahead → Holds merge.input (entries_bytes (take merge.passed entries))
+      → AreEntries entries merge.passed merge.ahead → HasTaken merge.input (entries_bytes (take merge.passed entries))
       → IsDecided entries hashed merge.decided merge.passed (waits_in merge.waiting) → IsGatheredIn image stores sorted merge
   unfolding sources
   gathered_of merge past none most last ahead holds is = record {
@@ -259,7 +260,7 @@ merged_slots content stores sorted merge slots there is = record {
 -- ---- on a disk
 
 -- on an honest disk the next entry is above the last key, so that none is passed over for its key
-pub merged_behind : (content : Content) (stores : List HashState) (sorted : SortedState) (merge : MergeState) (next : Option Key) (bytes : List ℕ) (input : Sha1) → IsHeldMerge merge → merge.store ≡ merge.stores
+pub merged_behind : (content : Content) (stores : List HashState) (sorted : SortedState) (merge : MergeState) (next : Option Key) (bytes : List ℕ) (input : Taken) → IsHeldMerge merge → merge.store ≡ merge.stores
     → is_some next ≡ nat_lt merge.passed sorted.count → (IsTrue content.honest → AreEntries (entries_of content sorted) merge.passed merge.ahead → IsNextEntry (entries_of content sorted) merge.passed bytes next) → is_behind merge.last next ≡ true
     → HasMerged content stores sorted merge → HasMerged content stores sorted (record merge { passed = merge.passed + 1; decided = merge.decided + 1; ahead = parts_after true merge.ahead; input = input })
 unfolding sources
@@ -304,7 +305,7 @@ module _ (old new : Content) (stores : List HashState) (sorted : SortedState) (m
   still_inside choice after gone key source is = (cond_some (bytes_eq choice.key.0 key) (source_at merge.waiting key) source (sym (gone key) ∙ is)).1
 
   -- a decided key, with its entry if it has one
-  pub merged_step : (first : Option (Key × Source)) (next : Option Key) (choice : Choice) (bytes row_bytes : List ℕ) (after : List (Key × Source)) (due : Bool) (count : ℕ) (index : Building) (input hasher : Sha1) → merge.store ≡ merge.stores → IsFirstWaiting merge.waiting first
+  pub merged_step : (first : Option (Key × Source)) (next : Option Key) (choice : Choice) (bytes row_bytes : List ℕ) (after : List (Key × Source)) (due : Bool) (count : ℕ) (index : Building) (input : Taken) (hasher : Sha1) → merge.store ≡ merge.stores → IsFirstWaiting merge.waiting first
       → choice_of first next ≡ Some choice → is_some next ≡ nat_lt merge.passed sorted.count → (IsTrue old.honest → AreEntries (entries_of old sorted) merge.passed merge.ahead → IsNextEntry (entries_of old sorted) merge.passed bytes next)
       → (merge.passed < sorted.count → 0 < length merge.ahead)
       → (IsTrue old.honest → ReadsRow merge.shape old.shown (regions_of stores) choice.key.0 choice.source bytes row_bytes)
@@ -312,7 +313,7 @@ module _ (old new : Content) (stores : List HashState) (sorted : SortedState) (m
       → (IsTrue old.honest → sorted_rows merge.shape merge.region count new.shown ≡ take merge.shape.sorted_capacity (sorted_rows merge.shape merge.region merge.written old.shown ++ due_rows due row_bytes))
       → ((key : List ℕ) → source_at after key ≡ cond (bytes_eq choice.key.0 key) None (source_at merge.waiting key))
       → ((keys : List (List ℕ)) → IsBuildingOf keys merge.index → length keys ≡ merge.written → is_above merge.index.last choice.key.0 ≡ true → IsBuildingOf (keys_after due keys choice.key.0) index)
-      → ((hashed : List ℕ) → Holds merge.input hashed → Holds input (hashed_after choice.passes hashed (get_or merge.ahead 0 [])))
+      → ((hashed : List ℕ) → HasTaken merge.input hashed → HasTaken input (hashed_after choice.passes hashed (get_or merge.ahead 0 [])))
       → ((hashed : List ℕ) → Holds merge.hasher hashed → Holds hasher (hashed_after due hashed row_bytes))
       → HasMerged old stores sorted merge
       → HasMerged new stores sorted (record merge { waiting = after; passed = passed_after choice.passes merge.passed; written = written_after due merge.written; index = index; decided = merge.decided + 1; last = Some choice.key; ahead = parts_after choice.passes merge.ahead; input = input; hasher = hasher })
@@ -347,8 +348,8 @@ module _ (old new : Content) (stores : List HashState) (sorted : SortedState) (m
         let keys = keys_written cap merge.written old_rows new_rows (choice_puts choice.source) due row_bytes due_is old_count held.room (written was) next_row.0 choice.key.0 its_due next_row.2 in
         let above = above_index old_rows (newest_rows (entries_in image sorted ++ rows_of_hashes sorted.shape image (regions_of stores))) merge.index merge.decided cap next_row.0 choice.key.0 (rises_newest (entries_in image sorted ++ rows_of_hashes sorted.shape image (regions_of stores))) so_far.index so_far.writes next_row.1 next_row.2 in
         let built : IsBuildingOf (keys_after due (keys_of old_rows) choice.key.0) index = indexes (keys_of old_rows) so_far.index (length-map old_rows (λ (r : StoredRow). r.key) ∙ old_count) above in
-        let holds : Holds input (entries_bytes (take (passed_after choice.passes merge.passed) (entries_in image sorted))) =
-        subst (Holds input) (sym (passed_bytes (entries_in image sorted) choice.passes merge.passed merge.ahead (λ passes. is_ahead (let it = choices.passes passes in omega (arith, it.0, long))) so_far.gathered.ahead))
+        let holds : HasTaken input (entries_bytes (take (passed_after choice.passes merge.passed) (entries_in image sorted))) =
+        subst (HasTaken input) (sym (passed_bytes (entries_in image sorted) choice.passes merge.passed merge.ahead (λ passes. is_ahead (let it = choices.passes passes in omega (arith, it.0, long))) so_far.gathered.ahead))
         (takes (entries_bytes (take merge.passed (entries_in image sorted))) (so_far.gathered.entries_hashed (omega (arith, past, regions_count stores)))) in
         merged_same old.shown new.shown stores sorted same merge_after (λ key source found. source_inside stores sorted merge held is.shape is.counted key source (still_inside choice after gone key source found)) (inr none)
         (omega (arith, none)) (gathered_of image stores sorted merge_after past none (omega (arith, below))
@@ -413,7 +414,7 @@ held_with merge slots ahead index hasher most held = record {
 }
 
 -- a merge with one key more, whose entry is written or not
-pub decided_held : (merge : MergeState) (choice : Choice) (is_written : Bool) (after : List (Key × Source)) (ahead : List (List ℕ)) (input : Sha1) → IsHeldMerge merge → merge.store ≡ merge.stores → IsOffered merge.waiting merge.last choice
+pub decided_held : (merge : MergeState) (choice : Choice) (is_written : Bool) (after : List (Key × Source)) (ahead : List (List ℕ)) (input : Taken) → IsHeldMerge merge → merge.store ≡ merge.stores → IsOffered merge.waiting merge.last choice
     → (is_written ≡ true → merge.written < merge.shape.sorted_capacity) → ((key : List ℕ) → source_at after key ≡ cond (bytes_eq choice.key.0 key) None (source_at merge.waiting key))
     → length after ≤ length merge.waiting → ((source : Source) → source_at merge.waiting choice.key.0 ≡ Some source → length after + 1 ≡ length merge.waiting)
     → IsHeldMerge (record merge { waiting = after; passed = passed_after choice.passes merge.passed; written = written_after is_written merge.written; decided = merge.decided + 1; last = Some choice.key; ahead = ahead; input = input })

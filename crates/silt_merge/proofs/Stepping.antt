@@ -26,6 +26,7 @@ use Rattle.silt_merge.proofs.Elsewhere.{regions_count}
 use Rattle.silt_merge.proofs.Gathering.{next_gathered, none_gathered, waits_kept}
 use Rattle.sha1.specs.Sha1.{Holds}
 use Rattle.sha1.specs.declared.Sha1.{Sha1}
+use Rattle.silt_hasher.specs.Taking.{HasTaken, Taken}
 
 -- ---- at the start
 
@@ -40,8 +41,8 @@ unfolding rows_before
 no_slots s region image = refl
 
 -- nothing is gathered, and nothing is due
-pub started : (content : Content) (stores : List HashState) (sorted : SortedState) (shape : Shape) (region : ℕ) (waiting : List (Key × Source)) (index : Building) (slots ahead : List (List ℕ)) (input hasher : Sha1) → shape ≡ sorted.shape → sorted.region ≢ region
-    → waiting ≡ [] → IsBuildingOf [] index → slots ≡ [] → ahead ≡ [] → Holds input [] → Holds hasher []
+pub started : (content : Content) (stores : List HashState) (sorted : SortedState) (shape : Shape) (region : ℕ) (waiting : List (Key × Source)) (index : Building) (slots ahead : List (List ℕ)) (input : Taken) (hasher : Sha1) → shape ≡ sorted.shape → sorted.region ≢ region
+    → waiting ≡ [] → IsBuildingOf [] index → slots ≡ [] → ahead ≡ [] → HasTaken input [] → Holds hasher []
     → HasMerged content stores sorted (record { shape = shape; region = region; stores = length stores; store = 0; slot = 0; waiting = waiting; passed = 0; written = 0; index = index; decided = 0; last = None; slots = slots; ahead = ahead; input = input; hasher = hasher })
 started content stores sorted shape region waiting index slots ahead input hasher same apart none no_keys none_read none_ahead fresh_input fresh = record {
   shape = sym same;
@@ -58,7 +59,7 @@ started content stores sorted shape region waiting index slots ahead input hashe
       slots = λ below. subst (AreSlots sorted.shape (get_or (regions_of stores) 0 0) content.shown 0) (sym none_read) tt;
       ahead = subst (AreEntries (entries_in content.shown sorted) 0) (sym none_ahead) tt;
       passes = λ place below. sym (le-ltb place 0 (omega arith));
-      slots_hashed = λ below. subst (λ (rows : List StoredRow). Holds input (rows_bytes rows)) (sym (no_slots sorted.shape (get_or (regions_of stores) 0 0) content.shown)) fresh_input;
+      slots_hashed = λ below. subst (λ (rows : List StoredRow). HasTaken input (rows_bytes rows)) (sym (no_slots sorted.shape (get_or (regions_of stores) 0 0) content.shown)) fresh_input;
       entries_hashed = λ past. fresh_input;
     };
     writes = nothing ∙ sym (take_all shape.sorted_capacity [] (omega arith));
@@ -108,7 +109,7 @@ kept_inside merge (Some row) after held below keeps key source is =
     own_inside false found = absurd (cc)
 
 -- a merge with one slot more
-pub gathered_held : (merge : MergeState) (row : Option Row) (after : List (Key × Source)) (next : ℕ × ℕ) (slots : List (List ℕ)) (input : Sha1) → IsHeldMerge merge → merge.store < merge.stores → Gathers merge.store merge.slot row merge.waiting after
+pub gathered_held : (merge : MergeState) (row : Option Row) (after : List (Key × Source)) (next : ℕ × ℕ) (slots : List (List ℕ)) (input : Taken) → IsHeldMerge merge → merge.store < merge.stores → Gathers merge.store merge.slot row merge.waiting after
     → length after ≤ length merge.waiting + 1 → next ≡ slot_after merge.store merge.slot (4 * merge.shape.buckets) → IsHeldMerge (record merge { store = next.0; slot = next.1; waiting = after; slots = slots; input = input })
 gathered_held merge row after next slots input held below keeps long is =
     let count : next.0 * (4 * merge.shape.buckets) + next.1 ≡ merge.store * (4 * merge.shape.buckets) + merge.slot + 1 =
@@ -161,30 +162,30 @@ slots_next s regions image store slot (part ∷ other ∷ slots) are =
         omega (arith, zero_slot)
 
 -- the hashed bytes are those of the slots before the next one, or none before the first of the next store
-input_next : (s : Shape) (regions image : List ℕ) (store slot : ℕ) (slots : List (List ℕ)) (input : Sha1) → 0 < length slots → length (get_or slots 0 []) ≡ row_len s → AreSlots s (get_or regions store 0) image slot slots
-    → Holds input (input_after (eqb (slot + 1) (4 * s.buckets)) (rows_bytes (rows_before s (get_or regions store 0) image slot)) (get_or slots 0 []))
-    → ((slot_after store slot (4 * s.buckets)).0 ≡ store + 1 → Holds input [])
-    × Holds input (rows_bytes (rows_before s (get_or regions (slot_after store slot (4 * s.buckets)).0 0) image (slot_after store slot (4 * s.buckets)).1))
+input_next : (s : Shape) (regions image : List ℕ) (store slot : ℕ) (slots : List (List ℕ)) (input : Taken) → 0 < length slots → length (get_or slots 0 []) ≡ row_len s → AreSlots s (get_or regions store 0) image slot slots
+    → HasTaken input (input_after (eqb (slot + 1) (4 * s.buckets)) (rows_bytes (rows_before s (get_or regions store 0) image slot)) (get_or slots 0 []))
+    → ((slot_after store slot (4 * s.buckets)).0 ≡ store + 1 → HasTaken input [])
+    × HasTaken input (rows_bytes (rows_before s (get_or regions (slot_after store slot (4 * s.buckets)).0 0) image (slot_after store slot (4 * s.buckets)).1))
 input_next s regions image store slot slots input some long are holds = elim (cases_Bool (eqb (slot + 1) (4 * s.buckets))) [
   | inl last ↦
-      let nothing : Holds input [] = subst (λ b. Holds input (input_after b (rows_bytes (rows_before s (get_or regions store 0) image slot)) (get_or slots 0 []))) last holds in
+      let nothing : HasTaken input [] = subst (λ b. HasTaken input (input_after b (rows_bytes (rows_before s (get_or regions store 0) image slot)) (get_or slots 0 []))) last holds in
       let next : slot_after store slot (4 * s.buckets) ≡ (store + 1, 0) = cond-true _ _ _ last in (
         λ same. nothing,
-        subst (λ (p : ℕ × ℕ). Holds input (rows_bytes (rows_before s (get_or regions p.0 0) image p.1))) (sym next)
-            (subst (λ (rows : List StoredRow). Holds input (rows_bytes rows)) (sym (no_slots s (get_or regions (store + 1) 0) image)) nothing),
+        subst (λ (p : ℕ × ℕ). HasTaken input (rows_bytes (rows_before s (get_or regions p.0 0) image p.1))) (sym next)
+            (subst (λ (rows : List StoredRow). HasTaken input (rows_bytes rows)) (sym (no_slots s (get_or regions (store + 1) 0) image)) nothing),
       )
   | inr other ↦
-      let more : Holds input (rows_bytes (rows_before s (get_or regions store 0) image slot) ++ get_or slots 0 []) = subst (λ b. Holds input (input_after b (rows_bytes (rows_before s (get_or regions store 0) image slot)) (get_or slots 0 []))) other holds in
+      let more : HasTaken input (rows_bytes (rows_before s (get_or regions store 0) image slot) ++ get_or slots 0 []) = subst (λ b. HasTaken input (input_after b (rows_bytes (rows_before s (get_or regions store 0) image slot)) (get_or slots 0 []))) other holds in
       let next : slot_after store slot (4 * s.buckets) ≡ (store, slot + 1) = cond-false _ _ _ other in (
         λ same. let here : store ≡ store + 1 = sym (ap (λ (p : ℕ × ℕ). p.0) next) ∙ same in absurd (omega (arith, here)),
-        subst (λ (p : ℕ × ℕ). Holds input (rows_bytes (rows_before s (get_or regions p.0 0) image p.1))) (sym next)
-            (subst (Holds input) (sym (slot_bytes s (get_or regions store 0) image slot slots some long are)) more),
+        subst (λ (p : ℕ × ℕ). HasTaken input (rows_bytes (rows_before s (get_or regions p.0 0) image p.1))) (sym next)
+            (subst (HasTaken input) (sym (slot_bytes s (get_or regions store 0) image slot slots some long are)) more),
       )
 ]
 
 -- has gathered one slot more
-pub gathered_step : (content : Content) (stores : List HashState) (sorted : SortedState) (merge : MergeState) (row : Option Row) (after : List (Key × Source)) (next : ℕ × ℕ) (input : Sha1) → IsHeldMerge merge → merge.store < merge.stores → 0 < length merge.slots
-    → length (get_or merge.slots 0 []) ≡ row_len merge.shape → ((bytes : List ℕ) → Holds merge.input bytes → Holds input (input_after (ends_store merge) bytes (get_or merge.slots 0 [])))
+pub gathered_step : (content : Content) (stores : List HashState) (sorted : SortedState) (merge : MergeState) (row : Option Row) (after : List (Key × Source)) (next : ℕ × ℕ) (input : Taken) → IsHeldMerge merge → merge.store < merge.stores → 0 < length merge.slots
+    → length (get_or merge.slots 0 []) ≡ row_len merge.shape → ((bytes : List ℕ) → HasTaken merge.input bytes → HasTaken input (input_after (ends_store merge) bytes (get_or merge.slots 0 [])))
     → (IsTrue content.honest → sorted.shape ≡ merge.shape → AreSlots sorted.shape (get_or (regions_of stores) merge.store 0) content.shown merge.slot merge.slots
     → IsRowAt (slot_row sorted.shape (get_or (regions_of stores) merge.store 0) content.shown merge.slot) merge.slot row)
     → Gathers merge.store merge.slot row merge.waiting after → next ≡ slot_after merge.store merge.slot (4 * merge.shape.buckets)
@@ -213,7 +214,7 @@ gathered_step content stores sorted merge row after next input held below some l
       ∙ next_gathered s image regions merge.store merge.slot within in
       let same_next : slot_after merge.store merge.slot (4 * s.buckets) ≡ next = ap (λ (t : Shape). slot_after merge.store merge.slot (4 * t.buckets)) so_far.shape ∙ sym is in
       let holds = input_next s regions image merge.store merge.slot merge.slots input some (long ∙ ap row_len (sym so_far.shape)) (was.gathered.slots inside)
-      (subst (λ (t : Shape). Holds input (input_after (eqb (merge.slot + 1) (4 * t.buckets)) (rows_bytes (rows_before s (get_or regions merge.store 0) image merge.slot)) (get_or merge.slots 0 []))) (sym so_far.shape)
+      (subst (λ (t : Shape). HasTaken input (input_after (eqb (merge.slot + 1) (4 * t.buckets)) (rows_bytes (rows_before s (get_or regions merge.store 0) image merge.slot)) (get_or merge.slots 0 []))) (sym so_far.shape)
       (hashed (rows_bytes (rows_before s (get_or regions merge.store 0) image merge.slot)) (was.gathered.slots_hashed inside))) in
       record {
         gathered = record {
@@ -225,13 +226,13 @@ gathered_step content stores sorted merge row after next input held below some l
               (slots_next s regions image merge.store merge.slot merge.slots (was.gathered.slots inside));
           ahead = was.gathered.ahead;
           passes = was.gathered.passes;
-          slots_hashed = λ further. subst (λ (p : ℕ × ℕ). Holds input (rows_bytes (rows_before s (get_or regions p.0 0) image p.1))) same_next holds.1;
+          slots_hashed = λ further. subst (λ (p : ℕ × ℕ). HasTaken input (rows_bytes (rows_before s (get_or regions p.0 0) image p.1))) same_next holds.1;
           entries_hashed = λ past.
               let last : (slot_after merge.store merge.slot (4 * s.buckets)).0 ≡ merge.store + 1 = elim (after_last merge.store merge.slot (4 * s.buckets)) [
                 | inl it ↦ ap (λ (p : ℕ × ℕ). p.0) it
                 | inr it ↦ let same : next.0 ≡ merge.store = ap (λ (p : ℕ × ℕ). p.0) (sym same_next ∙ it.0) in absurd (omega (arith, same, past, inside))
               ] in
-              subst (λ n. Holds input (entries_bytes (take n (entries_in image sorted)))) (sym (held.unpassed below)) (holds.0 last);
+              subst (λ n. HasTaken input (entries_bytes (take n (entries_in image sorted)))) (sym (held.unpassed below)) (holds.0 last);
         };
         writes = was.writes;
         index = was.index;

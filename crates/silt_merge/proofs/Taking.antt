@@ -3,8 +3,6 @@ use Rattle.std.proofs.Common.{◌≡◌, ℕ, ◌+◌, ◌*◌, ◌<◌, nat_lt,
 use Rattle.std.specs.List.{All}
 use Rattle.std.specs.Option.{is_some}
 use Rattle.std.specs.Prelude.{IsSomeAnd}
-use Rattle.sha1.specs.Sha1.{Holds}
-use Rattle.sha1.specs.declared.Sha1.{Sha1}
 use Rattle.silt_disk.specs.Disk.{Content, GaveAny}
 use Rattle.silt_disk.specs.Layout.{Shape, entry_len, row_len}
 use Rattle.silt_disk.specs.declared.disk.Disk.{Ghosts}
@@ -21,7 +19,7 @@ use Rattle.silt_merge.specs.Comparing.{MayTake}
 use Rattle.silt_merge.specs.Pieces.{AreEntries, AreSlots, parts_after}
 use Rattle.silt_merge.specs.Rows.{regions_of}
 use Rattle.silt_merge.specs.State.{IsHeldMerge, MergeState, ends_entries, ends_store, input_after, is_behind, slot_after, source_at}
-use Rattle.silt_merge.specs.Steps.{FailsMerge, RefusesRow, TakesRow, TakesStep}
+use Rattle.silt_merge.specs.Steps.{FailsMerge, GathersRow, RefusesRow, TakesStep}
 use Rattle.silt_merge.specs.declared.merge.StepError.{StepError}
 use Rattle.silt_merge.specs.declared.source.Source.{Source}
 use Rattle.silt_merge.specs.declared.merge.StepError.TheVariants.{Read, Write, NoMemory, Damaged}
@@ -31,6 +29,7 @@ use Rattle.silt_merge.proofs.Pieces.{first_slot}
 use Rattle.silt_merge.proofs.Reading.{store_at}
 use Rattle.silt_merge.proofs.Stepped.{gathering_place, refused, went_on}
 use Rattle.silt_merge.proofs.Stepping.{gathered_step, slots_more}
+use Rattle.silt_hasher.specs.Taking.{HasTaken, Taken}
 
 -- a slot that is gathered from a store, or not
 module _ {D F : Type 0} (facts : Ghosts D F) (stores : List HashState) (disk : D) (merge : MergeState) (store : HashState) (held : IsHeldMerge merge) (below : merge.store < merge.stores) (counted : length stores ≡ merge.stores)
@@ -40,7 +39,7 @@ module _ {D F : Type 0} (facts : Ghosts D F) (stores : List HashState) (disk : D
 
   -- it has another digest
   pub slot_refused : {T : Type 0} (region : ℕ) (answer : Bool) (after : MergeState) → region ≡ store.region → answer ≡ false
-      → ((bytes : List ℕ) → Holds merge.input bytes → MayTake (ends_store merge) (bytes ++ get_or merge.slots 0 []) store.digest answer) → after ≡ merge
+      → ((bytes : List ℕ) → HasTaken merge.input bytes → MayTake (ends_store merge) (bytes ++ get_or merge.slots 0 []) store.digest answer) → after ≡ merge
       → (sorted : SortedState) (digest : List ℕ) → TakesStep {T = T} facts stores sorted digest disk disk merge after (Err (Damaged (HashDigest region)))
   slot_refused region answer after region_is differs may same sorted digest =
       refused facts stores sorted digest disk merge after (Damaged (HashDigest region)) same held (
@@ -57,8 +56,8 @@ module _ {D F : Type 0} (facts : Ghosts D F) (stores : List HashState) (disk : D
     shown shape region image are = subst (λ (r : StoredRow). IsRowAt r merge.slot row) (sym (first_slot shape region merge.slot image merge.slots some are)) its
 
     -- it is taken
-    pub slot_taken : {T : Type 0} (waiting : List (Key × Source)) (input : Sha1) (after : MergeState) (x : T) → ((bytes : List ℕ) → Holds merge.input bytes → MayTake (ends_store merge) (bytes ++ get_or merge.slots 0 []) store.digest true)
-        → Gathers merge.store merge.slot row merge.waiting waiting → ((bytes : List ℕ) → Holds merge.input bytes → Holds input (input_after (ends_store merge) bytes (get_or merge.slots 0 [])))
+    pub slot_taken : {T : Type 0} (waiting : List (Key × Source)) (input : Taken) (after : MergeState) (x : T) → ((bytes : List ℕ) → HasTaken merge.input bytes → MayTake (ends_store merge) (bytes ++ get_or merge.slots 0 []) store.digest true)
+        → Gathers merge.store merge.slot row merge.waiting waiting → ((bytes : List ℕ) → HasTaken merge.input bytes → HasTaken input (input_after (ends_store merge) bytes (get_or merge.slots 0 [])))
         → after ≡ (let m : MergeState = record merge { store = (slot_after merge.store merge.slot (4 * merge.shape.buckets)).0; slot = (slot_after merge.store merge.slot (4 * merge.shape.buckets)).1; waiting = waiting; slots = parts_after true merge.slots; input = input } in m)
         → IsHeldMerge after → (sorted : SortedState) (digest : List ℕ) → TakesStep facts stores sorted digest disk disk merge after (Ok x)
     slot_taken waiting input after x may keeps hashed is held_after sorted digest =
@@ -87,7 +86,7 @@ module _ {D F : Type 0} (facts : Ghosts D F) (stores : List HashState) (disk : D
         its_row : slot_row store.shape store.region image merge.slot ≡ slot_row merge.shape (get_or (regions_of stores) merge.store 0) image merge.slot
         its_row = ap (λ (t : Shape). slot_row t store.region image merge.slot) own ∙ ap (λ r. slot_row merge.shape r image merge.slot) (sym (store_at stores merge.store store inside here))
 
-        takes : (o : Option Row) → IsSomeAnd o (λ (r : Row). source_at merge.waiting r.key.0 ≡ None) → (IsTrue (facts.content disk).honest → IsRowAt (slot_row store.shape store.region image merge.slot) merge.slot o) → TakesRow (facts.content disk) stores merge
+        takes : (o : Option Row) → IsSomeAnd o (λ (r : Row). source_at merge.waiting r.key.0 ≡ None) → (IsTrue (facts.content disk).honest → IsRowAt (slot_row store.shape store.region image merge.slot) merge.slot o) → GathersRow (facts.content disk) stores merge
         takes None never is = absurd never
         takes (Some r) new is = record {
           gathers = below;
@@ -115,17 +114,17 @@ module _ {D F : Type 0} (facts : Ghosts D F) (stores : List HashState) (disk : D
 -- ---- a key
 
 -- whether an entry may be taken, in the words of the merge
-pub may_be : (ends ends_is : Bool) (part part_is digest : List ℕ) (answer answer_is : Bool) (input : Sha1) → ends ≡ ends_is → part ≡ part_is → answer ≡ answer_is
-    → ((bytes : List ℕ) → Holds input bytes → MayTake ends (bytes ++ part) digest answer) → (bytes : List ℕ) → Holds input bytes → MayTake ends_is (bytes ++ part_is) digest answer_is
+pub may_be : (ends ends_is : Bool) (part part_is digest : List ℕ) (answer answer_is : Bool) (input : Taken) → ends ≡ ends_is → part ≡ part_is → answer ≡ answer_is
+    → ((bytes : List ℕ) → HasTaken input bytes → MayTake ends (bytes ++ part) digest answer) → (bytes : List ℕ) → HasTaken input bytes → MayTake ends_is (bytes ++ part_is) digest answer_is
 may_be ends ends_is part part_is digest answer answer_is input same_ends same_part same_answer may bytes holds =
     subst (λ b. MayTake b (bytes ++ part_is) digest answer_is) same_ends (subst (λ l. MayTake ends (bytes ++ l) digest answer_is) same_part (subst (MayTake ends (bytes ++ part) digest) same_answer (may bytes holds)))
 
 -- an entry that is skipped because its key is not above the last one
-pub entry_skipped : {D F T : Type 0} (facts : Ghosts D F) (stores : List HashState) (sorted : SortedState) (digest : List ℕ) (disk : D) (merge after : MergeState) (next : Option Key) (bytes : List ℕ) (input : Sha1) (x : T) → IsHeldMerge merge → merge.store ≡ merge.stores
+pub entry_skipped : {D F T : Type 0} (facts : Ghosts D F) (stores : List HashState) (sorted : SortedState) (digest : List ℕ) (disk : D) (merge after : MergeState) (next : Option Key) (bytes : List ℕ) (input : Taken) (x : T) → IsHeldMerge merge → merge.store ≡ merge.stores
     → is_some next ≡ nat_lt merge.passed sorted.count → (IsTrue (facts.content disk).honest → AreEntries (entries_of (facts.content disk) sorted) merge.passed merge.ahead → IsNextEntry (entries_of (facts.content disk) sorted) merge.passed bytes next)
     → is_behind merge.last next ≡ true → length (get_or merge.ahead 0 []) ≡ entry_len merge.shape
-    → ((bytes : List ℕ) → Holds merge.input bytes → MayTake (ends_entries true merge.passed sorted.count) (bytes ++ get_or merge.ahead 0 []) digest true)
-    → ((bytes : List ℕ) → Holds merge.input bytes → Holds input (bytes ++ get_or merge.ahead 0 []))
+    → ((bytes : List ℕ) → HasTaken merge.input bytes → MayTake (ends_entries true merge.passed sorted.count) (bytes ++ get_or merge.ahead 0 []) digest true)
+    → ((bytes : List ℕ) → HasTaken merge.input bytes → HasTaken input (bytes ++ get_or merge.ahead 0 []))
     → after ≡ (let m : MergeState = record merge { passed = merge.passed + 1; decided = merge.decided + 1; ahead = parts_after true merge.ahead; input = input } in m) → IsHeldMerge after
     → TakesStep facts stores sorted digest disk disk merge after (Ok x)
 entry_skipped facts stores sorted digest disk merge after next bytes input x held all some there behind long may hashed is held_after =

@@ -1,13 +1,14 @@
 -- What a merge has compared with the digests of the stores that it reads, on any disk.
 use Rattle.std.specs.Prelude.{◌≡◌, ◌≢◌, ℕ, ◌*◌, ◌≤◌, ◌<◌, nat_lt, Bool, true, false, if◌then◌else◌, IsTrue, List, length, slice_get, Some}
 use Rattle.std.specs.List.{All}
-use Rattle.sha1.specs.Sha1.{Holds, sha1}
+use Rattle.sha1.specs.Sha1.{sha1}
 use Rattle.silt_disk.specs.Disk.{Content}
 use Rattle.silt_disk.specs.Layout.{entry_len, row_len, slots_len}
 use Rattle.silt_hash_store.specs.State.{HashState, IsHashStore}
 use Rattle.silt_sorted_store.specs.State.{HasDigest, SortedState}
 use Rattle.silt_merge.specs.Merging.{AreSound, HasMerged}
 use Rattle.silt_merge.specs.State.{MergeState}
+use Rattle.silt_hasher.specs.Taking.{HasTaken}
 
 -- whether bytes may be taken: if they end a store, they have its digest
 abbrev pub MayTake : Bool → List ℕ → List ℕ → Bool → Type 0
@@ -26,7 +27,7 @@ input_len merge = if nat_lt merge.store merge.stores then merge.slot * row_len m
 pub record HasCompared (stores : List HashState) (sorted : SortedState) (digest : List ℕ) (merge : MergeState) : Type 0 where
   pub hashes : (place : ℕ) (store : HashState) → place < merge.store → slice_get stores place ≡ Some store → HasBytes (slots_len merge.shape) store.digest
   pub entries : 0 < sorted.count → sorted.count ≤ merge.passed → HasBytes (sorted.count * entry_len merge.shape) digest
-  pub input : (bytes : List ℕ) × (length bytes ≡ input_len merge) × Holds merge.input bytes
+  pub input : (bytes : List ℕ) × (length bytes ≡ input_len merge) × HasTaken merge.input bytes
 
 -- the disk obeys the crash model, the stores are sound, the merge is theirs, and each store has its digest
 pub record MatchesDigests (content : Content) (stores : List HashState) (sorted : SortedState) (digest : List ℕ) (merge : MergeState) : Type 0 where

@@ -18,6 +18,7 @@ use Rattle.silt_merge.specs.State.{MergeState, source_at}
 use Rattle.silt_merge.specs.declared.source.Source.{Source}
 use Rattle.silt_trie.specs.Building.{IsBuildingOf}
 use Rattle.sha1.specs.Sha1.{Holds}
+use Rattle.silt_hasher.specs.Taking.{HasTaken}
 
 -- the merged stores lie in hash regions, and there is no finding in them
 pub record AreSound (image : List ℕ) (stores : List HashState) (sorted : SortedState) : Type 0 where
@@ -50,8 +51,8 @@ pub record IsGatheredIn (image : List ℕ) (stores : List HashState) (sorted : S
   pub ahead : AreEntries (entries_in image sorted) merge.passed merge.ahead
   pub passes : (place : ℕ) → place < sorted.count
       → has_row_with (get_or (keys_of (entries_in image sorted)) place []) (decided_rows image stores sorted merge.decided) ≡ nat_lt place merge.passed
-  pub slots_hashed : merge.store < length stores → Holds merge.input (rows_bytes (rows_before sorted.shape (get_or (regions_of stores) merge.store 0) image merge.slot))
-  pub entries_hashed : length stores ≤ merge.store → Holds merge.input (entries_bytes (take merge.passed (entries_in image sorted)))
+  pub slots_hashed : merge.store < length stores → HasTaken merge.input (rows_bytes (rows_before sorted.shape (get_or (regions_of stores) merge.store 0) image merge.slot))
+  pub entries_hashed : length stores ≤ merge.store → HasTaken merge.input (entries_bytes (take merge.passed (entries_in image sorted)))
 
 -- and the entries of decided keys are written, and their keys are indexed
 pub record IsMergedIn (image : List ℕ) (stores : List HashState) (sorted : SortedState) (merge : MergeState) : Type 0 where

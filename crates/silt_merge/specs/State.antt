@@ -10,6 +10,7 @@ use Rattle.silt_merge.specs.declared.source.Source.{Source}
 use Rattle.silt_sorted_store.specs.State.{SortedState}
 use Rattle.silt_trie.specs.Building.{Building, is_above}
 use Rattle.sha1.specs.declared.Sha1.{Sha1}
+use Rattle.silt_hasher.specs.Taking.{Taken}
 
 -- A merge: the sorted region that it writes, the number of hash stores, the store and the slot to gather next, the rows that wait
 -- for their keys to be decided, the number of skipped entries of the sorted store, the number of written entries and the index of
@@ -30,7 +31,7 @@ pub record MergeState : Type 0 where
   pub last : Option Key
   pub slots : List (List ℕ)
   pub ahead : List (List ℕ)
-  pub input : Sha1
+  pub input : Taken
   pub hasher : Sha1
 
 -- the next entry's key is at most the last decided key

@@ -11,7 +11,6 @@ use Rattle.silt_hash_store.specs.Lookup.{IsRowAt}
 use Rattle.silt_hash_store.specs.Slots.{slot_row}
 use Rattle.silt_hash_store.specs.State.{HashState}
 use Rattle.silt_sorted_store.specs.State.{SortedState, sorted_entry_at}
-use Rattle.sha1.specs.Sha1.{Holds}
 use Rattle.silt_merge.specs.Choice.{Gathers}
 use Rattle.silt_merge.specs.Comparing.{HasCompared, MatchesDigests}
 use Rattle.silt_merge.specs.Merging.{AreSound, HasMerged, IsSameMerge}
@@ -19,9 +18,10 @@ use Rattle.silt_merge.specs.Rows.{newest_rows, regions_of, sources}
 use Rattle.silt_merge.specs.State.{IsHeldMerge, LastRises, MergeState, ends_store, input_after, source_at, steps_of}
 use Rattle.silt_merge.specs.declared.merge.StepError.{StepError}
 use Rattle.silt_merge.specs.declared.merge.StepError.TheVariants.{Read, Write, NoMemory, Damaged}
+use Rattle.silt_hasher.specs.Taking.{HasTaken}
 
 -- the next slot to gather shows a row of a known kind, and no row of its key waits
-pub record TakesRow (content : Content) (stores : List HashState) (merge : MergeState) : Type 0 where
+pub record GathersRow (content : Content) (stores : List HashState) (merge : MergeState) : Type 0 where
   pub gathers : merge.store < merge.stores
   pub known : IsTrue content.honest → has_known_kind (slot_row merge.shape (get_or (regions_of stores) merge.store 0) content.shown merge.slot) ≡ true
   pub new_key : IsTrue content.honest → source_at merge.waiting (slot_row merge.shape (get_or (regions_of stores) merge.store 0) content.shown merge.slot).key ≡ None
@@ -35,7 +35,7 @@ pub record TakesKey (content : Content) (stores : List HashState) (sorted : Sort
 
 -- the next step allocates memory: for a row that will wait, or for a key of the index
 abbrev pub TakesMemory : Content → List HashState → SortedState → MergeState → Type 0
-TakesMemory content stores sorted merge = TakesRow content stores merge ⊎ TakesKey content stores sorted merge
+TakesMemory content stores sorted merge = GathersRow content stores merge ⊎ TakesKey content stores sorted merge
 
 -- what is damaged, if what was read has another digest: the hash store in progress, or the old entries once all slots are gathered
 abbrev pub damaged_place : List HashState → MergeState → Place
@@ -97,8 +97,8 @@ RefusesRow gave content store slot row (Damaged place) =
     (place ≡ HashDigest store.region) × (IsTrue content.honest → IsRowAt (slot_row store.shape store.region content.shown slot) slot row → ⊥)
 
 -- a slot was taken of what is ahead: its row waits, if no newer row of its key does, and its bytes are hashed
-pub record TakesSlot (before after : MergeState) : Type 0 where
+pub record GathersSlot (before after : MergeState) : Type 0 where
   pub row : Option Row
   pub shown : IsRowAt (row_of (get_or before.slots 0 [])) before.slot row
   pub keeps : Gathers before.store before.slot row before.waiting after.waiting
-  pub hashed : (bytes : List ℕ) → Holds before.input bytes → Holds after.input (input_after (ends_store before) bytes (get_or before.slots 0 []))
+  pub hashed : (bytes : List ℕ) → HasTaken before.input bytes → HasTaken after.input (input_after (ends_store before) bytes (get_or before.slots 0 []))

@@ -8,11 +8,12 @@ ghost use Rattle.silt_disk.specs.Layout.{Shape, device_size, row_len};
 ghost use Rattle.silt_frame.specs.declared.key.Key.{Key};
 ghost use Rattle.silt_hash_store.specs.State.{HashState};
 ghost use Rattle.silt_hash_store.specs.Lookup.{IsRowAt};
+ghost use Rattle.silt_hasher.specs.Taking.{HasTaken, taken_after};
 ghost use Rattle.silt_merge.specs.Choice.{Gathers, IsNextEntry, IsOffered, ReadsRow, choice_puts};
 ghost use Rattle.silt_merge.specs.Comparing.{HasCompared, MayTake};
 ghost use Rattle.silt_merge.specs.Rows.{regions_of};
 ghost use Rattle.silt_merge.specs.State.{ahead_without, ends_entries, hashed_after, input_after, keys_after, most_entries, passed_after, slot_after, written_after};
-ghost use Rattle.silt_merge.specs.Steps.{RefusesRow, TakesSlot, TakesStep};
+ghost use Rattle.silt_merge.specs.Steps.{GathersSlot, RefusesRow, TakesStep};
 ghost use Rattle.silt_trie.specs.Building.{IsBuildingOf, SuitsKeys, is_above};
 ghost use Rattle.silt_merge.specs.declared.source.Source.{Source};
 ghost use Rattle.silt_frame.specs.Rows.{StoredRow, row_of};
@@ -29,6 +30,7 @@ use silt_disk::Disk;
 use silt_event::Place;
 use silt_frame::{Digest, KEY_LEN, Key, Row};
 use silt_hash_store::HashStore;
+use silt_hasher::{BufferedHasher, LentBytes};
 use silt_sorted_store::{SortedEntries, SortedRegion, SortedStore};
 use silt_trie::MarkedTrieBuilder;
 use std::alloc::{AllocError, Global};
@@ -68,7 +70,7 @@ pub struct Merge {
     last: Option<Key>,
     slots: Piece,
     ahead: Piece,
-    input: Sha1,
+    input: BufferedHasher,
     hasher: Sha1,
     made: Vec<u8>,
 }
@@ -218,33 +220,40 @@ fn digest_so_far(hasher: &Sha1) -> Digest
 }
 
 // Whether the next part of a store may be taken. If it is the last part, all parts must have the store's digest.
-fn may_take(input: &Sha1, part: &[u8], ends: bool, digest: &Digest) -> bool
-    ensures { (bytes : List ℕ) → Holds input.now bytes → MayTake ends (bytes ++ part.now) digest.now.0 result }
+fn may_take(input: &BufferedHasher, part: &[u8], ends: bool, digest: &Digest) -> bool
+    ensures { (bytes : List ℕ) → HasTaken input.now bytes → MayTake ends (bytes ++ part.now) digest.now.0 result }
 {
     if !ends {
         return true;
     }
-    let mut all = copy_of(input);
-    all.update(part);
-    Digest(all.finalize()) == *digest
+    Digest(input.digest_with(part)) == *digest
 }
 
 // Hashes a slot that is taken. The hasher is fresh for the next store after the last slot of a store.
-fn hash_slot(input: &mut Sha1, slot: &[u8], ends: bool)
-    ensures { (bytes : List ℕ) → Holds input.old bytes → Holds input.new (input_after ends bytes slot.now) }
+fn hash_slot(input: &mut BufferedHasher, slot: &[u8], ends: bool)
+    ensures { (bytes : List ℕ) → HasTaken input.old bytes → HasTaken input.new (input_after ends bytes slot.now) }
 {
     if ends {
-        *input = Sha1::new();
+        input.restart();
     } else {
         input.update(slot);
     }
 }
 
-// Hashes the bytes of an entry, if it is taken or written.
-fn hash_entry(hasher: &mut Sha1, entry: &[u8], is_hashed: bool)
-    ensures { (bytes : List ℕ) → Holds hasher.old bytes → Holds hasher.new (hashed_after is_hashed bytes entry.now) }
+// Hashes an entry, if it is skipped.
+fn hash_skipped(input: &mut BufferedHasher, entry: &[u8], is_skipped: bool)
+    ensures { (bytes : List ℕ) → HasTaken input.old bytes → HasTaken input.new (hashed_after is_skipped bytes entry.now) }
 {
-    if is_hashed {
+    if is_skipped {
+        input.update(entry);
+    }
+}
+
+// Hashes the bytes of an entry, if it is written.
+fn hash_entry(hasher: &mut Sha1, entry: &[u8], is_written: bool)
+    ensures { (bytes : List ℕ) → Holds hasher.old bytes → Holds hasher.new (hashed_after is_written bytes entry.now) }
+{
+    if is_written {
         hasher.update(entry);
     }
 }
@@ -339,7 +348,7 @@ impl Merge {
     ///
     /// # Errors
     ///
-    /// Out of memory: the two pieces or the bytes of one entry could not be allocated.
+    /// Out of memory: the two pieces, the bytes that wait to be hashed or the bytes of one entry could not be allocated.
     pub fn start(
         alloc: Global,
         stores: &[HashStore],
@@ -374,6 +383,7 @@ impl Merge {
         let geometry = sorted.geometry();
         let slots = Piece::new(alloc, geometry.row_len(), 4 * geometry.buckets())?;
         let ahead = Piece::new(alloc, geometry.entry_len(), sorted.len())?;
+        let input = BufferedHasher::new(alloc)?;
         Ok(Merge {
             target: SortedRegion {
                 geometry,
@@ -390,7 +400,7 @@ impl Merge {
             last: None,
             slots,
             ahead,
-            input: Sha1::new(),
+            input,
             hasher: Sha1::new(),
             made: vec![in alloc; 0; geometry.entry_len()]?,
         })
@@ -471,7 +481,7 @@ impl Merge {
           slots = parts_after true self.old.slots;
           input = self.new.input;
         }) }
-        ensures hashed { OnOk result ((bytes : List ℕ) → Holds self.old.input bytes → Holds self.new.input (input_after (ends_store self.old) bytes (get_or self.old.slots 0 []))) }
+        ensures hashed { OnOk result ((bytes : List ℕ) → HasTaken self.old.input bytes → HasTaken self.new.input (input_after (ends_store self.old) bytes (get_or self.old.slots 0 []))) }
         ensures held { IsHeldMerge self.new }
         ensures err { OnErr result (self.new ≡ self.old) }
         ensures new_key { OnErr result (IsSomeAnd row (λ row. source_at self.old.waiting row.key.0 ≡ None)) }
@@ -489,7 +499,7 @@ impl Merge {
     // Whether the next slot, which is ahead, may be taken: it is not the last one of its store, or all have the store's digest.
     fn may_take_slot(&self, store: &HashStore) -> bool
         requires there { 0 < length self.now.slots }
-        ensures answer { (bytes : List ℕ) → Holds self.now.input bytes → MayTake (ends_store self.now) (bytes ++ get_or self.now.slots 0 []) store.now.digest result }
+        ensures answer { (bytes : List ℕ) → HasTaken self.now.input bytes → MayTake (ends_store self.now) (bytes ++ get_or self.now.slots 0 []) store.now.digest result }
         ensures len { length (get_or self.now.slots 0 []) ≡ row_len self.now.shape }
         ensures held { IsHeldMerge self.now }
     {
@@ -510,7 +520,7 @@ impl Merge {
         requires shapes { All (λ store. store.shape ≡ self.old.shape) stores.now }
         requires size { device_size self.old.shape ≤ size (D.content disk.now) }
         ensures step { (sorted : SortedState) (digest : List ℕ) → TakesStep D.Disk stores.now sorted digest disk.now disk.now self.old self.new result }
-        ensures slot { OnOk result (TakesSlot self.old self.new) }
+        ensures slot { OnOk result (GathersSlot self.old self.new) }
     {
         let store = &stores[self.store as usize];
         if !self.may_take_slot(store) {
@@ -562,10 +572,10 @@ impl Merge {
           ahead = parts_after choice.now.passes self.old.ahead;
           input = self.new.input;
         } }
-        ensures hashed { (bytes : List ℕ) → Holds self.old.input bytes → Holds self.new.input (hashed_after choice.now.passes bytes (get_or self.old.ahead 0 [])) }
+        ensures hashed { (bytes : List ℕ) → HasTaken self.old.input bytes → HasTaken self.new.input (hashed_after choice.now.passes bytes (get_or self.old.ahead 0 [])) }
     {
         remove_waiting(&mut self.waiting, &choice.key);
-        hash_entry(&mut self.input, self.ahead.first(), choice.passes);
+        hash_skipped(&mut self.input, self.ahead.first(), choice.passes);
         self.passed = passed_after(choice.passes, self.passed);
         self.written = written_after(is_written, self.written);
         self.decided += 1;
@@ -579,7 +589,7 @@ impl Merge {
         requires passed { self.old.passed + 1 < 2 ^ 32 }
         ensures held { IsHeldMerge self.new }
         ensures state { self.new ≡ record self.old { passed = self.old.passed + 1; decided = self.old.decided + 1; ahead = parts_after true self.old.ahead; input = self.new.input } }
-        ensures hashed { (bytes : List ℕ) → Holds self.old.input bytes → Holds self.new.input (bytes ++ get_or self.old.ahead 0 []) }
+        ensures hashed { (bytes : List ℕ) → HasTaken self.old.input bytes → HasTaken self.new.input (bytes ++ get_or self.old.ahead 0 []) }
     {
         self.input.update(self.ahead.first());
         self.passed += 1;
@@ -733,6 +743,22 @@ impl Merge {
             return self.gather(taken, disk);
         }
         self.decide(taken, sorted, digest, disk)
+    }
+
+    /// Lends what is taken and not hashed yet, if it is 16 KiB or more, to be hashed elsewhere. Returns whether it did.
+    pub fn lend(&self, lent: &mut LentBytes) -> bool
+        ensures all { result ≡ true → self.now.input ≡ taken_after lent.new.before lent.new.bytes }
+        ensures none { result ≡ false → lent.new.bytes ≡ [] }
+        ensures unhashed { lent.new.after ≡ None }
+    {
+        self.input.lend(lent)
+    }
+
+    /// Takes what was hashed elsewhere. If it is of other bytes than those that wait here, nothing changes.
+    pub fn take_back(&mut self, lent: &LentBytes)
+        ensures { self.new ≡ self.old }
+    {
+        self.input.take_back(lent);
     }
 
     /// The sorted store of the written entries, with the index of their keys and the digest of their bytes.

@@ -20,7 +20,7 @@ use Rattle.silt_manifest.specs.declared.body.Body.{Body}
 use Rattle.silt_merge.specs.Merging.{IsMergedIn, decided_rows, gathered_rows, source_row}
 use Rattle.silt_merge.specs.Rows.{has_row_with, newest_rows, regions_of, rows_of_hashes}
 use Rattle.silt_merge.specs.State.{MergeState, oldest_stores, source_at, steps_of}
-use Rattle.silt_merge.specs.Steps.{TakesKey, TakesRow}
+use Rattle.silt_merge.specs.Steps.{GathersRow, TakesKey}
 use Rattle.silt_merge.proofs.Newest.{newest_append}
 use Rattle.silt_engine.specs.Merge.{full_stores, merge_sources}
 use Rattle.silt_standing.specs.Standing.{HasGathered, Stands}
@@ -173,7 +173,7 @@ module _ (content : Content) (s : EngineState) (stands : Stands content s) (hone
       (subst (λ (rows : List StoredRow). IsSomeAnd (slice_get (newest_rows rows) merge.decided) (λ row. is_put_row row ≡ true)) (sym (sources_full content s stands honest merge.stores))
       (takes.puts honest merged.0 (taken_sound content s stands honest merge.stores)))
 
-  module _ (merge : MergeState) (way : IsMerging s merge) (merged : HasGathered content s merge) (takes : TakesRow content (oldest_stores merge.stores s.hashes) merge) where
+  module _ (merge : MergeState) (way : IsMerging s merge) (merged : HasGathered content s merge) (takes : GathersRow content (oldest_stores merge.stores s.hashes) merge) where
     abbrev stores : List HashState
     stores = oldest_stores merge.stores s.hashes
 

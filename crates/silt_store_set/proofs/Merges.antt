@@ -15,7 +15,7 @@ use Rattle.silt_event.specs.declared.refusal.Refusal.TheVariants.{Damaged, Devic
 use Rattle.silt_event.specs.declared.reply.Reply.TheVariants.{Progress, Refused}
 use Rattle.silt_merge.specs.Rows.{key_count, merged_rows}
 use Rattle.silt_merge.specs.State.{MergeState, is_done, oldest_stores, steps_of}
-use Rattle.silt_merge.specs.Steps.{TakesKey, TakesMemory, TakesRow}
+use Rattle.silt_merge.specs.Steps.{GathersRow, TakesKey, TakesMemory}
 use Rattle.silt_engine.specs.Calls.{Advances, Breaks, IsLastGeneration, Remaps}
 use Rattle.silt_standing.specs.Standing.{SameDisk}
 use Rattle.silt_engine.specs.Conversion.{is_work}
@@ -169,7 +169,7 @@ module _ {D F : Type 0} (facts : Ghosts D F) (disk : D) (stores : EngineState) (
       ⊎ IsSomeAnd (merge_work o) (DecidesValue facts before)
 
   -- a merge that gathers a slot has not gathered all of them, and what it gathers is the first row of a key
-  lacks_row : (merge : MergeState) → IsMerging stores merge → HasGathered (facts.content disk) stores merge → TakesRow (facts.content disk) (oldest_stores merge.stores stores.hashes) merge → Lacks (Some merge)
+  lacks_row : (merge : MergeState) → IsMerging stores merge → HasGathered (facts.content disk) stores merge → GathersRow (facts.content disk) (oldest_stores merge.stores stores.hashes) merge → Lacks (Some merge)
   lacks_row merge merging merged takes =
       let slots : 4 * merge.shape.buckets ≡ 4 * stores.manifest.shape.buckets = ap (λ (s : Shape). 4 * s.buckets) merging.has_shape in
       let below : merge.store * (4 * merge.shape.buckets) + merge.slot < merge.stores * (4 * merge.shape.buckets) = slot_below merge.store merge.stores merge.slot (4 * merge.shape.buckets) takes.gathers merging.held.slot in

@@ -42,4 +42,5 @@ pub use silt_device::{FileDisk, MemDisk};
 pub use silt_disk::{BadGeometry, Disk, Geometry};
 pub use silt_event::{Answerer, Event, LifeReply, Place, Progress, Refusal, Reply, Report};
 pub use silt_frame::{Key, Value};
+pub use silt_hasher::LentBytes;
 pub use silt_recovery::{FormatError, FormatFault, OpenError, check, format};

@@ -1,5 +1,5 @@
 // The store on one device: what it holds in memory, and its calls.
-ghost use Rattle.std.specs.Prelude.{◌≡◌, ◌<◌, ◌≤◌, ◌↔◌, length, true, false, not, Some, Ok, All, IsTrue, IfOk, IfErr, IfSome, OnErr, MatchResult};
+ghost use Rattle.std.specs.Prelude.{◌≡◌, ◌<◌, ◌≤◌, ◌↔◌, length, [], true, false, not, Some, None, Ok, All, IsTrue, IfOk, IfErr, IfSome, OnErr, MatchResult};
 ghost use Rattle.std.specs.Option.{option_map};
 ghost use Rattle.silt_event.specs.Events.{Legal};
 ghost use Rattle.silt_disk.specs.Disk.{LeavesOnly};
@@ -11,6 +11,7 @@ use silt_disk::{Disk, Geometry};
 use silt_engine::{ConvertError, Engine, EntriesError, MergeError, WriteError};
 use silt_event::bytes_of;
 use silt_frame::{Key, Kind, Value};
+use silt_hasher::LentBytes;
 use std::alloc::{AllocError, Global};
 use std::collections::BTreeMap;
 use std::marker::Model;
@@ -423,6 +424,23 @@ impl<D: Disk> Core<D> {
             Err(MergeError::Damaged(place)) => Err(Refusal::Damaged(place)),
             Err(MergeError::NoMemory) => Err(Refusal::NoMemory),
         }
+    }
+
+    /// Lends bytes that the merge in progress has read and not hashed yet, if they are 16 KiB or more, to be hashed with
+    /// no lock held. Returns whether it did.
+    pub fn lend_unhashed(&self, lent: &mut LentBytes) -> bool
+        ensures none { result ≡ false → lent.new.bytes ≡ [] }
+        ensures unhashed { lent.new.after ≡ None }
+    {
+        self.engine.lend_unhashed(lent)
+    }
+
+    /// Takes what was hashed meanwhile. If the merge in progress does not wait for it, it is ignored. The calls that
+    /// follow do and return the same in either case; a step of merging has less to hash.
+    pub fn take_hashed(&mut self, lent: &LentBytes)
+        ensures { self.new ≡ self.old }
+    {
+        self.engine.take_hashed(lent);
     }
 
     /// Whether the store is not failed and there is a step of conversion to do. If nothing refuses it, the step returns

@@ -11,6 +11,8 @@ use silt_device::{Call, Disk, FaultDisk, Geometry, MemDisk};
 use std::alloc::Global;
 use std::process::Abort;
 
+mod lent;
+
 // Values of 4,096 bytes, 16 slots of 4,117 bytes and twenty entries of 4,116 bytes.
 fn long(rt: &impl Abort) -> Geometry
     ensures { result ≡ record { value_len = 4096; buckets = 4; log_capacity = 4; logs = 2; hashes = 2; sorted_capacity = 20 } }

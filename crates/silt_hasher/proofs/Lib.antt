@@ -1,0 +1,4 @@
+pub mod Compressing
+pub mod Ending
+pub mod Filling
+pub mod Taking
