@@ -14,7 +14,7 @@ use Rattle.silt_resp.specs.declared.session.RespEnd.{RespEnd}
 use Rattle.silt_resp.specs.declared.session.RespEnd.TheVariants.{End, Closed, ReadFault, WriteFault, NoMemory}
 use Rattle.silt_resp.specs.Buffers.{NoFeed}
 use Rattle.silt_resp.specs.Commands.{Asked, broken_text, says, visitor_at_first}
-use Rattle.silt_resp.specs.Sessions.{AnswersAll, AnswersSome, EndsWith, RespEnds, WritesAtMostFault, all_events, asked_after, asked_each, new_client, texts_of}
+use Rattle.silt_resp.specs.Sessions.{AnswersCommands, AnswersSomeCommands, EndsWith, RespEnds, WritesAtMostFault, all_events, asked_after, asked_each, new_client, asked_texts}
 use Rattle.silt_resp.specs.Stream.{line_kind, line_limit, too_long}
 use Rattle.silt_resp.proofs.Doing.{begins-trans}
 use Rattle.silt_resp.proofs.Runs.{line_over, line_run}
@@ -55,11 +55,11 @@ at_most_fault s id read none =
 
 -- ---- nothing is done
 
-text_only : (asked : List Asked) (text : List ℕ) → IsBeginning asked (says text ∷ []) → (all_events asked ≡ []) × IsBeginning (texts_of asked []) text
+text_only : (asked : List Asked) (text : List ℕ) → IsBeginning asked (says text ∷ []) → (all_events asked ≡ []) × IsBeginning (asked_texts asked []) text
 text_only [] text h = (refl, (text, refl))
 text_only (x ∷ []) text h =
     let is : x ≡ says text = cc (h.1) in
-    (ap (λ a. all_events (a ∷ [])) is, subst (λ a. IsBeginning (texts_of (a ∷ []) []) text) (sym is) ([], append-nil (text ++ []) ∙ append-nil text))
+    (ap (λ a. all_events (a ∷ [])) is, subst (λ a. IsBeginning (asked_texts (a ∷ []) []) text) (sym is) ([], append-nil (text ++ []) ∙ append-nil text))
 text_only (x ∷ y ∷ asked) text h = absurd (cc (h.1))
 
 module _ {A : Type 0} (answers : A → A → Event → PlainReply → Type 0) where
@@ -68,23 +68,23 @@ module _ {A : Type 0} (answers : A → A → Event → PlainReply → Type 0) wh
   none_each a b (r ∷ replies) each = absurd each
 
   none_done : (asked : List Asked) (text : List ℕ) (a b : A) (replies : List PlainReply) → IsBeginning asked (says text ∷ []) → AnswersEach answers a (all_events asked) replies b
-      → (b ≡ a) × IsBeginning (texts_of asked replies) text
+      → (b ≡ a) × IsBeginning (asked_texts asked replies) text
   none_done asked text a b replies begins each =
       let only = text_only asked text begins in
       let told = none_each a b replies (subst (λ es. AnswersEach answers a es replies b) only.0 each) in
-      (told.0, subst (λ rs. IsBeginning (texts_of asked rs) text) (sym told.1) only.1)
+      (told.0, subst (λ rs. IsBeginning (asked_texts asked rs) text) (sym told.1) only.1)
 
   all_told : (asked : List Asked) (fault : ProtocolFault) (a b : A) (before after : Option (List ℕ)) → IsBeginning asked (says (broken_text fault) ∷ [])
-      → AnswersAll answers asked a b before after → (b ≡ a) × WritesAtMostFault before after
+      → AnswersCommands answers asked a b before after → (b ≡ a) × WritesAtMostFault before after
   all_told asked fault a b before after begins all =
       let done = none_done asked (broken_text fault) a b all.0 begins all.1 in
-      (done.0, (fault, texts_of asked all.0, done.1, all.2))
+      (done.0, (fault, asked_texts asked all.0, done.1, all.2))
 
   some_told : (asked : List Asked) (fault : ProtocolFault) (a b : A) (before after : Option (List ℕ)) → IsBeginning asked (says (broken_text fault) ∷ [])
-      → AnswersSome answers asked a b before after → (b ≡ a) × WritesAtMostFault before after
+      → AnswersSomeCommands answers asked a b before after → (b ≡ a) × WritesAtMostFault before after
   some_told asked fault a b before after begins k =
       let done = none_done k.0 (broken_text fault) a b k.1 (begins-trans k.0 asked (says (broken_text fault) ∷ []) k.3 begins) k.4 in
-      (done.0, (fault, k.2, begins-trans k.2 (texts_of k.0 k.1) (broken_text fault) k.5 done.1, k.6))
+      (done.0, (fault, k.2, begins-trans k.2 (asked_texts k.0 k.1) (broken_text fault) k.5 done.1, k.6))
 
   told_ends : (end : RespEnd) (s : Settings) (id : ℕ) (read : List ℕ) (a b : A) (before after : Option (List ℕ)) → NoFeed read
       → EndsWith answers end s (new_client s id) read a b before after → (b ≡ a) × WritesAtMostFault before after

@@ -20,8 +20,8 @@ use Rattle.silt_resp.specs.declared.session.RespEnd.TheVariants.{End, Closed, Re
 use Rattle.silt_resp.specs.declared.batch.Batch.{Batch}
 use Rattle.silt_resp.specs.declared.batch.Due.{Due}
 use Rattle.silt_resp.specs.Batches.{HoldsAsked, due_seen, part_len, part_of, part_text, part_texts}
-use Rattle.silt_resp.specs.Commands.{Asked, asked_by, asks, events_of, says, visitor_after}
-use Rattle.silt_resp.specs.Sessions.{AnswersAll, AnswersSome, Client, EndsWith, IsCut, IsLast, ServesAll, ServesSome, all_events, asked_after, asked_each, client_after, reply_text, texts_of, visitor_behind}
+use Rattle.silt_resp.specs.Commands.{Asked, asked_for, asks, asked_events, says, visitor_after}
+use Rattle.silt_resp.specs.Sessions.{AnswersCommands, AnswersSomeCommands, Client, EndsWith, IsCommandsEnd, IsLast, ServesCommands, ServesSomeCommands, all_events, asked_after, asked_each, client_after, asked_text, asked_texts, visitor_behind}
 use Rattle.silt_resp.specs.Stream.{Command, closed, commands_after, stream_after}
 use Rattle.silt_resp.proofs.Runs.{closed_run}
 use Rattle.silt_resp.proofs.Streams.{commands_after-append, stream_after-append}
@@ -56,7 +56,7 @@ visitor_behind-append s v (c ∷ cs) ds = visitor_behind-append s (visitor_after
 
 asked_each-append : (s : Settings) (v : Visitor) (cs ds : List Command) → asked_each s v (cs ++ ds) ≡ asked_each s v cs ++ asked_each s (visitor_behind s v cs) ds
 asked_each-append s v [] ds = refl
-asked_each-append s v (c ∷ cs) ds = ap (λ l. asked_by s v c ∷ l) (asked_each-append s (visitor_after s v c) cs ds)
+asked_each-append s v (c ∷ cs) ds = ap (λ l. asked_for s v c ∷ l) (asked_each-append s (visitor_after s v c) cs ds)
 
 -- the commands of two parts of the bytes
 pub asked_after-append : (s : Settings) (c : Client) (xs ys : List ℕ) → asked_after s c (xs ++ ys) ≡ asked_after s c xs ++ asked_after s (client_after s c xs) ys
@@ -82,7 +82,7 @@ closed_asks s c ys e =
     (ap (λ st. asked_each s c.visitor (commands_after st ys)) is ∙ ap (asked_each s c.visitor) run.commands_are, ap (λ st. (stream_after st ys).place) is ∙ ap (λ st. st.place) run.stream)
 
 all_events-append : (xs ys : List Asked) → all_events (xs ++ ys) ≡ all_events xs ++ all_events ys
-all_events-append xs ys = flat_map-append events_of xs ys
+all_events-append xs ys = flat_map-append asked_events xs ys
 
 module _ {A : Type 0} (answers : A → A → Event → PlainReply → Type 0) where
   each-append : (a b c : A) (es fs : List Event) (rs ss : List PlainReply) → AnswersEach answers a es rs b → AnswersEach answers b fs ss c
@@ -100,73 +100,73 @@ module _ {A : Type 0} (answers : A → A → Event → PlainReply → Type 0) wh
   each-length a b (e ∷ es) (r ∷ rs) h = ap (λ n. suc n) (each-length h.0 b es rs h.2)
 
 -- the replies of the first commands and then the others
-texts_of-append : (xs ys : List Asked) (rs ss : List PlainReply) → length rs ≡ length (all_events xs) → texts_of (xs ++ ys) (rs ++ ss) ≡ texts_of xs rs ++ texts_of ys ss
-texts_of-append [] ys [] ss e = refl
-texts_of-append [] ys (r ∷ rs) ss e = absurd (omega arith)
-texts_of-append (x ∷ xs) ys rs ss e =
-    let n = length (events_of x) in
-    let sizes = length-append (events_of x) (all_events xs) in
+asked_texts-append : (xs ys : List Asked) (rs ss : List PlainReply) → length rs ≡ length (all_events xs) → asked_texts (xs ++ ys) (rs ++ ss) ≡ asked_texts xs rs ++ asked_texts ys ss
+asked_texts-append [] ys [] ss e = refl
+asked_texts-append [] ys (r ∷ rs) ss e = absurd (omega arith)
+asked_texts-append (x ∷ xs) ys rs ss e =
+    let n = length (asked_events x) in
+    let sizes = length-append (asked_events x) (all_events xs) in
     let room : n ≤ length rs = omega arith in
     let left : length (drop n rs) ≡ length (all_events xs) = omega (arith, length-drop n rs) in
-    let front = reply_text x (take n rs) in
-    ap (λ l. reply_text x l ++ texts_of (xs ++ ys) (drop n (rs ++ ss))) (take-append-le n rs ss room)
-    ∙ ap (λ l. front ++ texts_of (xs ++ ys) l) (drop-append-le n rs ss room)
-    ∙ ap (λ l. front ++ l) (texts_of-append xs ys (drop n rs) ss left)
-    ∙ sym (append_assoc front (texts_of xs (drop n rs)) (texts_of ys ss))
+    let front = asked_text x (take n rs) in
+    ap (λ l. asked_text x l ++ asked_texts (xs ++ ys) (drop n (rs ++ ss))) (take-append-le n rs ss room)
+    ∙ ap (λ l. front ++ asked_texts (xs ++ ys) l) (drop-append-le n rs ss room)
+    ∙ ap (λ l. front ++ l) (asked_texts-append xs ys (drop n rs) ss left)
+    ∙ sym (append_assoc front (asked_texts xs (drop n rs)) (asked_texts ys ss))
 
 -- the replies that are due are those of the commands
-part_texts-asked : (asked : List Asked) (rs : List PlainReply) → part_texts (map part_of asked) rs ≡ texts_of asked rs
+part_texts-asked : (asked : List Asked) (rs : List PlainReply) → part_texts (map part_of asked) rs ≡ asked_texts asked rs
 part_texts-asked [] rs = refl
 part_texts-asked (says text ∷ asked) rs = ap (λ t. text ++ t) (part_texts-asked asked rs)
-part_texts-asked (asks events form ∷ asked) rs = ap (λ t. reply_text (asks events form) (take (length events) rs) ++ t) (part_texts-asked asked (drop (length events) rs))
+part_texts-asked (asks events form ∷ asked) rs = ap (λ t. asked_text (asks events form) (take (length events) rs) ++ t) (part_texts-asked asked (drop (length events) rs))
 
 module _ {A : Type 0} (answers : A → A → Event → PlainReply → Type 0) where
   -- ---- one part after the other
 
-  some-none : (asked : List Asked) (a : A) (w : Option (List ℕ)) → AnswersSome answers asked a a w w
+  some-none : (asked : List Asked) (a : A) (w : Option (List ℕ)) → AnswersSomeCommands answers asked a a w w
   some-none asked a w = ([], [], [], none_begins asked, refl, none_begins [], Appends-none w)
 
-  pub some-from_all : (asked : List Asked) (a b : A) (w v : Option (List ℕ)) → AnswersAll answers asked a b w v → AnswersSome answers asked a b w v
-  some-from_all asked a b w v h = (asked, h.0, texts_of asked h.0, IsBeginning-all asked, h.1, IsBeginning-all (texts_of asked h.0), h.2)
+  pub some-from_all : (asked : List Asked) (a b : A) (w v : Option (List ℕ)) → AnswersCommands answers asked a b w v → AnswersSomeCommands answers asked a b w v
+  some-from_all asked a b w v h = (asked, h.0, asked_texts asked h.0, IsBeginning-all asked, h.1, IsBeginning-all (asked_texts asked h.0), h.2)
 
-  all-append : (a b c : A) (xs ys : List Asked) (w v u : Option (List ℕ)) → AnswersAll answers xs a b w v → AnswersAll answers ys b c v u
-      → AnswersAll answers (xs ++ ys) a c w u
+  all-append : (a b c : A) (xs ys : List Asked) (w v u : Option (List ℕ)) → AnswersCommands answers xs a b w v → AnswersCommands answers ys b c v u
+      → AnswersCommands answers (xs ++ ys) a c w u
   all-append a b c xs ys w v u h k = (
     h.0 ++ k.0,
     subst (λ es. AnswersEach answers a es (h.0 ++ k.0) c) (sym (all_events-append xs ys)) (each-append answers a b c (all_events xs) (all_events ys) h.0 k.0 h.1 k.1),
-    subst (λ t. Appends w u t) (sym (texts_of-append xs ys h.0 k.0 (each-length answers a b (all_events xs) h.0 h.1))) (Appends-append w v u _ _ h.2 k.2),
+    subst (λ t. Appends w u t) (sym (asked_texts-append xs ys h.0 k.0 (each-length answers a b (all_events xs) h.0 h.1))) (Appends-append w v u _ _ h.2 k.2),
   )
 
   -- all of the first part, and a beginning of the second
-  some-append : (a b c : A) (xs ys : List Asked) (w v u : Option (List ℕ)) → AnswersAll answers xs a b w v → AnswersSome answers ys b c v u
-      → AnswersSome answers (xs ++ ys) a c w u
+  some-append : (a b c : A) (xs ys : List Asked) (w v u : Option (List ℕ)) → AnswersCommands answers xs a b w v → AnswersSomeCommands answers ys b c v u
+      → AnswersSomeCommands answers (xs ++ ys) a c w u
   some-append a b c xs ys w v u h k =
       let (some, replies, out, begins, each, beginning, appends) = k in (
         xs ++ some,
         h.0 ++ replies,
-        texts_of xs h.0 ++ out,
+        asked_texts xs h.0 ++ out,
         begins-behind xs some ys begins,
         subst (λ es. AnswersEach answers a es (h.0 ++ replies) c) (sym (all_events-append xs some)) (each-append answers a b c (all_events xs) (all_events some) h.0 replies h.1 each),
-        subst (λ t. IsBeginning (texts_of xs h.0 ++ out) t) (sym (texts_of-append xs some h.0 replies (each-length answers a b (all_events xs) h.0 h.1))) (begins-behind (texts_of xs h.0) out (texts_of some replies) beginning),
+        subst (λ t. IsBeginning (asked_texts xs h.0 ++ out) t) (sym (asked_texts-append xs some h.0 replies (each-length answers a b (all_events xs) h.0 h.1))) (begins-behind (asked_texts xs h.0) out (asked_texts some replies) beginning),
         Appends-append w v u _ _ h.2 appends,
       )
 
   -- what was done of the first commands is done of all
-  pub some-begun : (first asked : List Asked) (a b : A) (w v : Option (List ℕ)) → IsBeginning first asked → AnswersSome answers first a b w v → AnswersSome answers asked a b w v
+  pub some-begun : (first asked : List Asked) (a b : A) (w v : Option (List ℕ)) → IsBeginning first asked → AnswersSomeCommands answers first a b w v → AnswersSomeCommands answers asked a b w v
   some-begun first asked a b w v begins k = (k.0, k.1, k.2, begins-trans k.0 first asked k.3 begins, k.4, k.5, k.6)
 
   -- ---- bytes
 
-  pub all-bytes : (s : Settings) (c : Client) (xs ys : List ℕ) (a b d : A) (w v u : Option (List ℕ)) → ServesAll answers s c xs a b w v
-      → ServesAll answers s (client_after s c xs) ys b d v u → ServesAll answers s c (xs ++ ys) a d w u
-  all-bytes s c xs ys a b d w v u h k = subst (λ q. AnswersAll answers q a d w u) (sym (asked_after-append s c xs ys)) (all-append a b d (asked_after s c xs) (asked_after s (client_after s c xs) ys) w v u h k)
+  pub all-bytes : (s : Settings) (c : Client) (xs ys : List ℕ) (a b d : A) (w v u : Option (List ℕ)) → ServesCommands answers s c xs a b w v
+      → ServesCommands answers s (client_after s c xs) ys b d v u → ServesCommands answers s c (xs ++ ys) a d w u
+  all-bytes s c xs ys a b d w v u h k = subst (λ q. AnswersCommands answers q a d w u) (sym (asked_after-append s c xs ys)) (all-append a b d (asked_after s c xs) (asked_after s (client_after s c xs) ys) w v u h k)
 
-  some-bytes : (s : Settings) (c : Client) (xs ys : List ℕ) (a b d : A) (w v u : Option (List ℕ)) → ServesAll answers s c xs a b w v
-      → ServesSome answers s (client_after s c xs) ys b d v u → ServesSome answers s c (xs ++ ys) a d w u
-  some-bytes s c xs ys a b d w v u h k = subst (λ q. AnswersSome answers q a d w u) (sym (asked_after-append s c xs ys)) (some-append a b d (asked_after s c xs) (asked_after s (client_after s c xs) ys) w v u h k)
+  some-bytes : (s : Settings) (c : Client) (xs ys : List ℕ) (a b d : A) (w v u : Option (List ℕ)) → ServesCommands answers s c xs a b w v
+      → ServesSomeCommands answers s (client_after s c xs) ys b d v u → ServesSomeCommands answers s c (xs ++ ys) a d w u
+  some-bytes s c xs ys a b d w v u h k = subst (λ q. AnswersSomeCommands answers q a d w u) (sym (asked_after-append s c xs ys)) (some-append a b d (asked_after s c xs) (asked_after s (client_after s c xs) ys) w v u h k)
 
   -- an end in the second part is one of both
-  pub ends-bytes : (end : RespEnd) (s : Settings) (c : Client) (xs ys : List ℕ) (a b d : A) (w v u : Option (List ℕ)) → ServesAll answers s c xs a b w v
+  pub ends-bytes : (end : RespEnd) (s : Settings) (c : Client) (xs ys : List ℕ) (a b d : A) (w v u : Option (List ℕ)) → ServesCommands answers s c xs a b w v
       → EndsWith answers end s (client_after s c xs) ys b d v u → EndsWith answers end s c (xs ++ ys) a d w u
   ends-bytes End s c xs ys a b d w v u h k = (all-bytes s c xs ys a b d w v u h k.0, λ e. k.1 (sym (ap (λ st. st.place) (stream_after-append c.stream xs ys)) ∙ e))
   ends-bytes ReadFault s c xs ys a b d w v u h k = (all-bytes s c xs ys a b d w v u h k.0, λ e. k.1 (sym (ap (λ st. st.place) (stream_after-append c.stream xs ys)) ∙ e))
@@ -175,20 +175,20 @@ module _ {A : Type 0} (answers : A → A → Event → PlainReply → Type 0) wh
   ends-bytes NoMemory s c xs ys a b d w v u h k = some-bytes s c xs ys a b d w v u h k
 
   -- one part more of a slice
-  pub all-part : (s : Settings) (c : Client) (bytes : List ℕ) (done count : ℕ) (a b d : A) (w v u : Option (List ℕ)) → ServesAll answers s c (take done bytes) a b w v
-      → ServesAll answers s (client_after s c (take done bytes)) (take count (drop done bytes)) b d v u → ServesAll answers s c (take (done + count) bytes) a d w u
+  pub all-part : (s : Settings) (c : Client) (bytes : List ℕ) (done count : ℕ) (a b d : A) (w v u : Option (List ℕ)) → ServesCommands answers s c (take done bytes) a b w v
+      → ServesCommands answers s (client_after s c (take done bytes)) (take count (drop done bytes)) b d v u → ServesCommands answers s c (take (done + count) bytes) a d w u
   all-part s c bytes done count a b d w v u h k =
-      subst (λ xs. ServesAll answers s c xs a d w u) (sym (take-add done count bytes)) (all-bytes s c (take done bytes) (take count (drop done bytes)) a b d w v u h k)
+      subst (λ xs. ServesCommands answers s c xs a d w u) (sym (take-add done count bytes)) (all-bytes s c (take done bytes) (take count (drop done bytes)) a b d w v u h k)
 
   -- a part of a slice, when the session ends in that part
-  pub ends-part : (end : RespEnd) (s : Settings) (c : Client) (bytes : List ℕ) (done : ℕ) (a b d : A) (w v u : Option (List ℕ)) → ServesAll answers s c (take done bytes) a b w v
+  pub ends-part : (end : RespEnd) (s : Settings) (c : Client) (bytes : List ℕ) (done : ℕ) (a b d : A) (w v u : Option (List ℕ)) → ServesCommands answers s c (take done bytes) a b w v
       → EndsWith answers end s (client_after s c (take done bytes)) (drop done bytes) b d v u → EndsWith answers end s c bytes a d w u
   ends-part end s c bytes done a b d w v u h k =
       subst (λ xs. EndsWith answers end s c xs a d w u) (take-append-drop done bytes) (ends-bytes end s c (take done bytes) (drop done bytes) a b d w v u h k)
 
   -- all that a part asks for is a beginning of what the whole asks for
-  pub some-taken : (s : Settings) (c : Client) (bytes : List ℕ) (count : ℕ) (a b : A) (w v : Option (List ℕ)) → ServesAll answers s c (take count bytes) a b w v
-      → ServesSome answers s c bytes a b w v
+  pub some-taken : (s : Settings) (c : Client) (bytes : List ℕ) (count : ℕ) (a b : A) (w v : Option (List ℕ)) → ServesCommands answers s c (take count bytes) a b w v
+      → ServesSomeCommands answers s c bytes a b w v
   some-taken s c bytes count a b w v h =
       let front = asked_after s c (take count bytes) in
       let begins : IsBeginning front (asked_after s c bytes) = (
@@ -199,34 +199,34 @@ module _ {A : Type 0} (answers : A → A → Event → PlainReply → Type 0) wh
 
   -- bytes behind those that close the stream are dropped
   pub closed-part : (s : Settings) (c : Client) (bytes : List ℕ) (count : ℕ) (a b : A) (w v : Option (List ℕ)) → (stream_after c.stream (take count bytes)).place ≡ closed
-      → ServesAll answers s c (take count bytes) a b w v → EndsWith answers Closed s c bytes a b w v
+      → ServesCommands answers s c (take count bytes) a b w v → EndsWith answers Closed s c bytes a b w v
   closed-part s c bytes count a b w v e h =
       let front = take count bytes in
       let behind = closed_asks s (client_after s c front) (drop count bytes) e in
       let same : asked_after s c bytes ≡ asked_after s c front =
       ap (asked_after s c) (sym (take-append-drop count bytes)) ∙ asked_after-append s c front (drop count bytes) ∙ ap (λ l. asked_after s c front ++ l) behind.0
       ∙ append-nil (asked_after s c front) in (
-        subst (λ q. AnswersAll answers q a b w v) (sym same) h,
+        subst (λ q. AnswersCommands answers q a b w v) (sym same) h,
         ap (λ xs. (stream_after c.stream xs).place) (sym (take-append-drop count bytes)) ∙ ap (λ st. st.place) (stream_after-append c.stream front (drop count bytes)) ∙ behind.1,
       )
 
   -- ---- what was gathered is written
 
-  pub some-written : (asked : List Asked) (a b : A) (before texts out : List ℕ) (w v : Option (List ℕ)) → before ≡ [] → AnswersSome answers asked a b (Some before) (Some texts)
-      → IsBeginning out texts → Appends w v out → AnswersSome answers asked a b w v
+  pub some-written : (asked : List Asked) (a b : A) (before texts out : List ℕ) (w v : Option (List ℕ)) → before ≡ [] → AnswersSomeCommands answers asked a b (Some before) (Some texts)
+      → IsBeginning out texts → Appends w v out → AnswersSomeCommands answers asked a b w v
   some-written asked a b before texts out w v none h begins appends =
-      let k = subst (λ t. AnswersSome answers asked a b (Some t) (Some texts)) none h in
-      (k.0, k.1, out, k.3, k.4, begins-trans out k.2 (texts_of k.0 k.1) (subst (λ t. IsBeginning out t) k.6 begins) k.5, appends)
+      let k = subst (λ t. AnswersSomeCommands answers asked a b (Some t) (Some texts)) none h in
+      (k.0, k.1, out, k.3, k.4, begins-trans out k.2 (asked_texts k.0 k.1) (subst (λ t. IsBeginning out t) k.6 begins) k.5, appends)
 
-  pub all-wrote : (asked : List Asked) (a b : A) (before texts : List ℕ) (w v : Option (List ℕ)) → before ≡ [] → AnswersAll answers asked a b (Some before) (Some texts)
-      → Appends w v texts → AnswersAll answers asked a b w v
+  pub all-wrote : (asked : List Asked) (a b : A) (before texts : List ℕ) (w v : Option (List ℕ)) → before ≡ [] → AnswersCommands answers asked a b (Some before) (Some texts)
+      → Appends w v texts → AnswersCommands answers asked a b w v
   all-wrote asked a b before texts w v none h appends =
-      let k = subst (λ t. AnswersAll answers asked a b (Some t) (Some texts)) none h in (k.0, k.1, subst (λ t. Appends w v t) k.2 appends)
+      let k = subst (λ t. AnswersCommands answers asked a b (Some t) (Some texts)) none h in (k.0, k.1, subst (λ t. Appends w v t) k.2 appends)
 
   -- ---- a batch
 
   pub all-batch : (batch : Batch) (asked : List Asked) (a b : A) (rs : List PlainReply) (text more : List ℕ) → HoldsAsked batch asked
-      → AnswersEach answers a batch.events.items rs b → more ≡ text ++ part_texts (map due_seen batch.dues.items) rs → AnswersAll answers asked a b (Some text) (Some more)
+      → AnswersEach answers a batch.events.items rs b → more ≡ text ++ part_texts (map due_seen batch.dues.items) rs → AnswersCommands answers asked a b (Some text) (Some more)
   all-batch batch asked a b rs text more h each e = (
     rs,
     subst (λ es. AnswersEach answers a es rs b) h.events each,
@@ -236,7 +236,7 @@ module _ {A : Type 0} (answers : A → A → Event → PlainReply → Type 0) wh
   -- the texts of the first replies are there
   pub some-batch : (batch : Batch) (asked : List Asked) (a b : A) (rs : List PlainReply) (text more : List ℕ) → HoldsAsked batch asked
       → AnswersEach answers a batch.events.items rs b
-      → (out : List ℕ) × IsBeginning out (part_texts (map due_seen batch.dues.items) rs) × (more ≡ text ++ out) → AnswersSome answers asked a b (Some text) (Some more)
+      → (out : List ℕ) × IsBeginning out (part_texts (map due_seen batch.dues.items) rs) × (more ≡ text ++ out) → AnswersSomeCommands answers asked a b (Some text) (Some more)
   some-batch batch asked a b rs text more h each cut = (
     asked,
     rs,
@@ -248,7 +248,7 @@ module _ {A : Type 0} (answers : A → A → Event → PlainReply → Type 0) wh
   )
 
   -- nothing was done
-  pub none-batch : (asked : List Asked) (a : A) (w : Option (List ℕ)) → AnswersSome answers asked a a w w
+  pub none-batch : (asked : List Asked) (a : A) (w : Option (List ℕ)) → AnswersSomeCommands answers asked a a w w
   none-batch asked a w = some-none asked a w
 
 -- ---- the texts of a batch
@@ -299,7 +299,7 @@ if-ok (Ok x) f p = f x p
 if-ok (Err e) f p = tt
 
 -- an end that comes from a read says nothing of the reader
-pub last_cut : (end : RespEnd) (remaining : Option (List ℕ)) → IsCut end → IsLast end remaining
+pub last_cut : (end : RespEnd) (remaining : Option (List ℕ)) → IsCommandsEnd end → IsLast end remaining
 last_cut End remaining cut = absurd cut
 last_cut ReadFault remaining cut = absurd cut
 last_cut Closed remaining cut = tt

@@ -7,11 +7,11 @@ use Rattle.std.proofs.Math.Seq.{take-add}
 use Rattle.silt_resp.specs.declared.settings.Settings.{Settings}
 use Rattle.silt_resp.specs.declared.session.Talk.{Talk}
 use Rattle.silt_resp.specs.declared.batch.Batch.{Batch}
-use Rattle.silt_resp.specs.Batches.{AsksFor, GainsAsked, Gathers, GathersSome, HoldsAsked, HoldsClient, IsBehind, KeepsAsked, part_of}
+use Rattle.silt_resp.specs.Batches.{AsksFor, GainsAsked, GathersAsked, GathersSomeAsked, HoldsAsked, HoldsClient, IsBehind, KeepsAsked, part_of}
 use Rattle.silt_resp.specs.Buffers.{HoldsCommand, HoldsStream, HoldsStreamPlace, TakesInput}
 use Rattle.silt_resp.specs.declared.command_buffer.BufferPlace.{BufferPlace}
 use Rattle.silt_resp.specs.declared.command_buffer.BufferPlace.TheVariants.{Broken, Line, Word}
-use Rattle.silt_resp.specs.Commands.{Asked, asked_by, events_of}
+use Rattle.silt_resp.specs.Commands.{Asked, asked_for, asked_events}
 use Rattle.silt_resp.specs.Sessions.{Client, all_events, asked_after, asked_each, client_after, visitor_behind}
 use Rattle.silt_resp.specs.Stream.{Command, Stream, closed, closes, commands_after, line, next_stream, start, stream_after}
 use Rattle.silt_resp.proofs.Doing.{asked_after-append, client_after-append}
@@ -21,8 +21,8 @@ use Rattle.silt_resp.proofs.Doing.{asked_after-append, client_after-append}
 pub holds_push : (old new : Batch) (asked : List Asked) (a : Asked) → HoldsAsked old asked → GainsAsked old new a → HoldsAsked new (asked ++ a ∷ [])
 holds_push old new asked a h k = record {
   events =
-      k.events ∙ ap (λ es. es ++ events_of a) h.events ∙ ap (λ es. all_events asked ++ es) (sym (append-nil (events_of a)))
-      ∙ sym (flat_map-append events_of asked (a ∷ []));
+      k.events ∙ ap (λ es. es ++ asked_events a) h.events ∙ ap (λ es. all_events asked ++ es) (sym (append-nil (asked_events a)))
+      ∙ sym (flat_map-append asked_events asked (a ∷ []));
   dues = k.dues ∙ ap (λ ps. ps ++ part_of a ∷ []) h.dues ∙ sym (map-append part_of asked (a ∷ []));
 }
 
@@ -49,7 +49,7 @@ open_behind s c bytes old new h same took = record {
   visitor = same ∙ h.visitor ∙ ap (visitor_behind s c.visitor) (sym took.1);
 }
 
-pub open_gathers : (s : Settings) (c : Client) (bytes : List ℕ) (batch : Batch) → commands_after c.stream bytes ≡ [] → Gathers s c bytes batch batch
+pub open_gathers : (s : Settings) (c : Client) (bytes : List ℕ) (batch : Batch) → commands_after c.stream bytes ≡ [] → GathersAsked s c bytes batch batch
 open_gathers s c bytes batch none = λ asked h.
     let same : asked ≡ asked ++ asked_after s c bytes = sym (append-nil asked) ∙ ap (λ cs. asked ++ asked_each s c.visitor cs) (sym none) in
     subst (λ (l : List Asked). HoldsAsked batch l) same h
@@ -86,25 +86,25 @@ ended_behind s c bytes mid new before after ends same took asks =
 
 pub ended_gathers : (s : Settings) (c : Client) (bytes : List ℕ) (mid new : Talk) (before after : Batch) (ends : Bool) → mid.visitor ≡ c.visitor
     → TakesInput c.stream bytes true mid.buffer → ((command : Command) → HoldsCommand mid.buffer command → AsksFor s command ends mid new before after)
-    → Gathers s c bytes before after
+    → GathersAsked s c bytes before after
 ended_gathers s c bytes mid new before after ends same took asks = λ asked h.
     let told = asks took.0 took.1 in
-    let one : asked_after s c bytes ≡ asked_by s mid.visitor took.0 ∷ [] =
-    ap (asked_each s c.visitor) took.2 ∙ ap (λ v. asked_by s v took.0 ∷ []) (sym same) in
-    subst (λ (l : List Asked). HoldsAsked after (asked ++ l)) (sym one) (holds_push before after asked (asked_by s mid.visitor took.0) h told.asked)
+    let one : asked_after s c bytes ≡ asked_for s mid.visitor took.0 ∷ [] =
+    ap (asked_each s c.visitor) took.2 ∙ ap (λ v. asked_for s v took.0 ∷ []) (sym same) in
+    subst (λ (l : List Asked). HoldsAsked after (asked ++ l)) (sym one) (holds_push before after asked (asked_for s mid.visitor took.0) h told.asked)
 
 -- ---- one part after the other
 
-pub gathers_none : (s : Settings) (c : Client) (batch : Batch) → Gathers s c [] batch batch
+pub gathers_none : (s : Settings) (c : Client) (batch : Batch) → GathersAsked s c [] batch batch
 gathers_none s c batch = open_gathers s c [] batch refl
 
 pub gathers_part : (s : Settings) (c : Client) (bytes rest : List ℕ) (done count : ℕ) (start mid end : Batch) → rest ≡ drop done bytes
-    → Gathers s c (take done bytes) start mid → Gathers s (client_after s c (take done bytes)) (take count rest) mid end
-    → Gathers s c (take (done + count) bytes) start end
+    → GathersAsked s c (take done bytes) start mid → GathersAsked s (client_after s c (take done bytes)) (take count rest) mid end
+    → GathersAsked s c (take (done + count) bytes) start end
 gathers_part s c bytes rest done count start mid end is h k = λ asked holds.
     let front = take done bytes in
     let more = take count (drop done bytes) in
-    let second = subst (λ (r : List ℕ). Gathers s (client_after s c front) (take count r) mid end) is k in
+    let second = subst (λ (r : List ℕ). GathersAsked s (client_after s c front) (take count r) mid end) is k in
     let both = second (asked ++ asked_after s c front) (h asked holds) in
     let same : (asked ++ asked_after s c front) ++ asked_after s (client_after s c front) more ≡ asked ++ asked_after s c (take (done + count) bytes) =
     append_assoc asked (asked_after s c front) (asked_after s (client_after s c front) more) ∙ ap (λ l. asked ++ l) (sym (asked_after-append s c front more))
@@ -127,7 +127,7 @@ pub client_part : (s : Settings) (c : Client) (bytes rest : List ℕ) (done coun
 client_part s c bytes rest done count talk is h = behind_part s c bytes rest done count false talk is h
 
 -- what was gathered of a part is a beginning of what the whole asks for
-pub gathers_some : (s : Settings) (c : Client) (bytes : List ℕ) (count : ℕ) (start end : Batch) → Gathers s c (take count bytes) start end → GathersSome s c bytes start end
+pub gathers_some : (s : Settings) (c : Client) (bytes : List ℕ) (count : ℕ) (start end : Batch) → GathersAsked s c (take count bytes) start end → GathersSomeAsked s c bytes start end
 gathers_some s c bytes count start end h = λ asked holds.
     let front = take count bytes in (
       asked_after s c front,
@@ -138,5 +138,5 @@ gathers_some s c bytes count start end h = λ asked holds.
       h asked holds,
     )
 
-pub gathers_keeps : (s : Settings) (c : Client) (bytes : List ℕ) (start mid end : Batch) → Gathers s c bytes start mid → KeepsAsked mid end → Gathers s c bytes start end
+pub gathers_keeps : (s : Settings) (c : Client) (bytes : List ℕ) (start mid end : Batch) → GathersAsked s c bytes start mid → KeepsAsked mid end → GathersAsked s c bytes start end
 gathers_keeps s c bytes start mid end h k = λ asked holds. holds_keeps mid end (asked ++ asked_after s c bytes) (h asked holds) k

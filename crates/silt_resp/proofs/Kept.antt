@@ -7,7 +7,7 @@ use Rattle.std.proofs.lemmas.List.Elements.{All-head, All-push, All-tail, All-we
 use Rattle.std.proofs.lemmas.List.Sums.{sum_by_push}
 use Rattle.silt_resp.specs.declared.words.Span.{Span}
 use Rattle.silt_resp.specs.declared.words.Span.TheVariants.{Whole, Long}
-use Rattle.silt_resp.specs.declared.words.Extent.TheVariants.{Fits}
+use Rattle.silt_resp.specs.declared.words.Extent.TheVariants.{FitsValues}
 use Rattle.silt_resp.specs.Buffers.{HoldsWith, IsWithin}
 use Rattle.silt_resp.specs.Words.{word_in, words_in}
 use Rattle.silt_resp.specs.Stream.{Word, kept_len, long, longest_word, most_bytes, most_words, spaced_words, whole, word_of}
@@ -59,8 +59,8 @@ is_short word short =
     ap (λ b. if b then long else whole word) few
 
 -- one word more
-pub keeps_more : (bytes word : List ℕ) (spans : List Span) (words : List Word) → HoldsWith Fits bytes spans words → length spans < most_words → length word ≤ longest_word
-    → length bytes + length word ≤ most_bytes → HoldsWith Fits (bytes ++ word) (spans ++ Whole (length bytes) (length bytes + length word) ∷ []) (words ++ word_of word ∷ [])
+pub keeps_more : (bytes word : List ℕ) (spans : List Span) (words : List Word) → HoldsWith FitsValues bytes spans words → length spans < most_words → length word ≤ longest_word
+    → length bytes + length word ≤ most_bytes → HoldsWith FitsValues (bytes ++ word) (spans ++ Whole (length bytes) (length bytes + length word) ∷ []) (words ++ word_of word ∷ [])
 keeps_more bytes word spans words h room short fits =
     let span = Whole (length bytes) (length bytes + length word) in
     let size = length-append bytes word in

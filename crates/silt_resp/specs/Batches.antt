@@ -9,14 +9,14 @@ use Rattle.silt_resp.specs.declared.session.Talk.{Talk}
 use Rattle.silt_resp.specs.declared.settings.Settings.{Settings}
 use Rattle.silt_resp.specs.declared.texts.Form.{Form}
 use Rattle.silt_resp.specs.Buffers.{HoldsStream}
-use Rattle.silt_resp.specs.Commands.{Asked, asked_by, asks, events_of, says, visitor_after}
+use Rattle.silt_resp.specs.Commands.{Asked, asked_for, asks, asked_events, says, visitor_after}
 use Rattle.silt_resp.specs.Sessions.{Client, all_events, asked_after, client_after}
 use Rattle.silt_resp.specs.Stream.{Command, closed, closes, start, stream_after}
 use Rattle.silt_resp.specs.Texts.{text_of}
 
 -- each value of the events has this length
-abbrev pub IsAnswerable : ℕ → Batch → Type 0
-IsAnswerable value_len batch = All (HasValueOf value_len) batch.events.items
+abbrev pub HasLengths : ℕ → Batch → Type 0
+HasLengths value_len batch = All (HasValueOf value_len) batch.events.items
 
 -- ---- replies that are due
 
@@ -52,7 +52,7 @@ pub record HoldsAsked (batch : Batch) (asked : List Asked) : Type 0 where
 
 -- the batch gained a command
 pub record GainsAsked (old new : Batch) (asked : Asked) : Type 0 where
-  pub events : new.events.items ≡ old.events.items ++ events_of asked
+  pub events : new.events.items ≡ old.events.items ++ asked_events asked
   pub dues : map due_seen new.dues.items ≡ map due_seen old.dues.items ++ part_of asked ∷ []
 
 -- the batch has the commands that it had
@@ -74,17 +74,17 @@ IsBehind settings client bytes closes talk =
 
 -- This command is added to the batch, and the client is behind it. The buffer is cleared, unless the command closes the stream.
 pub record AsksFor (settings : Settings) (command : Command) (ends : Bool) (old new : Talk) (before after : Batch) : Type 0 where
-  pub asked : GainsAsked before after (asked_by settings old.visitor command)
+  pub asked : GainsAsked before after (asked_for settings old.visitor command)
   pub visitor : new.visitor ≡ visitor_after settings old.visitor command
   pub closes : ends ≡ closes command
   pub buffer : MatchBool ends (Unit {0}) (HoldsStream new.buffer start)
 
 -- the batch gained what these bytes of a client ask for
-abbrev pub Gathers : Settings → Client → List ℕ → Batch → Batch → Type 0
-Gathers settings client bytes old new = (asked : List Asked) → HoldsAsked old asked → HoldsAsked new (asked ++ asked_after settings client bytes)
+abbrev pub GathersAsked : Settings → Client → List ℕ → Batch → Batch → Type 0
+GathersAsked settings client bytes old new = (asked : List Asked) → HoldsAsked old asked → HoldsAsked new (asked ++ asked_after settings client bytes)
 
 -- the batch gained a beginning of that
-abbrev pub GathersSome : Settings → Client → List ℕ → Batch → Batch → Type 0
-GathersSome settings client bytes old new =
+abbrev pub GathersSomeAsked : Settings → Client → List ℕ → Batch → Batch → Type 0
+GathersSomeAsked settings client bytes old new =
     (asked : List Asked) → HoldsAsked old asked
     → (more : List Asked) × IsBeginning more (asked_after settings client bytes) × HoldsAsked new (asked ++ more)

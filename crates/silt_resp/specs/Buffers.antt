@@ -3,7 +3,7 @@ use Rattle.std.specs.Prelude.{◌≡◌, ◌==◌, ◌≤◌, ◌<◌, ◌+◌, 
 use Rattle.silt_resp.specs.declared.words.Span.{Span}
 use Rattle.silt_resp.specs.declared.words.Span.TheVariants.{Whole, Long}
 use Rattle.silt_resp.specs.declared.words.Extent.{Extent}
-use Rattle.silt_resp.specs.declared.words.Extent.TheVariants.{Fits, ManyBytes, ManyWords}
+use Rattle.silt_resp.specs.declared.words.Extent.TheVariants.{FitsValues, ManyBytes, ManyWords}
 use Rattle.silt_resp.specs.declared.words.WordBuffer.{WordBuffer}
 use Rattle.silt_resp.specs.Words.{words_in}
 use Rattle.silt_resp.specs.declared.command_buffer.BufferPlace.{BufferPlace}
@@ -18,7 +18,7 @@ IsWithin len Long = Unit {0}
 
 -- these are the words, or they are too many, or have too many bytes together
 abbrev pub AreKept : Extent → List ℕ → List Span → List WordOf → Type 0
-AreKept Fits bytes spans words = (words_in bytes spans ≡ words) × All (IsWithin (length bytes)) spans × (sum_by kept_len words ≡ length bytes)
+AreKept FitsValues bytes spans words = (words_in bytes spans ≡ words) × All (IsWithin (length bytes)) spans × (sum_by kept_len words ≡ length bytes)
 AreKept ManyBytes bytes spans words = (length spans ≡ length words) × (most_bytes < sum_by kept_len words)
 AreKept ManyWords bytes spans words = (length spans ≡ most_words) × (most_words < length words)
 

@@ -15,9 +15,9 @@ use Rattle.silt_resp.specs.declared.table.CommandName.TheVariants.{Get, Strlen, 
 use Rattle.silt_resp.specs.declared.texts.Form.{Form}
 use Rattle.silt_resp.specs.declared.texts.Form.TheVariants.{Value, Len, Stored, Swapped, Changed, Values, Counted}
 use Rattle.silt_resp.specs.Arguments.{and_then, has_word, key_at, keys_named, puts_named, value_at}
-use Rattle.silt_resp.specs.Faults.{fault_text, protocol_text}
+use Rattle.silt_resp.specs.Faults.{command_fault_text, protocol_text}
 use Rattle.silt_resp.specs.Stream.{Command, Word, broken, complete, long, longest_word, many_bytes, many_words, whole}
-use Rattle.silt_resp.specs.Table.{command_of, takes}
+use Rattle.silt_resp.specs.Table.{first_command, takes}
 use Rattle.silt_resp.specs.Texts.{error_text, marked_line, null_text, number_text, ok_text, string_text}
 
 -- what a command asks for: a reply that needs no store, or events of which one reply of this form is made
@@ -25,13 +25,13 @@ pub data Asked : Type 0 where
   says : List ℕ → Asked
   asks : List Event → Form → Asked
 
-abbrev pub events_of : Asked → List Event
-events_of (says text) = []
-events_of (asks events form) = events
+abbrev pub asked_events : Asked → List Event
+asked_events (says text) = []
+asked_events (asks events form) = events
 
 -- each value of its events has the length of the store's values
-abbrev pub Fits : ℕ → Asked → Type 0
-Fits value_len asked = All (HasValueOf value_len) (events_of asked)
+abbrev pub FitsValues : ℕ → Asked → Type 0
+FitsValues value_len asked = All (HasValueOf value_len) (asked_events asked)
 
 -- ---- commands on keys
 
@@ -239,7 +239,7 @@ checked settings visitor name args =
 -- a fault is told
 abbrev pub told : Result Asked CommandFault → Asked
 told (Ok asked) = asked
-told (Err fault) = says (error_text (fault_text fault))
+told (Err fault) = says (error_text (command_fault_text fault))
 
 -- a byte that is shown
 abbrev pub shown_byte : ℕ → ℕ
@@ -267,11 +267,11 @@ abbrev pub broken_text : ProtocolFault → List ℕ
 broken_text fault = error_text (codes "ERR Protocol error: " ++ protocol_text fault)
 
 -- what a command asks for
-abbrev pub asked_by : Settings → Visitor → Command → Asked
-asked_by settings visitor (complete words) = words_asked settings visitor (command_of words) words
-asked_by settings visitor many_words = unkept visitor ManyWords
-asked_by settings visitor many_bytes = unkept visitor ManyBytes
-asked_by settings visitor (broken fault) = says (broken_text fault)
+abbrev pub asked_for : Settings → Visitor → Command → Asked
+asked_for settings visitor (complete words) = words_asked settings visitor (first_command words) words
+asked_for settings visitor many_words = unkept visitor ManyWords
+asked_for settings visitor many_bytes = unkept visitor ManyBytes
+asked_for settings visitor (broken fault) = says (broken_text fault)
 
 -- ---- visitors
 
@@ -288,5 +288,5 @@ lets_in settings visitor name args = false
 -- the visitor after a command: only the password lets in
 abbrev pub visitor_after : Settings → Visitor → Command → Visitor
 visitor_after settings visitor (complete words) =
-    record visitor { is_let_in = visitor.is_let_in || lets_in settings visitor (command_of words) (drop 1 words) }
+    record visitor { is_let_in = visitor.is_let_in || lets_in settings visitor (first_command words) (drop 1 words) }
 visitor_after settings visitor command = visitor

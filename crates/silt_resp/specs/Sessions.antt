@@ -10,7 +10,7 @@ use Rattle.silt_resp.specs.declared.settings.Settings.{Settings}
 use Rattle.silt_resp.specs.declared.settings.Visitor.{Visitor}
 use Rattle.silt_resp.specs.declared.session.RespEnd.{RespEnd}
 use Rattle.silt_resp.specs.declared.session.RespEnd.TheVariants.{End, Closed, ReadFault, WriteFault, NoMemory}
-use Rattle.silt_resp.specs.Commands.{Asked, asked_by, asks, broken_text, events_of, says, visitor_after, visitor_at_first}
+use Rattle.silt_resp.specs.Commands.{Asked, asked_for, asks, broken_text, asked_events, says, visitor_after, visitor_at_first}
 use Rattle.silt_resp.specs.Stream.{Command, Stream, closed, commands_after, start, stream_after}
 use Rattle.silt_resp.specs.Texts.{text_of}
 
@@ -29,7 +29,7 @@ new_client settings id = record { stream = start; visitor = visitor_at_first set
 abbrev pub asked_each : Settings → Visitor → List Command → List Asked
 asked_each settings visitor [] = []
 asked_each settings visitor (command ∷ commands) =
-    asked_by settings visitor command ∷ asked_each settings (visitor_after settings visitor command) commands
+    asked_for settings visitor command ∷ asked_each settings (visitor_after settings visitor command) commands
 
 -- the visitor behind all of them
 abbrev pub visitor_behind : Settings → Visitor → List Command → Visitor
@@ -51,18 +51,18 @@ client_after settings client bytes = record {
 
 -- the events of all commands
 abbrev pub all_events : List Asked → List Event
-all_events asked = flat_map events_of asked
+all_events asked = flat_map asked_events asked
 
 -- the reply to a command, of the replies to its events
-abbrev pub reply_text : Asked → List PlainReply → List ℕ
-reply_text (says text) replies = text
-reply_text (asks events form) replies = text_of form replies
+abbrev pub asked_text : Asked → List PlainReply → List ℕ
+asked_text (says text) replies = text
+asked_text (asks events form) replies = text_of form replies
 
 -- the replies to commands, of the replies to all their events: each takes as many as it has events
-abbrev pub texts_of : List Asked → List PlainReply → List ℕ
-texts_of [] replies = []
-texts_of (asked ∷ more) replies =
-    reply_text asked (take (length (events_of asked)) replies) ++ texts_of more (drop (length (events_of asked)) replies)
+abbrev pub asked_texts : List Asked → List PlainReply → List ℕ
+asked_texts [] replies = []
+asked_texts (asked ∷ more) replies =
+    asked_text asked (take (length (asked_events asked)) replies) ++ asked_texts more (drop (length (asked_events asked)) replies)
 
 -- ---- ends
 
@@ -72,10 +72,10 @@ IsLast End remaining = IsAtEnd remaining
 IsLast end remaining = Unit {0}
 
 -- the ends that come from the commands of a read
-abbrev pub IsCut : RespEnd → Type 0
-IsCut End = ⊥
-IsCut ReadFault = ⊥
-IsCut end = Unit {0}
+abbrev pub IsCommandsEnd : RespEnd → Type 0
+IsCommandsEnd End = ⊥
+IsCommandsEnd ReadFault = ⊥
+IsCommandsEnd end = Unit {0}
 
 -- at most one reply was written, that to bytes that begin no command
 abbrev pub WritesAtMostFault : Option (List ℕ) → Option (List ℕ) → Type 0
@@ -86,34 +86,34 @@ WritesAtMostFault before after =
 
 module _ {A : Type 0} (answers : A → A → Event → PlainReply → Type 0) where
   -- all commands were done, and exactly their replies were written
-  abbrev pub AnswersAll : List Asked → A → A → Option (List ℕ) → Option (List ℕ) → Type 0
-  AnswersAll asked old new before after =
-      (replies : List PlainReply) × AnswersEach answers old (all_events asked) replies new × Appends before after (texts_of asked replies)
+  abbrev pub AnswersCommands : List Asked → A → A → Option (List ℕ) → Option (List ℕ) → Type 0
+  AnswersCommands asked old new before after =
+      (replies : List PlainReply) × AnswersEach answers old (all_events asked) replies new × Appends before after (asked_texts asked replies)
 
   -- the first commands were done, some of them all, and a beginning of their replies was written
-  abbrev pub AnswersSome : List Asked → A → A → Option (List ℕ) → Option (List ℕ) → Type 0
-  AnswersSome asked old new before after =
+  abbrev pub AnswersSomeCommands : List Asked → A → A → Option (List ℕ) → Option (List ℕ) → Type 0
+  AnswersSomeCommands asked old new before after =
       (some : List Asked) × (replies : List PlainReply) × (out : List ℕ) × IsBeginning some asked × AnswersEach answers old (all_events some) replies new
-      × IsBeginning out (texts_of some replies) × Appends before after out
+      × IsBeginning out (asked_texts some replies) × Appends before after out
 
   -- so it was with the commands that these bytes of a client end
-  abbrev pub ServesAll : Settings → Client → List ℕ → A → A → Option (List ℕ) → Option (List ℕ) → Type 0
-  ServesAll settings client bytes old new before after = AnswersAll (asked_after settings client bytes) old new before after
+  abbrev pub ServesCommands : Settings → Client → List ℕ → A → A → Option (List ℕ) → Option (List ℕ) → Type 0
+  ServesCommands settings client bytes old new before after = AnswersCommands (asked_after settings client bytes) old new before after
 
-  abbrev pub ServesSome : Settings → Client → List ℕ → A → A → Option (List ℕ) → Option (List ℕ) → Type 0
-  ServesSome settings client bytes old new before after = AnswersSome (asked_after settings client bytes) old new before after
+  abbrev pub ServesSomeCommands : Settings → Client → List ℕ → A → A → Option (List ℕ) → Option (List ℕ) → Type 0
+  ServesSomeCommands settings client bytes old new before after = AnswersSomeCommands (asked_after settings client bytes) old new before after
 
   -- What a session with this end did for the bytes that it read. It says that it was closed exactly if one of the commands closes the
   -- stream. Nothing behind that one was done.
   abbrev pub EndsWith : RespEnd → Settings → Client → List ℕ → A → A → Option (List ℕ) → Option (List ℕ) → Type 0
   EndsWith End settings client bytes old new before after =
-      ServesAll settings client bytes old new before after × ((stream_after client.stream bytes).place ≢ closed)
+      ServesCommands settings client bytes old new before after × ((stream_after client.stream bytes).place ≢ closed)
   EndsWith ReadFault settings client bytes old new before after =
-      ServesAll settings client bytes old new before after × ((stream_after client.stream bytes).place ≢ closed)
+      ServesCommands settings client bytes old new before after × ((stream_after client.stream bytes).place ≢ closed)
   EndsWith Closed settings client bytes old new before after =
-      ServesAll settings client bytes old new before after × ((stream_after client.stream bytes).place ≡ closed)
-  EndsWith WriteFault settings client bytes old new before after = ServesSome settings client bytes old new before after
-  EndsWith NoMemory settings client bytes old new before after = ServesSome settings client bytes old new before after
+      ServesCommands settings client bytes old new before after × ((stream_after client.stream bytes).place ≡ closed)
+  EndsWith WriteFault settings client bytes old new before after = ServesSomeCommands settings client bytes old new before after
+  EndsWith NoMemory settings client bytes old new before after = ServesSomeCommands settings client bytes old new before after
 
   -- which bytes a session took from its reader, and what it did for them
   abbrev pub RespEnds : RespEnd → Settings → Client → SessionState A → SessionState A → Type 0

@@ -19,28 +19,28 @@ row name least most = record { name = name; least = least; most = most }
 abbrev pub many : ℕ
 many = 1023
 
-abbrev pub row_of : CommandName → Row
-row_of Get = row (codes "get") 1 1
-row_of Strlen = row (codes "strlen") 1 1
-row_of Mget = row (codes "mget") 1 many
-row_of Exists = row (codes "exists") 1 many
-row_of Touch = row (codes "touch") 1 many
-row_of Set = row (codes "set") 2 many
-row_of Setnx = row (codes "setnx") 2 2
-row_of Delifeq = row (codes "delifeq") 2 2
-row_of Mset = row (codes "mset") 2 many
-row_of Del = row (codes "del") 1 many
-row_of Unlink = row (codes "unlink") 1 many
-row_of Ping = row (codes "ping") 0 1
-row_of Echo = row (codes "echo") 1 1
-row_of Quit = row (codes "quit") 0 many
-row_of Select = row (codes "select") 1 1
-row_of Auth = row (codes "auth") 1 many
-row_of Hello = row (codes "hello") 0 many
-row_of Client = row (codes "client") 1 many
-row_of Command = row (codes "command") 0 many
-row_of Config = row (codes "config") 1 many
-row_of Cluster = row (codes "cluster") 1 many
+abbrev pub command_row : CommandName → Row
+command_row Get = row (codes "get") 1 1
+command_row Strlen = row (codes "strlen") 1 1
+command_row Mget = row (codes "mget") 1 many
+command_row Exists = row (codes "exists") 1 many
+command_row Touch = row (codes "touch") 1 many
+command_row Set = row (codes "set") 2 many
+command_row Setnx = row (codes "setnx") 2 2
+command_row Delifeq = row (codes "delifeq") 2 2
+command_row Mset = row (codes "mset") 2 many
+command_row Del = row (codes "del") 1 many
+command_row Unlink = row (codes "unlink") 1 many
+command_row Ping = row (codes "ping") 0 1
+command_row Echo = row (codes "echo") 1 1
+command_row Quit = row (codes "quit") 0 many
+command_row Select = row (codes "select") 1 1
+command_row Auth = row (codes "auth") 1 many
+command_row Hello = row (codes "hello") 0 many
+command_row Client = row (codes "client") 1 many
+command_row Command = row (codes "command") 0 many
+command_row Config = row (codes "config") 1 many
+command_row Cluster = row (codes "cluster") 1 many
 
 -- all commands
 abbrev pub all_commands : List CommandName
@@ -50,14 +50,14 @@ all_commands =
 
 -- the command with this name, in either case
 abbrev pub command_named : List ℕ → Option CommandName
-command_named name = find (λ command. str_eq_ignore_ascii_case name (row_of command).name) all_commands
+command_named name = find (λ command. str_eq_ignore_ascii_case name (command_row command).name) all_commands
 
 -- the command that the first of these words names
-abbrev pub command_of : List Word → Option CommandName
-command_of [] = None
-command_of (whole name ∷ args) = command_named name
-command_of (long ∷ args) = None
+abbrev pub first_command : List Word → Option CommandName
+first_command [] = None
+first_command (whole name ∷ args) = command_named name
+first_command (long ∷ args) = None
 
 -- whether so many words may follow a command's name
 abbrev pub takes : CommandName → ℕ → Bool
-takes command count = nat_le (row_of command).least count && nat_le count (row_of command).most
+takes command count = nat_le (command_row command).least count && nat_le count (command_row command).most

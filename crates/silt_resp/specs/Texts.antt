@@ -53,10 +53,10 @@ refusal_word Failed = codes "MISCONF "
 refusal_word refusal = codes "ERR "
 
 -- the error of such a reply
-abbrev pub error_of : PlainReply → List ℕ
-error_of (Refused refusal) = refusal_word refusal ++ label_text (refusal_label refusal)
-error_of (Unsettled n) = codes "UNSETTLED the flush was refused, a crash may lose this"
-error_of reply = codes "ERR not served"
+abbrev pub reply_error : PlainReply → List ℕ
+reply_error (Refused refusal) = refusal_word refusal ++ label_text (refusal_label refusal)
+reply_error (Unsettled n) = codes "UNSETTLED the flush was refused, a crash may lose this"
+reply_error reply = codes "ERR not served"
 
 -- ---- values
 
@@ -106,7 +106,7 @@ plain_text Counted replies = number_text (count_by is_found replies)
 -- the first error if there is one, and else this text
 abbrev pub error_or : Option PlainReply → List ℕ → List ℕ
 error_or None text = text
-error_or (Some reply) text = error_text (error_of reply)
+error_or (Some reply) text = error_text (reply_error reply)
 
 -- the reply to a command of this form, of the replies to its events
 abbrev pub text_of : Form → List PlainReply → List ℕ

@@ -2,7 +2,7 @@
 ghost use Rattle.std.specs.Prelude.{◌≡◌, ◌∷◌, [], IfOk, All};
 ghost use Rattle.silt_event.specs.Events.{HasValueOf};
 ghost use Rattle.silt_resp.specs.Arguments.{Gives};
-ghost use Rattle.silt_resp.specs.Commands.{Fits, asks, one, says};
+ghost use Rattle.silt_resp.specs.Commands.{FitsValues, asks, one, says};
 ghost use Rattle.silt_resp.specs.Seen.{asked_seen};
 ghost use Rattle.silt_resp.specs.Texts.{marked_line};
 

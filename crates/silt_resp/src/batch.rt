@@ -2,10 +2,10 @@
 ghost use Rattle.std.specs.Prelude.{◌≡◌, ◌≤◌, ◌+◌, ◌++◌, ◌∷◌, [], ℕ, All, List, Some, OnErr, OnOk, length, map, vec_capacity, vec_len};
 ghost use Rattle.silt_event.specs.Events.{AnswersEach, HasValueOf, PlainReply};
 ghost use Rattle.silt_wire.specs.Sessions.{IsBeginning};
-ghost use Rattle.silt_resp.specs.Batches.{GainsAsked, HoldsAsked, IsAnswerable, KeepsAsked, due_seen, part_len, part_text, part_texts};
-ghost use Rattle.silt_resp.specs.Commands.{Asked as AskedOf, Fits};
+ghost use Rattle.silt_resp.specs.Batches.{GainsAsked, HoldsAsked, HasLengths, KeepsAsked, due_seen, part_len, part_text, part_texts};
+ghost use Rattle.silt_resp.specs.Commands.{Asked as AskedOf, FitsValues};
 ghost use Rattle.silt_resp.specs.Seen.{asked_seen};
-ghost use Rattle.silt_resp.specs.Sessions.{AnswersAll, AnswersSome};
+ghost use Rattle.silt_resp.specs.Sessions.{AnswersCommands, AnswersSomeCommands};
 
 use crate::asked::Asked;
 use crate::texts::{Form, push_text};
@@ -67,7 +67,7 @@ impl Batch {
     /// No commands yet.
     pub(crate) fn new(alloc: Global) -> Self
         ensures empty { HoldsAsked result [] }
-        ensures ready { (value_len : ℕ) → IsAnswerable value_len result }
+        ensures ready { (value_len : ℕ) → HasLengths value_len result }
     {
         Batch {
             events: Vec::new(alloc),
@@ -83,9 +83,9 @@ impl Batch {
 
     /// Adds a command. On an error the commands stay.
     pub(crate) fn push(&mut self, asked: Asked, value_len: usize) -> Result<(), AllocError>
-        requires ready { IsAnswerable value_len self.old }
-        requires fits { Fits value_len (asked_seen asked) }
-        ensures ready { IsAnswerable value_len self.new }
+        requires ready { HasLengths value_len self.old }
+        requires fits { FitsValues value_len (asked_seen asked) }
+        ensures ready { HasLengths value_len self.new }
         ensures ok { OnOk result (GainsAsked self.old self.new (asked_seen asked)) }
         ensures err { OnErr result (KeepsAsked self.old self.new) }
     {
@@ -140,12 +140,12 @@ impl Batch {
         texts: &mut Vec<u8>,
         answerer: &mut A,
     ) -> Result<(), AllocError>
-        requires { IsAnswerable (A.value_len answerer.old) self }
+        requires { HasLengths (A.value_len answerer.old) self }
         ensures stays { A.value_len answerer.new ≡ A.value_len answerer.old }
         ensures all { OnOk result ((asked : List AskedOf) → HoldsAsked self asked
-            → AnswersAll A.answers asked answerer.old answerer.new (Some texts.old.items) (Some texts.new.items)) }
+            → AnswersCommands A.answers asked answerer.old answerer.new (Some texts.old.items) (Some texts.new.items)) }
         ensures some { OnErr result ((asked : List AskedOf) → HoldsAsked self asked
-            → AnswersSome A.answers asked answerer.old answerer.new (Some texts.old.items) (Some texts.new.items)) }
+            → AnswersSomeCommands A.answers asked answerer.old answerer.new (Some texts.old.items) (Some texts.new.items)) }
     {
         let Batch {
             events,

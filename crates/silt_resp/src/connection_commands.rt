@@ -4,7 +4,8 @@ ghost use Rattle.std.specs.Option.{option_map};
 ghost use Rattle.std.specs.Str.{bytes_eq};
 ghost use Rattle.sha1.specs.Sha1.{sha1};
 ghost use Rattle.silt_resp.specs.Arguments.{Gives};
-ghost use Rattle.silt_resp.specs.Commands.{Fits, auth_made, auth_verdict, client_made, command_made, config_made, echoed, has_login, has_no_login, has_version, hello_made, hello_text, hello_verdict, is_subcommand, pair_text, parameters, password_verdict, ping_made, says, select_made, user_verdict};
+ghost use Rattle.silt_resp.specs.Commands.{FitsValues, auth_made, auth_verdict, client_made, command_made, config_made, echoed, has_login, has_no_login, has_version};
+ghost use Rattle.silt_resp.specs.Commands.{hello_made, hello_text, hello_verdict, is_subcommand, pair_text, parameters, password_verdict, ping_made, says, select_made, user_verdict};
 ghost use Rattle.silt_resp.specs.Seen.{asked_seen, word_seen};
 ghost use Rattle.silt_resp.specs.Texts.{number_text, ok_text};
 
@@ -207,7 +208,7 @@ pub(crate) fn hello(
     args: &Words<'_>,
 ) -> Result<Asked, CommandFault>
     ensures asked { Gives asked_seen (hello_made settings.now visitor args.now) result }
-    ensures fits { IfOk result (λ asked. Fits settings.now.value_len (asked_seen asked)) }
+    ensures fits { IfOk result (λ asked. FitsValues settings.now.value_len (asked_seen asked)) }
 {
     hello_verdict(settings, visitor, args)?;
     let mut out = Vec::new(alloc);

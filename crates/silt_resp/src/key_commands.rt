@@ -2,7 +2,7 @@
 ghost use Rattle.std.specs.Prelude.{◌≡◌, ◌++◌, ℕ, IfOk, OnOk, map};
 ghost use Rattle.silt_event.specs.declared.event.Event.TheVariants.{Delete, Get};
 ghost use Rattle.silt_resp.specs.Arguments.{Gives};
-ghost use Rattle.silt_resp.specs.Commands.{Fits, delete_made, insert_made, is_few, look_all_made, look_made, put_made, remove_made, replace_made, set_all_made, set_made};
+ghost use Rattle.silt_resp.specs.Commands.{FitsValues, delete_made, insert_made, is_few, look_all_made, look_made, put_made, remove_made, replace_made, set_all_made, set_made};
 ghost use Rattle.silt_resp.specs.Seen.{asked_seen};
 
 use crate::arguments::{has_word, key_at, keys_named, puts_named, value_at};
@@ -22,7 +22,7 @@ const MOST_ASKED: usize = 1_048_576;
 /// The value of a key.
 pub(crate) fn look(alloc: Global, args: &Words<'_>, form: Form) -> Result<Asked, CommandFault>
     ensures asked { Gives asked_seen (look_made args.now form) result }
-    ensures fits { (len : ℕ) → IfOk result (λ asked. Fits len (asked_seen asked)) }
+    ensures fits { (len : ℕ) → IfOk result (λ asked. FitsValues len (asked_seen asked)) }
 {
     let key = key_at(args, 0)?;
     one(alloc, Event::Get(key), form)
@@ -63,7 +63,7 @@ pub(crate) fn look_all(
     form: Form,
 ) -> Result<Asked, CommandFault>
     ensures asked { Gives asked_seen (look_all_made settings.now args.now form) result }
-    ensures fits { IfOk result (λ asked. Fits settings.now.value_len (asked_seen asked)) }
+    ensures fits { IfOk result (λ asked. FitsValues settings.now.value_len (asked_seen asked)) }
 {
     if !is_few(settings, args.len()) {
         return Err(CommandFault::ManyKeys);
@@ -81,7 +81,7 @@ pub(crate) fn delete(
     args: &Words<'_>,
 ) -> Result<Asked, CommandFault>
     ensures asked { Gives asked_seen (delete_made settings.now args.now) result }
-    ensures fits { IfOk result (λ asked. Fits settings.now.value_len (asked_seen asked)) }
+    ensures fits { IfOk result (λ asked. FitsValues settings.now.value_len (asked_seen asked)) }
 {
     if !is_few(settings, args.len()) {
         return Err(CommandFault::ManyKeys);
@@ -96,7 +96,7 @@ pub(crate) fn delete(
 // A value for a key.
 fn put(alloc: Global, settings: &Settings, args: &Words<'_>) -> Result<Asked, CommandFault>
     ensures asked { Gives asked_seen (put_made settings.now args.now) result }
-    ensures fits { IfOk result (λ asked. Fits settings.now.value_len (asked_seen asked)) }
+    ensures fits { IfOk result (λ asked. FitsValues settings.now.value_len (asked_seen asked)) }
 {
     let key = key_at(args, 0)?;
     let value = value_at(alloc, settings, args, 1)?;
@@ -111,7 +111,7 @@ pub(crate) fn insert(
     form: Form,
 ) -> Result<Asked, CommandFault>
     ensures asked { Gives asked_seen (insert_made settings.now args.now form) result }
-    ensures fits { IfOk result (λ asked. Fits settings.now.value_len (asked_seen asked)) }
+    ensures fits { IfOk result (λ asked. FitsValues settings.now.value_len (asked_seen asked)) }
 {
     let key = key_at(args, 0)?;
     let value = value_at(alloc, settings, args, 1)?;
@@ -121,7 +121,7 @@ pub(crate) fn insert(
 // A value for a key that has the old one, the last word.
 fn replace(alloc: Global, settings: &Settings, args: &Words<'_>) -> Result<Asked, CommandFault>
     ensures asked { Gives asked_seen (replace_made settings.now args.now) result }
-    ensures fits { IfOk result (λ asked. Fits settings.now.value_len (asked_seen asked)) }
+    ensures fits { IfOk result (λ asked. FitsValues settings.now.value_len (asked_seen asked)) }
 {
     let key = key_at(args, 0)?;
     let value = value_at(alloc, settings, args, 1)?;
@@ -140,7 +140,7 @@ pub(crate) fn remove(
     args: &Words<'_>,
 ) -> Result<Asked, CommandFault>
     ensures asked { Gives asked_seen (remove_made settings.now args.now) result }
-    ensures fits { IfOk result (λ asked. Fits settings.now.value_len (asked_seen asked)) }
+    ensures fits { IfOk result (λ asked. FitsValues settings.now.value_len (asked_seen asked)) }
 {
     let key = key_at(args, 0)?;
     let old = value_at(alloc, settings, args, 1)?;
@@ -154,7 +154,7 @@ pub(crate) fn set(
     args: &Words<'_>,
 ) -> Result<Asked, CommandFault>
     ensures asked { Gives asked_seen (set_made settings.now args.now) result }
-    ensures fits { IfOk result (λ asked. Fits settings.now.value_len (asked_seen asked)) }
+    ensures fits { IfOk result (λ asked. FitsValues settings.now.value_len (asked_seen asked)) }
 {
     match args.len() {
         2 => put(alloc, settings, args),
@@ -181,7 +181,7 @@ pub(crate) fn set_all(
     args: &Words<'_>,
 ) -> Result<Asked, CommandFault>
     ensures asked { Gives asked_seen (set_all_made settings.now args.now) result }
-    ensures fits { IfOk result (λ asked. Fits settings.now.value_len (asked_seen asked)) }
+    ensures fits { IfOk result (λ asked. FitsValues settings.now.value_len (asked_seen asked)) }
 {
     if args.len() % 2 == 1 {
         return Err(CommandFault::WrongCount(CommandName::Mset));

@@ -6,7 +6,7 @@
 //! what a client encodes is read (`resp_law`). A command comes as an array of words with their lengths in front, or as a line of
 //! words between spaces. Words, commands and lines that are too long cost no memory.
 //!
-//! What a command asks for is `asked_by` of `specs/Commands`: events and the [`Form`] of their one reply, or a text. `specs/Table` has
+//! What a command asks for is `asked_for` of `specs/Commands`: events and the [`Form`] of their one reply, or a text. `specs/Table` has
 //! the commands and how many words each takes. `push_text` appends the one reply, made of the store's replies to the events.
 //!
 //! `resp_session` reads commands from any reader, hands their events to a store, or another `Answerer`, and writes one reply for
@@ -18,7 +18,7 @@
 
 mod arguments;
 mod asked;
-mod asking;
+mod asked_for;
 mod batch;
 mod command;
 mod command_buffer;
@@ -42,3 +42,4 @@ pub use session::{RespEnd, resp_session};
 pub use settings::Settings;
 pub use texts::{Form, push_text};
 pub use values::{LENGTH_LEN, key_of, string_of, string_value, values_law};
+pub use words::LONGEST_WORD;

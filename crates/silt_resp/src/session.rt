@@ -3,9 +3,9 @@ ghost use Rattle.std.specs.Prelude.{◌≡◌, ◌≤◌, ◌<◌, ℕ, List, Op
 ghost use Rattle.std.specs.Io.KnownBytes.{Appends};
 ghost use Rattle.silt_wire.specs.Http.{Guards, IsHttp};
 ghost use Rattle.silt_resp.specs.Batches.{HoldsClient, IsBehind};
-ghost use Rattle.silt_resp.specs.Sessions.{Client, EndsWith, IsCut, RespEnds, ServesAll, ServesSome, WritesAtMostFault, client_after, new_client};
+ghost use Rattle.silt_resp.specs.Sessions.{Client, EndsWith, IsCommandsEnd, RespEnds, ServesCommands, ServesSomeCommands, WritesAtMostFault, client_after, new_client};
 
-use crate::asking::{asked_by, visitor_after};
+use crate::asked_for::{asked_for, visitor_after};
 use crate::batch::Batch;
 use crate::command_buffer::CommandBuffer;
 use crate::settings::{Settings, Visitor};
@@ -53,9 +53,9 @@ pub struct Gathered {
 }
 
 impl Talk {
-    ghost use Rattle.silt_resp.specs.Batches.{AsksFor, GainsAsked, Gathers, GathersSome, HoldsClient, IsAnswerable, IsBehind, KeepsAsked};
+    ghost use Rattle.silt_resp.specs.Batches.{AsksFor, GainsAsked, GathersAsked, GathersSomeAsked, HoldsClient, HasLengths, IsBehind, KeepsAsked};
     ghost use Rattle.silt_resp.specs.Buffers.{HoldsCommand};
-    ghost use Rattle.silt_resp.specs.Commands.{asked_by, visitor_after};
+    ghost use Rattle.silt_resp.specs.Commands.{asked_for, visitor_after};
     ghost use Rattle.silt_resp.specs.Sessions.{Client, new_client};
     ghost use Rattle.silt_resp.specs.Stream.{Command as CommandOf, closes};
 
@@ -77,15 +77,15 @@ impl Talk {
         bytes: &[u8],
         batch: &mut Batch,
     ) -> Result<Gathered, AllocError>
-        requires ready { IsAnswerable settings.now.value_len batch.old }
+        requires ready { HasLengths settings.now.value_len batch.old }
         requires some { 0 < length bytes.now }
-        ensures ready { IsAnswerable settings.now.value_len batch.new }
+        ensures ready { HasLengths settings.now.value_len batch.new }
         ensures count { IfOk result (λ gathered. (0 < gathered.count) × (gathered.count ≤ length bytes.now)) }
         ensures behind { IfOk result (λ gathered. (client : Client) → HoldsClient self.old client
             → IsBehind settings.now client (take gathered.count bytes.now) gathered.closes self.new) }
         ensures all { IfOk result (λ gathered. (client : Client) → HoldsClient self.old client
-            → Gathers settings.now client (take gathered.count bytes.now) batch.old batch.new) }
-        ensures some { (client : Client) → HoldsClient self.old client → GathersSome settings.now client bytes.now batch.old batch.new }
+            → GathersAsked settings.now client (take gathered.count bytes.now) batch.old batch.new) }
+        ensures some { (client : Client) → HoldsClient self.old client → GathersSomeAsked settings.now client bytes.now batch.old batch.new }
     {
         let mut count = 0;
         while count < bytes.len() {
@@ -113,14 +113,14 @@ impl Talk {
         bytes: &[u8],
         batch: &mut Batch,
     ) -> Result<Gathered, AllocError>
-        requires ready { IsAnswerable settings.now.value_len batch.old }
+        requires ready { HasLengths settings.now.value_len batch.old }
         requires some { 0 < length bytes.now }
-        ensures ready { IsAnswerable settings.now.value_len batch.new }
+        ensures ready { HasLengths settings.now.value_len batch.new }
         ensures count { IfOk result (λ gathered. (0 < gathered.count) × (gathered.count ≤ length bytes.now)) }
         ensures behind { IfOk result (λ gathered. (client : Client) → HoldsClient self.old client
             → IsBehind settings.now client (take gathered.count bytes.now) gathered.closes self.new) }
         ensures all { IfOk result (λ gathered. (client : Client) → HoldsClient self.old client
-            → Gathers settings.now client (take gathered.count bytes.now) batch.old batch.new) }
+            → GathersAsked settings.now client (take gathered.count bytes.now) batch.old batch.new) }
         ensures err { OnErr result (KeepsAsked batch.old batch.new) }
     {
         let taken = self.buffer.take(bytes)?;
@@ -144,8 +144,8 @@ impl Talk {
         settings: &Settings,
         batch: &mut Batch,
     ) -> Result<bool, AllocError>
-        requires { IsAnswerable settings.now.value_len batch.old }
-        ensures ready { IsAnswerable settings.now.value_len batch.new }
+        requires { HasLengths settings.now.value_len batch.old }
+        ensures ready { HasLengths settings.now.value_len batch.new }
         ensures all { IfOk result (λ ends. (command : CommandOf) → HoldsCommand self.old.buffer command
             → AsksFor settings.now command ends self.old self.new batch.old batch.new) }
         ensures err { OnErr result (KeepsAsked batch.old batch.new) }
@@ -164,17 +164,17 @@ impl Talk {
         settings: &Settings,
         batch: &mut Batch,
     ) -> Result<bool, AllocError>
-        requires { IsAnswerable settings.now.value_len batch.old }
-        ensures ready { IsAnswerable settings.now.value_len batch.new }
+        requires { HasLengths settings.now.value_len batch.old }
+        ensures ready { HasLengths settings.now.value_len batch.new }
         ensures asked { OnOk result ((command : CommandOf) → HoldsCommand self.old.buffer command
-            → GainsAsked batch.old batch.new (asked_by settings.now self.old.visitor command)) }
+            → GainsAsked batch.old batch.new (asked_for settings.now self.old.visitor command)) }
         ensures closes { IfOk result (λ ends. (command : CommandOf) → HoldsCommand self.old.buffer command → ends ≡ closes command) }
         ensures visitor { OnOk result ((command : CommandOf) → HoldsCommand self.old.buffer command
             → self.new.visitor ≡ visitor_after settings.now self.old.visitor command) }
         ensures err { OnErr result (KeepsAsked batch.old batch.new) }
     {
         let command = self.buffer.command();
-        let asked = asked_by(alloc, settings, self.visitor, &command)?;
+        let asked = asked_for(alloc, settings, self.visitor, &command)?;
         batch.push(asked, settings.value_len)?;
         let closes = command.closes();
         let visitor = visitor_after(settings, self.visitor, &command);
@@ -203,9 +203,9 @@ fn take_part<A: Answerer>(
     ensures behind { IfOk result (λ gathered. (client : Client) → HoldsClient talk.old client
         → IsBehind settings.now client (take gathered.count bytes.now) gathered.closes talk.new) }
     ensures all { IfOk result (λ gathered. (client : Client) → HoldsClient talk.old client
-        → ServesAll A.answers settings.now client (take gathered.count bytes.now)
+        → ServesCommands A.answers settings.now client (take gathered.count bytes.now)
         answerer.old answerer.new (Some texts.old.items) (Some texts.new.items)) }
-    ensures some { OnErr result ((client : Client) → HoldsClient talk.old client → ServesSome A.answers settings.now client bytes.now
+    ensures some { OnErr result ((client : Client) → HoldsClient talk.old client → ServesSomeCommands A.answers settings.now client bytes.now
         answerer.old answerer.new (Some texts.old.items) (Some texts.new.items)) }
 {
     let mut batch = Batch::new(alloc);
@@ -230,12 +230,12 @@ fn answer_part<A: Answerer, W: Write>(
     ensures holds { IfOk result (λ count. (client : Client) → HoldsClient talk.old client
         → HoldsClient talk.new (client_after settings.now client (take count bytes.now))) }
     ensures all { IfOk result (λ count. (client : Client) → HoldsClient talk.old client
-        → ServesAll A.answers settings.now client (take count bytes.now)
+        → ServesCommands A.answers settings.now client (take count bytes.now)
         answerer.old answerer.new (W.contents writer.old) (W.contents writer.new)) }
     ensures ends { IfErr result (λ end. (client : Client) → HoldsClient talk.old client
         → EndsWith A.answers end settings.now client bytes.now
         answerer.old answerer.new (W.contents writer.old) (W.contents writer.new)) }
-    ensures cut { IfErr result IsCut }
+    ensures cut { IfErr result IsCommandsEnd }
 {
     let mut texts = Vec::new(alloc);
     let taken = take_part(alloc, settings, bytes, talk, &mut texts, answerer);
@@ -266,12 +266,12 @@ fn answer_read<A: Answerer, W: Write>(
     ensures stays { A.value_len answerer.new ≡ settings.now.value_len }
     ensures holds { OnOk result ((client : Client) → HoldsClient talk.old client
         → HoldsClient talk.new (client_after settings.now client bytes.now)) }
-    ensures all { OnOk result ((client : Client) → HoldsClient talk.old client → ServesAll A.answers settings.now client bytes.now
+    ensures all { OnOk result ((client : Client) → HoldsClient talk.old client → ServesCommands A.answers settings.now client bytes.now
         answerer.old answerer.new (W.contents writer.old) (W.contents writer.new)) }
     ensures ends { IfErr result (λ end. (client : Client) → HoldsClient talk.old client
         → EndsWith A.answers end settings.now client bytes.now
         answerer.old answerer.new (W.contents writer.old) (W.contents writer.new)) }
-    ensures cut { IfErr result IsCut }
+    ensures cut { IfErr result IsCommandsEnd }
 {
     let mut done = 0;
     while done < bytes.len() {

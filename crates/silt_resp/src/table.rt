@@ -76,15 +76,15 @@ const COMMANDS: [CommandName; 21] = [
 ];
 
 impl CommandName {
-    ghost use Rattle.silt_resp.specs.Table.{command_named, command_of, row_of, takes};
+    ghost use Rattle.silt_resp.specs.Table.{command_named, first_command, command_row, takes};
     ghost use Rattle.silt_resp.specs.Seen.{word_seen};
     ghost use Rattle.std.specs.Prelude.{length};
 
     /// The row of a command.
     pub fn row(self) -> Row
-        ensures name { result.name.now ≡ (row_of self).name }
-        ensures least { result.least ≡ (row_of self).least }
-        ensures most { result.most ≡ (row_of self).most }
+        ensures name { result.name.now ≡ (command_row self).name }
+        ensures least { result.least ≡ (command_row self).least }
+        ensures most { result.most ≡ (command_row self).most }
     {
         match self {
             CommandName::Get => Row::new("get", 1, 1),
@@ -122,7 +122,7 @@ impl CommandName {
 
     /// The command that the first of these words names.
     pub fn of(words: &Words<'_>) -> Option<CommandName>
-        ensures { result ≡ command_of words.now }
+        ensures { result ≡ first_command words.now }
     {
         match words.get(0) {
             Some(Word::Whole(name)) => CommandName::named(name),

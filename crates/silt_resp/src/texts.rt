@@ -5,7 +5,7 @@ ghost use Rattle.std.specs.List.{find, flat_map};
 ghost use Rattle.std.specs.Option.{option_copied};
 ghost use Rattle.silt_event.specs.Events.{refusal_label};
 ghost use Rattle.silt_wire.specs.Replies.{label_text};
-ghost use Rattle.silt_resp.specs.Texts.{error_of, error_text, is_error, is_found, item_text, marked_line, null_text, plain_text, refusal_word, string_text, text_of, wrong_type};
+ghost use Rattle.silt_resp.specs.Texts.{reply_error, error_text, is_error, is_found, item_text, marked_line, null_text, plain_text, refusal_word, string_text, text_of, wrong_type};
 
 use crate::values::string_of;
 use silt_event::{Refusal, Reply};
@@ -128,7 +128,7 @@ fn refusal_error(alloc: Global, refusal: &Refusal<()>) -> Result<String, AllocEr
 
 // Appends the error of a reply that is one.
 fn push_error(alloc: Global, out: &mut Vec<u8>, reply: &Reply<()>) -> Result<(), AllocError>
-    ensures { OnOk result (out.new.items ≡ out.old.items ++ error_text (error_of reply.now)) }
+    ensures { OnOk result (out.new.items ≡ out.old.items ++ error_text (reply_error reply.now)) }
 {
     match reply {
         Reply::Refused(refusal) => {

@@ -28,7 +28,7 @@ pub enum Span {
 /// Whether the words of a command are kept.
 #[derive(Clone, Copy, Debug, PartialEq, Eq)]
 pub enum Extent {
-    Fits,
+    FitsValues,
     ManyBytes,
     ManyWords,
 }
@@ -49,7 +49,7 @@ impl WordBuffer {
         WordBuffer {
             bytes: Vec::new(alloc),
             spans: Vec::new(alloc),
-            extent: Extent::Fits,
+            extent: Extent::FitsValues,
         }
     }
 
@@ -59,7 +59,7 @@ impl WordBuffer {
     {
         self.bytes.clear();
         self.spans.clear();
-        self.extent = Extent::Fits;
+        self.extent = Extent::FitsValues;
     }
 
     /// Adds a word.
@@ -136,7 +136,7 @@ impl WordBuffer {
         ensures { (words : List WordOf) → HoldsWords self.now words → command_seen result ≡ command_read words }
     {
         match self.extent {
-            Extent::Fits => Command::Complete(Words::new(&self.bytes, &self.spans)),
+            Extent::FitsValues => Command::Complete(Words::new(&self.bytes, &self.spans)),
             Extent::ManyBytes => Command::ManyBytes,
             Extent::ManyWords => Command::ManyWords,
         }
@@ -148,7 +148,7 @@ impl WordBuffer {
             → HoldsWith self.new.extent self.new.bytes.items (self.old.spans.items ++ span ∷ []) (words ++ word_of word.now ∷ [])) }
         ensures spans { self.new.spans.items ≡ self.old.spans.items }
     {
-        let Extent::Fits = self.extent else {
+        let Extent::FitsValues = self.extent else {
             return Ok(Span::Long);
         };
         if word.len() > LONGEST_WORD {

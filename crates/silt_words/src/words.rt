@@ -1,16 +1,21 @@
 // The words of the command line.
 ghost use Rattle.std.specs.Prelude.{◌≡◌, Some, None, MatchResult, codes, map, option_map, string_bytes};
-ghost use Rattle.clap.specs.Words.{found_of, rows_of, subcommand_rows_of};
-ghost use Rattle.silt_words.specs.Commands.{count_in, file_in, flag_in, job_in, job_met, job_named, limit_in, number_in, numbers_in, option_in, port_in, request_in, run_options_in, service_in};
-ghost use Rattle.silt_words.specs.Jobs.{named, named_service};
+ghost use Rattle.clap.specs.Words.{first_of, found_of, rows_of, subcommand_rows_of};
+ghost use Rattle.silt_words.specs.Commands.{access_in, address_given, clients_in, count_in, file_in, flag_in, job_in, job_met, job_named};
+ghost use Rattle.silt_words.specs.Commands.{limit_in, may_listen, number_in, numbers_in, option_in, port_in, request_in, run_options_in, service_in};
+ghost use Rattle.silt_words.specs.Jobs.{named, named_access, named_service};
 ghost use Rattle.silt_words.specs.declared.job.WordsError.TheVariants.{Usage};
 
+use crate::address::{is_address, is_loopback};
 use crate::command::command;
-use crate::job::{Job, Numbers, PlanRequest, RunOptions, Service, WordsError};
+use crate::job::{Access, Job, Numbers, PlanRequest, RunOptions, Service, WordsError};
 use clap::ArgMatches;
 use clap::error::ErrorKind;
 use silt_wire::number_of;
 use std::alloc::Global;
+
+/// The most clients that a server has at once.
+pub const MOST_CLIENTS: u32 = 1024;
 
 fn number_at(matches: &ArgMatches<'_>, name: &str) -> Option<u32>
     ensures { result ≡ number_in (rows_of (found_of matches.now)) name.now }
@@ -106,12 +111,74 @@ fn run_options_of(matches: &ArgMatches<'_>) -> Option<RunOptions>
     })
 }
 
+// The text of an option, if it is given.
+fn text_at<'a>(matches: &ArgMatches<'a>, name: &str) -> Option<&'a str>
+    ensures { option_map (λ text. text.now) result ≡ first_of name.now (rows_of (found_of matches.now)) }
+{
+    matches.get_str(name)
+}
+
+// The address that a text gives, if a text is given. None if the text is no address.
+fn address_given(text: Option<&str>) -> Option<Option<&str>>
+    ensures { option_map (option_map (λ address. address.now)) result ≡ address_given (option_map (λ text. text.now) text.entry) }
+{
+    match text {
+        None => Some(None),
+        Some(text) => {
+            if is_address(text) {
+                Some(Some(text))
+            } else {
+                None
+            }
+        }
+    }
+}
+
+// Whether a server may listen at this address with this password's file: both are for Redis clients, and other machines
+// reach it only with a password.
+fn may_listen(resp: bool, address: Option<&str>, password_file: Option<&str>) -> bool
+    ensures { result ≡ may_listen resp (option_map (λ text. text.now) address.entry) (option_map (λ file. file.now) password_file.entry) }
+{
+    match (address, password_file) {
+        (None, None) => true,
+        (Some(address), None) => resp && is_loopback(address),
+        (_, Some(_)) => resp,
+    }
+}
+
+// How many clients there may be at once.
+fn clients_of(matches: &ArgMatches<'_>) -> Option<Option<u32>>
+    ensures { result ≡ clients_in (rows_of (found_of matches.now)) }
+{
+    match count_at(matches, "clients")? {
+        Some(clients) if clients > MOST_CLIENTS => None,
+        clients => Some(clients),
+    }
+}
+
+fn access_of<'a>(matches: &ArgMatches<'a>) -> Option<Access<'a>>
+    ensures { option_map named_access result ≡ access_in (rows_of (found_of matches.now)) }
+{
+    let address = address_given(text_at(matches, "bind"))?;
+    let clients = clients_of(matches)?;
+    let password_file = text_at(matches, "password-file");
+    if !may_listen(is_given(matches, "resp"), address, password_file) {
+        return None;
+    }
+    Some(Access {
+        address,
+        password_file,
+        clients,
+    })
+}
+
 fn service_of<'a>(matches: &ArgMatches<'a>) -> Option<Service<'a>>
     ensures { option_map named_service result ≡ service_in (rows_of (found_of matches.now)) }
 {
     Some(Service {
         file: file_of(matches)?,
         port: port_of(matches)?,
+        access: access_of(matches)?,
         audit: option_at(matches, "audit")?,
         sessions: limit_at(matches, "sessions")?,
         idle: limit_at(matches, "idle")?,

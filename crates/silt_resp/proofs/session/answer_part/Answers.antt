@@ -3,7 +3,7 @@ use Rattle.silt_wire.specs.Sessions.{IsBeginning}
 use Rattle.std.specs.Io.KnownBytes.{Appends}
 use Rattle.silt_wire.proofs.Answering.{if-either}
 use Rattle.silt_resp.specs.Batches.{IsBehind}
-use Rattle.silt_resp.specs.Sessions.{ServesAll, asked_after}
+use Rattle.silt_resp.specs.Sessions.{ServesCommands, asked_after}
 use Rattle.silt_resp.proofs.Doing.{all-wrote, closed-part, some-taken, some-written}
 use Rattle.silt_resp.proofs.session.answer_part.Goals as goal
 
@@ -31,7 +31,7 @@ returns-then-gathered-clause-ends g c = λ client h.
     let wrote = c.write_texts.ensures.all (search rules) in
     let behind = subst (λ (b : Bool). IsBehind s client front b c.take_part-taken.new.talk) c.if-gathered.true (c.in-Ok.ensures.behind client h) in
     let texts = c.take_part-taken.new.texts.items in
-    let all : ServesAll answers s client front old new before after =
+    let all : ServesCommands answers s client front old new before after =
     all-wrote answers (asked_after s client front) old new c.new-texts.result.items texts before after c.new-texts.ensures.items (c.in-Ok.ensures.all client h)
     (subst (λ (t : List ℕ). Appends before after t) c.deref.ensures.value wrote) in
     closed-part answers s client c.args.bytes.now count old new before after behind all

@@ -1,6 +1,6 @@
 use Rattle.std.proofs.Common.{List, arith, rules, subst, take, ℕ}
 use Rattle.silt_resp.specs.Batches.{HoldsClient}
-use Rattle.silt_resp.specs.Sessions.{Client, EndsWith, ServesAll, client_after}
+use Rattle.silt_resp.specs.Sessions.{Client, EndsWith, ServesCommands, client_after}
 use Rattle.silt_resp.proofs.Doing.{all-part, ends-part}
 use Rattle.silt_resp.proofs.Gathering.{client_part}
 use Rattle.silt_resp.proofs.session.answer_read.Goals as goal
@@ -35,7 +35,7 @@ loop-done-preserved g c =
       stays = c.answer_part.ensures.stays;
       told = λ client h.
           let before = c.loop-done.invariant.told client h in
-          let P = λ (r : List ℕ). ServesAll answers s (client_after s client (take done bytes)) (take count r) c.loop-done.answerer c.answer_part.new.answerer (g.W.Write.contents c.loop-done.writer) (g.W.Write.contents c.answer_part.new.writer) in
+          let P = λ (r : List ℕ). ServesCommands answers s (client_after s client (take done bytes)) (take count r) c.loop-done.answerer c.answer_part.new.answerer (g.W.Write.contents c.loop-done.writer) (g.W.Write.contents c.answer_part.new.writer) in
           record {
             holds = client_part s client bytes _ done count c.answer_part.new.talk c.split_at.ensures.back (c.in_ok-done.ensures.holds _ before.holds);
             all = all-part answers s client bytes done count _ _ _ _ _ _ before.all (subst P c.split_at.ensures.back (c.in_ok-done.ensures.all _ before.holds));

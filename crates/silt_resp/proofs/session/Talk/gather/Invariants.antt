@@ -1,5 +1,5 @@
 use Rattle.std.proofs.Common.{◌≤◌, ◌-◌, length, take}
-use Rattle.silt_resp.specs.Batches.{Gathers, HoldsClient, IsAnswerable}
+use Rattle.silt_resp.specs.Batches.{GathersAsked, HoldsClient, HasLengths}
 use Rattle.silt_resp.specs.Sessions.{Client, client_after}
 use Rattle.silt_resp.proofs.session.Talk.gather.Given as goal
 
@@ -7,10 +7,10 @@ abbrev pub invariant-loop-count : goal.invariant-loop-count
 invariant-loop-count l =
     record {
       within : l.count ≤ length l.bytes;
-      ready : IsAnswerable l.settings.value_len l.batch;
+      ready : HasLengths l.settings.value_len l.batch;
       told : (client : Client) → HoldsClient l.initial.self client → record {
         holds : HoldsClient l.self (client_after l.settings client (take l.count l.bytes));
-        all : Gathers l.settings client (take l.count l.bytes) l.initial.batch l.batch;
+        all : GathersAsked l.settings client (take l.count l.bytes) l.initial.batch l.batch;
       };
     }
 

@@ -1,7 +1,7 @@
 use Rattle.std.proofs.Common.{◌≡◌, ◌≤◌, ◌+◌, ◌++◌, ◌∷◌, [], ℕ, List, length, subst, sym, arith}
 use Rattle.silt_resp.specs.declared.words.Extent.{Extent}
 use Rattle.silt_resp.specs.declared.words.Span.TheVariants.{Whole}
-use Rattle.silt_resp.specs.declared.words.Extent.TheVariants.{Fits}
+use Rattle.silt_resp.specs.declared.words.Extent.TheVariants.{FitsValues}
 use Rattle.silt_resp.specs.Buffers.{HoldsWith}
 use Rattle.silt_resp.specs.Stream.{most_bytes, word_of}
 use Rattle.silt_resp.proofs.Kept.{keeps_more}
@@ -12,7 +12,7 @@ returns-clause-keeps c = λ words h room.
     let old = c.args.self.now in
     let bytes = old.bytes.items in
     let word = c.args.word.now in
-    let fits : old.extent ≡ Fits = c.in-Fits.is in
+    let fits : old.extent ≡ FitsValues = c.in-FitsValues.is in
     let items = old.bytes.ok.0 in
     let start : c.len-start.result ≡ length bytes = omega (arith, items, c.len-start.ensures) in
     let few : length bytes + length word ≤ most_bytes = omega (arith, start, c.if-start-word-gt-MOST_BYTES.false) in
@@ -20,4 +20,4 @@ returns-clause-keeps c = λ words h room.
     let more = keeps_more bytes word old.spans.items words (subst P fits h) room c.if-word-gt-LONGEST_WORD.false few in
     let Q : Extent → List ℕ → ℕ → Type 0 = λ e bs n. HoldsWith e bs (old.spans.items ++ Whole n (n + length word) ∷ []) (words ++ word_of word ∷ []) in
     subst (λ e. Q e c.extend_from_slice.new.self.items c.len-start.result) (sym fits)
-    (subst (λ bs. Q Fits bs c.len-start.result) (sym c.in_ok-extend_from_slice.ensures.items) (subst (Q Fits (bytes ++ word)) (sym start) more))
+    (subst (λ bs. Q FitsValues bs c.len-start.result) (sym c.in_ok-extend_from_slice.ensures.items) (subst (Q FitsValues (bytes ++ word)) (sym start) more))

@@ -1,7 +1,7 @@
 use Rattle.std.proofs.Common.{[], ◌∷◌, ◌++◌, ◌∙◌, ap, append_assoc, codes, sym}
 use Rattle.silt_resp.specs.Commands.{shown_name}
 use Rattle.silt_resp.proofs.Doing.{three_appended}
-use Rattle.silt_resp.proofs.asking.push_unknown.Goals as goal
+use Rattle.silt_resp.proofs.asked_for.push_unknown.Goals as goal
 
 pub returns : goal.returns
 returns c =

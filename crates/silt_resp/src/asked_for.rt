@@ -2,9 +2,10 @@
 ghost use Rattle.std.specs.Prelude.{◌≡◌, ◌++◌, ℕ, Err, IfOk, OnOk, Result, drop, map, string_bytes, take};
 ghost use Rattle.silt_resp.specs.Arguments.{Gives};
 ghost use Rattle.silt_resp.specs.declared.fault.CommandFault.{CommandFault as CommandFaultOf};
-ghost use Rattle.silt_resp.specs.Commands.{Asked as AskedOf, Fits, asked_by, broken_text, checked, is_free, lets_in, made, says, shown_byte, shown_name, told, unknown_text, unkept, visitor_after, words_asked};
-ghost use Rattle.silt_resp.specs.Faults.{fault_text};
-ghost use Rattle.silt_resp.specs.Table.{command_of};
+ghost use Rattle.silt_resp.specs.Commands.{Asked as AskedOf, FitsValues, asked_for, broken_text, checked, is_free, lets_in, made};
+ghost use Rattle.silt_resp.specs.Commands.{says, shown_byte, shown_name, told, unknown_text, unkept, visitor_after, words_asked};
+ghost use Rattle.silt_resp.specs.Faults.{command_fault_text};
+ghost use Rattle.silt_resp.specs.Table.{first_command};
 ghost use Rattle.silt_resp.specs.Seen.{asked_seen, command_seen};
 ghost use Rattle.silt_resp.specs.Texts.{error_text};
 
@@ -40,7 +41,7 @@ fn made(
     args: &Words<'_>,
 ) -> Result<Asked, CommandFault>
     ensures asked { Gives asked_seen (made settings.now visitor name args.now) result }
-    ensures fits { IfOk result (λ asked. Fits settings.now.value_len (asked_seen asked)) }
+    ensures fits { IfOk result (λ asked. FitsValues settings.now.value_len (asked_seen asked)) }
 {
     match name {
         CommandName::Get => look(alloc, args, Form::Value),
@@ -86,7 +87,7 @@ fn checked(
     args: &Words<'_>,
 ) -> Result<Asked, CommandFault>
     ensures asked { Gives asked_seen (checked settings.now visitor name args.now) result }
-    ensures fits { IfOk result (λ asked. Fits settings.now.value_len (asked_seen asked)) }
+    ensures fits { IfOk result (λ asked. FitsValues settings.now.value_len (asked_seen asked)) }
 {
     if !visitor.is_let_in && !is_free(name) {
         return Err(CommandFault::NotLetIn);
@@ -99,14 +100,14 @@ fn checked(
 
 // The error of a value that is longer than this.
 fn value_error(alloc: Global, most: usize) -> Result<String, AllocError>
-    ensures { IfOk result (λ text. string_bytes text ≡ fault_text (CommandFault.LongValue most)) }
+    ensures { IfOk result (λ text. string_bytes text ≡ command_fault_text (CommandFault.LongValue most)) }
 {
     format!(in alloc; "ERR value is longer than {most} bytes")
 }
 
 // The error of a number of words that a command does not take.
 fn count_error(alloc: Global, name: CommandName) -> Result<String, AllocError>
-    ensures { IfOk result (λ text. string_bytes text ≡ fault_text (CommandFault.WrongCount name)) }
+    ensures { IfOk result (λ text. string_bytes text ≡ command_fault_text (CommandFault.WrongCount name)) }
 {
     let name = name.row().name;
     format!(in alloc; "ERR wrong number of arguments for '{name}' command")
@@ -114,7 +115,7 @@ fn count_error(alloc: Global, name: CommandName) -> Result<String, AllocError>
 
 // Appends the error of a command that is not done.
 fn push_fault(alloc: Global, out: &mut Vec<u8>, fault: CommandFault) -> Result<(), AllocError>
-    ensures { OnOk result (out.new.items ≡ out.old.items ++ error_text (fault_text fault)) }
+    ensures { OnOk result (out.new.items ≡ out.old.items ++ error_text (command_fault_text fault)) }
 {
     match fault {
         CommandFault::LongKey => push_error(out, "ERR key is longer than 8000 bytes"),
@@ -160,7 +161,7 @@ fn refused(alloc: Global, fault: CommandFault) -> Result<Asked, AllocError>
 // What a command asks for. A fault is told, unless memory ran out.
 fn told(alloc: Global, made: Result<Asked, CommandFault>) -> Result<Asked, AllocError>
     ensures asked { (due : Result AskedOf CommandFaultOf) → Gives asked_seen due made → IfOk result (λ asked. asked_seen asked ≡ told due) }
-    ensures fits { (len : ℕ) → IfOk made (λ asked. Fits len (asked_seen asked)) → IfOk result (λ asked. Fits len (asked_seen asked)) }
+    ensures fits { (len : ℕ) → IfOk made (λ asked. FitsValues len (asked_seen asked)) → IfOk result (λ asked. FitsValues len (asked_seen asked)) }
 {
     match made {
         Ok(asked) => Ok(asked),
@@ -223,8 +224,8 @@ fn words_asked(
     visitor: Visitor,
     words: &Words<'_>,
 ) -> Result<Asked, AllocError>
-    ensures asked { IfOk result (λ asked. asked_seen asked ≡ words_asked settings.now visitor (command_of words.now) words.now) }
-    ensures fits { IfOk result (λ asked. Fits settings.now.value_len (asked_seen asked)) }
+    ensures asked { IfOk result (λ asked. asked_seen asked ≡ words_asked settings.now visitor (first_command words.now) words.now) }
+    ensures fits { IfOk result (λ asked. FitsValues settings.now.value_len (asked_seen asked)) }
 {
     match CommandName::of(words) {
         Some(name) => {
@@ -263,14 +264,14 @@ fn broken(alloc: Global, fault: ProtocolFault) -> Result<Asked, AllocError>
 
 /// What a command asks for: events whose values have the length of the store's values, and the form of their one reply; or a
 /// reply that needs no store. A command that is not done asks for its error.
-pub fn asked_by(
+pub fn asked_for(
     alloc: Global,
     settings: &Settings,
     visitor: Visitor,
     command: &Command<'_>,
 ) -> Result<Asked, AllocError>
-    ensures asked { IfOk result (λ asked. asked_seen asked ≡ asked_by settings.now visitor (command_seen command.now)) }
-    ensures fits { IfOk result (λ asked. Fits settings.now.value_len (asked_seen asked)) }
+    ensures asked { IfOk result (λ asked. asked_seen asked ≡ asked_for settings.now visitor (command_seen command.now)) }
+    ensures fits { IfOk result (λ asked. FitsValues settings.now.value_len (asked_seen asked)) }
 {
     match command {
         Command::Complete(words) => words_asked(alloc, settings, visitor, words),
@@ -282,7 +283,7 @@ pub fn asked_by(
 
 // Whether a command lets a visitor in.
 fn lets_in(settings: &Settings, visitor: Visitor, words: &Words<'_>) -> bool
-    ensures { result ≡ lets_in settings.now visitor (command_of words.now) (drop 1 words.now) }
+    ensures { result ≡ lets_in settings.now visitor (first_command words.now) (drop 1 words.now) }
 {
     let args = words.rest();
     match CommandName::of(words) {

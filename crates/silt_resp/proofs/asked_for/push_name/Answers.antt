@@ -2,7 +2,7 @@ use Rattle.std.proofs.Common.{◌≡◌, ◌≤◌, ◌++◌, ◌∙◌, ap, ari
 use Rattle.std.proofs.lemmas.List.{take_all}
 use Rattle.silt_resp.specs.Commands.{shown_byte}
 use Rattle.silt_resp.proofs.Doing.{shown_part}
-use Rattle.silt_resp.proofs.asking.push_name.Goals as goal
+use Rattle.silt_resp.proofs.asked_for.push_name.Goals as goal
 
 pub returns : goal.returns
 returns c =

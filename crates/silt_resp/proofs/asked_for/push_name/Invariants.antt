@@ -1,6 +1,6 @@
 use Rattle.std.proofs.Common.{◌≡◌, ◌++◌, map, take}
 use Rattle.silt_resp.specs.Commands.{shown_byte}
-use Rattle.silt_resp.proofs.asking.push_name.Given as goal
+use Rattle.silt_resp.proofs.asked_for.push_name.Given as goal
 
 -- the bytes so far are there
 abbrev pub invariant-loop-byte : goal.invariant-loop-byte
