@@ -34,6 +34,9 @@ PORT  a port of this machine, at most 65535; 0 lets the system choose
 --merge-at K      serve: merges once there are K hash stores; half of NH if left out
 --pipeline        does the commands that a connection sent together with one flush
 --resp            speaks the protocol of Redis clients in place of lines
+--bind ADDRESS    serve --resp: listens on this IP address; 127.0.0.1 if left out
+--password-file PATH  serve --resp: asks clients for the password in the first line of this file
+--clients N       serves at most N connections at once, 1 to 1024; 64 if left out
 """
 
 # The values and the options of each job.
@@ -45,7 +48,10 @@ JOBS = {
     "dump": ("FILE", ""),
     "plan": ("KEYS V", "--memory"),
     "script": ("V B CAP NL NH S", ""),
-    "serve": ("FILE PORT", "--audit --sessions --idle --wait --merge-at --pipeline --resp"),
+    "serve": (
+        "FILE PORT",
+        "--audit --sessions --idle --wait --merge-at --pipeline --resp --bind --password-file --clients",
+    ),
 }
 # What the help of a job with an input says of its lines.
 LINES = """put KEY VALUE     sets the value of a key
@@ -65,6 +71,11 @@ docs/program.md has these lines, and the replies to them.
 NO_DIGITS = "a number is written in digits alone"
 TOO_LARGE = "a number has at most ten digits, and is at most 4294967295"
 SEPARATED = "a number is written without separators"
+# Why a word is no address, and no number of clients.
+NO_ADDRESS = "an address is written in digits, as 10.0.0.1"
+CLIENTS = "a server has 1 to 1024 clients at once"
+# What is wrong with an address that other machines reach.
+UNGUARDED = "--bind {} needs --password-file: other machines reach this address"
 # Words with single spaces between them, and what is wrong with them.
 COMPLAINTS = {
     "prune disk": "there is no job 'prune'",
@@ -147,6 +158,27 @@ COMPLAINTS = {
     "serve disk 0 --pipeline=1": "'--pipeline=1' is no option here",
     "serve disk 0 --resp --resp": "--resp is given twice",
     "serve disk 0 --resp 3": "'3' is one word too many",
+    "serve disk 0 --bind 127.0.0.1": "--bind needs --resp",
+    "serve disk 0 --password-file p": "--password-file needs --resp",
+    "serve disk 0 --pipeline --bind 127.0.0.1": "--bind needs --resp",
+    "serve disk 0 --resp --bind": "--bind needs an address behind it",
+    "serve disk 0 --bind --resp": "--bind needs an address behind it",
+    "serve disk 0 --resp --bind localhost": f"--bind cannot be 'localhost': {NO_ADDRESS}",
+    "serve disk 0 --resp --bind=": f"--bind cannot be '': {NO_ADDRESS}",
+    "serve disk 0 --resp --bind 10.0.0.1,10.0.0.2": f"--bind cannot be '10.0.0.1,10.0.0.2': {NO_ADDRESS}",
+    "serve disk 0 --resp --bind 10.0.0.1": UNGUARDED.format("10.0.0.1"),
+    "serve disk 0 --resp --bind=0.0.0.0": UNGUARDED.format("0.0.0.0"),
+    "serve disk 0 --resp --bind ::": UNGUARDED.format("::"),
+    "serve disk 0 --resp --bind 1270.0.0.1": UNGUARDED.format("1270.0.0.1"),
+    "serve disk 0 --resp --bind 127.0.0.1 --bind ::1": "--bind is given twice",
+    "serve disk 0 --resp --password-file": "--password-file needs a file behind it",
+    "serve disk 0 --resp --password-file a --password-file b": "--password-file is given twice",
+    "serve disk 0 --clients": "--clients needs a number behind it",
+    "serve disk 0 --clients 0": f"--clients cannot be '0': {CLIENTS}",
+    "serve disk 0 --clients 1025": f"--clients cannot be '1025': {CLIENTS}",
+    "serve disk 0 --clients x": f"--clients cannot be 'x': {NO_DIGITS}",
+    "serve disk 0 --clients 1 --clients=1": "--clients is given twice",
+    "run disk --bind 127.0.0.1": "'--bind' is no option here",
 }
 
 

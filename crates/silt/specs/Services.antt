@@ -1,5 +1,5 @@
 -- What serving the disk of a path does.
-use Rattle.std.specs.Prelude.{◌≡◌, ◌⊎◌, ◌<◌, ℕ, Bool, true, false, List, IfSome, Option}
+use Rattle.std.specs.Prelude.{◌≡◌, ◌⊎◌, ◌<◌, ℕ, Bool, true, false, List, IfSome, Option, codes, unwrap_or}
 use Rattle.std.specs.Option.{IsSomeAnd}
 use Rattle.silt_disk.specs.Layout.{Shape}
 use Rattle.silt_disk.specs.declared.disk.Disk.{Ghosts}
@@ -13,9 +13,14 @@ use Rattle.silt_store_set.specs.CoreInvariant.{LeavesBegun}
 use Rattle.silt_store_set.specs.CoreState.{CoreState, Opens}
 use Rattle.silt_jobs.specs.Files.{PrintsNoDisk}
 use Rattle.silt_jobs.specs.Jobs.{Prints, PrintsFewRegions, PrintsOpening}
+use Rattle.silt_words.specs.Jobs.{NamedAccess}
 use Rattle.silt_server.specs.declared.limits.Protocol.{Protocol}
 use Rattle.silt_server.specs.declared.limits.Protocol.TheVariants.{Lines, PipelinedLines, Resp}
 use Rattle.silt_jobs.specs.Scripts.{reply_line}
+
+-- the address to listen on: this machine's own if none is given
+abbrev pub address_text : NamedAccess → List ℕ
+address_text access = unwrap_or access.address (codes "127.0.0.1")
 
 -- what a server and its clients send each other
 abbrev pub protocol_of : Bool → Bool → Protocol

@@ -28,6 +28,7 @@
 mod clash;
 mod file_identity;
 mod listener;
+mod password;
 mod program;
 mod service;
 mod standard_streams;

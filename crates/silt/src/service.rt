@@ -5,12 +5,14 @@ ghost use Rattle.silt_disk.specs.Layout.{Shape};
 ghost use Rattle.silt_store_set.specs.CoreInvariant.{LeavesBegun};
 ghost use Rattle.silt_wire.specs.Statuses.{IsStatus};
 ghost use Rattle.silt_server.specs.Serving.{PrintsNotServed};
+ghost use Rattle.silt_words.specs.Jobs.{named_access};
+ghost use Rattle.silt.specs.Passwords.{HasPassword};
 ghost use Rattle.silt.specs.Services.{EndsServe, LeavesServed, ServesFile, PrintsServe, PrintsServeFile, PrintsUnfit, ReportedUnserved, protocol_of};
 ghost use Rattle.silt_event.specs.declared.refusal.Refusal.TheVariants.{BadGeometry};
 ghost use Rattle.silt_jobs.specs.Jobs.{Prints};
 ghost use Rattle.silt_jobs.specs.Notes.{NotOpenedReported, ReportedFailures, ReportedRefusal};
 
-use crate::listener::PatientListener;
+use crate::listener::{Entrance, PatientListener, enter};
 use crate::standard_streams::StandardStreams;
 use silt_desk::{Gate, Spot};
 use silt_device::DiskSource;
@@ -31,7 +33,10 @@ use std::sync::{OnceLock, Wait};
 use std::thread::Threads;
 use std::time::Clock;
 
-/// Serves the store on the disk of a path to the connections of a port of this machine. Returns the disk and the
+/// How many clients are served at once if no number is given.
+const CLIENTS: u32 = 64;
+
+/// Serves the store on the disk of a path to the connections of a port. Returns the disk and the
 /// status: 0 after the last session, 1 if the disk or the store is not opened, the network fails, or a merge was refused.
 ///
 /// # Errors
@@ -77,8 +82,8 @@ where
     }
 }
 
-// Serves the store on a disk to the connections of a port of this machine. It binds the port before the opening, which
-// may be long: so a port that is in use is reported at once. Returns the disk and the status.
+// Serves the store on a disk to the connections of a port. It binds the port before the opening, which may be long: so a
+// port that is in use is reported at once. Returns the disk and the status.
 fn serve_disk<
     D: Watched,
     H: Net<Listener = TcpListener, Stream = TcpStream>
@@ -104,11 +109,11 @@ fn serve_disk<
         service.now.resp service.now.merge_at service.now.audit disk result.0 (W.contents writer.old) (W.contents writer.new))) }
     ensures left { LeavesServed D.Disk disk result.0 }
 {
-    let listener = bind(rt, service.port, notes);
+    let entrance = entrance_of(rt, service, notes);
     disk.report_at_once();
     match Core::open(alloc, disk) {
         Ok(core) => {
-            let (disk, status) = serve_opened(rt, alloc, core, listener, service, writer, notes);
+            let (disk, status) = serve_opened(rt, alloc, core, entrance, service, writer, notes);
             report_failures(service.file, &disk, notes);
             (disk, status)
         }
@@ -116,25 +121,26 @@ fn serve_disk<
     }
 }
 
-// A listener on a port of this machine. If there is none, a note says why.
-fn bind<H: Net<Listener = TcpListener, Stream = TcpStream>, N: Notes>(
+// The entrance of a service. If there is none, a note says why.
+fn entrance_of<H: Net<Listener = TcpListener, Stream = TcpStream> + StandardStreams, N: Notes>(
     rt: &H,
-    port: u16,
+    service: &Service<'_>,
     notes: &mut N,
-) -> Option<TcpListener>
+) -> Option<Entrance>
     ensures bound { IfSome result (λ _. notes.new ≡ notes.old) }
-    ensures printed { result ≡ None → N.reported_port notes.old notes.new port }
+    ensures password { IfSome result (λ entrance. HasPassword (H.begins rt.now) (named_access service.now.access).password_file entrance.password) }
+    ensures printed { result ≡ None → N.reported_port notes.old notes.new service.now.port }
 {
-    match TcpListener::bind(rt, ("127.0.0.1", port)) {
-        Ok(listener) => Some(listener),
+    match enter(rt, service) {
+        Ok(entrance) => Some(entrance),
         Err(error) => {
-            notes.report_port(port, &error);
+            notes.report_port(service.port, &error);
             None
         }
     }
 }
 
-// Serves an opened store to the connections of a listener, if it has as many hash regions as a merge is to begin with, and
+// Serves an opened store to the connections of an entrance, if it has as many hash regions as a merge is to begin with, and
 // values that can hold strings if clients send those.
 // Returns the store's disk and the status.
 fn serve_opened<
@@ -151,13 +157,13 @@ fn serve_opened<
     rt: &H,
     alloc: Global,
     core: Core<D>,
-    listener: Option<TcpListener>,
+    entrance: Option<Entrance>,
     service: &Service<'_>,
     writer: &mut W,
     notes: &mut N,
 ) -> (D, io::Result<u8>)
     ensures served { result.1 ≡ Ok 0 → EndsServe D.Disk service.now.audit result.0 (W.contents writer.old) (W.contents writer.new) }
-    ensures bound { result.1 ≡ Ok 0 → is_some listener ≡ true }
+    ensures bound { result.1 ≡ Ok 0 → is_some entrance ≡ true }
     ensures printed { IfOk result.1 (IsStatus (PrintsUnfit service.now.resp service.now.merge_at core result.0 (W.contents writer.old) (W.contents writer.new)
         ⊎ (PrintsNotServed D.Disk (λ port. Unit {0}) core result.0 (W.contents writer.old) (W.contents writer.new)
         ⊎ EndsServe D.Disk service.now.audit result.0 (W.contents writer.old) (W.contents writer.new)))) }
@@ -170,7 +176,7 @@ fn serve_opened<
     if has_short_values(&core, service.resp) {
         return refuse_short_values(rt, alloc, core, service.file, writer);
     }
-    serve_store(rt, alloc, core, listener, service, writer, notes)
+    serve_store(rt, alloc, core, entrance, service, writer, notes)
 }
 
 // Whether the values of a store for Redis clients have no room for a string's length.
@@ -202,7 +208,7 @@ fn refuse_short_values<D: Disk, H: StandardStreams, W: Write>(
     (core.close(), status)
 }
 
-// Serves a store to the connections of a listener, if there is one. Returns the store's disk and the status.
+// Serves a store to the connections of an entrance, if there is one. Returns the store's disk and the status.
 fn serve_store<
     D: Disk,
     H: Net<Listener = TcpListener, Stream = TcpStream>
@@ -217,23 +223,23 @@ fn serve_store<
     rt: &H,
     alloc: Global,
     core: Core<D>,
-    listener: Option<TcpListener>,
+    entrance: Option<Entrance>,
     service: &Service<'_>,
     writer: &mut W,
     notes: &mut N,
 ) -> (D, io::Result<u8>)
     ensures served { result.1 ≡ Ok 0 → EndsServe D.Disk service.now.audit result.0 (W.contents writer.old) (W.contents writer.new) }
-    ensures bound { result.1 ≡ Ok 0 → is_some listener ≡ true }
+    ensures bound { result.1 ≡ Ok 0 → is_some entrance ≡ true }
     ensures printed { IfOk result.1 (IsStatus (PrintsNotServed D.Disk (λ port. Unit {0}) core result.0 (W.contents writer.old) (W.contents writer.new)
         ⊎ EndsServe D.Disk service.now.audit result.0 (W.contents writer.old) (W.contents writer.new))) }
     ensures left { (shape : Shape) × LeavesBegun (D.content result.0) shape }
     ensures quiet { result.1 ≡ Ok 0 → notes.new ≡ notes.old }
 {
-    let Some(listener) = listener else {
+    let Some(Entrance { listener, password }) = entrance else {
         return refuse_network(core, writer);
     };
     let listener = PatientListener::new(listener, rt);
-    let limits = limits_of(service);
+    let limits = limits_of(service, password);
     let geometry = core.geometry();
     let gate = MergeGate {
         rt,
@@ -266,8 +272,10 @@ fn status_served(status: io::Result<u8>, is_unmerged: bool) -> io::Result<u8>
 }
 
 // The limits of a server of this service.
-fn limits_of(service: &Service<'_>) -> Limits
+fn limits_of(service: &Service<'_>, password: Option<[u8; 20]>) -> Limits
     ensures sessions { result.sessions ≡ unwrap_or service.now.sessions 0 }
+    ensures clients { result.clients ≡ unwrap_or service.now.access.clients 64 }
+    ensures password { result.password ≡ password }
     ensures audit { result.audit ≡ service.now.audit }
     ensures idle { result.idle ≡ service.now.idle }
     ensures wait { result.wait ≡ unwrap_or service.now.wait 10 }
@@ -275,6 +283,8 @@ fn limits_of(service: &Service<'_>) -> Limits
 {
     Limits {
         sessions: service.sessions.unwrap_or(0),
+        clients: service.access.clients.unwrap_or(CLIENTS),
+        password,
         audit: calls_kept(service.audit),
         idle: service.idle,
         wait: service.wait.unwrap_or(10),

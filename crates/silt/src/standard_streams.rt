@@ -1,5 +1,5 @@
 // The standard streams: their descriptors are in use before a store is opened, and no store is one of them.
-ghost use Rattle.std.specs.Prelude.{◌≡◌, ℕ, List, None, IfOk, codes};
+ghost use Rattle.std.specs.Prelude.{◌≡◌, ◌≤◌, ℕ, List, None, IfOk, codes, length, take};
 ghost use Rattle.silt.specs.Streams.{FillsLow, IsLowOrLast, first_stream, null_device};
 ghost use Rattle.silt.specs.declared.standard_streams.SameStreams.{SameStreams as SameStreamsOf};
 
@@ -8,6 +8,8 @@ use silt_device::FileSystem;
 use silt_event::Place;
 use silt_jobs::NoteLines;
 use std::alloc::Global;
+use std::fs::File;
+use std::io::Read;
 use std::os::fd::{AsRawFd, RawFd};
 use std::rt::Runtime;
 use std::{fmt, io};
@@ -108,6 +110,15 @@ pub trait StandardStreams {
     fn streams_at(&self, path: &str) -> SameStreams
         ensures { are_file self.now path.now result };
 
+    /// The file at this path begins with these bytes.
+    ghost begins: { Self → List ℕ → List ℕ → Type 0 };
+
+    /// Reads the first bytes of a file into `buffer`, as many as there are and there is room for. Returns their number.
+    fn read_start(&self, path: &str, buffer: &mut [u8]) -> io::Result<usize>
+        ensures count { IfOk result (λ count. count ≤ length buffer.new) }
+        ensures start { IfOk result (λ count. begins self.now path.now (take count buffer.new)) }
+        ensures len { length buffer.new ≡ length buffer.old };
+
     /// Notes on the standard error, at once, that a merge found this part of the store in a file damaged, and where it
     /// begins, if that is known.
     fn note_unmerged(&self, file: &str, place: Place, at: Option<u64>);
@@ -121,6 +132,8 @@ impl StandardStreams for HostRuntime {
     ghost use Rattle.std.specs.Prelude.{⊤};
 
     ghost are_file = { λ _ _ _. ⊤ };
+
+    ghost begins = { λ _ _ _. ⊤ };
 
     // A path below /proc/self/fd means the open file itself, whatever its name. A system without /proc shows no clash.
     fn streams_at(&self, path: &str) -> SameStreams {
@@ -136,6 +149,18 @@ impl StandardStreams for HostRuntime {
                 error: false,
             },
         }
+    }
+
+    fn read_start(&self, path: &str, buffer: &mut [u8]) -> io::Result<usize> {
+        let mut file = File::open(self, path)?;
+        let mut count = 0;
+        while count < buffer.len() {
+            match file.read(&mut buffer[count..])? {
+                0 => return Ok(count),
+                more => count += more,
+            }
+        }
+        Ok(count)
     }
 
     fn note_unmerged(&self, file: &str, place: Place, at: Option<u64>) {

@@ -11,10 +11,10 @@ use Rattle.silt_server.specs.declared.limits.Protocol.TheVariants.{Resp}
 abbrev pub listening_text : ℕ → List ℕ
 listening_text port = codes "listening " ++ (decimal port ++ codes "\n")
 
--- why a connection is closed that finds no free slot: no reply to a line begins so
-abbrev pub busy_text : Protocol → List ℕ
-busy_text Resp = codes "-ERR max number of clients reached\r\n"
-busy_text protocol = codes "busy: 64 connections are served already\n"
+-- why a connection is closed where so many are served already: no reply to a line begins so
+abbrev pub busy_text : Protocol → ℕ → List ℕ
+busy_text Resp clients = codes "-ERR max number of clients reached\r\n"
+busy_text protocol clients = codes "busy: " ++ (decimal clients ++ codes " connections are served already\n")
 
 -- how many calls are recorded
 abbrev pub calls_text : ℕ → List ℕ

@@ -1,11 +1,12 @@
 // Connections, each served in a thread of its own.
-ghost use Rattle.std.specs.Prelude.{◌≡◌, ◌+◌, ◌^◌, ◌<◌, ◌≤◌, length, IfOk, IfSome, IsNone};
+ghost use Rattle.std.specs.Prelude.{◌≡◌, ◌+◌, ◌^◌, ◌<◌, ◌≤◌, length, take, IfOk, IfSome, IsNone};
 
 use crate::counting_listener::{CountingListener, Listens};
-use crate::limits::{Limits, Protocol};
+use crate::limits::Limits;
 use crate::written::turn_away;
 use silt_inbox::InboxId;
 use silt_session::{SessionSlot, free_slot};
+use std::alloc::Global;
 use std::io::{self, ErrorKind};
 use std::net::TcpStream;
 use std::sync::{Mutex, Wait};
@@ -20,52 +21,66 @@ fn is_passing(kind: ErrorKind) -> bool {
     )
 }
 
-// Writes to a connection that there is no slot for it. The listener waits for no client: it drops what the system does
-// not take at once.
-fn turn_connection_away(protocol: Protocol, stream: &TcpStream) {
-    if stream.set_nonblocking(true).is_ok() {
-        let mut out = stream;
-        turn_away(protocol, &mut out);
-    }
+/// Where connections are let in: the limits, and the slots of the sessions, of which the first `limits.clients` are given out.
+#[derive(Drop)]
+pub struct Door<'a, N: InboxId> {
+    pub alloc: Global,
+    pub limits: Limits,
+    pub slots: &'a [Mutex<SessionSlot<N>>],
 }
 
-// Gives a connection to a free slot, and returns its number. If there is none, the client gets a line that says so,
-// and the connection is closed.
-fn admit<N: InboxId, R: Wait>(
-    rt: &R,
-    slots: &[Mutex<SessionSlot<N>>],
-    protocol: Protocol,
-    stream: TcpStream,
-) -> Option<usize>
-    ensures { IfSome result (λ number. number < length slots.now) }
-{
-    match free_slot(rt, slots) {
-        Some(number) => {
-            slots[number].lock(rt).connect(stream);
-            Some(number)
-        }
-        None => {
-            turn_connection_away(protocol, &stream);
-            None
+impl<N: InboxId> Door<'_, N> {
+    // Writes to a connection that there is no slot for it. The listener waits for no client: it drops what the system does
+    // not take at once.
+    fn turn_away(&self, stream: &TcpStream) {
+        if stream.set_nonblocking(true).is_ok() {
+            let mut out = stream;
+            turn_away(self.alloc, &self.limits, &mut out);
         }
     }
-}
 
-// Accepts a connection, and gives it to a free slot. None if the accept failed only for this connection, or if there is
-// no slot.
-fn admit_next<L: Listens, N: InboxId, R: Wait>(
-    rt: &R,
-    listener: &mut CountingListener<'_, L>,
-    slots: &[Mutex<SessionSlot<N>>],
-    protocol: Protocol,
-) -> io::Result<Option<usize>>
-    ensures slot { IfOk result (λ admitted. IfSome admitted (λ number. number < length slots.now)) }
-    ensures more { IfOk result (λ admitted. IfSome admitted (λ _. listener.old.accepted < 2 ^ 32 → listener.new.accepted ≡ listener.old.accepted + 1)) }
-    ensures least { listener.old.accepted ≤ listener.new.accepted }
-{
-    match listener.accept() {
-        Ok(stream) => Ok(admit(rt, slots, protocol, stream)),
-        Err(error) => pass(error),
+    // The slots that are given out.
+    fn open_slots(&self) -> &[Mutex<SessionSlot<N>>]
+        ensures { result.now ≡ take self.now.limits.clients self.now.slots.now }
+    {
+        let count = self.slots.len().min(self.limits.clients as usize);
+        &self.slots[..count]
+    }
+
+    // Gives a connection to a free slot, and returns its number. If there is none, the client gets a line that says so,
+    // and the connection is closed.
+    fn admit<R: Wait>(&self, rt: &R, stream: TcpStream) -> Option<usize>
+        ensures slot { IfSome result (λ number. number < length self.now.slots.now) }
+        ensures few { IfSome result (λ number. number < self.now.limits.clients) }
+    {
+        match free_slot(rt, self.open_slots()) {
+            Some(number) => {
+                self.slots[number].lock(rt).connect(stream);
+                Some(number)
+            }
+            None => {
+                self.turn_away(&stream);
+                None
+            }
+        }
+    }
+
+    // Accepts a connection, and gives it to a free slot. None if the accept failed only for this connection, or if there
+    // is no slot.
+    fn admit_next<L: Listens, R: Wait>(
+        &self,
+        rt: &R,
+        listener: &mut CountingListener<'_, L>,
+    ) -> io::Result<Option<usize>>
+        ensures slot { IfOk result (λ admitted. IfSome admitted (λ number. number < length self.now.slots.now)) }
+        ensures few { IfOk result (λ admitted. IfSome admitted (λ number. number < self.now.limits.clients)) }
+        ensures more { IfOk result (λ admitted. IfSome admitted (λ _. listener.old.accepted < 2 ^ 32 → listener.new.accepted ≡ listener.old.accepted + 1)) }
+        ensures least { listener.old.accepted ≤ listener.new.accepted }
+    {
+        match listener.accept() {
+            Ok(stream) => Ok(self.admit(rt, stream)),
+            Err(error) => pass(error),
+        }
     }
 }
 
@@ -101,15 +116,14 @@ pub fn accept_clients<
 >(
     rt: &R,
     listener: &'a L,
-    limits: Limits,
+    door: &Door<'_, N>,
     shared: &S,
-    slots: &[Mutex<SessionSlot<N>>],
     serve: &C,
 ) -> io::Result<CountingListener<'a, L>>
     requires { C.IsAlwaysCallable serve.now }
-    ensures { IfOk result (λ counting_listener. limits.sessions ≤ counting_listener.accepted) }
+    ensures { IfOk result (λ counting_listener. door.now.limits.sessions ≤ counting_listener.accepted) }
 {
-    let (sessions, protocol) = (limits.sessions, limits.protocol);
+    let sessions = door.limits.sessions;
     thread::scope(
         thread::scope_env(),
         rt,
@@ -120,7 +134,7 @@ pub fn accept_clients<
             let mut counting_listener = CountingListener::new(listener);
             let mut count = 0u32;
             for _ in rt.forever() {
-                let Some(number) = admit_next(rt, &mut counting_listener, slots, protocol)? else {
+                let Some(number) = door.admit_next(rt, &mut counting_listener)? else {
                     continue;
                 };
                 let started = scope.spawn(
@@ -129,7 +143,7 @@ pub fn accept_clients<
                     { serve(shared, number) },
                 );
                 if started.is_err() {
-                    free(rt, &slots[number]);
+                    free(rt, &door.slots[number]);
                     continue;
                 }
                 count = count.saturating_add(1);

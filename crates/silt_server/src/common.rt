@@ -1,7 +1,7 @@
 // What the threads of a server share, and what each of them does.
 ghost use Rattle.std.specs.Prelude.{◌≡◌};
 
-use crate::admission::accept_clients;
+use crate::admission::{Door, accept_clients};
 use crate::connection::answer_client;
 use crate::counting_listener::Listens;
 use crate::limits::Limits;
@@ -190,12 +190,16 @@ impl<
 > Serving<'_, Shared<D, T, N>, N, G, R> {
     // Serves the connections of a listener, and then closes the inbox.
     fn serve_sessions<L: Listens>(&self, listener: &L) -> io::Result<()> {
+        let door = Door {
+            alloc: self.alloc,
+            limits: self.limits,
+            slots: self.slots,
+        };
         let accepted = accept_clients(
             self.rt,
             listener,
-            self.limits,
+            &door,
             self,
-            self.slots,
             &|serving: &Serving<'_, Shared<D, T, N>, N, G, R>, number: usize| {
                 serving.serve_slot(number)
             },

@@ -54,9 +54,13 @@ pub fn answer_client<A: Asking>(
     let mut outlet = Outlet { stream, cut: &cut };
     let buffer = buffer.as_mut_slice();
     if let Protocol::Resp = limits.protocol {
+        let settings = Settings {
+            value_len,
+            password: limits.password,
+        };
         answer_commands(
             alloc,
-            value_len,
+            &settings,
             number,
             buffer,
             stream,
@@ -71,22 +75,18 @@ pub fn answer_client<A: Asking>(
 // Replies to the commands of a Redis client. Values that have no room for a string's length serve none.
 fn answer_commands<A: Answerer>(
     alloc: Global,
-    value_len: usize,
+    settings: &Settings,
     number: u32,
     buffer: &mut [u8],
     stream: &TcpStream,
     outlet: &mut Outlet<'_>,
     client: &mut A,
 )
-    requires len { A.value_len client.old ≡ value_len }
+    requires len { A.value_len client.old ≡ settings.now.value_len }
     requires room { 0 < length buffer.old }
 {
-    if value_len < LENGTH_LEN {
+    if settings.value_len < LENGTH_LEN {
         return;
     }
-    let settings = Settings {
-        value_len,
-        password: None,
-    };
-    let _ = resp_session(alloc, &settings, number, buffer, stream, outlet, client);
+    let _ = resp_session(alloc, settings, number, buffer, stream, outlet, client);
 }

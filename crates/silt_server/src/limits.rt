@@ -7,6 +7,9 @@ use std::io;
 use std::net::TcpStream;
 use std::time::Duration;
 
+/// How many sessions there can be at once: each has a slot.
+pub const MOST_SESSIONS: u64 = 1024;
+
 /// What a server and its clients send each other.
 #[derive(Clone, Copy, Debug, PartialEq, Eq)]
 pub enum Protocol {
@@ -39,6 +42,10 @@ impl Protocol {
 pub struct Limits {
     /// How many sessions to serve in all, or 0 for no limit.
     pub sessions: u32,
+    /// How many sessions to serve at once, at most [`MOST_SESSIONS`].
+    pub clients: u32,
+    /// The SHA-1 digest of the password that Redis clients have to give, if there is one.
+    pub password: Option<[u8; 20]>,
     /// The most calls to record. If None, calls are only counted.
     pub audit: Option<u64>,
     /// After how many seconds a silent connection is closed. If None or 0, never.

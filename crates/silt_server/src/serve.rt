@@ -11,7 +11,7 @@ ghost use Rattle.silt_server.specs.Serving.{PrintsServed, WritesHead, head_text,
 
 use crate::common::{Served, Serving};
 use crate::counting_listener::Listens;
-use crate::limits::Limits;
+use crate::limits::{Limits, MOST_SESSIONS};
 use crate::workers::Workers;
 use crate::written::{refuse, write_calls, write_listening, write_network_fault, write_opened};
 use silt_desk::{Count, Desk, DeskId, Gate, Kept, Seat, Shared, Trace};
@@ -27,9 +27,6 @@ use std::sync::ledger::Blank;
 use std::sync::{Mutex, RwLock, Wait};
 use std::thread::Threads;
 use std::time::Clock;
-
-/// The most sessions at once.
-const MOST_SESSIONS: u64 = 64;
 
 /// How many seats the workers have.
 const WORKERS: u64 = 3;
@@ -105,7 +102,7 @@ impl<L: Listens, G: Gate + Sync, R: Threads + Wait + Clock + Sync> Server<'_, L,
     ) -> (D, io::Result<u8>)
         requires calls { (blanks.calls.name ≡ N.calls_name) × (blanks.calls.parts ≡ N.seats) × (N.seats ≡ 3) }
         requires accepted { (blanks.accepted.name ≡ N.accepted_name) × (blanks.accepted.parts ≡ N.seats) }
-        requires put { (blanks.put.name ≡ N.put_name) × (blanks.put.parts ≡ N.feeders) × (N.feeders ≡ 64) }
+        requires put { (blanks.put.name ≡ N.put_name) × (blanks.put.parts ≡ N.feeders) × (N.feeders ≡ 1024) }
         requires taken { (blanks.taken.name ≡ N.taken_name) × (blanks.taken.parts ≡ 1) }
         requires trace { T.agrees trace (seen D.Disk core) × T.counts trace 0 0 }
         ensures served { result.1 ≡ Ok 0 → (core : CoreState D) × (trace : T) × (core.disk ≡ result.0) × T.agrees trace (seen D.Disk core)
@@ -234,7 +231,7 @@ struct Blanks {
 impl Blanks {
     fn new() -> Blanks
         ensures desk { (result.calls.parts ≡ 3) × (result.accepted.parts ≡ 3) }
-        ensures inbox { (result.put.parts ≡ 64) × (result.taken.parts ≡ 1) }
+        ensures inbox { (result.put.parts ≡ 1024) × (result.taken.parts ≡ 1) }
     {
         Blanks {
             calls: Blank::new(WORKERS),
@@ -263,7 +260,7 @@ impl<N: DeskId + InboxId> ServerState<N> {
         put: Blank,
         taken: Blank,
     ) -> Option<ServerState<N>>
-        requires put { (put.name ≡ N.put_name) × (put.parts ≡ N.feeders) × (N.feeders ≡ 64) }
+        requires put { (put.name ≡ N.put_name) × (put.parts ≡ N.feeders) × (N.feeders ≡ 1024) }
         requires taken { (taken.name ≡ N.taken_name) × (taken.parts ≡ 1) }
     {
         let (inbox, feeders, taker) = Inbox::new(alloc, MOST_SESSIONS, put, taken).ok()?;

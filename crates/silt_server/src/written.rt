@@ -1,14 +1,14 @@
 // What a server writes.
-ghost use Rattle.std.specs.Prelude.{◌≡◌, ℕ, List, OnOk, IfOk, codes};
+ghost use Rattle.std.specs.Prelude.{◌≡◌, ℕ, List, OnOk, IfOk, codes, string_bytes};
 ghost use Rattle.std.specs.Io.KnownBytes.{Appends};
 ghost use Rattle.silt_server.specs.Serving.{network_text};
 ghost use Rattle.silt_wire.specs.Sessions.{IsBeginning};
 ghost use Rattle.silt_server.specs.Texts.{busy_text, calls_text, listening_text, refused_text};
 
-use crate::limits::Protocol;
+use crate::limits::{Limits, Protocol};
 use silt_event::Refusal;
 use silt_wire::write_refusal;
-use std::alloc::Global;
+use std::alloc::{AllocError, Global};
 use std::io::{self, Write};
 
 // Writes a line, and sends it off.
@@ -43,21 +43,28 @@ pub fn write_calls<W: Write>(alloc: Global, calls: u64, out: &mut W) -> io::Resu
     Ok(0)
 }
 
-// That all slots are taken.
-fn busy_text(protocol: Protocol) -> &'static [u8]
-    ensures { result.now ≡ busy_text protocol }
+// That so many connections are served already.
+fn busy_text(alloc: Global, limits: &Limits) -> Result<String, AllocError>
+    ensures { IfOk result (λ text. string_bytes text ≡ busy_text limits.now.protocol limits.now.clients) }
 {
-    match protocol {
-        Protocol::Resp => b"-ERR max number of clients reached\r\n",
-        _ => b"busy: 64 connections are served already\n",
+    match limits.protocol {
+        Protocol::Resp => String::from_str(alloc, "-ERR max number of clients reached\r\n"),
+        _ => {
+            let clients = limits.clients;
+            format!(in alloc; "busy: {clients} connections are served already\n")
+        }
     }
 }
 
-/// Writes that all slots are taken and the connection is closed, or as much of that as the system takes at once.
-pub fn turn_away<W: Write>(protocol: Protocol, out: &mut W)
-    ensures { (written : List ℕ) × IsBeginning written (busy_text protocol) × Appends (W.contents out.old) (W.contents out.new) written }
+/// Writes that so many connections are served already, or as much of that as the system takes at once. If out of memory for
+/// the text, it writes nothing.
+pub fn turn_away<W: Write>(alloc: Global, limits: &Limits, out: &mut W)
+    ensures { (written : List ℕ) × IsBeginning written (busy_text limits.now.protocol limits.now.clients) × Appends (W.contents out.old) (W.contents out.new) written }
 {
-    let _ = out.write(busy_text(protocol));
+    let Ok(text) = busy_text(alloc, limits) else {
+        return;
+    };
+    let _ = out.write(text.as_bytes());
 }
 
 /// Writes that the network failed, and returns the status.

@@ -36,6 +36,8 @@ trait Clients: Sync {
 fn limits_of(sessions: u32, audit: Option<u64>) -> Limits {
     Limits {
         sessions,
+        clients: 64,
+        password: None,
         audit,
         idle: None,
         wait: 10,

@@ -6,7 +6,8 @@ use Rattle.clap.specs.Words.{AddsSubcommand, App, Row, Rule, Text, app_of, Kinds
 use Rattle.clap.specs.declared.builder.Command.{Command}
 use Rattle.clap.specs.declared.builder.ArgAction.TheVariants.{Set, SetTrue}
 use Rattle.silt_wire.specs.Numbers.{number_of}
-use Rattle.silt_words.specs.Jobs.{Named, NamedService, format, script, run, tend, check, dump, plan, serve}
+use Rattle.silt_words.specs.Addresses.{is_address, is_loopback}
+use Rattle.silt_words.specs.Jobs.{Named, NamedAccess, NamedService, format, script, run, tend, check, dump, plan, serve}
 use Rattle.silt_words.specs.declared.job.Numbers.{Numbers}
 use Rattle.silt_words.specs.declared.job.PlanRequest.{PlanRequest}
 use Rattle.silt_words.specs.declared.job.RunOptions.{RunOptions}
@@ -64,8 +65,9 @@ plan_app = with_option (with_value (with_value (new_app (codes "plan")) (codes "
 
 abbrev pub serve_app : App
 serve_app =
-    with_flag (with_flag (with_option (with_option (with_option (with_option (with_option (with_value (with_file (new_app (codes "serve"))) (codes "PORT"))
-    (codes "audit")) (codes "sessions")) (codes "idle")) (codes "wait")) (codes "merge-at")) (codes "pipeline")) (codes "resp")
+    with_option (with_option (with_option (with_flag (with_flag (with_option (with_option (with_option (with_option (with_option (with_value (with_file (new_app (codes "serve"))) (codes "PORT"))
+    (codes "audit")) (codes "sessions")) (codes "idle")) (codes "wait")) (codes "merge-at")) (codes "pipeline")) (codes "resp"))
+    (codes "bind")) (codes "password-file")) (codes "clients")
 
 -- the program
 abbrev pub silt : App
@@ -119,6 +121,11 @@ limit_in rows name = option_map (option_and_then (λ limit. if limit == 0 then N
 abbrev pub count_in : List Row → Text → Option (Option ℕ)
 count_in rows name = option_and_then (λ given. if gives_zero given then None else Some given) (option_in rows name)
 
+-- whether a number, if one is given, is at most 1,024
+abbrev pub is_within : Option ℕ → Bool
+is_within None = true
+is_within (Some number) = nat_le number 1024
+
 -- whether an option without a value is given
 abbrev pub flag_in : List Row → Text → Bool
 flag_in rows name = option_map_or (λ text. bytes_eq text (codes "true")) (first_of name rows) false
@@ -135,13 +142,37 @@ run_options_in rows =
     else Some (record { tend = flag_in rows (codes "tend"); strict = flag_in rows (codes "strict"); merge_at = merge_at }))
     (count_in rows (codes "merge-at"))
 
+-- the address that a text gives, if a text is given
+abbrev pub address_given : Option Text → Option (Option Text)
+address_given None = Some None
+address_given (Some text) = if is_address text then Some (Some text) else None
+
+-- whether a server may listen at this address with this password's file: both are for Redis clients, and other machines reach it only with a password
+abbrev pub may_listen : Bool → Option Text → Option Text → Bool
+may_listen resp None None = true
+may_listen resp (Some address) None = resp && is_loopback address
+may_listen resp address (Some file) = resp
+
+-- how many clients there may be at once: none if the option is not given, and at most 1,024
+abbrev pub clients_in : List Row → Option (Option ℕ)
+clients_in rows = option_and_then (λ given. if is_within given then Some given else None) (count_in rows (codes "clients"))
+
+-- where a server listens, and who is let in
+abbrev pub access_in : List Row → Option NamedAccess
+access_in rows =
+    option_and_then (λ address. option_and_then (λ clients.
+    if may_listen (flag_in rows (codes "resp")) address (first_of (codes "password-file") rows)
+    then Some (record { address = address; password_file = first_of (codes "password-file") rows; clients = clients }) else None)
+    (clients_in rows)) (address_given (first_of (codes "bind") rows))
+
 -- how a file is to be served
 abbrev pub service_in : List Row → Option NamedService
 service_in rows =
-    option_and_then (λ file. option_and_then (λ port. option_and_then (λ audit. option_and_then (λ sessions. option_and_then (λ idle. option_and_then (λ wait. option_map (λ merge_at.
+    option_and_then (λ file. option_and_then (λ port. option_and_then (λ access. option_and_then (λ audit. option_and_then (λ sessions. option_and_then (λ idle. option_and_then (λ wait. option_map (λ merge_at.
     record {
       file = file;
       port = port;
+      access = access;
       audit = audit;
       sessions = sessions;
       idle = idle;
@@ -150,7 +181,7 @@ service_in rows =
       pipeline = flag_in rows (codes "pipeline");
       resp = flag_in rows (codes "resp");
     })
-    (count_in rows (codes "merge-at"))) (option_in rows (codes "wait"))) (limit_in rows (codes "idle"))) (limit_in rows (codes "sessions"))) (option_in rows (codes "audit"))) (port_in rows)) (file_in rows)
+    (count_in rows (codes "merge-at"))) (option_in rows (codes "wait"))) (limit_in rows (codes "idle"))) (limit_in rows (codes "sessions"))) (option_in rows (codes "audit"))) (access_in rows)) (port_in rows)) (file_in rows)
 
 -- what a store is to be planned for
 abbrev pub request_in : List Row → Option PlanRequest

@@ -1,16 +1,32 @@
 -- The jobs that the words of a command line may name.
-use Rattle.std.specs.Prelude.{ℕ, Bool, List, Option, Some, None}
+use Rattle.std.specs.Prelude.{ℕ, Bool, List, Option, Some, None, option_map}
 use Rattle.silt_words.specs.declared.job.Job.{Job}
 use Rattle.silt_words.specs.declared.job.Job.TheVariants.{Format, Script, Run, Tend, Check, Dump, Plan, Serve}
 use Rattle.silt_words.specs.declared.job.Numbers.{Numbers}
 use Rattle.silt_words.specs.declared.job.PlanRequest.{PlanRequest}
 use Rattle.silt_words.specs.declared.job.RunOptions.{RunOptions}
+use Rattle.silt_words.specs.declared.job.Access.{Access}
 use Rattle.silt_words.specs.declared.job.Service.{Service}
+
+-- where a server listens and who is let in, by the texts of the names
+pub record NamedAccess : Type 0 where
+  pub address : Option (List ℕ)
+  pub password_file : Option (List ℕ)
+  pub clients : Option ℕ
+
+-- what an access is by those texts
+abbrev pub named_access : Access → NamedAccess
+named_access access = record {
+  address = option_map (λ text. text.now) access.address;
+  password_file = option_map (λ file. file.now) access.password_file;
+  clients = access.clients;
+}
 
 -- how a file is to be served, by the text of its name
 pub record NamedService : Type 0 where
   pub file : List ℕ
   pub port : ℕ
+  pub access : NamedAccess
   pub audit : Option ℕ
   pub sessions : Option ℕ
   pub idle : Option ℕ
@@ -24,6 +40,7 @@ abbrev pub named_service : Service → NamedService
 named_service service = record {
   file = service.file.now;
   port = service.port;
+  access = named_access service.access;
   audit = service.audit;
   sessions = service.sessions;
   idle = service.idle;

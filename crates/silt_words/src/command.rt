@@ -119,7 +119,10 @@ fn serve<'a>(alloc: Global) -> Result<Command<'a>, AllocError>
     let with_wait = add_option(with_idle, alloc, "wait");
     let with_merge_at = add_option(with_wait, alloc, "merge-at");
     let with_pipeline = add_flag(with_merge_at, alloc, "pipeline");
-    add_flag(with_pipeline, alloc, "resp")
+    let with_resp = add_flag(with_pipeline, alloc, "resp");
+    let with_bind = add_option(with_resp, alloc, "bind");
+    let with_password = add_option(with_bind, alloc, "password-file");
+    add_option(with_password, alloc, "clients")
 }
 
 // The command with one more below it, if that one was made.

@@ -6,7 +6,8 @@ use std::fmt;
 #[derive(Clone, Copy, Debug)]
 pub struct Choice {
     pub name: &'static str,
-    pub has_number: bool,
+    /// What follows it, if anything does.
+    pub operand: Option<&'static str>,
     /// The option without which it means nothing.
     pub needs: Option<&'static str>,
     /// How it is written, and what it does.
@@ -14,7 +15,10 @@ pub struct Choice {
 }
 
 /// The most options that a job has.
-pub const MOST_OPTIONS: usize = 7;
+pub const MOST_OPTIONS: usize = 10;
+
+/// What follows most options.
+const NUMBER: &str = "a number";
 
 /// How a job is called: what may follow its word.
 #[derive(Clone, Copy, Debug)]
@@ -32,93 +36,114 @@ pub struct Form {
 
 const FORCE: Choice = Choice {
     name: "--force",
-    has_number: false,
+    operand: None,
     needs: None,
     line: "--force           formats a file that holds keys or other data; they are lost",
 };
 
 const TEND: Choice = Choice {
     name: "--tend",
-    has_number: false,
+    operand: None,
     needs: None,
     line: "--tend            converts and merges between the lines, as long as work is due",
 };
 
 const STRICT: Choice = Choice {
     name: "--strict",
-    has_number: false,
+    operand: None,
     needs: None,
     line: "--strict          ends with status 3 if a line was refused",
 };
 
 const MEMORY: Choice = Choice {
     name: "--memory",
-    has_number: true,
+    operand: Some(NUMBER),
     needs: None,
     line: "--memory BYTES    what the store may take of memory, merge included",
 };
 
 const AUDIT: Choice = Choice {
     name: "--audit",
-    has_number: true,
+    operand: Some(NUMBER),
     needs: None,
     line: "--audit N         refuses every call after the first N, which it records in memory; the record is not printed",
 };
 
 const SESSIONS: Choice = Choice {
     name: "--sessions",
-    has_number: true,
+    operand: Some(NUMBER),
     needs: None,
     line: "--sessions M      ends after M sessions; 0 has no end",
 };
 
 const IDLE: Choice = Choice {
     name: "--idle",
-    has_number: true,
+    operand: Some(NUMBER),
     needs: None,
     line: "--idle SECONDS    closes a connection that sends nothing for so long; 0 never does",
 };
 
 const WAIT: Choice = Choice {
     name: "--wait",
-    has_number: true,
+    operand: Some(NUMBER),
     needs: None,
     line: "--wait SECONDS    how long a command waits for room; 10 if left out, 0 refuses at once",
 };
 
 const RUN_MERGE_AT: Choice = Choice {
     name: "--merge-at",
-    has_number: true,
+    operand: Some(NUMBER),
     needs: Some("--tend"),
     line: "--merge-at K      run --tend: merges once there are K hash stores, and not only if no region is free",
 };
 
 const TEND_MERGE_AT: Choice = Choice {
     name: "--merge-at",
-    has_number: true,
+    operand: Some(NUMBER),
     needs: None,
     line: "--merge-at K      tend: merges only if there are K hash stores; any number if left out",
 };
 
 const SERVE_MERGE_AT: Choice = Choice {
     name: "--merge-at",
-    has_number: true,
+    operand: Some(NUMBER),
     needs: None,
     line: "--merge-at K      serve: merges once there are K hash stores; half of NH if left out",
 };
 
 const PIPELINE: Choice = Choice {
     name: "--pipeline",
-    has_number: false,
+    operand: None,
     needs: None,
     line: "--pipeline        does the commands that a connection sent together with one flush",
 };
 
 const RESP: Choice = Choice {
     name: "--resp",
-    has_number: false,
+    operand: None,
     needs: None,
     line: "--resp            speaks the protocol of Redis clients in place of lines",
+};
+
+const BIND: Choice = Choice {
+    name: "--bind",
+    operand: Some("an address"),
+    needs: Some("--resp"),
+    line: "--bind ADDRESS    serve --resp: listens on this IP address; 127.0.0.1 if left out",
+};
+
+const PASSWORD_FILE: Choice = Choice {
+    name: "--password-file",
+    operand: Some("a file"),
+    needs: Some("--resp"),
+    line: "--password-file PATH  serve --resp: asks clients for the password in the first line of this file",
+};
+
+const CLIENTS: Choice = Choice {
+    name: "--clients",
+    operand: Some(NUMBER),
+    needs: None,
+    line: "--clients N       serves at most N connections at once, 1 to 1024; 64 if left out",
 };
 
 /// The lines that every job with an input replies to.
@@ -192,7 +217,18 @@ const FORMS: [Form; 8] = [
         job: "serve",
         line: "silt serve FILE PORT [OPTION]...            replies to the lines of a port's connections",
         values: &["FILE", "PORT"],
-        options: &[AUDIT, SESSIONS, IDLE, WAIT, SERVE_MERGE_AT, PIPELINE, RESP],
+        options: &[
+            AUDIT,
+            SESSIONS,
+            IDLE,
+            WAIT,
+            SERVE_MERGE_AT,
+            PIPELINE,
+            RESP,
+            BIND,
+            PASSWORD_FILE,
+            CLIENTS,
+        ],
         input: &[EVENTS],
     },
 ];

@@ -24,12 +24,24 @@ pub struct RunOptions {
     pub merge_at: Option<u32>,
 }
 
+/// Where a server listens, and who is let in.
+#[derive(Clone, Copy, Debug)]
+pub struct Access<'a> {
+    /// The address to listen on, in digits. 127.0.0.1 if the option is left out.
+    pub address: Option<&'a str>,
+    /// The file whose first line is the password. None if all are let in.
+    pub password_file: Option<&'a str>,
+    /// How many clients are served at once, at least one. None if the option is left out.
+    pub clients: Option<u32>,
+}
+
 /// How the store in a file is to be served.
 #[derive(Clone, Copy, Debug)]
 pub struct Service<'a> {
     pub file: &'a str,
     /// The port to listen on. For 0 the system chooses one.
     pub port: u16,
+    pub access: Access<'a>,
     /// The most calls of the record, if one is kept.
     pub audit: Option<u32>,
     /// After how many sessions, at least one, the server ends. None if it never does.

@@ -5,13 +5,15 @@
 //! digits, and at most 4,294,967,295; a port is at most 65,535.
 //!
 //! Options are `--force` of `format`, `--tend` and `--strict` of `run`, `--memory BYTES` of `plan`, and `--audit N`,
-//! `--sessions M`, `--idle SECONDS`, `--wait SECONDS`, `--pipeline` and `--resp` of `serve`. Each is given at most once, before,
+//! `--sessions M`, `--idle SECONDS`, `--wait SECONDS`, `--merge-at K`, `--pipeline`, `--resp`, `--bind ADDRESS`,
+//! `--password-file PATH` and `--clients N` of `serve`. Each is given at most once, before,
 //! between or after the values, and `--audit=N` is the same as two words. No other word of more than one character may
 //! begin with a hyphen, but after the first word `--` every word is a value. Without `--sessions`, or with 0, the server
 //! serves any number of sessions. Without `--idle`, or with 0, it closes no silent connection. With `--wait 0` no command
 //! waits for room; without `--wait` the server decides how long.
 #![tactic(auto)]
 
+mod address;
 mod command;
 mod forms;
 mod job;
@@ -19,6 +21,6 @@ mod usage;
 mod words;
 
 pub use forms::{Form, Forms};
-pub use job::{Job, Numbers, PlanRequest, RunOptions, Service, WordsError};
+pub use job::{Access, Job, Numbers, PlanRequest, RunOptions, Service, WordsError};
 pub use usage::{Complaint, VERSION, asks_version, complaint_of, forms_for};
-pub use words::read_words;
+pub use words::{MOST_CLIENTS, read_words};

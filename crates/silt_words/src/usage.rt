@@ -1,6 +1,8 @@
 // What is wrong with words that name no job, and what people are shown then.
 
+use crate::address::{is_address, is_loopback};
 use crate::forms::{Form, Forms, MOST_OPTIONS, form_of};
+use crate::words::MOST_CLIENTS;
 use silt_wire::number_of;
 use std::fmt;
 
@@ -20,8 +22,11 @@ pub enum Complaint<'a> {
     TooMany(&'a str),
     /// There is no such option, or no option is allowed here.
     UnknownOption(&'a str),
-    /// No number comes after this option.
-    LacksNumber(&'a str),
+    /// What has to follow this option is missing.
+    Lacks {
+        name: &'static str,
+        operand: &'static str,
+    },
     /// This option is given a second time.
     Twice(&'a str),
     /// This option is given without that one.
@@ -29,8 +34,10 @@ pub enum Complaint<'a> {
         name: &'static str,
         other: &'static str,
     },
-    /// The word for this value is no number, or one that is too great.
-    NoNumber {
+    /// Other machines reach this address, and no password is asked for.
+    Unguarded(&'a str),
+    /// The word for this value is none: no number, one that is too great, or no address.
+    NoValue {
         name: &'a str,
         word: &'a str,
     },
@@ -44,18 +51,26 @@ impl fmt::Display for Complaint<'_> {
             Complaint::Missing(name) => write!(f, "{name} is missing"),
             Complaint::TooMany(word) => write!(f, "'{word}' is one word too many"),
             Complaint::UnknownOption(word) => write!(f, "'{word}' is no option here"),
-            Complaint::LacksNumber(name) => write!(f, "{name} needs a number behind it"),
+            Complaint::Lacks { name, operand } => write!(f, "{name} needs {operand} behind it"),
             Complaint::Twice(name) => write!(f, "{name} is given twice"),
             Complaint::Needs { name, other } => write!(f, "{name} needs {other}"),
-            Complaint::NoNumber { name, word } => {
-                write!(
-                    f,
-                    "{name} cannot be '{word}': {}",
-                    why_no_number(name, word)
-                )
+            Complaint::Unguarded(address) => write!(
+                f,
+                "--bind {address} needs --password-file: other machines reach this address"
+            ),
+            Complaint::NoValue { name, word } => {
+                write!(f, "{name} cannot be '{word}': {}", why_no_value(name, word))
             }
         }
     }
+}
+
+// Why a word cannot be the value of this name.
+fn why_no_value(name: &str, word: &str) -> &'static str {
+    if name == "--bind" {
+        return "an address is written in digits, as 10.0.0.1";
+    }
+    why_no_number(name, word)
 }
 
 // Why a word cannot be the number of this name.
@@ -66,6 +81,9 @@ fn why_no_number(name: &str, word: &str) -> &'static str {
         }
         if name == "--merge-at" && number_of(word.as_bytes()) == Some(0) {
             return "a merge is of at least one hash store";
+        }
+        if name == "--clients" {
+            return "a server has 1 to 1024 clients at once";
         }
         return "a number has at most ten digits, and is at most 4294967295";
     }
@@ -139,41 +157,51 @@ fn form_complaint(form: Form, words: &[String]) -> Option<Complaint<'_>> {
 
 /// A walk over the words after a job's.
 #[derive(Drop)]
-struct Walk {
+struct Walk<'a> {
     form: Form,
     /// How many values were met.
     place: usize,
-    /// The option whose number is the next word.
-    awaited: Option<&'static str>,
+    /// The option whose operand is the next word, and what that is.
+    awaited: Option<(&'static str, &'static str)>,
     /// Which options of the form were met.
     met: [bool; MOST_OPTIONS],
     /// Whether the word `--` was met. After it every word is a value.
     is_past_options: bool,
+    /// The address to listen on that other machines reach, if one was met.
+    open_address: Option<&'a str>,
 }
 
-impl Walk {
-    fn new(form: Form) -> Walk {
+impl<'a> Walk<'a> {
+    fn new(form: Form) -> Walk<'a> {
         Walk {
             form,
             place: 0,
             awaited: None,
             met: [false; MOST_OPTIONS],
             is_past_options: false,
+            open_address: None,
         }
     }
 
     // What is wrong with the next word.
-    fn take<'a>(&mut self, word: &'a str) -> Option<Complaint<'a>> {
+    fn take(&mut self, word: &'a str) -> Option<Complaint<'a>> {
         let is_option = word.len() > 1 && word.starts_with('-');
         match self.awaited.take() {
-            Some(name) if is_option => Some(Complaint::LacksNumber(name)),
-            Some(name) => value_complaint(name, word),
+            Some((name, operand)) if is_option => Some(Complaint::Lacks { name, operand }),
+            Some((name, _)) => self.take_operand(name, word),
             None if is_option && !self.is_past_options => self.take_option(word),
             None => self.take_value(word),
         }
     }
 
-    fn take_value<'a>(&mut self, word: &'a str) -> Option<Complaint<'a>> {
+    fn take_operand(&mut self, name: &'static str, word: &'a str) -> Option<Complaint<'a>> {
+        if name == "--bind" && !is_loopback(word) {
+            self.open_address = Some(word);
+        }
+        value_complaint(name, word)
+    }
+
+    fn take_value(&mut self, word: &'a str) -> Option<Complaint<'a>> {
         let Some(name) = self.form.values.get(self.place) else {
             return Some(Complaint::TooMany(word));
         };
@@ -181,13 +209,13 @@ impl Walk {
         value_complaint(*name, word)
     }
 
-    fn take_option<'a>(&mut self, word: &'a str) -> Option<Complaint<'a>> {
+    fn take_option(&mut self, word: &'a str) -> Option<Complaint<'a>> {
         if word == "--" {
             self.is_past_options = true;
             return None;
         }
-        let (name, number) = match word.split_once('=') {
-            Some((name, number)) => (name, Some(number)),
+        let (name, operand) = match word.split_once('=') {
+            Some((name, operand)) => (name, Some(operand)),
             None => (word, None),
         };
         for (option, met) in self.form.options.iter().zip(self.met.iter_mut()) {
@@ -198,22 +226,23 @@ impl Walk {
                 return Some(Complaint::Twice(option.name));
             }
             *met = true;
-            return match number {
-                Some(number) if option.has_number => value_complaint(option.name, number),
-                Some(_) => Some(Complaint::UnknownOption(word)),
-                None => {
-                    self.awaited = option.has_number.then_some(option.name);
+            return match (option.operand, operand) {
+                (Some(_), Some(operand)) => self.take_operand(option.name, operand),
+                (None, Some(_)) => Some(Complaint::UnknownOption(word)),
+                (Some(what), None) => {
+                    self.awaited = Some((option.name, what));
                     None
                 }
+                (None, None) => None,
             };
         }
         Some(Complaint::UnknownOption(word))
     }
 
     // What is missing after the last word.
-    fn missing(&self) -> Option<Complaint<'static>> {
-        if let Some(name) = self.awaited {
-            return Some(Complaint::LacksNumber(name));
+    fn missing(&self) -> Option<Complaint<'a>> {
+        if let Some((name, operand)) = self.awaited {
+            return Some(Complaint::Lacks { name, operand });
         }
         match self.form.values.get(self.place) {
             Some(name) => Some(Complaint::Missing(*name)),
@@ -222,7 +251,7 @@ impl Walk {
     }
 
     // Which option was met without the one that it needs.
-    fn lacking(&self) -> Option<Complaint<'static>> {
+    fn lacking(&self) -> Option<Complaint<'a>> {
         for (option, met) in self.form.options.iter().zip(self.met.iter()) {
             if let Some(other) = option.needs
                 && *met
@@ -234,7 +263,12 @@ impl Walk {
                 });
             }
         }
-        None
+        match self.open_address {
+            Some(address) if !self.has_met("--password-file") => {
+                Some(Complaint::Unguarded(address))
+            }
+            _ => None,
+        }
     }
 
     // Whether the option of this name was met.
@@ -252,13 +286,17 @@ fn value_complaint<'a>(name: &'static str, word: &'a str) -> Option<Complaint<'a
     if is_value(name, word) {
         return None;
     }
-    Some(Complaint::NoNumber { name, word })
+    Some(Complaint::NoValue { name, word })
 }
 
 // Whether a word may be the value of this name.
 fn is_value(name: &str, word: &str) -> bool {
     match name {
-        "FILE" => true,
+        "FILE" | "--password-file" => true,
+        "--bind" => is_address(word),
+        "--clients" => {
+            number_of(word.as_bytes()).is_some_and(|clients| 0 < clients && clients <= MOST_CLIENTS)
+        }
         "PORT" => number_of(word.as_bytes()).is_some_and(|port| port <= 65_535),
         "--merge-at" => number_of(word.as_bytes()).is_some_and(|stores| stores > 0),
         _ => number_of(word.as_bytes()).is_some(),

@@ -72,7 +72,7 @@ fn serve_seated<D: Disk, N: DeskId + InboxId + Send + Sync, R: Threads + Wait + 
     put: Blank,
     taken: Blank,
 ) -> Ended
-    requires put { (put.name ≡ N.put_name) × (put.parts ≡ N.feeders) × (N.feeders ≡ 64) }
+    requires put { (put.name ≡ N.put_name) × (put.parts ≡ N.feeders) × (N.feeders ≡ 1024) }
     requires taken { (taken.name ≡ N.taken_name) × (taken.parts ≡ 1) }
 {
     let state = ServerState::<N>::new(alloc, seats, put, taken)?;
@@ -101,7 +101,7 @@ fn serve_recorded<D: Disk, N: DeskId + InboxId + Send + Sync, R: Threads + Wait 
 ) -> Ended
     requires calls { (desk_blanks.0.name ≡ N.calls_name) × (desk_blanks.0.parts ≡ N.seats) × (N.seats ≡ 3) }
     requires accepted { (desk_blanks.1.name ≡ N.accepted_name) × (desk_blanks.1.parts ≡ N.seats) }
-    requires put { (inbox_blanks.0.name ≡ N.put_name) × (inbox_blanks.0.parts ≡ N.feeders) × (N.feeders ≡ 64) }
+    requires put { (inbox_blanks.0.name ≡ N.put_name) × (inbox_blanks.0.parts ≡ N.feeders) × (N.feeders ≡ 1024) }
     requires taken { (inbox_blanks.1.name ≡ N.taken_name) × (inbox_blanks.1.parts ≡ 1) }
     requires trace { IsHistory kept (seen D.Disk core) × (kept.calls ≡ []) }
 {
@@ -130,7 +130,7 @@ fn serve_kept<R: Threads + Wait + Clock + Sync>(
             core,
             kept,
             (Blank::new(3), Blank::new(3)),
-            (Blank::new(64), Blank::new(1)),
+            (Blank::new(1024), Blank::new(1)),
         ),
         Err(_) => None,
     }

@@ -14,4 +14,7 @@ returns c =
     let stands6 = one_more _ _ (λ old arg new adds. adds.globals) _ _ c.add_option-with_wait.ensures stands5 in
     let stands7 = one_more _ _ (λ old arg new adds. adds.globals) _ _ c.add_option-with_merge_at.ensures stands6 in
     let stands8 = one_more _ _ (λ old arg new adds. adds.globals) _ _ c.add_flag-with_pipeline.ensures stands7 in
-    joins_as _ (λ old sub new adds. adds.shape) _ (one_more _ _ (λ old arg new adds. adds.globals) _ _ c.add_flag.ensures stands8)
+    let stands9 = one_more _ _ (λ old arg new adds. adds.globals) _ _ c.add_flag-with_resp.ensures stands8 in
+    let stands10 = one_more _ _ (λ old arg new adds. adds.globals) _ _ c.add_option-with_bind.ensures stands9 in
+    let stands11 = one_more _ _ (λ old arg new adds. adds.globals) _ _ c.add_option-with_password.ensures stands10 in
+    joins_as _ (λ old sub new adds. adds.shape) _ (one_more _ _ (λ old arg new adds. adds.globals) _ _ c.add_option.ensures stands11)

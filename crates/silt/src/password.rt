@@ -1,0 +1,61 @@
+// The password that a server asks its clients for.
+ghost use Rattle.std.specs.Prelude.{◌≡◌, IfOk, OnErr};
+ghost use Rattle.std.specs.List.{position};
+ghost use Rattle.sha1.specs.Sha1.{sha1};
+ghost use Rattle.silt.specs.Passwords.{IsPassword, ReadsPassword, first_line};
+
+use crate::standard_streams::StandardStreams;
+use sha1::Sha1;
+use silt_resp::LONGEST_WORD;
+use std::io::{self, ErrorKind};
+
+// Where the first line feed is.
+fn feed_at(bytes: &[u8]) -> Option<usize>
+    ensures { result ≡ position (λ b. b == 10) bytes.now }
+{
+    bytes.iter().position(|byte| *byte == b'\n')
+}
+
+// The first line, without its line feed.
+fn first_line(bytes: &[u8]) -> &[u8]
+    ensures { result.now ≡ first_line bytes.now }
+{
+    match feed_at(bytes) {
+        Some(at) => bytes.split_at(at).0,
+        None => bytes,
+    }
+}
+
+// The SHA-1 digest of a password: the first line of these bytes.
+fn digest_of(bytes: &[u8]) -> io::Result<[u8; 20]>
+    ensures digest { IfOk result (λ digest. IsPassword (first_line bytes.now) digest) }
+    ensures none { OnErr result (IsPassword (first_line bytes.now) (sha1 (first_line bytes.now)) → ⊥) }
+{
+    let line = first_line(bytes);
+    if line.is_empty() {
+        return Err(io::Error::new(
+            ErrorKind::InvalidData,
+            "the first line of the password file is empty",
+        ));
+    }
+    if line.len() > LONGEST_WORD {
+        return Err(io::Error::new(
+            ErrorKind::InvalidData,
+            "the first line of the password file is longer than 8192 bytes",
+        ));
+    }
+    Ok(Sha1::digest(line))
+}
+
+/// The SHA-1 digest of the password in a file, which is the file's first line without its line feed.
+///
+/// # Errors
+///
+/// The system's, and an empty line, and one of more than 8,192 bytes, which is more than a client can send.
+pub fn read_password<H: StandardStreams>(rt: &H, path: &str) -> io::Result<[u8; 20]>
+    ensures { IfOk result (ReadsPassword (H.begins rt.now) path.now) }
+{
+    let mut buffer = [0u8; LONGEST_WORD + 2];
+    let count = rt.read_start(path, &mut buffer)?;
+    digest_of(&buffer[..count])
+}
