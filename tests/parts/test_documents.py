@@ -37,6 +37,7 @@ LEFT_OUT = {
     r"\bstrace\b": "needs the system's trace, and the document shortens its lines",
     r"\bbench/run\b|measure_(server|redis)\b": "measures how fast something is",
     r"_tests_tests\b": "needs the test programs of crates",
+    r"--bind 10\.": "needs an address of a network",
     r"^git\b": "works on the repository",
 }
 if not shutil.which("redis-cli"):

@@ -1,6 +1,6 @@
 """Four servers behind nutcracker, a proxy that spreads names over servers of the Redis protocol.
 
-Its configuration is that of the page on Redis clients. It comes with Debian's package nutcracker.
+Its configuration is that of the page on many machines. It comes with Debian's package nutcracker.
 Without it the tests are left out.
 """
 import random
@@ -27,34 +27,46 @@ AWAY = b"-ERR "
 
 @unittest.skipUnless(shutil.which("nutcracker"), "nutcracker is not here")
 class Proxy(ServedCase):
-    options = ("--resp",)
+    # The password of the servers, if they have one.
+    password = None
 
     def setUp(self):
         super().setUp()
-        self.ports = {name: free_port() for name in SERVERS}
-        self.servers = {}
+        self.options = ("--resp",)
+        if self.password:
+            self.path("password").write_text(self.password + "\n")
+            self.options += ("--password-file", "password")
+        self.ports, self.servers = {}, {}
         for name in SERVERS:
-            self.store(GEOMETRY, name=name)
-            self.start_server(name)
+            self.add_server(name)
         self.begin_proxy()
+
+    def add_server(self, name, geometry=GEOMETRY, lines=()):
+        """Serves a new store, into which these lines were put."""
+        self.ports[name] = free_port()
+        self.store(geometry, lines, name=name)
+        self.start_server(name)
 
     def start_server(self, name):
         """Serves a store at the port that the proxy knows."""
         self.servers[name] = self.serve(name=name, port=self.ports[name])
 
     def configuration(self):
-        """The configuration of the page on Redis clients, with free ports."""
-        text = re.search("```yaml\n(.*?)```", (TOP / "docs/redis.md").read_text(), re.S).group(1)
+        """The configuration of the page on many machines, with servers on this one."""
+        text = re.search("```yaml\n(.*?)```", (TOP / "docs/many-machines.md").read_text(), re.S).group(1)
         text = re.sub(r"(listen: 127\.0\.0\.1):\d+", rf"\1:{self.port}", text)
-        return re.sub(r":\d+:1 (\w+)", lambda it: f":{self.ports[it.group(1)]}:1 {it.group(1)}", text)
+        password = f"  redis_auth: {self.password}\n" if self.password else ""
+        text = re.sub(r"  redis_auth: .*\n", password, text)
+        text = re.sub(r"    - .*\n", "", text)
+        return text + "".join(f"    - 127.0.0.1:{port}:1 {it}\n" for it, port in self.ports.items())
 
     def begin_proxy(self):
         self.port = free_port()
         self.path("proxy.yml").write_text(self.configuration())
         words = ["nutcracker", "-c", "proxy.yml", "-o", "proxy.log", "-s", str(free_port())]
-        proxy = subprocess.Popen(words, cwd=self.folder)
-        self.addCleanup(proxy.wait)
-        self.addCleanup(proxy.kill)
+        self.proxy = subprocess.Popen(words, cwd=self.folder)
+        self.addCleanup(self.proxy.wait)
+        self.addCleanup(self.proxy.kill)
         self.wait_until(self.is_listening, "the proxy to listen")
 
     def is_listening(self):
@@ -64,19 +76,25 @@ class Proxy(ServedCase):
             return False
         return True
 
-    def proxy_client(self):
-        client = RespClient(self.port)
+    def client_of(self, port):
+        """A client that is let in."""
+        client = RespClient(port)
         self.addCleanup(client.close)
+        if self.password:
+            self.assertEqual(client.ask("AUTH", self.password), OK)
         return client
 
-    def charges(self):
-        """How many names each store has, once its server has ended."""
-        counts = {}
+    def proxy_client(self):
+        return self.client_of(self.port)
+
+    def dumps(self):
+        """The lines of a dump of each store, once its server has ended."""
+        lines = {}
         for name, server in self.servers.items():
             server.send_signal(signal.SIGTERM)
             server.ended()
-            counts[name] = len(self.silt("dump", name).lines)
-        return counts
+            lines[name] = self.silt("dump", name).lines
+        return lines
 
     def test_names_are_spread_and_found(self):
         client = self.proxy_client()
@@ -85,9 +103,33 @@ class Proxy(ServedCase):
             self.assertEqual(client.ask("SET", name, name), OK, name)
         for name in names:
             self.assertEqual(client.ask("GET", name), string(name), name)
-        counts = self.charges()
+        counts = {name: len(lines) for name, lines in self.dumps().items()}
         self.assertEqual(sum(counts.values()), NAMES, counts)
         self.assertGreater(min(counts.values()), NAMES // 8, counts)
+
+    def test_a_server_is_added(self):
+        """The new one gets all dumps, as the page says. Each name is then found through the new list."""
+        client = self.proxy_client()
+        names = [f"user:{it}" for it in range(NAMES)]
+        for name in names:
+            self.assertEqual(client.ask("SET", name, name), OK, name)
+        lines = [line for dump in self.dumps().values() for line in dump]
+        self.assertEqual(len(lines), NAMES)
+        self.proxy.kill()
+        self.add_server("fifth", lines=[*lines, "flush"])
+        for name in SERVERS:
+            self.start_server(name)
+        self.begin_proxy()
+        client = self.proxy_client()
+        for name in names:
+            self.assertEqual(client.ask("GET", name), string(name), name)
+        fifth = self.client_of(self.ports["fifth"])
+        moved = 0
+        for name in names:
+            self.assertEqual(client.ask("SET", name, "new"), OK)
+            moved += fifth.ask("GET", name) == string("new")
+        self.assertGreater(moved, NAMES // 10)
+        self.assertLess(moved, NAMES // 2)
 
     def test_commands_over_several_servers(self):
         client = self.proxy_client()
@@ -149,7 +191,7 @@ class Proxy(ServedCase):
         """Sets numbers that rise from this one, until the test says that it is over. Keeps the last
         one that was +OK by its name, and under the empty name how many there were."""
         draw = random.Random(n + number)
-        client = RespClient(self.port)
+        client = self.proxy_client()
         while not self.is_over:
             n += 1
             name = f"c{number}:{draw.randrange(100)}"
@@ -173,3 +215,9 @@ class Proxy(ServedCase):
                 break
             found = client.ask("GET", name)
         self.assertGreaterEqual(int(found.split(b"\r\n")[1]), n, name)
+
+
+class GuardedProxy(Proxy):
+    """The same with servers that ask for a password."""
+
+    password = "a secret of four servers"
