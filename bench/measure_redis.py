@@ -1,11 +1,11 @@
 #!/usr/bin/env python3
 """Measures silt beside redis with redis-benchmark, and prints a table for docs/performance.md.
 
-    bench/measure_redis.py [--program PATH] [--folder FOLDER]
+    bench/measure_redis.py [--program PATH] [--folder FOLDER] [--proxy]
 
-redis appends each command to its file and syncs it before the reply (appendfsync always), as silt does. Both set and
+With --proxy each of the two is behind a nutcracker of its own. redis appends each command to its file and syncs it before the reply (appendfsync always), as silt does. Both set and
 get 64 bytes under 100,000 names. Of each row three runs are made by turns, and the middle one is printed. On Debian it
-wants redis-server and redis-tools. Nothing else is to run meanwhile.
+wants redis-server, redis-tools and, with --proxy, nutcracker. Nothing else is to run meanwhile.
 """
 import argparse
 import contextlib
@@ -19,9 +19,23 @@ import time
 TOP = pathlib.Path(__file__).resolve().parent.parent
 NAMES = 100_000
 LENGTH = 64
+VALUE_LEN = LENGTH + 2
+# A store with eight times as large logs as that of `plan`. It takes 9 MB of memory at most.
+LARGE = [VALUE_LEN, 8_192, 28_672, 3, 8, NAMES + 11 * 28_672]
 # Connections, commands that each sends at once, and commands in all.
 LOADS = [(1, 1, 1_500), (8, 1, 8_000), (64, 1, 50_000), (8, 50, 200_000), (64, 50, 300_000)]
 RUNS = 3
+# The configuration of a proxy before one server.
+PROXY = """one:
+  listen: 127.0.0.1:{front}
+  redis: true
+  hash: md5
+  distribution: ketama
+  auto_eject_hosts: false
+  timeout: 20000
+  servers:
+    - 127.0.0.1:{port}:1 one
+"""
 
 
 def free_port():
@@ -29,13 +43,17 @@ def free_port():
         return listener.getsockname()[1]
 
 
-def silt_words(program, folder, port):
+def planned(program):
+    """The six numbers that `plan` gives."""
+    words = [program, "plan", str(NAMES), str(VALUE_LEN)]
+    said = subprocess.run(words, capture_output=True, text=True, check=True).stdout
+    return said.splitlines()[0].split()
+
+
+def silt_words(program, path, numbers, port):
     """The words that serve a new store."""
-    value_len = LENGTH + 2
-    planned = subprocess.run([program, "plan", str(NAMES), str(value_len)], capture_output=True, text=True, check=True)
-    numbers = planned.stdout.splitlines()[0].split()[-6:]
-    subprocess.run([program, "format", folder / "store", *numbers], check=True, stdout=subprocess.DEVNULL)
-    return [program, "serve", folder / "store", str(port), "--resp"]
+    subprocess.run([program, "format", path, *map(str, numbers)], check=True, stdout=subprocess.DEVNULL)
+    return [program, "serve", path, str(port), "--resp"]
 
 
 def redis_words(folder, port):
@@ -57,6 +75,19 @@ def serving(words, port):
             running.terminate()
 
 
+@contextlib.contextmanager
+def fronted(folder, port, has_proxy):
+    """The port at which clients reach the server of a port: its own, or that of a proxy before it."""
+    if not has_proxy:
+        yield port
+        return
+    front = free_port()
+    path = folder / f"proxy-{front}.yml"
+    path.write_text(PROXY.format(front=front, port=port))
+    with serving(["nutcracker", "-c", path, "-o", "/dev/null", "-s", str(free_port())], front):
+        yield front
+
+
 def measured(port, load):
     """SETs and GETs a second."""
     connections, at_once, count = load
@@ -71,20 +102,30 @@ def main():
     words = argparse.ArgumentParser(description=__doc__, formatter_class=argparse.RawDescriptionHelpFormatter)
     words.add_argument("--program", default=TOP / "crates/silt/out/silt")
     words.add_argument("--folder")
+    words.add_argument("--proxy", action="store_true")
     words = words.parse_args()
-    print("| connections | at once | SET/s silt | redis | silt to redis | GET/s silt | redis | silt to redis |")
-    print("|---|---|---|---|---|---|---|---|")
+    heads = (f"{kind}/s {it}" for kind in ("SET", "GET") for it in ("planned", "large logs", "redis", "to redis"))
+    print(f"| connections | at once | {' | '.join(heads)} |")
+    print("|---" * 10 + "|")
     with tempfile.TemporaryDirectory(dir=words.folder) as folder:
         folder = pathlib.Path(folder)
-        ports = free_port(), free_port()
-        silt = serving(silt_words(words.program, folder, ports[0]), ports[0])
-        with silt, serving(redis_words(folder, ports[1]), ports[1]):
+        ports = [free_port() for _ in range(3)]
+        servers = [
+            silt_words(words.program, folder / "planned", planned(words.program), ports[0]),
+            silt_words(words.program, folder / "large", LARGE, ports[1]),
+            redis_words(folder, ports[2]),
+        ]
+        with contextlib.ExitStack() as running:
+            for server, port in zip(servers, ports):
+                running.enter_context(serving(server, port))
+            ports = [running.enter_context(fronted(folder, port, words.proxy)) for port in ports]
             for load in LOADS:
                 runs = [[measured(port, load) for port in ports] for _ in range(RUNS)]
                 row = [load[0], load[1]]
                 for kind in range(2):
-                    silt_s, redis_s = (statistics.median(run[server][kind] for run in runs) for server in range(2))
-                    row += [f"{silt_s:,.0f}", f"{redis_s:,.0f}", f"{silt_s / redis_s:.2f}"]
+                    rates = [statistics.median(run[server][kind] for run in runs) for server in range(3)]
+                    row += [f"{it:,.0f}" for it in rates]
+                    row.append(f"{rates[0] / rates[2]:.2f} and {rates[1] / rates[2]:.2f}")
                 print(f"| {' | '.join(map(str, row))} |", flush=True)
 
 
