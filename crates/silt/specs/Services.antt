@@ -1,26 +1,26 @@
 -- What serving the disk of a path does.
-use Rattle.std.specs.Prelude.{◌≡◌, ◌⊎◌, ◌<◌, ℕ, Bool, true, false, List, IfSome, Option, codes, unwrap_or}
+use Rattle.std.specs.Prelude.{◌≡◌, ◌⊎◌, ◌<◌, ℕ, Bool, true, false, IfOk, IfSome, List, Option, None, Some, codes, unwrap_or}
+use Rattle.std.specs.Net.Socket.{socket_port}
 use Rattle.std.specs.Option.{IsSomeAnd}
 use Rattle.silt_disk.specs.Layout.{Shape}
 use Rattle.silt_disk.specs.declared.disk.Disk.{Ghosts}
-use Rattle.std.specs.Io.KnownBytes.{Appends}
-use Rattle.silt_event.specs.declared.refusal.Refusal.{Refusal}
-use Rattle.silt_event.specs.declared.refusal.Refusal.TheVariants.{BadGeometry}
-use Rattle.silt_event.specs.declared.reply.Reply.TheVariants.{Refused}
-use Rattle.silt_recovery.specs.Opening.{LeavesNoOther}
 use Rattle.silt_server.specs.Serving.{IsServed, ServesKept, PrintsNotServed}
-use Rattle.silt_store_set.specs.CoreInvariant.{LeavesBegun}
-use Rattle.silt_store_set.specs.CoreState.{CoreState, Opens}
-use Rattle.silt_jobs.specs.Files.{PrintsNoDisk}
-use Rattle.silt_jobs.specs.Jobs.{Prints, PrintsFewRegions, PrintsOpening}
-use Rattle.silt_words.specs.Jobs.{NamedAccess}
 use Rattle.silt_server.specs.declared.limits.Protocol.{Protocol}
 use Rattle.silt_server.specs.declared.limits.Protocol.TheVariants.{Lines, PipelinedLines, Resp}
-use Rattle.silt_jobs.specs.Scripts.{reply_line}
-
--- the address to listen on: this machine's own if none is given
-abbrev pub address_text : NamedAccess → List ℕ
-address_text access = unwrap_or access.address (codes "127.0.0.1")
+use Rattle.silt_store_set.specs.CoreInvariant.{LeavesBegun}
+use Rattle.silt_store_set.specs.CoreState.{CoreState, Opens}
+use Rattle.silt_words.specs.Jobs.{NamedAccess, named_access}
+use Rattle.silt_words.specs.declared.job.Service.{Service}
+use Rattle.silt_jobs.specs.Ended.{Refuses}
+use Rattle.silt_jobs.specs.Jobs.{RefusesFewRegions}
+use Rattle.silt_jobs.specs.Openings.{RefusesDisk, RefusesNoDisk}
+use Rattle.silt_jobs.specs.declared.ended.Ended.{Ended}
+use Rattle.silt_jobs.specs.declared.ended.Why.TheVariants.{ShortValues}
+use Rattle.silt_jobs.specs.declared.failures.Failures.{Failures}
+use Rattle.silt_jobs.specs.declared.urgent.Urgent.{Urgent}
+use Rattle.silt_jobs.specs.declared.urgent.Urgent.TheVariants.{NoAddress, NoPassword, NoPort}
+use Rattle.silt.specs.declared.listener.NoEntrance.{NoEntrance}
+use Rattle.silt.specs.declared.listener.NoEntrance.TheVariants.{Password, Address, Socket}
 
 -- what a server and its clients send each other
 abbrev pub protocol_of : Bool → Bool → Protocol
@@ -28,49 +28,72 @@ protocol_of pipeline true = Resp
 protocol_of true false = PipelinedLines
 protocol_of false false = Lines
 
--- The values of a store for Redis clients have no room for a string's length. The line says that, and the disk is returned.
-abbrev pub PrintsShortValues : {D : Type 0} → Bool → CoreState D → D → Option (List ℕ) → Option (List ℕ) → Type 0
-PrintsShortValues resp core new before after =
-    (new ≡ core.disk) × (resp ≡ true) × (core.shape.value_len < 2) × Prints {F = Unit {0}} BadGeometry before after
+-- the values of a store for Redis clients have no room for a string's length: the job is refused, and the disk is returned
+abbrev pub RefusesShortValues : {D E F : Type 0} → Bool → CoreState D → D → Ended E F → Option (List ℕ) → Option (List ℕ) → Type 0
+RefusesShortValues resp core new ended before after = (new ≡ core.disk) × (resp ≡ true) × (core.shape.value_len < 2) × Refuses ShortValues ended before after
 
--- a store is not served, since it has too few hash regions or too short values
-abbrev pub PrintsUnfit : {D : Type 0} → Bool → Option ℕ → CoreState D → D → Option (List ℕ) → Option (List ℕ) → Type 0
-PrintsUnfit resp merge_at core new before after = PrintsFewRegions merge_at core new before after ⊎ PrintsShortValues resp core new before after
+-- the address to listen on: this machine's own if none is given
+abbrev pub address_text : NamedAccess → List ℕ
+address_text access = unwrap_or access.address (codes "127.0.0.1")
 
--- a note says that the server cannot listen on this port, or there is none
-abbrev pub MayTellPort : {N : Type 0} → (N → N → ℕ → Type 0) → ℕ → N → N → Type 0
-MayTellPort reported_port port old new = (new ≡ old) ⊎ reported_port old new port
+-- the file that is to give the password gives none
+abbrev pub IsNoPassword : NamedAccess → NoEntrance → Type 0
+IsNoPassword access (Password file error) = access.password_file ≡ Some file.now
+IsNoPassword access other = ⊥
 
--- There may be a note about the port, and then a note reports what the refusal says about the disk of a file.
-abbrev pub ReportedUnserved : {N F : Type 0} → (N → N → ℕ → Type 0) → (N → N → List ℕ → Refusal F → Type 0) → N → N → ℕ → List ℕ → Refusal F → Type 0
-ReportedUnserved {N} reported_port reported old new port file refusal = (mid : N) × MayTellPort reported_port port old mid × reported mid new file refusal
+-- the text to listen on is no address
+abbrev pub IsNoAddress : NamedAccess → NoEntrance → Type 0
+IsNoAddress access (Address text) = address_text access ≡ text.now
+IsNoAddress access other = ⊥
+
+-- why a service cannot be entered: its password's file, its address, or a socket at its port
+abbrev pub IsNoEntrance : Service → NoEntrance → Type 0
+IsNoEntrance service (Password file error) = (named_access service.access).password_file ≡ Some file.now
+IsNoEntrance service (Address text) = address_text (named_access service.access) ≡ text.now
+IsNoEntrance service (Socket socket error) = socket_port socket ≡ service.port
+
+-- this is told of the password's file, of the address, or of the store's file
+abbrev pub TellsWhy : (List ℕ → Urgent → Type 0) → List ℕ → NoEntrance → Type 0
+TellsWhy Told file (Password path error) = Told path.now (NoPassword error)
+TellsWhy Told file (Address text) = Told text.now NoAddress
+TellsWhy Told file (Socket socket error) = Told file (NoPort socket error)
+
+-- if the server can be entered, nothing is told, and else why it cannot
+abbrev pub TellsEntrance : (List ℕ → Urgent → Type 0) → Type 0 → Service → Bool → Type 0
+TellsEntrance Told Quiet service true = Quiet
+TellsEntrance Told Quiet service false = (why : NoEntrance) × IsNoEntrance service why × TellsWhy Told service.file.now why
 
 -- The store on a disk was served to the end. If its calls were kept, they are a history of the store that is left.
 abbrev pub EndsServe : {D F : Type 0} → Ghosts D F → Option ℕ → D → Option (List ℕ) → Option (List ℕ) → Type 0
 EndsServe facts audit new before after = IsServed (facts.content new) before after × IfSome audit (λ most. ServesKept facts (λ port. Unit {0}) new before after)
 
 module _ {D F : Type 0} (facts : Ghosts D F) where
-  -- The line says why the store on a disk was not opened, and so does a note; or why the opened store was not served to the end. Or it
-  -- was, and a merge was refused meanwhile.
-  abbrev pub PrintsServe : (Refusal F → Type 0) → Bool → Option ℕ → Option ℕ → D → D → Option (List ℕ) → Option (List ℕ) → Type 0
-  PrintsServe reported resp merge_at audit old new before after =
-      PrintsOpening facts reported old new before after
+  -- A server of an opened store ended with this status: it had a listener and served to the end, with nothing to say; or the line says why
+  -- it did not, or it did, and a merge was refused meanwhile.
+  abbrev pub ServesStore : Option ℕ → Bool → Type 0 → CoreState D → ℕ → D → Option (List ℕ) → Option (List ℕ) → Type 0
+  ServesStore audit bound Quiet core status new before after =
+      ((status ≡ 0) × (bound ≡ true) × Quiet × EndsServe facts audit new before after)
+      ⊎ ((status ≡ 1) × (PrintsNotServed facts (λ port. Unit {0}) core new before after ⊎ EndsServe facts audit new before after))
+
+module _ {D E F : Type 0} (facts : Ghosts D F) (Failed : D → Failures → Type 0) (service : Service) where
+  -- an opened store was served, with the calls of its disk that failed, or it has too few hash regions or too short values
+  abbrev pub ServesOpened : Bool → CoreState D → D → Ended E F → Option (List ℕ) → Option (List ℕ) → Type 0
+  ServesOpened bound core new ended before after =
+      RefusesFewRegions service.merge_at core new ended before after
+      ⊎ (RefusesShortValues service.resp core new ended before after
+      ⊎ (Failed new ended.failures
+      × IfOk ended.status (λ status. ServesStore facts service.audit bound (ended.why ≡ None) core status new before after)))
+
+  -- The port was bound before the opening, or people were told why not. The store was not opened, or it was served. Then each possible crash
+  -- image represents one map after some first part of one list of commands.
+  abbrev pub ServesDisk : (List ℕ → Urgent → Type 0) → Type 0 → D → Option D → Ended E F → Option (List ℕ) → Option (List ℕ) → Type 0
+  ServesDisk Told Quiet old given ended before after =
+      (bound : Bool) × TellsEntrance Told Quiet service bound
+      × (RefusesDisk facts old given ended before after
       ⊎ ((core : CoreState D) × Opens facts (facts.content old) core
-      × (PrintsUnfit resp merge_at core new before after
-      ⊎ (PrintsNotServed facts (λ port. Unit {0}) core new before after ⊎ EndsServe facts audit new before after)))
+      × IsSomeAnd given (λ new. ServesOpened bound core new ended before after × ((shape : Shape) × LeavesBegun (facts.content new) shape))))
 
-  -- What a server leaves, however it ends: each possible crash image was possible before or represents the map that was shown;
-  -- or all of them represent one map after some first part of one list of commands.
-  abbrev pub LeavesServed : D → D → Type 0
-  LeavesServed old new = LeavesNoOther (facts.content old) (facts.content new) ⊎ ((shape : Shape) × LeavesBegun (facts.content new) shape)
-
-  -- The disk that the source opened was served to the end, and is returned as a server leaves it. Notes say which of its calls failed.
-  abbrev pub ServesFile : (D → Type 0) → (D → Type 0) → Option ℕ → Option D → Option (List ℕ) → Option (List ℕ) → Type 0
-  ServesFile reported_failures Opened audit given before after =
-      (old : D) × Opened old × IsSomeAnd given (λ new. EndsServe facts audit new before after × LeavesServed old new × reported_failures new)
-
-  -- the line says that the source opened no disk, or why the opened one, returned as a server leaves it, was not served to the end
-  abbrev pub PrintsServeFile : {E : Type 0} → (Refusal F → Type 0) → Bool → Option ℕ → Option ℕ → (D → Type 0) → (E → Type 0) → Option D → Option (List ℕ) → Option (List ℕ) → Type 0
-  PrintsServeFile reported resp merge_at audit Opened NotOpened given before after =
-      PrintsNoDisk NotOpened before after
-      ⊎ ((old : D) × Opened old × IsSomeAnd given (λ new. PrintsServe reported resp merge_at audit old new before after × LeavesServed old new))
+  -- the disk that the source opened was served, or it opened none
+  abbrev pub ServesFile : (D → Type 0) → (E → Type 0) → (List ℕ → Urgent → Type 0) → Type 0 → Option D → Ended E F → Option (List ℕ) → Option (List ℕ) → Type 0
+  ServesFile Given NotGiven Told Quiet given ended before after =
+      (Quiet × RefusesNoDisk NotGiven given ended before after) ⊎ ((old : D) × Given old × ServesDisk Told Quiet old given ended before after)

@@ -1,11 +1,10 @@
 // Jobs whose file is a standard stream of the program.
-ghost use Rattle.std.specs.Prelude.{◌≡◌, ℕ, List, None, IfOk, IfSome};
-ghost use Rattle.silt.specs.Clashes.{NotesClash, PrintsClash};
+ghost use Rattle.std.specs.Prelude.{◌≡◌, None, IfOk, IfSome};
+ghost use Rattle.silt.specs.Clashes.{PrintsClash, RefusesClash, SaysClash};
 ghost use Rattle.silt.specs.Streams.{IsApart, IsClash};
-ghost use Rattle.silt.specs.declared.standard_streams.Stream.{Stream as StreamOf};
 
-use crate::standard_streams::{SameStreams, StandardStreams, Stream};
-use silt_jobs::{NoteLines, SourceNotes, refuse};
+use crate::standard_streams::{SameStreams, StandardStreams};
+use silt_jobs::{Ended, Stream, Why, refuse};
 use silt_store_set::Refusal;
 use silt_words::Job;
 use std::alloc::Global;
@@ -19,26 +18,6 @@ pub struct Clash<'a> {
     same: SameStreams,
     /// The first of them.
     stream: Stream,
-}
-
-/// Takes the notes about such files.
-pub trait StreamNotes {
-    /// A note says that the file of this name is this standard stream.
-    ghost reported_stream: { Self → Self → List ℕ → StreamOf → Type 0 };
-
-    /// Reports that the file of this name is this standard stream.
-    fn report_stream(&mut self, file: &str, stream: Stream)
-        ensures { reported_stream self.old self.new file.now stream };
-}
-
-impl<W: Write> StreamNotes for NoteLines<W> {
-    ghost use Rattle.std.specs.Prelude.{⊤};
-
-    ghost reported_stream = { λ _ _ _ _. ⊤ };
-
-    fn report_stream(&mut self, file: &str, stream: Stream) {
-        self.report_error(file, &stream);
-    }
 }
 
 /// The file of a job, if it is a standard stream.
@@ -56,37 +35,43 @@ pub fn clash_of<'a, H: StandardStreams>(rt: &H, job: &Job<'a>) -> Option<Clash<'
     }
 }
 
-/// Refuses the job of such a file, and returns the status. Neither the line nor the note goes into that file.
-///
-/// # Errors
-///
-/// The writer's, and out of memory for the text of the line.
-pub fn refuse_clash<W: Write, N: StreamNotes>(
+/// Refuses the job of such a file. Neither the line nor the reason goes into that file.
+pub fn refuse_clash<E: Drop, F: Drop, W: Write>(
     alloc: Global,
     clash: &Clash<'_>,
     writer: &mut W,
-    notes: &mut N,
-) -> io::Result<u8>
-    ensures printed { IfOk result (λ status. (status ≡ 1) × PrintsClash clash.now (W.contents writer.old) (W.contents writer.new)) }
-    ensures noted { NotesClash N.reported_stream clash.now notes.old notes.new }
+) -> Ended<E, F>
+    ensures { RefusesClash clash.now result (W.contents writer.old) (W.contents writer.new) }
 {
-    note_clash(clash, notes);
+    let status = write_clash(alloc, clash, writer);
+    Ended {
+        why: reason_of(clash),
+        ..Ended::plain(status)
+    }
+}
+
+// Writes that the device is refused, unless the line would go into the file. Returns the status.
+fn write_clash<W: Write>(alloc: Global, clash: &Clash<'_>, writer: &mut W) -> io::Result<u8>
+    ensures { IfOk result (λ status. (status ≡ 1) × PrintsClash clash.now (W.contents writer.old) (W.contents writer.new)) }
+{
     if clash.same.output {
         return Ok(1);
     }
     match refuse(alloc, &Refusal::Device(()), writer) {
         Ok(status) => Ok(status),
-        // The reason would go to the standard error. This kind of error has no note.
+        // The reason would go to the standard error. This kind of error has none.
         Err(_) if clash.same.error => Err(io::Error::from(ErrorKind::BrokenPipe)),
         Err(error) => Err(error),
     }
 }
 
-// Reports which standard stream the file is, unless the note would go into it.
-fn note_clash<N: StreamNotes>(clash: &Clash<'_>, notes: &mut N)
-    ensures { NotesClash N.reported_stream clash.now notes.old notes.new }
+// Which standard stream the file is, unless people would be told so in it.
+fn reason_of<E, F>(clash: &Clash<'_>) -> Option<Why<E, F>>
+    ensures { SaysClash clash.now result }
 {
-    if !clash.same.error {
-        notes.report_stream(clash.file, clash.stream);
+    if clash.same.error {
+        None
+    } else {
+        Some(Why::IsStream(clash.stream))
     }
 }

@@ -1,16 +1,17 @@
 // The listener of a server. It continues if the system is briefly out of descriptors.
-ghost use Rattle.std.specs.Prelude.{IfOk};
+ghost use Rattle.std.specs.Prelude.{◌≡◌, IfErr, IfOk};
 ghost use Rattle.std.specs.Net.Grammar.{IsIpText};
 ghost use Rattle.silt_words.specs.Jobs.{named_access};
 ghost use Rattle.silt.specs.Passwords.{HasPassword};
-ghost use Rattle.silt.specs.Services.{address_text};
+ghost use Rattle.silt.specs.Services.{IsNoAddress, IsNoEntrance, IsNoPassword, TellsWhy, address_text};
+ghost use Rattle.std.specs.Net.Socket.{socket_ip, socket_port};
 
 use crate::password::read_password;
 use crate::standard_streams::StandardStreams;
+use silt_jobs::{StreamError, Tells, Urgent};
 use silt_server::Listens;
 use silt_words::{Access, Service};
-use std::io::ErrorKind;
-use std::net::{IpAddr, Net, TcpListener, TcpStream};
+use std::net::{IpAddr, Net, SocketAddr, TcpListener, TcpStream};
 use std::sync::{OnceLock, Wait};
 use std::time::{Clock, Duration};
 use std::{io, thread};
@@ -24,42 +25,85 @@ const PAUSE: u64 = 10;
 /// The errors that pass once a connection is closed or memory is freed: ENOMEM, ENFILE, EMFILE and ENOBUFS.
 const PASSING: [i32; 4] = [12, 23, 24, 105];
 
-/// Where a server is entered: the listener of its connections, and the digest of the password that it asks for, if it asks for one.
+/// Where a server is entered: the listener of its connections and the socket of that, and the digest of the password that it asks
+/// for, if it asks for one.
 #[derive(Drop)]
 pub struct Entrance {
     pub listener: TcpListener,
+    pub socket: SocketAddr,
     pub password: Option<[u8; 20]>,
 }
 
-// The address to listen on: the one that is given, and else that of this machine alone.
-fn address_of(access: &Access<'_>) -> io::Result<IpAddr>
-    ensures { IfOk result (IsIpText (address_text (named_access access.now))) }
+/// Why a service cannot be entered.
+#[derive(Clone, Copy)]
+pub enum NoEntrance<'a> {
+    /// This file gives no password.
+    Password(&'a str, StreamError),
+    /// This text is no IP address.
+    Address(&'a str),
+    /// The system gives no listener on this socket.
+    Socket(SocketAddr, StreamError),
+}
+
+// The digest of the password that a service asks for.
+fn password_of<'a, H: StandardStreams>(
+    rt: &H,
+    access: &Access<'a>,
+) -> Result<Option<[u8; 20]>, NoEntrance<'a>>
+    ensures read { IfOk result (HasPassword (H.begins rt.now) (named_access access.now).password_file) }
+    ensures none { IfErr result (IsNoPassword (named_access access.now)) }
 {
-    let text = access.address.unwrap_or(THIS_MACHINE);
-    match text.parse::<IpAddr>() {
-        Ok(address) => Ok(address),
-        Err(_) => Err(io::Error::new(ErrorKind::InvalidInput, "it is no IP address")),
+    let Some(path) = access.password_file else {
+        return Ok(None);
+    };
+    match read_password(rt, path) {
+        Ok(digest) => Ok(Some(digest)),
+        Err(error) => Err(NoEntrance::Password(path, StreamError { error })),
     }
 }
 
-/// Makes the entrance of a service: reads the password, if there is to be one, and listens.
-///
-/// # Errors
-///
-/// The system's, and a file without a password.
-pub fn enter<H: Net<Listener = TcpListener, Stream = TcpStream> + StandardStreams>(
-    rt: &H,
-    service: &Service<'_>,
-) -> io::Result<Entrance>
-    ensures { IfOk result (λ entrance. HasPassword (H.begins rt.now) (named_access service.now.access).password_file entrance.password) }
+// The socket to listen on: the address that is given, and else that of this machine alone.
+fn socket_of<'a>(service: &Service<'a>) -> Result<SocketAddr, NoEntrance<'a>>
+    ensures address { IfOk result (λ socket. IsIpText (address_text (named_access service.now.access)) (socket_ip socket)) }
+    ensures port { IfOk result (λ socket. socket_port socket ≡ service.now.port) }
+    ensures none { IfErr result (IsNoAddress (named_access service.now.access)) }
 {
-    let password = match service.access.password_file {
-        Some(path) => Some(read_password(rt, path)?),
-        None => None,
-    };
-    let address = address_of(&service.access)?;
-    let listener = TcpListener::bind(rt, (address, service.port))?;
-    Ok(Entrance { listener, password })
+    let text = service.access.address.unwrap_or(THIS_MACHINE);
+    match text.parse::<IpAddr>() {
+        Ok(address) => Ok(SocketAddr::new(address, service.port)),
+        Err(_) => Err(NoEntrance::Address(text)),
+    }
+}
+
+/// Makes the entrance of a service: reads the password, if there is to be one, and listens. If it cannot, returns why.
+pub fn enter<'a, H: Net<Listener = TcpListener, Stream = TcpStream> + StandardStreams>(
+    rt: &H,
+    service: &Service<'a>,
+) -> Result<Entrance, NoEntrance<'a>>
+    ensures password { IfOk result (λ entrance. HasPassword (H.begins rt.now) (named_access service.now.access).password_file entrance.password) }
+    ensures none { IfErr result (IsNoEntrance service.now) }
+{
+    let password = password_of(rt, &service.access)?;
+    let socket = socket_of(service)?;
+    match TcpListener::bind(rt, socket) {
+        Ok(listener) => Ok(Entrance {
+            listener,
+            socket,
+            password,
+        }),
+        Err(error) => Err(NoEntrance::Socket(socket, StreamError { error })),
+    }
+}
+
+/// Tells people why a service cannot be entered.
+pub fn tell_no_entrance<T: Tells>(file: &str, why: NoEntrance<'_>, people: &mut T)
+    ensures { TellsWhy (T.told people.old people.new) file.now why.entry }
+{
+    match why {
+        NoEntrance::Password(path, error) => people.tell(path, &Urgent::NoPassword(error)),
+        NoEntrance::Address(text) => people.tell(text, &Urgent::NoAddress),
+        NoEntrance::Socket(socket, error) => people.tell(file, &Urgent::NoPort(socket, error)),
+    }
 }
 
 /// A listener that accepts again, after a pause, if the system was out of descriptors or memory for the next

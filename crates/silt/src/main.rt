@@ -33,10 +33,11 @@ mod program;
 mod service;
 mod standard_streams;
 
-use program::{program, refuse_words, status_of};
+use program::{program, refuse_words};
 use silt_device::FileDisks;
 use silt_jobs::{
-    AfterProgress, NoteLines, Progress, SourceNotes, WatchedFiles, WatchedReader, WatchedWriter,
+    AfterProgress, KeepsLines, Progress, Subject, WatchedFiles, WatchedReader, WatchedWriter,
+    print_ended, print_of,
 };
 use silt_words::WordsError;
 use standard_streams::{NULL_DEVICE, StandardStreams, fill_descriptors};
@@ -58,14 +59,15 @@ fn main(rt: HostRuntime) -> ExitCode {
             status
         }
         Err(error) => {
-            NoteLines::new(rt.stderr()).report_error(NULL_DEVICE, &error);
+            print_of(NULL_DEVICE, &error, &mut rt.stderr());
             ExitCode::from(1)
         }
     }
 }
 
-// Does the job that the process's own words name, and returns the exit status. Notes go to `errors`. Notes that cannot wait
-// for the end of the job go to `at_once`, and, if it is a terminal, so does the progress of an opening.
+// Does the job that the process's own words name, prints how it ended to `errors`, and returns the exit status. What cannot
+// wait for that goes there too, but the first failed write or sync of a served store, and the progress of an opening, if it is
+// a terminal, go to `at_once`.
 fn done<
     S: Runtime
         + AllocGlobal
@@ -79,20 +81,26 @@ fn done<
     E: Write + Drop,
 >(rt: &S, errors: E, at_once: Stderr) -> ExitCode {
     let progress = Progress::new(terminal(at_once));
+    let mut errors = AfterProgress::new(errors, &progress);
     let mut writer = WatchedWriter::new(AfterProgress::new(io::writer(rt), &progress));
-    let status = match own_words(rt) {
-        Ok(words) => program(
-            rt,
-            rt.alloc(),
-            WatchedFiles::new(FileDisks::new(rt), NoteLines::new(at_once), &progress),
-            words.as_slice(),
-            &mut WatchedReader::new(rt.alloc(), rt.reader()),
-            &mut writer,
-            &mut NoteLines::new(AfterProgress::new(errors, &progress)),
-        ),
-        Err(error) => status_of(refuse_words(error, &mut writer)),
+    let words = match own_words(rt) {
+        Ok(words) => words,
+        Err(error) => {
+            let ended = refuse_words::<(), (), _>(rt.alloc(), error, &mut writer);
+            return ExitCode::from(ended.exit_status());
+        }
     };
-    ExitCode::from(status)
+    let files = WatchedFiles::new(FileDisks::new(rt), at_once, &progress);
+    let mut reader = WatchedReader::new(rt.alloc(), rt.reader());
+    let words = words.as_slice();
+    let (file, ended) = program(rt, files, words, &mut reader, &mut writer, &mut errors);
+    let subject = Subject {
+        words,
+        file: file.unwrap_or(""),
+        lines: reader.lines(),
+    };
+    print_ended(&subject, &ended, &mut errors);
+    ExitCode::from(ended.exit_status())
 }
 
 // The standard error, if it is a terminal.

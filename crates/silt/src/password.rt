@@ -1,5 +1,5 @@
 // The password that a server asks its clients for.
-ghost use Rattle.std.specs.Prelude.{◌≡◌, IfOk, OnErr};
+ghost use Rattle.std.specs.Prelude.{◌≡◌, ◌==◌, IfOk, OnErr};
 ghost use Rattle.std.specs.List.{position};
 ghost use Rattle.sha1.specs.Sha1.{sha1};
 ghost use Rattle.silt.specs.Passwords.{IsPassword, ReadsPassword, first_line};
@@ -35,13 +35,13 @@ fn digest_of(bytes: &[u8]) -> io::Result<[u8; 20]>
     if line.is_empty() {
         return Err(io::Error::new(
             ErrorKind::InvalidData,
-            "the first line of the password file is empty",
+            "the first line, which is the password, is empty",
         ));
     }
     if line.len() > LONGEST_WORD {
         return Err(io::Error::new(
             ErrorKind::InvalidData,
-            "the first line of the password file is longer than 8192 bytes",
+            "the first line, which is the password, is longer than 8192 bytes",
         ));
     }
     Ok(Sha1::digest(line))

@@ -1,34 +1,30 @@
 // The server on the disk of a path.
 ghost use Rattle.std.specs.Prelude.{◌≡◌, ◌⊎◌, ◌<◌, ◌≤◌, ◌/◌, None, Ok, IfOk, IfSome, IsOkAnd, is_some, false, max, true, unwrap_or};
-ghost use Rattle.std.specs.Option.{IsSomeAnd};
 ghost use Rattle.silt_disk.specs.Layout.{Shape};
 ghost use Rattle.silt_store_set.specs.CoreInvariant.{LeavesBegun};
 ghost use Rattle.silt_wire.specs.Statuses.{IsStatus};
 ghost use Rattle.silt_server.specs.Serving.{PrintsNotServed};
-ghost use Rattle.silt_words.specs.Jobs.{named_access};
+ghost use Rattle.silt_jobs.specs.Ended.{HasFailed};
+ghost use Rattle.silt.specs.Services.{EndsServe, ServesDisk, ServesFile, ServesOpened, TellsEntrance, protocol_of};
 ghost use Rattle.silt.specs.Passwords.{HasPassword};
-ghost use Rattle.silt.specs.Services.{EndsServe, LeavesServed, ServesFile, PrintsServe, PrintsServeFile, PrintsUnfit, ReportedUnserved, protocol_of};
-ghost use Rattle.silt_event.specs.declared.refusal.Refusal.TheVariants.{BadGeometry};
-ghost use Rattle.silt_jobs.specs.Jobs.{Prints};
-ghost use Rattle.silt_jobs.specs.Notes.{NotOpenedReported, ReportedFailures, ReportedRefusal};
+ghost use Rattle.silt_words.specs.Jobs.{named_access};
 
-use crate::listener::{Entrance, PatientListener, enter};
+use crate::listener::{Entrance, PatientListener, enter, tell_no_entrance};
 use crate::standard_streams::StandardStreams;
 use silt_desk::{Gate, Spot};
 use silt_device::DiskSource;
 use silt_disk::{Disk, Geometry};
 use silt_event::Place;
 use silt_jobs::{
-    FaultNotes, Notes, SourceNotes, Watched, has_few_regions, merge_damage_at, refuse,
-    refuse_few_regions, refuse_no_disk, refuse_opening, report_failures,
+    Ended, Failures, StreamError, Tells, Urgent, Watched, Why, has_few_regions, merge_damage_at,
+    open_store, refuse_few_regions,
 };
 use silt_resp::LENGTH_LEN;
 use silt_server::{Limits, Protocol, Server, refuse_network};
-use silt_store_set::{Core, Refusal};
+use silt_store_set::Core;
 use silt_words::Service;
-use std::alloc::Global;
 use std::io::{self, Write};
-use std::net::{Net, TcpListener, TcpStream};
+use std::net::{Net, SocketAddr, TcpListener, TcpStream};
 use std::sync::{OnceLock, Wait};
 use std::thread::Threads;
 use std::time::Clock;
@@ -36,147 +32,132 @@ use std::time::Clock;
 /// How many clients are served at once if no number is given.
 const CLIENTS: u32 = 64;
 
-/// Serves the store on the disk of a path to the connections of a port. Returns the disk and the
-/// status: 0 after the last session, 1 if the disk or the store is not opened, the network fails, or a merge was refused.
-///
-/// # Errors
-///
-/// The writer's, and out of memory for the text of a line.
+/// Serves the store on the disk of a path to the connections of a port. Returns the disk, and how the job
+/// ended, with the status 0 after the last session, and 1 if the disk or the store is not opened, the network fails, or a
+/// merge was refused.
 pub fn serve_file<
     S: DiskSource,
     H: Net<Listener = TcpListener, Stream = TcpStream>
+        + AllocGlobal
         + Clock
         + Threads
         + Wait
         + Sync
         + StandardStreams,
     W: Write,
-    N: Notes + SourceNotes<S::Error> + FaultNotes<<S::Disk as Disk>::Fault>,
+    T: Tells,
 >(
     rt: &H,
-    alloc: Global,
     source: S,
     service: &Service<'_>,
     writer: &mut W,
-    notes: &mut N,
-) -> (Option<S::Disk>, io::Result<u8>)
+    people: &mut T,
+) -> (Option<S::Disk>, Ended<S::Error, <S::Disk as Disk>::Fault>)
 where
     S::Disk: Watched,
-    ensures printed { IfOk result.1 (IsStatus (PrintsServeFile S.Disk.Disk
-        (ReportedUnserved N.reported_port (ReportedRefusal N.reported_fault N.reported_damage N.reported_no_store) notes.old notes.new service.now.port service.now.file.now)
-        service.now.resp service.now.merge_at service.now.audit (S.opened source service.now.file.now)
-        (NotOpenedReported (S.not_opened source) (N.reported_error notes.old notes.new) service.now.file.now) result.0 (W.contents writer.old) (W.contents writer.new))) }
-    ensures served { result.1 ≡ Ok 0 → ServesFile S.Disk.Disk
-        (ReportedFailures N.reported_failure S.Disk.Watched.kept_read S.Disk.Watched.last_failure notes.old notes.new service.now.file.now)
-        (S.opened source service.now.file.now) service.now.audit result.0 (W.contents writer.old) (W.contents writer.new) }
+    ensures { ServesFile S.Disk.Disk (HasFailed S.Disk.Watched.kept_read S.Disk.Watched.last_failure) service.now
+        (S.opened source service.now.file.now) (S.not_opened source service.now.file.now)
+        (T.told people.old people.new) (people.new ≡ people.old) result.0 result.1 (W.contents writer.old) (W.contents writer.new) }
 {
     match source.open(service.file) {
-        Ok(disk) => {
-            let (disk, status) = serve_disk(rt, alloc, disk, service, writer, notes);
-            (Some(disk), status)
-        }
-        Err(error) => (
-            None,
-            refuse_no_disk(alloc, service.file, &error, writer, notes),
-        ),
+        Ok(disk) => serve_disk::<S, H, W, T>(rt, disk, service, writer, people),
+        Err(error) => (None, Ended::refuse(rt.alloc(), Why::NoDisk(error), writer)),
     }
 }
 
-// Serves the store on a disk to the connections of a port. It binds the port before the opening, which may be long: so a
-// port that is in use is reported at once. Returns the disk and the status.
+// Serves the store on a disk to the connections of a port. It binds the port before the opening, which
+// may be long: so a port that is in use is told of at once. Returns the disk, and how the job ended.
 fn serve_disk<
-    D: Watched,
+    S: DiskSource,
     H: Net<Listener = TcpListener, Stream = TcpStream>
+        + AllocGlobal
         + Clock
         + Threads
         + Wait
         + Sync
         + StandardStreams,
     W: Write,
-    N: Notes + FaultNotes<D::Fault>,
+    T: Tells,
 >(
     rt: &H,
-    alloc: Global,
-    mut disk: D,
+    mut disk: S::Disk,
     service: &Service<'_>,
     writer: &mut W,
-    notes: &mut N,
-) -> (D, io::Result<u8>)
-    ensures served { result.1 ≡ Ok 0 → EndsServe D.Disk service.now.audit result.0 (W.contents writer.old) (W.contents writer.new) }
-    ensures failed { result.1 ≡ Ok 0 → ReportedFailures N.reported_failure D.kept_read D.last_failure notes.old notes.new service.now.file.now result.0 }
-    ensures printed { IfOk result.1 (IsStatus (PrintsServe D.Disk
-        (ReportedUnserved N.reported_port (ReportedRefusal N.reported_fault N.reported_damage N.reported_no_store) notes.old notes.new service.now.port service.now.file.now)
-        service.now.resp service.now.merge_at service.now.audit disk result.0 (W.contents writer.old) (W.contents writer.new))) }
-    ensures left { LeavesServed D.Disk disk result.0 }
+    people: &mut T,
+) -> (Option<S::Disk>, Ended<S::Error, <S::Disk as Disk>::Fault>)
+where
+    S::Disk: Watched,
+    ensures { ServesDisk S.Disk.Disk (HasFailed S.Disk.Watched.kept_read S.Disk.Watched.last_failure) service.now
+        (T.told people.old people.new) (people.new ≡ people.old) disk result.0 result.1 (W.contents writer.old) (W.contents writer.new) }
 {
-    let entrance = entrance_of(rt, service, notes);
+    let entrance = entrance_of(rt, service, people);
     disk.report_at_once();
-    match Core::open(alloc, disk) {
+    match open_store(rt.alloc(), Ok(disk)) {
         Ok(core) => {
-            let (disk, status) = serve_opened(rt, alloc, core, entrance, service, writer, notes);
-            report_failures(service.file, &disk, notes);
-            (disk, status)
+            let (disk, ended) = serve_opened(rt, core, entrance, service, writer);
+            (Some(disk), ended)
         }
-        Err(fault) => refuse_opening(alloc, fault, service.file, writer, notes),
+        Err(unopened) => unopened.refuse(rt.alloc(), writer),
     }
 }
 
-// The entrance of a service. If there is none, a note says why.
-fn entrance_of<H: Net<Listener = TcpListener, Stream = TcpStream> + StandardStreams, N: Notes>(
+// The entrance of a service. If there is none, people are told why.
+fn entrance_of<H: Net<Listener = TcpListener, Stream = TcpStream> + StandardStreams, T: Tells>(
     rt: &H,
     service: &Service<'_>,
-    notes: &mut N,
+    people: &mut T,
 ) -> Option<Entrance>
-    ensures bound { IfSome result (λ _. notes.new ≡ notes.old) }
+    ensures told { TellsEntrance (T.told people.old people.new) (people.new ≡ people.old) service.now (is_some result) }
     ensures password { IfSome result (λ entrance. HasPassword (H.begins rt.now) (named_access service.now.access).password_file entrance.password) }
-    ensures printed { result ≡ None → N.reported_port notes.old notes.new service.now.port }
 {
     match enter(rt, service) {
         Ok(entrance) => Some(entrance),
-        Err(error) => {
-            notes.report_port(service.port, &error);
+        Err(why) => {
+            tell_no_entrance(service.file, why, people);
             None
         }
     }
 }
 
 // Serves an opened store to the connections of an entrance, if it has as many hash regions as a merge is to begin with, and
-// values that can hold strings if clients send those.
-// Returns the store's disk and the status.
+// values that can hold strings if clients send those. Returns the store's disk, and how the job ended.
 fn serve_opened<
-    D: Disk,
+    E: Drop,
+    D: Watched,
     H: Net<Listener = TcpListener, Stream = TcpStream>
+        + AllocGlobal
         + Clock
         + Threads
         + Wait
         + Sync
         + StandardStreams,
     W: Write,
-    N: Notes,
 >(
     rt: &H,
-    alloc: Global,
     core: Core<D>,
     entrance: Option<Entrance>,
     service: &Service<'_>,
     writer: &mut W,
-    notes: &mut N,
-) -> (D, io::Result<u8>)
-    ensures served { result.1 ≡ Ok 0 → EndsServe D.Disk service.now.audit result.0 (W.contents writer.old) (W.contents writer.new) }
-    ensures bound { result.1 ≡ Ok 0 → is_some entrance ≡ true }
-    ensures printed { IfOk result.1 (IsStatus (PrintsUnfit service.now.resp service.now.merge_at core result.0 (W.contents writer.old) (W.contents writer.new)
-        ⊎ (PrintsNotServed D.Disk (λ port. Unit {0}) core result.0 (W.contents writer.old) (W.contents writer.new)
-        ⊎ EndsServe D.Disk service.now.audit result.0 (W.contents writer.old) (W.contents writer.new)))) }
+) -> (D, Ended<E, D::Fault>)
+    ensures served { ServesOpened D.Disk (HasFailed D.kept_read D.last_failure) service.now (is_some entrance) core result.0 result.1 (W.contents writer.old) (W.contents writer.new) }
     ensures left { (shape : Shape) × LeavesBegun (D.content result.0) shape }
-    ensures quiet { result.1 ≡ Ok 0 → notes.new ≡ notes.old }
 {
     if has_few_regions(&core, service.merge_at) {
-        return refuse_few_regions(alloc, core, service.file, writer, notes);
+        return refuse_few_regions(rt.alloc(), core, writer);
     }
     if has_short_values(&core, service.resp) {
-        return refuse_short_values(rt, alloc, core, service.file, writer);
+        let ended = Ended::refuse(rt.alloc(), Why::ShortValues, writer);
+        return (core.close(), ended);
     }
-    serve_store(rt, alloc, core, entrance, service, writer, notes)
+    let (disk, status, why) = serve_store(rt, core, entrance, service, writer);
+    let failures = Failures::of(&disk);
+    let ended = Ended {
+        status,
+        why,
+        found: None,
+        failures,
+    };
+    (disk, ended)
 }
 
 // Whether the values of a store for Redis clients have no room for a string's length.
@@ -190,56 +171,39 @@ fn has_short_values<D: Disk>(core: &Core<D>, resp: bool) -> bool
     }
 }
 
-// Writes that the values of a store for Redis clients have no room for a string's length, and notes it at once. Returns the
-// store's disk and the status.
-fn refuse_short_values<D: Disk, H: StandardStreams, W: Write>(
-    rt: &H,
-    alloc: Global,
-    core: Core<D>,
-    file: &str,
-    writer: &mut W,
-) -> (D, io::Result<u8>)
-    ensures disk { result.0 ≡ core.disk }
-    ensures left { (shape : Shape) × LeavesBegun (D.content result.0) shape }
-    ensures printed { IfOk result.1 (λ status. (status ≡ 1) × Prints {F = Unit {0}} BadGeometry (W.contents writer.old) (W.contents writer.new)) }
-{
-    rt.note_short_values(file);
-    let status = refuse(alloc, &Refusal::<()>::BadGeometry, writer);
-    (core.close(), status)
-}
-
-// Serves a store to the connections of an entrance, if there is one. Returns the store's disk and the status.
+// Serves a store to the connections of an entrance, if there is one. Returns the store's disk, the status, and why the
+// listener failed, if the server failed.
 fn serve_store<
+    E: Drop,
     D: Disk,
     H: Net<Listener = TcpListener, Stream = TcpStream>
+        + AllocGlobal
         + Clock
         + Threads
         + Wait
         + Sync
         + StandardStreams,
     W: Write,
-    N: Notes,
 >(
     rt: &H,
-    alloc: Global,
     core: Core<D>,
     entrance: Option<Entrance>,
     service: &Service<'_>,
     writer: &mut W,
-    notes: &mut N,
-) -> (D, io::Result<u8>)
+) -> (D, io::Result<u8>, Option<Why<E, D::Fault>>)
     ensures served { result.1 ≡ Ok 0 → EndsServe D.Disk service.now.audit result.0 (W.contents writer.old) (W.contents writer.new) }
     ensures bound { result.1 ≡ Ok 0 → is_some entrance ≡ true }
     ensures printed { IfOk result.1 (IsStatus (PrintsNotServed D.Disk (λ port. Unit {0}) core result.0 (W.contents writer.old) (W.contents writer.new)
         ⊎ EndsServe D.Disk service.now.audit result.0 (W.contents writer.old) (W.contents writer.new))) }
+    ensures quiet { result.1 ≡ Ok 0 → result.2 ≡ None }
     ensures left { (shape : Shape) × LeavesBegun (D.content result.0) shape }
-    ensures quiet { result.1 ≡ Ok 0 → notes.new ≡ notes.old }
 {
-    let Some(Entrance { listener, password }) = entrance else {
-        return refuse_network(core, writer);
+    let Some(entrance) = entrance else {
+        let (disk, status) = refuse_network(core, writer);
+        return (disk, status, None);
     };
-    let listener = PatientListener::new(listener, rt);
-    let limits = limits_of(service, password);
+    let listener = PatientListener::new(entrance.listener, rt);
+    let limits = limits_of(service, entrance.password);
     let geometry = core.geometry();
     let gate = MergeGate {
         rt,
@@ -250,14 +214,15 @@ fn serve_store<
     };
     let server = Server {
         rt,
-        alloc,
+        alloc: rt.alloc(),
         listener: &listener,
         limits,
         gate: &gate,
     };
     let (disk, status) = server.serve(core, writer);
-    report_listener(service.port, listener.failure(), &status, notes);
-    (disk, status_served(status, gate.is_noted.get().is_some()))
+    let why = listener_fault(entrance.socket, listener.failure(), &status);
+    let status = status_served(status, gate.is_noted.get().is_some());
+    (disk, status, why)
 }
 
 // The status of a server with this status: 1 if a merge was refused.
@@ -311,7 +276,7 @@ fn least_merged(asked: Option<u32>, hashes: u32) -> u32
     asked.unwrap_or((hashes / 2).max(1))
 }
 
-// A gate that is always open. The merger waits for so many hash stores, and the first damage that it finds is noted at once.
+// A gate that is always open. The merger waits for so many hash stores, and the first damage that it finds is told of at once.
 #[derive(Drop)]
 struct MergeGate<'a, H> {
     rt: &'a H,
@@ -321,7 +286,7 @@ struct MergeGate<'a, H> {
     is_noted: OnceLock<()>,
 }
 
-impl<H: StandardStreams> Gate for MergeGate<'_, H> {
+impl<H: AllocGlobal + StandardStreams> Gate for MergeGate<'_, H> {
     fn pass(&self, _spot: Spot) {}
 
     fn merges_at(&self) -> u32 {
@@ -331,27 +296,24 @@ impl<H: StandardStreams> Gate for MergeGate<'_, H> {
     fn damaged(&self, _spot: Spot, place: Place) {
         if self.is_noted.try_set(()).is_ok() {
             let at = merge_damage_at(&self.geometry, place);
-            self.rt.note_unmerged(self.file, place, at);
+            let urgent = Urgent::Unmerged(self.rt.alloc(), place, at);
+            self.rt.errors().tell(self.file, &urgent);
         }
     }
 }
 
-// Reports why the listener of this port failed, if the server failed.
-fn report_listener<N: Notes>(
-    port: u16,
+// Why the listener of this socket failed, if the server failed.
+fn listener_fault<E: Drop, F: Drop>(
+    socket: SocketAddr,
     failure: Option<io::Error>,
     status: &io::Result<u8>,
-    notes: &mut N,
-)
-    ensures { status.now ≡ Ok 0 → notes.new ≡ notes.old }
+) -> Option<Why<E, F>>
+    ensures { status.now ≡ Ok 0 → result ≡ None }
 {
-    match status {
-        Ok(0) => {}
-        _ => {
-            if let Some(error) = failure {
-                notes.report_port(port, &error);
-            }
-        }
+    match (status, failure) {
+        (Ok(0), _) => None,
+        (_, Some(error)) => Some(Why::NotListening(socket, StreamError { error })),
+        (_, None) => None,
     }
 }
 

@@ -5,14 +5,12 @@ ghost use Rattle.silt.specs.declared.standard_streams.SameStreams.{SameStreams a
 
 use crate::file_identity::identity_at;
 use silt_device::FileSystem;
-use silt_event::Place;
-use silt_jobs::NoteLines;
+use silt_jobs::Stream;
 use std::alloc::Global;
 use std::fs::File;
-use std::io::Read;
+use std::io::{self, Read, Stderr};
 use std::os::fd::{AsRawFd, RawFd};
 use std::rt::Runtime;
-use std::{fmt, io};
 
 /// The device that takes everything and gives nothing.
 pub const NULL_DEVICE: &str = "/dev/null";
@@ -54,26 +52,6 @@ where
         return Ok(None);
     }
     Ok(Some(file))
-}
-
-/// A standard stream.
-#[derive(Clone, Copy, Debug, PartialEq, Eq)]
-pub enum Stream {
-    Input,
-    Output,
-    Error,
-}
-
-// Why a file cannot be a store.
-impl fmt::Display for Stream {
-    fn fmt<W: fmt::Write>(&self, f: &mut fmt::Formatter<W>) -> fmt::Result {
-        let name = match self {
-            Stream::Input => "input",
-            Stream::Output => "output",
-            Stream::Error => "error",
-        };
-        write!(f, "the file is also this program's standard {name}")
-    }
 }
 
 /// Which of the standard streams are one file.
@@ -119,12 +97,23 @@ pub trait StandardStreams {
         ensures start { IfOk result (λ count. begins self.now path.now (take count buffer.new)) }
         ensures len { length buffer.new ≡ length buffer.old };
 
-    /// Notes on the standard error, at once, that a merge found this part of the store in a file damaged, and where it
-    /// begins, if that is known.
-    fn note_unmerged(&self, file: &str, place: Place, at: Option<u64>);
+    /// The standard error.
+    fn errors(&self) -> Stderr;
+}
 
-    /// Notes on the standard error, at once, that the values of the store in a file have no room for a string's length.
-    fn note_short_values(&self, file: &str);
+// Fills a buffer from the front, up to the reader's end. Returns how many bytes there were.
+fn fill_from<R: Read>(reader: &mut R, buffer: &mut [u8]) -> io::Result<usize>
+    ensures count { IfOk result (λ count. count ≤ length buffer.new) }
+    ensures len { length buffer.new ≡ length buffer.old }
+{
+    let mut count = 0;
+    for _ in 0..buffer.len() {
+        match reader.read(&mut buffer[count..])? {
+            0 => return Ok(count),
+            more => count += more,
+        }
+    }
+    Ok(count)
 }
 
 // Not for any system with files: rattle takes no such bound of `done` for granted in the threads of a server.
@@ -153,21 +142,10 @@ impl StandardStreams for HostRuntime {
 
     fn read_start(&self, path: &str, buffer: &mut [u8]) -> io::Result<usize> {
         let mut file = File::open(self, path)?;
-        let mut count = 0;
-        while count < buffer.len() {
-            match file.read(&mut buffer[count..])? {
-                0 => return Ok(count),
-                more => count += more,
-            }
-        }
-        Ok(count)
+        fill_from(&mut file, buffer)
     }
 
-    fn note_unmerged(&self, file: &str, place: Place, at: Option<u64>) {
-        NoteLines::new(self.stderr()).report_unmerged(self.alloc(), file, place, at);
-    }
-
-    fn note_short_values(&self, file: &str) {
-        NoteLines::new(self.stderr()).report_short_values(file);
+    fn errors(&self) -> Stderr {
+        self.stderr()
     }
 }

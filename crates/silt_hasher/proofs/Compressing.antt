@@ -1,5 +1,5 @@
 -- Rounds of SHA-1, and the words of a block.
-use Rattle.std.proofs.Common.{◌≡◌, ◌∙◌, ℕ, suc, ◌+◌, ◌-◌, ◌*◌, ◌<◌, ◌≤◌, List, ◌∷◌, [], ◌++◌, length, take, slice_index, refl, ap, subst, sym, arith}
+use Rattle.std.proofs.Common.{◌≡◌, ◌∙◌, ℕ, suc, ◌+◌, ◌-◌, ◌*◌, ◌≤◌, List, ◌∷◌, [], ◌++◌, take, slice_index, refl, ap, subst, sym, arith}
 use Rattle.std.proofs.lemmas.List.{get_or-take}
 use Rattle.sha1.specs.Sha1.{add_state, compress, first_words, next_word, round, round_constant, round_fn, rounds, schedule, word_at}
 

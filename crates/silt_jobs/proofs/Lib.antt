@@ -1,8 +1,8 @@
 pub mod Dumps
-pub mod FileRefusals
 pub mod Fits
 pub mod Lives
 pub mod NewStores
+pub mod Openings
 pub mod Outcomes
 pub mod PlanCosts
 pub mod Plans

@@ -1,13 +1,8 @@
 -- The fewest buckets with which merging writes at most so many entries, one bucket count after another.
-use Rattle.std.proofs.Common.{◌≡◌, ◌+◌, ◌<◌, ◌≤◌, ℕ, Bool, true, false, drop, get_or, length, List, [], ◌∷◌, Option, Some, None, refl, sym, ap, ◌∙◌, subst}
+use Rattle.std.proofs.Common.{◌≡◌, ◌+◌, ◌<◌, ◌≤◌, ℕ, Bool, true, false, drop, get_or, length, List, [], ◌∷◌, refl, sym, ap, ◌∙◌}
 use Rattle.std.specs.Prelude.{if◌then◌else◌}
-use Rattle.std.specs.Option.{option_map}
 use Rattle.std.proofs.lemmas.List.{drop_all, drop_more}
-use Rattle.silt_disk.specs.Layout.{Shape}
-use Rattle.silt_words.specs.declared.job.PlanRequest.{PlanRequest}
-use Rattle.silt_jobs.specs.Plans.{shape_planned}
-use Rattle.silt_jobs.specs.PlanCosts.{cost_of, first_needed, needs_buckets}
-use Rattle.silt_jobs.specs.declared.plan_cost.PlanCost.{PlanCost}
+use Rattle.silt_jobs.specs.PlanCosts.{first_needed, needs_buckets}
 
 if_true : (b : Bool) (x y : ℕ) → b ≡ true → (if b then x else y) ≡ x
 if_true true x y is = refl
@@ -46,11 +41,3 @@ needless most keys whole counts at inside rest none =
 pub two_left : (most keys : ℕ) (whole counts : List ℕ) (at : ℕ) → length counts ≤ at → first_needed most keys whole ≡ first_needed most keys (drop at counts)
     → 2 ≡ first_needed most keys whole
 two_left most keys whole counts at past rest = sym (rest ∙ ap (first_needed most keys) (drop_all at counts past) ∙ first_none most keys)
-
--- the cost that is reported is that of the plan
-pub reports_cost : (Reported : PlanCost → Type 0) (r : PlanRequest) (found : Option ℕ) (geometry : Shape) → Some geometry ≡ option_map (shape_planned r) found
-    → Reported (cost_of r.keys geometry.buckets) → (buckets : ℕ) × (found ≡ Some buckets) × Reported (cost_of r.keys buckets)
-reports_cost Reported r (Some buckets) geometry is h =
-    let same : geometry ≡ shape_planned r buckets = cc in
-    (buckets, refl, subst (λ (s : Shape). Reported (cost_of r.keys s.buckets)) same h)
-reports_cost Reported r None geometry is h = absurd (cc)

@@ -1,12 +1,16 @@
 -- The first bucket count that can be planned, one after another.
-use Rattle.std.proofs.Common.{◌≡◌, ◌+◌, ◌<◌, ◌≤◌, ◌&&◌, ℕ, Bool, true, false, drop, get_or, length, List, [], ◌∷◌, Option, Some, None, codes, refl, sym, ap, ◌∙◌, subst}
+use Rattle.std.proofs.Common.{◌≡◌, ◌+◌, ◌<◌, ◌≤◌, ◌&&◌, ℕ, Bool, true, false, drop, get_or, length, List, [], ◌∷◌, Option, Some, None, refl, sym, ap, ◌∙◌, subst}
 use Rattle.std.specs.Prelude.{if◌then◌else◌}
-use Rattle.std.specs.Io.KnownBytes.{Appends}
 use Rattle.std.specs.Option.{option_map}
 use Rattle.std.proofs.lemmas.List.{drop_all, drop_more}
 use Rattle.silt_disk.specs.Layout.{Shape}
 use Rattle.silt_words.specs.declared.job.PlanRequest.{PlanRequest}
-use Rattle.silt_jobs.specs.Plans.{PrintsPlan, first_planned, is_needed, is_planned, is_possible, memory_of, plan_text, shape_planned}
+use Rattle.silt_jobs.specs.Ended.{IsDone, Refuses}
+use Rattle.silt_jobs.specs.PlanCosts.{Plans, cost_of}
+use Rattle.silt_jobs.specs.Plans.{first_planned, is_needed, is_planned, is_possible, memory_planned, plan_text, shape_planned}
+use Rattle.silt_jobs.specs.declared.ended.Ended.{Ended}
+use Rattle.silt_jobs.specs.declared.ended.Found.TheVariants.{Cost}
+use Rattle.silt_jobs.specs.declared.ended.Why.TheVariants.{NoPlan}
 
 -- what was chosen, if it is possible
 chosen : (possible : Bool) (shape geometry : Shape) → Some geometry ≡ (if possible then Some shape else None) → (possible ≡ true) × (geometry ≡ shape)
@@ -84,17 +88,18 @@ none_left r whole counts at past rest = ap (option_map (shape_planned r)) (sym (
 
 -- ---- what is written
 
-pub reports_plan : (r : PlanRequest) (found : Option ℕ) (geometry : Shape) (memory : ℕ) (before after : Option (List ℕ)) → Some geometry ≡ option_map (shape_planned r) found
-    → memory ≡ memory_of r.keys geometry.buckets → Appends before after (plan_text geometry memory) → PrintsPlan r found 0 before after
-reports_plan r (Some buckets) geometry memory before after is takes reported =
-    let same : geometry ≡ shape_planned r buckets = cc in (
-      refl,
-      subst (λ (s : Shape). Appends before after (plan_text s (memory_of r.keys s.buckets))) same
-          (subst (λ (m : ℕ). Appends before after (plan_text geometry m)) takes reported),
-    )
-reports_plan r None geometry memory before after is takes reported = absurd (cc)
+module _ {E F : Type 0} (r : PlanRequest) where
+  -- the plan of this geometry, with its cost
+  pub plans_here : (planned : Option ℕ) (geometry : Shape) (ended : Ended E F) (before after : Option (List ℕ)) → Some geometry ≡ option_map (shape_planned r) planned
+      → ended.found ≡ Some (Cost (cost_of r.keys geometry.buckets)) → IsDone (plan_text geometry (memory_planned r geometry.buckets)) ended before after
+      → Plans r planned ended before after
+  plans_here (Some buckets) geometry ended before after is cost done =
+      let same : geometry ≡ shape_planned r buckets = cc in
+      subst (λ (s : Shape). (ended.found ≡ Some (Cost (cost_of r.keys s.buckets))) × IsDone (plan_text s (memory_planned r s.buckets)) ended before after) same (cost, done)
+  plans_here None geometry ended before after is cost done = absurd (cc)
 
-pub reports_none : (r : PlanRequest) (found : Option ℕ) (before after : Option (List ℕ)) → None ≡ option_map (shape_planned r) found → Appends before after (codes "no plan\n")
-    → PrintsPlan r found 1 before after
-reports_none r (Some buckets) before after is reported = absurd (cc)
-reports_none r None before after is reported = (refl, reported)
+  -- there is no plan
+  pub plans_none : (planned : Option ℕ) (ended : Ended E F) (before after : Option (List ℕ)) → None ≡ option_map (shape_planned r) planned
+      → Refuses (NoPlan r) ended before after → Plans r planned ended before after
+  plans_none (Some buckets) ended before after is refused = absurd (cc)
+  plans_none None ended before after is refused = refused

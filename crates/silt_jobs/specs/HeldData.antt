@@ -1,20 +1,22 @@
 -- The data on a disk before a format, and whether it may be overwritten.
-use Rattle.std.specs.Prelude.{◌≡◌, ℕ, ◌==◌, nat_le, Bool, true, false, ◌&&◌, ◌||◌, IsTrue, IfSome, List, Option, Some, None, Result, Ok, Err, slice_range}
+use Rattle.std.specs.Prelude.{◌≡◌, ℕ, ◌==◌, nat_le, Bool, true, false, ◌&&◌, ◌||◌, IsTrue, IfSome, if◌then◌else◌, List, Option, Some, None, Result, Ok, Err, slice_range}
 use Rattle.std.specs.Str.{bytes_eq}
 use Rattle.silt_disk.specs.Disk.{Content, GaveAny, size}
 use Rattle.silt_disk.specs.Header.{header_len, header_of, magic}
 use Rattle.silt_disk.specs.declared.disk.Disk.{Ghosts}
-use Rattle.silt_event.specs.declared.refusal.Refusal.{Refusal}
 use Rattle.silt_event.specs.declared.refusal.Refusal.TheVariants.{Device}
 use Rattle.silt_event.specs.declared.report.Report.{Report}
 use Rattle.silt_recovery.specs.Opening.{IsReported}
 use Rattle.silt_recovery.specs.Refusals.{IsFound, IsRefusedLook}
 use Rattle.silt_recovery.specs.declared.fault.OpenError.{OpenError}
 use Rattle.silt_jobs.specs.Damage.{HasShape}
-use Rattle.silt_jobs.specs.declared.notes.Notes.{Ghosts as NotesOf}
+use Rattle.silt_jobs.specs.declared.ended.Why.{Why}
+use Rattle.silt_jobs.specs.declared.ended.Why.TheVariants.{Holds, Refused}
 use Rattle.silt_jobs.specs.declared.held_data.HeldStore.{HeldStore}
 use Rattle.silt_jobs.specs.declared.held_data.Holding.{Holding}
 use Rattle.silt_jobs.specs.declared.held_data.Holding.TheVariants.{Nothing, Store, Other}
+use Rattle.silt_jobs.specs.declared.urgent.Urgent.{Urgent}
+use Rattle.silt_jobs.specs.declared.urgent.Urgent.TheVariants.{Overwrites}
 
 -- whether these bytes after a header's commit byte belong to a store of this program: whole, damaged, or formatted in part
 abbrev pub has_magic : List ℕ → Bool
@@ -55,18 +57,19 @@ is_zero None = false
 abbrev pub is_empty : HeldStore → Bool
 is_empty store = is_zero store.charge
 
-module _ {N F : Type 0} (notes : NotesOf N) (reported_refusal : N → N → List ℕ → Refusal F → Type 0) (file : List ℕ) (force : Bool) where
-  -- The data on the disk of this file may be overwritten: there is none, or a store without keys, or force allows anything. A note reports
-  -- a store.
-  abbrev pub MayOverwrite : Result Holding F → N → N → Type 0
-  MayOverwrite (Ok Nothing) old new = new ≡ old
-  MayOverwrite (Ok (Store store)) old new = ((force || is_empty store) ≡ true) × notes.reported_store old new file store
-  MayOverwrite (Ok Other) old new = (force ≡ true) × (new ≡ old)
-  MayOverwrite (Err fault) old new = (force ≡ true) × (new ≡ old)
+module _ {E F : Type 0} (force : Bool) where
+  -- a store that may be overwritten, or it stays: without force only one without keys is overwritten
+  abbrev pub store_overwritten : HeldStore → Result (Option HeldStore) (Why E F)
+  store_overwritten store = if force || is_empty store then Ok (Some store) else Err (Holds (Store store))
 
-  -- The data stays without force, and a note says why: it is a store that may have keys, it is other data, or it could not be read.
-  abbrev pub MustStay : Result Holding F → N → N → Type 0
-  MustStay (Ok (Store store)) old new = (force ≡ false) × (is_empty store ≡ false) × notes.reported_kept old new file store
-  MustStay (Ok Other) old new = (force ≡ false) × notes.reported_other old new file
-  MustStay (Err fault) old new = (force ≡ false) × reported_refusal old new file (Device fault)
-  MustStay found old new = ⊥
+  -- the store that is to be overwritten, if there is one, or why the data stays without force
+  abbrev pub overwritten : Result Holding F → Result (Option HeldStore) (Why E F)
+  overwritten (Ok Nothing) = Ok None
+  overwritten (Ok (Store store)) = store_overwritten store
+  overwritten (Ok Other) = if force then Ok None else Err (Holds Other)
+  overwritten (Err fault) = if force then Ok None else Err (Refused (Device fault) None)
+
+-- a store that is overwritten is told of, and nothing else is told
+abbrev pub TellsStore : (Urgent → Type 0) → Type 0 → Option HeldStore → Type 0
+TellsStore Told Quiet (Some store) = Told (Overwrites store)
+TellsStore Told Quiet None = Quiet

@@ -1,11 +1,11 @@
 -- What the jobs on a disk do, and what they write.
-use Rattle.std.specs.Prelude.{◌≡◌, ◌⊎◌, ◌&&◌, ◌<◌, ℕ, cond, IsTrue, List, ◌++◌, MatchBool, Option, Some, None, codes}
+use Rattle.std.specs.Prelude.{◌≡◌, ◌⊎◌, ◌&&◌, ◌<◌, ℕ, cond, IsTrue, IfNone, IfOk, IfSome, List, ◌++◌, MatchBool, Option, Some, None, codes}
 use Rattle.std.specs.Option.{IsSomeAnd}
 use Rattle.std.specs.FinMap.{empty}
 use Rattle.std.specs.Fmt.{decimal}
 use Rattle.std.specs.Io.KnownBytes.{Appends}
 use Rattle.silt_disk.specs.Disk.{GaveAny, LeavesOnly, size}
-use Rattle.silt_disk.specs.Layout.{Shape, device_size}
+use Rattle.silt_disk.specs.Layout.{InLimits, Shape, device_size}
 use Rattle.silt_disk.specs.declared.disk.Disk.{Ghosts}
 use Rattle.silt_event.specs.declared.report.Report.{Report}
 use Rattle.silt_recovery.specs.Format.{FormatCause}
@@ -14,24 +14,32 @@ use Rattle.silt_recovery.specs.Refusals.{IsFound, IsRefusedLook}
 use Rattle.silt_recovery.specs.declared.fault.FormatError.{FormatError}
 use Rattle.silt_recovery.specs.declared.fault.OpenError.{OpenError}
 use Rattle.silt_image.specs.Meaning.{StandsFor}
-use Rattle.silt_store_set.specs.CoreState.{CoreState, Opens, DoesPlain}
-use Rattle.silt_store_set.specs.Opening.{OpeningCause}
+use Rattle.silt_store_set.specs.CoreState.{CoreState, DoesPlain}
 use Rattle.silt_recovery.specs.Errors.{refusal_of_formatting, refusal_of_opening}
 use Rattle.silt_event.specs.declared.refusal.Refusal.{Refusal}
-use Rattle.silt_event.specs.declared.refusal.Refusal.TheVariants.{BadGeometry}
 use Rattle.silt_event.specs.declared.reply.Reply.TheVariants.{Refused}
 use Rattle.silt_wire.specs.Reports.{report_text}
 use Rattle.silt_wire.specs.Sessions.{Ends}
-use Rattle.silt_wire.specs.Statuses.{IsStatus}
 use Rattle.silt_wire.specs.declared.sessions.SessionEnd.{SessionEnd}
-use Rattle.silt_wire.specs.declared.sessions.SessionEnd.TheVariants.{End, WriteFault}
-use Rattle.silt_jobs.specs.Damage.{HasShape, LacksShape}
-use Rattle.silt_jobs.specs.Scripts.{reply_line}
+use Rattle.silt_wire.specs.declared.sessions.SessionEnd.TheVariants.{End, NoMemory, ReadFault, WriteFault}
+use Rattle.silt_words.specs.declared.job.Numbers.{Numbers}
+use Rattle.silt_words.specs.declared.job.RunOptions.{RunOptions}
 use Rattle.silt_jobs.specs.BackgroundWork.{PlainRefusal, StopsAt, TendsAll, TendsThenDoes, due_at_once}
+use Rattle.silt_jobs.specs.Damage.{HasShape, LacksShape}
+use Rattle.silt_jobs.specs.Ended.{IsDone, Refuses, RefusesSo, none_failed}
+use Rattle.silt_jobs.specs.Numbers.{shape_asked}
+use Rattle.silt_jobs.specs.Scripts.{AnswersScript, reply_line}
 use Rattle.silt_jobs.specs.Tally.{has_refusals}
 use Rattle.silt_jobs.specs.declared.background_work.Steps.{Steps}
+use Rattle.silt_jobs.specs.declared.ended.Ended.{Ended}
+use Rattle.silt_jobs.specs.declared.ended.Found.{Found}
+use Rattle.silt_jobs.specs.declared.ended.Found.TheVariants.{Store, Session as Ran}
+use Rattle.silt_jobs.specs.declared.ended.Session.{Session}
+use Rattle.silt_jobs.specs.declared.ended.Why.TheVariants.{FewRegions, OutOfLimits, Refused as RefusedSo}
+use Rattle.silt_jobs.specs.declared.failures.Failures.{Failures}
+use Rattle.silt_jobs.specs.declared.held_data.HeldStore.{HeldStore}
+use Rattle.silt_jobs.specs.declared.streams.StreamError.{StreamError}
 use Rattle.silt_jobs.specs.declared.tally.Tally.{Tally}
-use Rattle.silt_words.specs.declared.job.RunOptions.{RunOptions}
 
 -- the length of a device that was formatted, in bytes
 abbrev pub formatted_line : ℕ → List ℕ
@@ -46,10 +54,6 @@ Prints refusal before after = Appends before after (reply_line (Refused refusal)
 abbrev pub run_status : RunOptions → Tally → SessionEnd → Option PlainRefusal → ℕ
 run_status options tally End None = cond (options.strict && has_refusals tally) 3 0
 run_status options tally end refusal = 1
-
--- the status is 0, or 1 and this is so, or 3 and that is so
-abbrev pub IsRunStatus : Type 0 → Type 0 → ℕ → Type 0
-IsRunStatus Broken Strict status = IsStatus Broken status ⊎ ((status ≡ 3) × Strict)
 
 -- how many steps were taken, on the line of a store whose background work was done
 abbrev pub tended_line : Steps → List ℕ
@@ -74,43 +78,47 @@ module _ {D F : Type 0} (facts : Ghosts D F) where
       (record { answerer = old; remaining = remaining; contents = before })
       (record { answerer = new; remaining = left; contents = after }))
 
--- The store has fewer hash regions than the hash stores of which a merge is to begin. The line says that, and the disk is returned.
-abbrev pub PrintsFewRegions : {D : Type 0} → Option ℕ → CoreState D → D → Option (List ℕ) → Option (List ℕ) → Type 0
-PrintsFewRegions merge_at core new before after =
-    (new ≡ core.disk) × IsSomeAnd merge_at (λ least. core.shape.hashes < least) × Prints {F = Unit {0}} BadGeometry before after
+-- The store has fewer hash regions than the hash stores of which a merge is to begin. The job is refused, and the disk is returned.
+abbrev pub RefusesFewRegions : {D E F : Type 0} → Option ℕ → CoreState D → D → Ended E F → Option (List ℕ) → Option (List ℕ) → Type 0
+RefusesFewRegions merge_at core new ended before after =
+    (new ≡ core.disk) × IsSomeAnd merge_at (λ least. core.shape.hashes < least) × Refuses (FewRegions core.shape.hashes) ended before after
 
--- the same, of a store that was opened on the disk
-abbrev pub OpensFewRegions : {D F : Type 0} → Ghosts D F → Option ℕ → D → D → Option (List ℕ) → Option (List ℕ) → Type 0
-OpensFewRegions {D} facts merge_at old new before after = (core : CoreState D) × Opens facts (facts.content old) core × PrintsFewRegions merge_at core new before after
+-- the error of a session's reader or writer, if that is why it broke off
+abbrev pub session_error : SessionEnd → Option StreamError → Option StreamError → Option StreamError
+session_error End reading writing = None
+session_error ReadFault reading writing = reading
+session_error WriteFault reading writing = writing
+session_error NoMemory reading writing = None
 
-module _ {D F W : Type 0} (facts : Ghosts D F) (options : RunOptions) (contents : W → Option (List ℕ)) (kept_tally : W → Tally) where
-  -- `opened` was written, and the store's session with the reader and the writer had an end that makes this status with its replies. Then
-  -- this was reported of the writer and the end. At last comes the refusal of the background work, if there is one.
-  abbrev pub AnswersReader : (W → SessionEnd → Type 0) → ℕ → CoreState D → CoreState D → Option (List ℕ) → Option (List ℕ) → W → W → Type 0
-  AnswersReader Reported status old new remaining left before after =
+module _ {D F W : Type 0} (facts : Ghosts D F) (contents : W → Option (List ℕ)) (kept_error : W → Option StreamError) (kept_tally : W → Tally) (options : RunOptions)
+    (reading : Option StreamError) where
+  -- a session with this end, which left the writer so
+  abbrev pub session_of : SessionEnd → W → ℕ → Session
+  session_of end answered value_len =
+      record { end = end; error = session_error end reading (kept_error answered); refused = (kept_tally answered).refused; value_len = value_len }
+
+  -- `opened` was written, and the store's session with the reader and the writer had an end that makes this status with its replies. This
+  -- is what is known of it. At last comes the refusal of the background work, if there is one.
+  abbrev pub AnswersReader : ℕ → Option Found → CoreState D → CoreState D → Option (List ℕ) → Option (List ℕ) → W → W → Type 0
+  AnswersReader status found old new remaining left before after =
       (end : SessionEnd) × (refusal : Option PlainRefusal) × (answered : W) × (opened : Option (List ℕ))
       × (status ≡ run_status options (kept_tally answered) end refusal) × Appends (contents before) opened (codes "opened\n")
-      × AnswersLines facts options end refusal old new remaining left opened (contents answered) × Reported answered end
-      × PrintsUntended contents end refusal answered after
+      × AnswersLines facts options end refusal old new remaining left opened (contents answered)
+      × (found ≡ Some (Ran (session_of end answered old.shape.value_len))) × PrintsUntended contents end refusal answered after
 
-  -- The session of an opened store ended with this status, the disk is as the store left it, and the notes say so, with the length of its
-  -- values.
-  abbrev pub EndsLife : (W → ℕ → SessionEnd → D → Type 0) → ℕ → CoreState D → D → Option (List ℕ) → Option (List ℕ) → W → W → Type 0
-  EndsLife reported_session status core new remaining left before after =
-      (last : CoreState D)
-      × AnswersReader (λ answered end. reported_session answered core.shape.value_len end new) status core last remaining left before after
-      × (new ≡ last.disk)
+module _ {D E F W : Type 0} (facts : Ghosts D F) (Failed : D → Failures → Type 0) (contents : W → Option (List ℕ)) (kept_error : W → Option StreamError) (kept_tally : W → Tally)
+    (options : RunOptions) (reading : Option StreamError) where
+  -- the session of an opened store ended, and the disk is as the store left it, with these failed calls
+  abbrev pub EndsLife : CoreState D → D → Ended E F → Option (List ℕ) → Option (List ℕ) → W → W → Type 0
+  EndsLife core new ended remaining left before after =
+      (ended.why ≡ None) × Failed new ended.failures
+      × IfOk ended.status (λ status. (last : CoreState D)
+      × AnswersReader facts contents kept_error kept_tally options reading status ended.found core last remaining left before after × (new ≡ last.disk))
 
-  -- the same, or the store has too few hash regions, and the status is 1
-  abbrev pub FewOrLife : (W → ℕ → SessionEnd → D → Type 0) → ℕ → CoreState D → D → Option (List ℕ) → Option (List ℕ) → W → W → Type 0
-  FewOrLife reported_session status core new remaining left before after =
-      ((status ≡ 1) × PrintsFewRegions options.merge_at core new (contents before) (contents after))
-      ⊎ EndsLife reported_session status core new remaining left before after
-
-  -- one life on a disk with this status, from its opening
-  abbrev pub EndsRun : (W → ℕ → SessionEnd → D → Type 0) → ℕ → D → D → Option (List ℕ) → Option (List ℕ) → W → W → Type 0
-  EndsRun reported_session status old new remaining left before after =
-      (core : CoreState D) × Opens facts (facts.content old) core × EndsLife reported_session status core new remaining left before after
+  -- one life of an opened store, or it has too few hash regions
+  abbrev pub RunsOpened : CoreState D → D → Ended E F → Option (List ℕ) → Option (List ℕ) → W → W → Type 0
+  RunsOpened core new ended remaining left before after =
+      RefusesFewRegions options.merge_at core new ended (contents before) (contents after) ⊎ EndsLife core new ended remaining left before after
 
 module _ {D F : Type 0} (facts : Ghosts D F) (merge_at : Option ℕ) where
   -- All background work of a store was done, and the number of steps was written; or a step was refused, and that was written.
@@ -119,70 +127,44 @@ module _ {D F : Type 0} (facts : Ghosts D F) (merge_at : Option ℕ) where
       ((status ≡ 0) × ((steps : Steps) × TendsAll facts merge_at old new steps × Appends before after (tended_line steps)))
       ⊎ ((status ≡ 1) × ((refusal : Refusal F) × StopsAt facts (due_at_once merge_at) old new refusal × Prints refusal before after))
 
-module _ {D F : Type 0} (facts : Ghosts D F) (merge_at : Option ℕ) (reported_failures : D → Type 0) where
-  -- `opened` was written, the background work of an opened store ended with this status, and the disk is as the store left it
-  abbrev pub TendsCore : ℕ → CoreState D → D → Option (List ℕ) → Option (List ℕ) → Type 0
-  TendsCore status core new before after =
-      (last : CoreState D)
-      × ((opened : Option (List ℕ)) × Appends before opened (codes "opened\n") × EndsTending facts merge_at core last status opened after)
-      × (new ≡ last.disk) × reported_failures new
+module _ {D E F : Type 0} (facts : Ghosts D F) (Failed : D → Failures → Type 0) (merge_at : Option ℕ) where
+  -- `opened` was written, the background work of an opened store ended, and the disk is as the store left it, with these failed calls
+  abbrev pub EndsTend : CoreState D → D → Ended E F → Option (List ℕ) → Option (List ℕ) → Type 0
+  EndsTend core new ended before after =
+      (ended.why ≡ None) × (ended.found ≡ None) × Failed new ended.failures
+      × IfOk ended.status (λ status. (last : CoreState D)
+      × ((opened : Option (List ℕ)) × Appends before opened (codes "opened\n") × EndsTending facts merge_at core last status opened after) × (new ≡ last.disk))
 
-  -- the same, or the store has too few hash regions, and the status is 1
-  abbrev pub FewOrTends : ℕ → CoreState D → D → Option (List ℕ) → Option (List ℕ) → Type 0
-  FewOrTends status core new before after = ((status ≡ 1) × PrintsFewRegions merge_at core new before after) ⊎ TendsCore status core new before after
+  -- the background work of an opened store, or it has too few hash regions
+  abbrev pub TendsOpened : CoreState D → D → Ended E F → Option (List ℕ) → Option (List ℕ) → Type 0
+  TendsOpened core new ended before after = RefusesFewRegions merge_at core new ended before after ⊎ EndsTend core new ended before after
 
-  -- the same on a disk, from the opening
-  abbrev pub TendsTo : ℕ → D → D → Option (List ℕ) → Option (List ℕ) → Type 0
-  TendsTo status old new before after = (core : CoreState D) × Opens facts (facts.content old) core × TendsCore status core new before after
+module _ {D F : Type 0} (facts : Ghosts D F) where
+  -- the known facts of the store on a checked disk: its six numbers, if they could be read again, and its charge
+  abbrev pub IsChecked : D → Report → HeldStore → Type 0
+  IsChecked disk report store =
+      (store.charge ≡ Some report.charge) × IfSome store.geometry (HasShape (facts.content disk)) × IfNone store.geometry (LacksShape facts disk)
 
-  -- all background work was done, and the number of steps was written
-  abbrev pub EndsTend : D → D → Option (List ℕ) → Option (List ℕ) → Type 0
-  EndsTend = TendsTo 0
+  -- a disk cannot be opened, since this is wrong with it, or it could not be read
+  abbrev pub IsBad : D → OpenError F → Type 0
+  IsBad disk error = IsRefusedLook (λ finding. IsTrue (facts.content disk).honest → IsFound (facts.content disk).shown finding) (GaveAny facts.gave disk) error
 
-  -- steps were taken until one was refused, and that was written
-  abbrev pub BreaksTend : D → D → Option (List ℕ) → Option (List ℕ) → Type 0
-  BreaksTend = TendsTo 1
+module _ {D E F : Type 0} (facts : Ghosts D F) where
+  -- the report of a disk was written, or it was refused
+  abbrev pub Checks : D → Ended E F → Option (List ℕ) → Option (List ℕ) → Type 0
+  Checks disk ended before after =
+      ((report : Report) × (store : HeldStore) × (IsTrue (facts.content disk).honest → IsReported (facts.content disk).shown report) × IsChecked facts disk report store
+      × (ended.found ≡ Some (Store store)) × (ended.failures ≡ none_failed) × IsDone (report_text report) ended before after)
+      ⊎ ((error : OpenError F) × IsBad facts disk error × RefusesSo (refusal_of_opening error) ended before after)
 
--- the report of the disk was written, and a note has its six numbers, if they could be read again, and its charge
-abbrev pub EndsCheck : {D F : Type 0} → Ghosts D F → (Shape → ℕ → Type 0) → D → Option (List ℕ) → Option (List ℕ) → Type 0
-EndsCheck facts reported_charge disk before after =
-    (report : Report) × (IsTrue (facts.content disk).honest → IsReported (facts.content disk).shown report) × Appends before after (report_text report)
-    × (((shape : Shape) × HasShape (facts.content disk) shape × reported_charge shape report.charge) ⊎ LacksShape facts disk)
+  -- an empty store of this shape was made of the disk, and its length was written; or the disk was not formatted
+  abbrev pub Formats : Shape → D → D → Ended E F → Option (List ℕ) → Option (List ℕ) → Type 0
+  Formats shape old new ended before after =
+      ((size (facts.content new) ≡ device_size shape) × LeavesOnly (facts.content new) (StandsFor shape empty) × IsDone (formatted_line (device_size shape)) ended before after)
+      ⊎ ((error : FormatError F) × FormatCause facts.content (GaveAny facts.gave) shape old new error × Refuses (RefusedSo (refusal_of_formatting error) None) ended before after)
 
--- an empty store of this shape was made of the disk, and its length was written
-abbrev pub EndsFormat : {D F : Type 0} → Ghosts D F → Shape → D → Option (List ℕ) → Option (List ℕ) → Type 0
-EndsFormat facts shape new before after =
-    (size (facts.content new) ≡ device_size shape) × LeavesOnly (facts.content new) (StandsFor shape empty) × Appends before after (formatted_line (device_size shape))
-
-module _ {D F : Type 0} (facts : Ghosts D F) (reported : Refusal F → Type 0) where
-  -- the line says why the store was not opened on the disk, and so does a note
-  abbrev pub PrintsOpening : D → D → Option (List ℕ) → Option (List ℕ) → Type 0
-  PrintsOpening old new before after = (refusal : Refusal F) × OpeningCause facts (facts.content old) new refusal × Prints refusal before after × reported refusal
-
-  -- the line says what is wrong with the disk, or why it could not be read, and so does a note
-  abbrev pub PrintsCheck : D → Option (List ℕ) → Option (List ℕ) → Type 0
-  PrintsCheck disk before after =
-      (error : OpenError F) × IsRefusedLook (λ finding. IsTrue (facts.content disk).honest → IsFound (facts.content disk).shown finding) (GaveAny facts.gave disk) error
-      × Prints (refusal_of_opening error) before after × reported (refusal_of_opening error)
-
-  -- the line says why the disk was not formatted, and so does a note
-  abbrev pub PrintsFormat : Shape → D → D → Option (List ℕ) → Option (List ℕ) → Type 0
-  PrintsFormat shape old new before after =
-      (error : FormatError F) × FormatCause facts.content (GaveAny facts.gave) shape old new error × Prints (refusal_of_formatting error) before after
-      × reported (refusal_of_formatting error)
-
--- the line says that the store was not opened on the disk, or has too few hash regions, or the session on it or its background work broke
--- off; notes say why
-abbrev pub PrintsRun : {D F W : Type 0} → Ghosts D F → RunOptions → (W → Option (List ℕ)) → (W → Tally) → (Refusal F → Type 0) → (W → ℕ → SessionEnd → D → Type 0)
-    → D → D → Option (List ℕ) → Option (List ℕ) → W → W → Type 0
-PrintsRun facts options contents kept_tally reported_refusal reported_session old new remaining left before after =
-    PrintsOpening facts reported_refusal old new (contents before) (contents after)
-    ⊎ (OpensFewRegions facts options.merge_at old new (contents before) (contents after)
-    ⊎ EndsRun facts options contents kept_tally reported_session 1 old new remaining left before after)
-
--- the line says that the store was not opened on the disk, or has too few hash regions, or that a step of its background work was refused;
--- notes say why
-abbrev pub PrintsTend : {D F : Type 0} → Ghosts D F → Option ℕ → (Refusal F → Type 0) → (D → Type 0) → D → D → Option (List ℕ) → Option (List ℕ) → Type 0
-PrintsTend facts merge_at reported_refusal reported_failures old new before after =
-    PrintsOpening facts reported_refusal old new before after
-    ⊎ (OpensFewRegions facts merge_at old new before after ⊎ BreaksTend facts merge_at reported_failures old new before after)
+-- a script was answered, or refused; if a number is out of its limits, nothing is read
+abbrev pub RunsScript : {E F : Type 0} → Numbers → Ended E F → Option (List ℕ) → Option (List ℕ) → Option (List ℕ) → Option (List ℕ) → Type 0
+RunsScript numbers ended remaining left before after =
+    ((¬ InLimits (shape_asked numbers)) × (left ≡ remaining) × Refuses (OutOfLimits numbers) ended before after)
+    ⊎ (InLimits (shape_asked numbers) × (ended.why ≡ None) × IfOk ended.status (AnswersScript (shape_asked numbers) remaining left before after))

@@ -1,10 +1,11 @@
 pub mod Damage
 pub mod Dump
+pub mod Ended
 pub mod Files
 pub mod Jobs
 pub mod NewStores
-pub mod Notes
 pub mod Numbers
+pub mod Openings
 pub mod HeldData
 pub mod PlanCosts
 pub mod Plans

@@ -1,7 +1,11 @@
 -- What a planned store costs in merging, and in memory at rest.
 use Rattle.std.specs.Prelude.{◌≡◌, ℕ, ◌+◌, ◌*◌, ◌/◌, ◌==◌, nat_lt, ◌||◌, Bool, List, [], ◌∷◌, max, Option, Some, None, if◌then◌else◌}
 use Rattle.silt_words.specs.declared.job.PlanRequest.{PlanRequest}
-use Rattle.silt_jobs.specs.Plans.{bucket_counts, first_planned, memory_of}
+use Rattle.silt_jobs.specs.Ended.{IsDone, Refuses}
+use Rattle.silt_jobs.specs.Plans.{bucket_counts, memory_of, memory_planned, plan_text, shape_planned}
+use Rattle.silt_jobs.specs.declared.ended.Ended.{Ended}
+use Rattle.silt_jobs.specs.declared.ended.Found.TheVariants.{Cost}
+use Rattle.silt_jobs.specs.declared.ended.Why.TheVariants.{NoPlan}
 use Rattle.silt_jobs.specs.declared.plan_cost.PlanCost.{PlanCost}
 use Rattle.silt_jobs.specs.declared.plan_cost.Remedy.{Remedy}
 use Rattle.silt_jobs.specs.declared.plan_cost.Remedy.TheVariants.{SeveralStores, Memory}
@@ -49,6 +53,8 @@ remedy_of keys buckets =
 abbrev pub cost_of : ℕ → ℕ → PlanCost
 cost_of keys buckets = record { keys = keys; rows = rows_between_merges buckets; at_rest = at_rest keys buckets; remedy = remedy_of keys buckets }
 
--- the cost of the plan is reported
-abbrev pub ReportsCost : (PlanCost → Type 0) → PlanRequest → Type 0
-ReportsCost reported r = (buckets : ℕ) × (first_planned r bucket_counts ≡ Some buckets) × reported (cost_of r.keys buckets)
+-- the plan of this many buckets was written, with its cost, or the line says that there is none
+abbrev pub Plans : {E F : Type 0} → PlanRequest → Option ℕ → Ended E F → Option (List ℕ) → Option (List ℕ) → Type 0
+Plans r (Some buckets) ended before after =
+    (ended.found ≡ Some (Cost (cost_of r.keys buckets))) × IsDone (plan_text (shape_planned r buckets) (memory_planned r buckets)) ended before after
+Plans r None ended before after = Refuses (NoPlan r) ended before after

@@ -1,7 +1,6 @@
 -- The six numbers of a planned store for a number of keys.
-use Rattle.std.specs.Prelude.{◌≡◌, ℕ, ◌+◌, ◌*◌, ◌/◌, ◌==◌, nat_le, nat_lt, ◌&&◌, ◌||◌, Bool, true, List, [], ◌∷◌, ◌++◌, Option, Some, None, if◌then◌else◌, codes}
+use Rattle.std.specs.Prelude.{ℕ, ◌+◌, ◌*◌, ◌/◌, ◌==◌, nat_le, nat_lt, ◌&&◌, ◌||◌, Bool, true, List, [], ◌∷◌, ◌++◌, Option, Some, None, if◌then◌else◌, codes}
 use Rattle.std.specs.Fmt.{decimal}
-use Rattle.std.specs.Io.KnownBytes.{Appends}
 use Rattle.silt_disk.specs.Header.{is_in_limits}
 use Rattle.silt_disk.specs.Layout.{Shape, device_size}
 use Rattle.silt_words.specs.declared.job.PlanRequest.{PlanRequest}
@@ -61,9 +60,3 @@ plan_text s memory =
     ++ (number_after (codes " ") s.sorted_capacity
     ++ (number_after (codes "\ndisk ") (device_size s)
     ++ (number_after (codes "\nmemory ") memory ++ codes "\n")))))))
-
--- the plan of the most buckets that can be planned was written, or that there is none
-abbrev pub PrintsPlan : PlanRequest → Option ℕ → ℕ → Option (List ℕ) → Option (List ℕ) → Type 0
-PrintsPlan r (Some buckets) status before after =
-    (status ≡ 0) × Appends before after (plan_text (shape_planned r buckets) (memory_planned r buckets))
-PrintsPlan r None status before after = (status ≡ 1) × Appends before after (codes "no plan\n")

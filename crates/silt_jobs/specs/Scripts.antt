@@ -1,5 +1,5 @@
 -- The lines of a script, and its output.
-use Rattle.std.specs.Prelude.{Vec, ◌≡◌, ◌+◌, ℕ, List, [], ◌∷◌, ◌++◌, All, Option, Some, None, Result, Ok, Err, MatchBool, codes}
+use Rattle.std.specs.Prelude.{Vec, ◌≡◌, ◌⊎◌, ◌+◌, ℕ, List, [], ◌∷◌, ◌++◌, All, Option, Some, None, Result, Ok, Err, MatchBool, codes}
 use Rattle.std.specs.FinMap.{empty}
 use Rattle.std.specs.List.{slice_get}
 use Rattle.std.specs.Io.KnownBytes.{Appends, Consumes, IsAtEnd}
@@ -187,3 +187,8 @@ ScriptCause shape refusal = NewStoreCause shape refusal
 -- one line was written, which says why the whole script is refused
 abbrev pub PrintsRefusal : Shape → Option (List ℕ) → Option (List ℕ) → Type 0
 PrintsRefusal shape before after = (refusal : Refusal MemFault) × ScriptCause shape refusal × Appends before after (reply_line (RefusedReply refusal))
+
+-- a script of a store of this shape ended with this status: it was answered, or refused
+abbrev pub AnswersScript : Shape → Option (List ℕ) → Option (List ℕ) → Option (List ℕ) → Option (List ℕ) → ℕ → Type 0
+AnswersScript shape remaining left before after status =
+    ((status ≡ 0) × EndsScript shape remaining left before after) ⊎ ((status ≡ 1) × PrintsRefusal shape before after)

@@ -1,17 +1,12 @@
 // All entries of a store as lines that put them.
-ghost use Rattle.std.specs.Prelude.{◌≡◌, ◌++◌, Ok, IfOk, OnOk, string_bytes};
+ghost use Rattle.std.specs.Prelude.{◌≡◌, ◌++◌, IfOk, OnOk, string_bytes};
 ghost use Rattle.std.specs.BTreeMap.{IsOrdered};
 ghost use Rattle.std.specs.Io.KnownBytes.{Appends};
 ghost use Rattle.silt_frame.specs.Rows.{key_cmp};
-ghost use Rattle.silt_wire.specs.Statuses.{IsStatus};
-ghost use Rattle.silt_jobs.specs.Dump.{DumpsFile, EndsDump, entry_lines, put_line};
-ghost use Rattle.silt_jobs.specs.Files.{PrintsCheckFile};
-ghost use Rattle.silt_jobs.specs.Jobs.{PrintsCheck};
-ghost use Rattle.silt_jobs.specs.Notes.{NotOpenedReported, ReportedRefusal};
+ghost use Rattle.silt_jobs.specs.Dump.{Dumps, DumpsFile, entry_lines, put_line};
 
-use crate::damage::damage_at;
-use crate::notes::{FaultNotes, SourceNotes, report_refusal};
-use crate::refusal::{refuse, refuse_no_disk};
+use crate::ended::{Ended, Why};
+use crate::jobs::refuse_disk;
 use silt_device::DiskSource;
 use silt_disk::Disk;
 use silt_store_set::{Key, Refusal, Value, read_entries};
@@ -62,65 +57,52 @@ fn write_entries<W: Write>(
     writer.flush()
 }
 
-/// Writes the lines that put all entries of the store on the disk of a file, in the order of their keys. It writes
-/// nothing to the disk. Returns the status: 0 after the lines, 1 if the device is refused.
-///
-/// # Errors
-///
-/// The writer's, and out of memory for the text.
-pub fn dump_on<D: Disk, W: Write, N: FaultNotes<D::Fault>>(
+/// Writes the lines that put all entries of the store on a disk, in the order of their keys. It writes nothing to the disk.
+/// The status is 0 after the lines, and 1 if the device is refused.
+pub fn dump_on<E: Drop, D: Disk, W: Write>(
     alloc: Global,
     disk: &D,
-    file: &str,
     writer: &mut W,
-    notes: &mut N,
-) -> io::Result<u8>
-    ensures printed { IfOk result (IsStatus (PrintsCheck D.Disk
-        (ReportedRefusal N.reported_fault N.reported_damage N.reported_no_store notes.old notes.new file.now) disk.now (W.contents writer.old) (W.contents writer.new))) }
-    ensures dumped { result ≡ Ok 0 → EndsDump D.Disk disk.now (W.contents writer.old) (W.contents writer.new) }
+) -> Ended<E, D::Fault>
+    ensures { Dumps D.Disk disk.now result (W.contents writer.old) (W.contents writer.new) }
 {
     match read_entries(alloc, disk) {
-        Ok(entries) => {
-            write_entries(alloc, &entries, writer)?;
-            Ok(0)
-        }
-        Err(error) => {
-            let refusal = Refusal::from(error);
-            report_refusal(file, &refusal, damage_at(disk, &refusal), notes);
-            refuse(alloc, &refusal, writer)
-        }
+        Ok(entries) => Ended::plain(write_dump(alloc, &entries, writer)),
+        Err(error) => refuse_disk(alloc, disk, Refusal::from(error), writer),
+    }
+}
+
+// Writes the lines that put these entries, and returns the status.
+fn write_dump<W: Write>(
+    alloc: Global,
+    entries: &BTreeMap<Key, Value>,
+    writer: &mut W,
+) -> io::Result<u8>
+    ensures lines { IfOk result (λ status. (status ≡ 0) × Appends (W.contents writer.old) (W.contents writer.new) (entry_lines entries.now.entries)) }
+    ensures ordered { IsOrdered key_cmp entries.now }
+{
+    match write_entries(alloc, entries, writer) {
+        Ok(()) => Ok(0),
+        Err(error) => Err(error),
     }
 }
 
 /// Writes the lines that put all entries of the store on the disk of a path, in the order of their keys. The disk is
-/// opened only for reading, and others may read it too. Returns the disk and the status: 0 after the lines, 1 if the
-/// disk is not opened or is refused.
-///
-/// # Errors
-///
-/// The writer's, and out of memory for the text.
-pub fn dump_file<
-    S: DiskSource,
-    W: Write,
-    N: SourceNotes<S::Error> + FaultNotes<<S::Disk as Disk>::Fault>,
->(
+/// opened only for reading, and others may read it too. Returns the disk, and how the job ended, with the status 0 after
+/// the lines, and 1 if the disk is not opened or is refused.
+pub fn dump_file<S: DiskSource, W: Write>(
     alloc: Global,
     source: S,
     path: &str,
     writer: &mut W,
-    notes: &mut N,
-) -> (Option<S::Disk>, io::Result<u8>)
-    ensures printed { IfOk result.1 (IsStatus (PrintsCheckFile S.Disk.Disk
-        (ReportedRefusal N.reported_fault N.reported_damage N.reported_no_store notes.old notes.new path.now)
-        (S.shared source path.now) (NotOpenedReported (S.not_shared source) (N.reported_error notes.old notes.new) path.now)
-        result.0 (W.contents writer.old) (W.contents writer.new))) }
-    ensures dumped { result.1 ≡ Ok 0 → DumpsFile S.Disk.Disk (S.shared source path.now) result.0 (W.contents writer.old) (W.contents writer.new) }
+) -> (Option<S::Disk>, Ended<S::Error, <S::Disk as Disk>::Fault>)
+    ensures { DumpsFile S.Disk.Disk (S.shared source path.now) (S.not_shared source path.now) result.0 result.1 (W.contents writer.old) (W.contents writer.new) }
 {
     match source.open_shared(path) {
         Ok(disk) => {
-            let status = dump_on(alloc, &disk, path, writer, notes);
-            (Some(disk), status)
+            let ended = dump_on(alloc, &disk, writer);
+            (Some(disk), ended)
         }
-        Err(error) => (None, refuse_no_disk(alloc, path, &error, writer, notes)),
+        Err(error) => (None, Ended::refuse(alloc, Why::NoDisk(error), writer)),
     }
 }

@@ -1,14 +1,14 @@
 // The data on a disk before a format, and whether it may be overwritten.
-ghost use Rattle.std.specs.Prelude.{◌≡◌, ◌||◌, false, true, IsTrue, MatchBool, Result as ResultOf};
-ghost use Rattle.silt_jobs.specs.Notes.{ReportedRefusal};
-ghost use Rattle.silt_jobs.specs.HeldData.{HasCharge, IsFoundStore, Looks, MayOverwrite, MustStay, has_magic, is_empty};
+ghost use Rattle.std.specs.Prelude.{◌≡◌, IsTrue, Result as ResultOf};
+ghost use Rattle.silt_jobs.specs.HeldData.{HasCharge, IsFoundStore, Looks, has_magic, is_empty, overwritten, store_overwritten};
 ghost use Rattle.silt_jobs.specs.declared.held_data.Holding.{Holding as HoldingOf};
 
 use crate::damage::geometry_on;
+use crate::ended::Why;
 use crate::geometry::NumbersText;
-use crate::notes::{FaultNotes, Notes};
 use silt_disk::{Disk, Geometry, HEADER_LEN};
 use silt_recovery::check;
+use silt_store_set::Refusal;
 use std::alloc::Global;
 use std::fmt;
 
@@ -59,45 +59,36 @@ pub enum Holding {
     Other,
 }
 
-/// Reads the data on a disk before a format. Returns whether it may be overwritten: without force only an empty disk or
-/// a store without keys. A note reports a store that is overwritten, or says why the data stays.
-pub fn may_overwrite<D: Disk, N: Notes + FaultNotes<D::Fault>>(
+/// Reads the data on a disk before a format. Returns the store that is to be overwritten, if there is one, or why the data
+/// stays: without force only an empty disk or a store without keys may be overwritten.
+pub fn may_overwrite<E: Drop, D: Disk>(
     alloc: Global,
     disk: &D,
-    file: &str,
     force: bool,
-    notes: &mut N,
-) -> bool
-    ensures { (look : ResultOf HoldingOf D.Fault) × Looks D.Disk disk.now look
-        × MatchBool result (MayOverwrite N.Notes (ReportedRefusal N.reported_fault N.reported_damage N.reported_no_store) file.now force look notes.old notes.new)
-        (MustStay N.Notes (ReportedRefusal N.reported_fault N.reported_damage N.reported_no_store) file.now force look notes.old notes.new) }
+) -> Result<Option<HeldStore>, Why<E, D::Fault>>
+    ensures { (look : ResultOf HoldingOf D.Fault) × Looks D.Disk disk.now look × (result ≡ overwritten force look) }
 {
     match look(alloc, disk) {
-        Ok(Holding::Nothing) => true,
-        Ok(Holding::Store(store)) => may_overwrite_store(&store, file, force, notes),
-        Ok(Holding::Other) | Err(_) if force => true,
-        Ok(Holding::Other) => {
-            notes.report_other(file);
-            false
-        }
-        Err(fault) => {
-            notes.report_fault(file, &fault);
-            false
-        }
+        Ok(Holding::Nothing) => Ok(None),
+        Ok(Holding::Store(store)) => overwrite_store(store, force),
+        Ok(Holding::Other) if force => Ok(None),
+        Ok(Holding::Other) => Err(Why::Holds(Holding::Other)),
+        Err(_) if force => Ok(None),
+        Err(fault) => Err(Why::Refused(Refusal::Device(fault), None)),
     }
 }
 
-// Whether a store may be overwritten. A note says that it is, or that it stays.
-fn may_overwrite_store<N: Notes>(store: &HeldStore, file: &str, force: bool, notes: &mut N) -> bool
-    ensures { MatchBool result (((force || is_empty store.now) ≡ true) × N.reported_store notes.old notes.new file.now store.now)
-        ((force ≡ false) × (is_empty store.now ≡ false) × N.reported_kept notes.old notes.new file.now store.now) }
+// The store, if it is to be overwritten, or that it stays.
+fn overwrite_store<E: Drop, F: Drop>(
+    store: HeldStore,
+    force: bool,
+) -> Result<Option<HeldStore>, Why<E, F>>
+    ensures { result ≡ store_overwritten force store }
 {
     if force || store.is_empty() {
-        notes.report_store(file, store);
-        true
+        Ok(Some(store))
     } else {
-        notes.report_kept(file, store);
-        false
+        Err(Why::Holds(Holding::Store(store)))
     }
 }
 

@@ -1,25 +1,28 @@
 //! The jobs of the program that need no server.
 //!
-//! `format_file`, `run_file`, `tend_file` and `check_file` work on the disk of a path, `run_script` on a new store in
-//! memory, and `write_plan` only on numbers. They are functions over any source of disks, reader and writer. Their
-//! contracts say what is written for each content of the disk. `Notes`, `SourceNotes` and `FaultNotes` take the
-//! messages to people, and `NoteLines` makes lines of them. `WatchedFiles` are the files of a source as disks that keep
-//! which of their calls failed, and that show how far an opening is (`Progress`).
+//! `format_file`, `run_file`, `tend_file`, `check_file` and `dump_file` work on the disk of a path, `run_script` on a new
+//! store in memory, and `write_plan` only on numbers. They are functions over any source of disks, reader and writer. Each
+//! returns how it ended, as a value (`Ended`), and `print_ended` prints that for people. What cannot wait for the end goes
+//! through `Tells`. The contracts say what is written for each content of the disk, and how the job ended.
+//! `WatchedFiles` are the files of a source as disks that keep which of their calls failed, and that show how far an
+//! opening is (`Progress`).
 #![tactic(auto)]
 
 mod background_work;
 mod damage;
 mod dump;
 mod empty_swap;
+mod end_lines;
+mod ended;
 mod failure;
+mod failures;
 mod files;
 mod geometry;
 mod held_data;
 mod input_lines;
 mod jobs;
 mod merge_at;
-mod note_lines;
-mod notes;
+mod not_opened;
 mod output;
 mod plan;
 mod plan_cost;
@@ -31,24 +34,29 @@ mod stop;
 mod streams;
 mod tally;
 mod transcript;
+mod urgent;
 mod watched_file;
 
 pub use background_work::Tended;
 pub use damage::merge_damage_at;
 pub use dump::dump_file;
+pub use end_lines::{Subject, print_ended, print_of};
+pub use ended::{Ended, Found, Session, Why};
 pub use failure::{Failure, Watched};
-pub use files::{check_file, format_file, run_file, tend_file};
-pub use held_data::HeldStore;
+pub use failures::Failures;
+pub use files::{NewStore, check_file, format_file, run_file, tend_file};
+pub use held_data::{HeldStore, Holding};
 pub use input_lines::InputLines;
-pub use jobs::refuse_opening;
 pub use merge_at::{has_few_regions, refuse_few_regions};
-pub use note_lines::NoteLines;
-pub use notes::{FaultNotes, Notes, SourceNotes, report_error_of, report_failures};
+pub use not_opened::{NotOpened, open_store};
 pub use plan::write_plan;
 pub use plan_cost::{PlanCost, Remedy};
 pub use progress::{AfterProgress, Progress};
-pub use refusal::{refuse, refuse_no_disk};
+pub use refusal::refuse;
 pub use script::run_script;
-pub use streams::{KeepsError, KeepsLines, KeepsTally, StreamError, WatchedReader, WatchedWriter};
+pub use streams::{
+    KeepsError, KeepsLines, KeepsTally, Stream, StreamError, WatchedReader, WatchedWriter,
+};
 pub use tally::Tally;
+pub use urgent::{Tells, Urgent};
 pub use watched_file::{WatchedFile, WatchedFiles};

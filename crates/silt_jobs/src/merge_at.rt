@@ -1,17 +1,16 @@
 // The number of hash stores of which a merge is to begin.
-ghost use Rattle.std.specs.Prelude.{◌≡◌, ◌<◌, ◌≤◌, IfOk, IfSome, false, true};
+ghost use Rattle.std.specs.Prelude.{◌≡◌, ◌<◌, ◌≤◌, IfSome, false, true};
 ghost use Rattle.std.specs.Option.{IsSomeAnd};
 ghost use Rattle.silt_disk.specs.Layout.{Shape};
-ghost use Rattle.silt_event.specs.declared.refusal.Refusal.TheVariants.{BadGeometry};
 ghost use Rattle.silt_store_set.specs.CoreInvariant.{LeavesBegun};
-ghost use Rattle.silt_jobs.specs.Jobs.{Prints};
+ghost use Rattle.silt_jobs.specs.Ended.{Refuses};
+ghost use Rattle.silt_jobs.specs.declared.ended.Why.TheVariants.{FewRegions};
 
-use crate::notes::Notes;
-use crate::refusal::refuse;
+use crate::ended::{Ended, Why};
 use silt_disk::Disk;
-use silt_store_set::{Core, Refusal};
+use silt_store_set::Core;
 use std::alloc::Global;
-use std::io::{self, Write};
+use std::io::Write;
 
 /// Whether a store has fewer hash regions than the hash stores of which a merge is to begin.
 pub fn has_few_regions<D: Disk>(core: &Core<D>, merge_at: Option<u32>) -> bool
@@ -24,25 +23,17 @@ pub fn has_few_regions<D: Disk>(core: &Core<D>, merge_at: Option<u32>) -> bool
     }
 }
 
-/// Writes that a store has fewer hash regions than the hash stores of which a merge is to begin. Returns its disk and the
-/// status.
-///
-/// # Errors
-///
-/// The writer's, and out of memory for the text.
-pub fn refuse_few_regions<D: Disk, W: Write, N: Notes>(
+/// Refuses a job on a store that has fewer hash regions than the hash stores of which a merge is to begin. Returns its disk.
+pub fn refuse_few_regions<E: Drop, D: Disk, W: Write>(
     alloc: Global,
     core: Core<D>,
-    file: &str,
     writer: &mut W,
-    notes: &mut N,
-) -> (D, io::Result<u8>)
+) -> (D, Ended<E, D::Fault>)
     ensures disk { result.0 ≡ core.disk }
     ensures left { (shape : Shape) × LeavesBegun (D.content result.0) shape }
-    ensures printed { IfOk result.1 (λ status. (status ≡ 1) × Prints {F = Unit {0}} BadGeometry (W.contents writer.old) (W.contents writer.new)) }
-    ensures reported { N.reported_few_regions notes.old notes.new file.now core.shape.hashes }
+    ensures printed { Refuses (FewRegions core.shape.hashes) result.1 (W.contents writer.old) (W.contents writer.new) }
 {
-    notes.report_few_regions(file, core.geometry().hashes());
-    let status = refuse(alloc, &Refusal::<()>::BadGeometry, writer);
-    (core.close(), status)
+    let why = Why::FewRegions(core.geometry().hashes());
+    let ended = Ended::refuse(alloc, why, writer);
+    (core.close(), ended)
 }

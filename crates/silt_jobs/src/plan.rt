@@ -1,10 +1,12 @@
 // The six numbers of a planned store for a number of keys.
-ghost use Rattle.std.specs.Prelude.{◌≡◌, ◌≤◌, ◌+◌, ◌*◌, if◌then◌else◌, Ok, Some, None, IfOk, string_bytes};
+ghost use Rattle.std.specs.Prelude.{◌≡◌, ◌≤◌, ◌+◌, ◌*◌, if◌then◌else◌, Some, None, IfOk, string_bytes};
+ghost use Rattle.std.specs.Io.KnownBytes.{Appends};
 ghost use Rattle.std.specs.Option.{option_map};
-ghost use Rattle.silt_jobs.specs.PlanCosts.{ReportsCost};
-ghost use Rattle.silt_jobs.specs.Plans.{PrintsPlan, bucket_counts, first_planned, fits_memory, is_needed, is_possible, memory_of, number_after, plan_text, shape_planned};
+ghost use Rattle.silt_jobs.specs.PlanCosts.{Plans};
+ghost use Rattle.silt_jobs.specs.Plans.{bucket_counts, first_planned, fits_memory, is_needed, is_possible, memory_of, memory_planned, number_after, plan_text, shape_planned};
 
-use crate::notes::Notes;
+use crate::ended::{Ended, Found, Why};
+use crate::failures::Failures;
 use crate::output::write_out;
 use crate::plan_cost::cost_of;
 use silt_disk::Geometry;
@@ -22,36 +24,42 @@ pub(crate) const BUCKET_COUNTS: [u32; 15] = [
 const MOST_KEYS: u32 = 16_777_216 - 77;
 
 /// Writes the six numbers of a store for this many keys, and what it costs on disk and in memory. It has as many
-/// buckets as four logs need for a ninth of the keys, or fewer if the numbers or the memory are limited. Returns the
-/// status: 1 if there is no such store. A note says why, or what else the store costs.
-///
-/// # Errors
-///
-/// The writer's, and out of memory for the text.
-pub fn write_plan<W: Write, N: Notes>(
+/// buckets as four logs need for a ninth of the keys, or fewer if the numbers or the memory are limited. The status is 1 if
+/// there is no such store.
+pub fn write_plan<E: Drop, F: Drop, W: Write>(
     alloc: Global,
     request: &PlanRequest,
     writer: &mut W,
-    notes: &mut N,
-) -> io::Result<u8>
-    ensures plan { IfOk result (λ status. PrintsPlan request.now (first_planned request.now bucket_counts) status (W.contents writer.old) (W.contents writer.new)) }
-    ensures printed { result ≡ Ok 1 → N.reported_no_plan notes.old notes.new request.now }
-    ensures cost { result ≡ Ok 0 → ReportsCost (N.reported_cost notes.old notes.new) request.now }
+) -> Ended<E, F>
+    ensures { Plans request.now (first_planned request.now bucket_counts) result (W.contents writer.old) (W.contents writer.new) }
 {
     match plan(request) {
         Some(geometry) => {
-            let memory = memory_planned(request.keys, geometry.buckets());
-            let text = print_plan(alloc, &geometry, memory)?;
-            write_out(text.as_bytes(), writer)?;
-            notes.report_cost(&cost_of(request.keys, geometry.buckets()));
-            Ok(0)
+            let cost = cost_of(request.keys, geometry.buckets());
+            Ended {
+                status: write_planned(alloc, request, &geometry, writer),
+                why: None,
+                found: Some(Found::Cost(cost)),
+                failures: Failures::none(),
+            }
         }
-        None => {
-            write_out(b"no plan\n", writer)?;
-            notes.report_no_plan(request);
-            Ok(1)
-        }
+        None => Ended::refuse(alloc, Why::NoPlan(*request), writer),
     }
+}
+
+// Writes the numbers of this store and what it costs, and returns the status.
+fn write_planned<W: Write>(
+    alloc: Global,
+    request: &PlanRequest,
+    geometry: &Geometry,
+    writer: &mut W,
+) -> io::Result<u8>
+    ensures { IfOk result (λ status. (status ≡ 0) × Appends (W.contents writer.old) (W.contents writer.new) (plan_text geometry.now (memory_planned request.now geometry.now.buckets))) }
+{
+    let memory = memory_planned(request.keys, geometry.buckets());
+    let text = print_plan(alloc, geometry, memory)?;
+    write_out(text.as_bytes(), writer)?;
+    Ok(0)
 }
 
 /// Why no store has room for what is planned.

@@ -2,17 +2,14 @@
 ghost use Rattle.std.specs.Prelude.{◌≡◌, IfOk};
 ghost use Rattle.std.specs.Io.KnownBytes.{Appends};
 ghost use Rattle.silt_event.specs.declared.reply.Reply.TheVariants.{Refused};
-ghost use Rattle.silt_event.specs.declared.refusal.Refusal.TheVariants.{Device as DeviceOf};
-ghost use Rattle.silt_jobs.specs.Jobs.{Prints};
 ghost use Rattle.silt_jobs.specs.Scripts.{reply_line};
 
-use crate::notes::SourceNotes;
 use silt_store_set::Refusal;
 use silt_wire::write_refusal;
 use std::alloc::Global;
 use std::io::{self, Write};
 
-/// Writes that the whole job is refused, and returns the status.
+/// Writes that the whole job is refused so, and returns the status.
 ///
 /// # Errors
 ///
@@ -29,23 +26,4 @@ pub fn refuse<F: Drop, W: Write>(
         _ => write_refusal(alloc, refusal, writer)?,
     }
     Ok(1)
-}
-
-/// Writes that there is no disk at this path, reports why, and returns the status.
-///
-/// # Errors
-///
-/// The writer's, and out of memory for the text of the refusal.
-pub fn refuse_no_disk<E, W: Write, N: SourceNotes<E>>(
-    alloc: Global,
-    path: &str,
-    error: &E,
-    writer: &mut W,
-    notes: &mut N,
-) -> io::Result<u8>
-    ensures { IfOk result (λ status. (status ≡ 1)
-        × (Prints {F = Unit {0}} (DeviceOf tt) (W.contents writer.old) (W.contents writer.new) × N.reported_error notes.old notes.new path.now error.now)) }
-{
-    notes.report_error(path, error);
-    refuse(alloc, &Refusal::Device(()), writer)
 }

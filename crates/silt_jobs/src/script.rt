@@ -1,19 +1,17 @@
 // A script: lives of a new store in memory.
-ghost use Rattle.std.specs.Prelude.{◌≡◌, All, IfOk, IfErr, codes};
+ghost use Rattle.std.specs.Prelude.{◌≡◌, All, IfOk, IfErr};
 ghost use Rattle.std.specs.FinMap.{empty};
-ghost use Rattle.std.specs.Io.KnownBytes.{Appends};
 ghost use Rattle.silt_disk.specs.Disk.{LeavesOnly, size};
-ghost use Rattle.silt_disk.specs.Layout.{InLimits, device_size};
+ghost use Rattle.silt_disk.specs.Layout.{device_size};
 ghost use Rattle.silt_device.specs.Memory.{memory_content};
 ghost use Rattle.silt_image.specs.Meaning.{StandsFor};
 ghost use Rattle.silt_event.specs.Events.{HasValueOf};
-ghost use Rattle.silt_wire.specs.Statuses.{IsStatus};
 ghost use Rattle.silt_jobs.specs.NewStores.{NewStoreCause};
-ghost use Rattle.silt_jobs.specs.Numbers.{shape_asked};
-ghost use Rattle.silt_jobs.specs.Scripts.{EndsScript, RunsLives, PrintsRefusal};
+ghost use Rattle.silt_jobs.specs.Scripts.{AnswersScript, RunsLives};
+ghost use Rattle.silt_jobs.specs.Jobs.{RunsScript};
 
+use crate::ended::{Ended, Why};
 use crate::geometry::geometry_of;
-use crate::notes::Notes;
 use crate::refusal::refuse;
 use crate::script_lines::read_script;
 use crate::transcript::write_script;
@@ -26,28 +24,31 @@ use std::alloc::Global;
 use std::io::{self, ErrorKind, Read, Write};
 
 /// Reads a script to its end, runs its lives over a new store of these numbers on a disk in memory, and then writes the
-/// replies. Returns the status: 0 at the end of the replies, 1 if the script or the store is refused. A note says which
-/// number is out of its limits.
-///
-/// # Errors
-///
-/// The reader's or the writer's, and out of memory for the text of a reply.
-pub fn run_script<R: Read, W: Write, N: Notes>(
+/// replies. The status is 0 at the end of the replies, and 1 if the script or the store is refused.
+pub fn run_script<E: Drop, F: Drop, R: Read, W: Write>(
     alloc: Global,
     numbers: &Numbers,
     reader: &mut R,
     writer: &mut W,
-    notes: &mut N,
-) -> io::Result<u8>
-    ensures numbers { ¬ InLimits (shape_asked numbers.now) → N.reported_numbers notes.old notes.new numbers.now }
-    ensures refused { ¬ InLimits (shape_asked numbers.now) → IfOk result (λ status. (status ≡ 1) × Appends (W.contents writer.old) (W.contents writer.new) (codes "refused 2 BadGeometry\n")) }
-    ensures printed { IfOk result (IsStatus (PrintsRefusal (shape_asked numbers.now) (W.contents writer.old) (W.contents writer.new))) }
-    ensures answered { result ≡ Ok 0 → EndsScript (shape_asked numbers.now) (R.remaining reader.old) (R.remaining reader.new) (W.contents writer.old) (W.contents writer.new) }
+) -> Ended<E, F>
+    ensures { RunsScript numbers.now result (R.remaining reader.old) (R.remaining reader.new) (W.contents writer.old) (W.contents writer.new) }
 {
-    let Ok(geometry) = geometry_of(numbers) else {
-        notes.report_numbers(numbers);
-        return refuse(alloc, &Refusal::<MemFault>::BadGeometry, writer);
-    };
+    match geometry_of(numbers) {
+        Ok(geometry) => Ended::plain(answer_script(alloc, geometry, reader, writer)),
+        Err(_) => Ended::refuse(alloc, Why::OutOfLimits(*numbers), writer),
+    }
+}
+
+// Reads a script to its end, runs its lives over a new store of this geometry, and then writes the replies. Returns the
+// status.
+fn answer_script<R: Read, W: Write>(
+    alloc: Global,
+    geometry: Geometry,
+    reader: &mut R,
+    writer: &mut W,
+) -> io::Result<u8>
+    ensures { IfOk result (AnswersScript geometry (R.remaining reader.old) (R.remaining reader.new) (W.contents writer.old) (W.contents writer.new)) }
+{
     let script = match read_script(alloc, geometry.value_len() as usize, reader) {
         Ok(script) => script,
         Err(error) if error.kind() == ErrorKind::OutOfMemory => {

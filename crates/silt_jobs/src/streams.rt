@@ -1,4 +1,4 @@
-// Readers and writers that keep the error of their last call, and what the notes need about their lines.
+// Readers and writers that keep the error of their last call, and what people are told of their lines.
 ghost use Rattle.std.specs.Prelude.{◌≡◌, Option, Some, None, IfErr, IfOk, take};
 ghost use Rattle.std.specs.Io.KnownBytes.{Keeps, ReadConsumes, WriteAppends};
 ghost use Rattle.std.specs.Io.{ReadsAtMost, WritesAtMost};
@@ -10,7 +10,28 @@ ghost use Rattle.silt_jobs.specs.declared.tally.Tally.{Tally as TallyOf};
 use crate::input_lines::InputLines;
 use crate::tally::Tally;
 use std::alloc::Global;
+use std::fmt;
 use std::io::{self, Read, Write};
+
+/// A standard stream.
+#[derive(Clone, Copy, Debug, PartialEq, Eq)]
+pub enum Stream {
+    Input,
+    Output,
+    Error,
+}
+
+// Why a file cannot be a store.
+impl fmt::Display for Stream {
+    fn fmt<W: fmt::Write>(&self, f: &mut fmt::Formatter<W>) -> fmt::Result {
+        let name = match self {
+            Stream::Input => "input",
+            Stream::Output => "output",
+            Stream::Error => "error",
+        };
+        write!(f, "the file is also this program's standard {name}")
+    }
+}
 
 /// Why a reader or a writer failed.
 #[derive(Clone, Copy, Debug)]

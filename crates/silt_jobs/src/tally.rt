@@ -129,12 +129,11 @@ impl Tally {
         self.refused[1..].iter().any(|refusals| refusals.has_any())
     }
 
-    /// The refusals of this number.
-    pub fn refusals(&self, kind: usize) -> Refusals
-        requires { kind < 24 }
-        ensures { result ≡ get_or self.now.refused kind none_refused }
+    /// The refusals by their number. The first are the lines that are none.
+    pub fn refused(&self) -> [Refusals; KINDS]
+        ensures { result ≡ self.now.refused }
     {
-        self.refused[kind]
+        self.refused
     }
 }
 

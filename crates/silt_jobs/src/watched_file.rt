@@ -5,9 +5,8 @@ ghost use Rattle.silt_disk.specs.declared.disk.Call.TheVariants.{Write, Sync};
 
 use crate::background_work::{Tended, tend_plain};
 use crate::failure::{Failure, Watched};
-use crate::note_lines::NoteLines;
-use crate::notes::Notes;
 use crate::progress::Progress;
+use crate::urgent::{Tells, Urgent};
 use silt_device::{DiskSource, FileDisk};
 use silt_disk::Disk;
 use silt_event::{Event, Reply};
@@ -20,19 +19,18 @@ use std::sync::OnceLock;
 type FileFault = <FileDisk as Disk>::Fault;
 
 /// A disk in a file that keeps its first failed read, and its last failed write or sync. Reads share the disk, so a
-/// cell that can be written once keeps the failed one. A disk that reports at once has a note for its first failed
-/// write or sync. The progress line shows the reads of an opening.
+/// cell that can be written once keeps the failed one. A disk that reports at once tells its first failed write or sync. The progress line shows the reads of an opening.
 #[derive(Drop)]
-pub struct WatchedFile<'a, N> {
+pub struct WatchedFile<'a> {
     disk: FileDisk,
     first_read: OnceLock<Failure>,
     last: Option<Failure>,
-    notes: N,
+    errors: Stderr,
     reports_at_once: bool,
     progress: &'a Progress,
 }
 
-impl<N: Notes + Send + Sync + Drop> Disk for WatchedFile<'_, N> {
+impl Disk for WatchedFile<'_> {
     ghost use Rattle.std.specs.Prelude.{◌⊎◌};
     ghost use Rattle.silt_device.specs.File.{file_content, file_gave, file_syncs, file_writes};
     ghost use Rattle.silt_device.specs.Buffered.{buffered_content, buffered_gave, SavesWrites, PassesOn, WritesOut};
@@ -105,7 +103,7 @@ impl<N: Notes + Send + Sync + Drop> Disk for WatchedFile<'_, N> {
     }
 }
 
-impl<N: Notes> WatchedFile<'_, N> {
+impl WatchedFile<'_> {
     // Keeps which call on the file failed with this fault, and returns the fault.
     fn keep(&mut self, fault: FileFault) -> FileFault
         ensures fault { result ≡ fault }
@@ -115,7 +113,7 @@ impl<N: Notes> WatchedFile<'_, N> {
         let failure = failure_of(&fault);
         if self.reports_at_once && self.last.is_none() {
             self.progress.end();
-            self.notes.report_failed_store(&failure);
+            self.errors.tell("", &Urgent::FailedStore(failure));
         }
         self.last = Some(failure);
         fault
@@ -132,7 +130,7 @@ fn failure_of(fault: &FileFault) -> Failure
     }
 }
 
-impl<N: Notes + Send + Sync + Drop> Watched for WatchedFile<'_, N> {
+impl Watched for WatchedFile<'_> {
     ghost use Rattle.std.specs.Prelude.{⊤};
 
     ghost last_failure = { λ watched. watched.last };
@@ -152,14 +150,13 @@ impl<N: Notes + Send + Sync + Drop> Watched for WatchedFile<'_, N> {
     }
 }
 
-// Only for these notes: for a generic type of notes the checker would need one of its bounds in other threads.
-impl Served for WatchedFile<'_, NoteLines<Stderr>> {
+impl Served for WatchedFile<'_> {
     fn answer_on(core: &mut Core<Self>, alloc: Global, event: &Event) -> Reply<()> {
         core.answer(alloc, event).plain()
     }
 }
 
-impl Tended for WatchedFile<'_, NoteLines<Stderr>> {
+impl Tended for WatchedFile<'_> {
     fn tend_on(core: &mut Core<Self>, alloc: Global, least: Option<u32>) -> Option<Refusal<()>> {
         tend_plain(alloc, core, least)
     }
@@ -167,43 +164,42 @@ impl Tended for WatchedFile<'_, NoteLines<Stderr>> {
 
 /// The files of a source, each a disk that keeps which of its calls failed.
 #[derive(Drop)]
-pub struct WatchedFiles<'a, S, N> {
+pub struct WatchedFiles<'a, S> {
     files: S,
-    notes: N,
+    errors: Stderr,
     progress: &'a Progress,
 }
 
-impl<'a, S, N> WatchedFiles<'a, S, N> {
-    /// The files of this source. A disk that reports at once uses these notes, and this progress shows how far its
-    /// opening is.
-    pub fn new(files: S, notes: N, progress: &'a Progress) -> WatchedFiles<'a, S, N>
+impl<'a, S> WatchedFiles<'a, S> {
+    /// The files of this source. A disk that reports at once does so on this standard error, and this progress shows how far
+    /// its opening is.
+    pub fn new(files: S, errors: Stderr, progress: &'a Progress) -> WatchedFiles<'a, S>
         ensures { result.files ≡ files }
     {
         WatchedFiles {
             files,
-            notes,
+            errors,
             progress,
         }
     }
 }
 
 // The disk in a file, with no failed call.
-fn watched<N>(disk: FileDisk, notes: N, progress: &Progress) -> WatchedFile<'_, N>
+fn watched(disk: FileDisk, errors: Stderr, progress: &Progress) -> WatchedFile<'_>
     ensures { (result.disk ≡ disk) × (result.last ≡ None) }
 {
     WatchedFile {
         disk,
         first_read: OnceLock::new(),
         last: None,
-        notes,
+        errors,
         reports_at_once: false,
         progress,
     }
 }
 
-impl<'a, S: DiskSource<Disk = FileDisk>, N: Notes + Send + Sync + Drop> DiskSource
-    for WatchedFiles<'a, S, N> {
-    type Disk = WatchedFile<'a, N>;
+impl<'a, S: DiskSource<Disk = FileDisk>> DiskSource for WatchedFiles<'a, S> {
+    type Disk = WatchedFile<'a>;
 
     type Error = S::Error;
 
@@ -223,34 +219,30 @@ impl<'a, S: DiskSource<Disk = FileDisk>, N: Notes + Send + Sync + Drop> DiskSour
 
     ghost not_resized = { λ old len error. S.not_resized old.disk len error };
 
-    fn open(self, path: &str) -> Result<WatchedFile<'a, N>, S::Error> {
+    fn open(self, path: &str) -> Result<WatchedFile<'a>, S::Error> {
         match self.files.open(path) {
-            Ok(disk) => Ok(watched(disk, self.notes, self.progress)),
+            Ok(disk) => Ok(watched(disk, self.errors, self.progress)),
             Err(error) => Err(error),
         }
     }
 
-    fn open_shared(self, path: &str) -> Result<WatchedFile<'a, N>, S::Error> {
+    fn open_shared(self, path: &str) -> Result<WatchedFile<'a>, S::Error> {
         match self.files.open_shared(path) {
-            Ok(disk) => Ok(watched(disk, self.notes, self.progress)),
+            Ok(disk) => Ok(watched(disk, self.errors, self.progress)),
             Err(error) => Err(error),
         }
     }
 
-    fn find(self, path: &str) -> Result<WatchedFile<'a, N>, S::Error> {
+    fn find(self, path: &str) -> Result<WatchedFile<'a>, S::Error> {
         match self.files.find(path) {
-            Ok(disk) => Ok(watched(disk, self.notes, self.progress)),
+            Ok(disk) => Ok(watched(disk, self.errors, self.progress)),
             Err(error) => Err(error),
         }
     }
 
-    fn resize(
-        alloc: Global,
-        disk: WatchedFile<'a, N>,
-        len: u64,
-    ) -> Result<WatchedFile<'a, N>, S::Error> {
+    fn resize(alloc: Global, disk: WatchedFile<'a>, len: u64) -> Result<WatchedFile<'a>, S::Error> {
         match S::resize(alloc, disk.disk, len) {
-            Ok(file) => Ok(watched(file, disk.notes, disk.progress)),
+            Ok(file) => Ok(watched(file, disk.errors, disk.progress)),
             Err(error) => Err(error),
         }
     }

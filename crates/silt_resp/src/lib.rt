@@ -41,6 +41,5 @@ pub use laws::{cut_law, resp_law};
 pub use session::{RespEnd, resp_session};
 pub use settings::Settings;
 pub use texts::{Form, push_text};
-pub use words::LONGEST_WORD;
 pub use values::{LENGTH_LEN, key_of, string_of, string_value, values_law};
 pub use words::LONGEST_WORD;

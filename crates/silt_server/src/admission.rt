@@ -65,6 +65,13 @@ impl<N: InboxId> Door<'_, N> {
         }
     }
 
+    // Gives the slot of this number back.
+    fn free<R: Wait>(&self, rt: &R, number: usize) {
+        if let Some(slot) = self.slots.get(number) {
+            slot.lock(rt).leave();
+        }
+    }
+
     // Accepts a connection, and gives it to a free slot. None if the accept failed only for this connection, or if there
     // is no slot.
     fn admit_next<L: Listens, R: Wait>(
@@ -94,11 +101,6 @@ fn pass(error: io::Error) -> io::Result<Option<usize>>
     Err(error)
 }
 
-// Gives a slot back.
-fn free<N: InboxId, R: Wait>(rt: &R, slot: &Mutex<SessionSlot<N>>) {
-    slot.lock(rt).leave();
-}
-
 /// Serves the connections of a listener, as many sessions as the limits say, and returns when all have ended. Each
 /// session has a thread and a slot of its own, and `serve` runs the one in the slot of a number. A connection without a
 /// slot or a thread is closed and not counted.
@@ -123,7 +125,8 @@ pub fn accept_clients<
     requires { C.IsAlwaysCallable serve.now }
     ensures { IfOk result (λ counting_listener. door.now.limits.sessions ≤ counting_listener.accepted) }
 {
-    let sessions = door.limits.sessions;
+    let (alloc, limits, slots) = (door.alloc, door.limits, door.slots);
+    let sessions = limits.sessions;
     thread::scope(
         thread::scope_env(),
         rt,
@@ -131,6 +134,11 @@ pub fn accept_clients<
             requires { C.IsAlwaysCallable serve.now }
             ensures { IfOk result (λ counting_listener. sessions ≤ counting_listener.accepted) }
         {
+            let door = Door {
+                alloc,
+                limits,
+                slots,
+            };
             let mut counting_listener = CountingListener::new(listener);
             let mut count = 0u32;
             for _ in rt.forever() {
@@ -143,7 +151,7 @@ pub fn accept_clients<
                     { serve(shared, number) },
                 );
                 if started.is_err() {
-                    free(rt, &door.slots[number]);
+                    door.free(rt, number);
                     continue;
                 }
                 count = count.saturating_add(1);

@@ -1,8 +1,7 @@
 // What one connection asks for.
-ghost use Rattle.std.specs.Prelude.{◌≡◌, ◌<◌, length};
+ghost use Rattle.std.specs.Prelude.{◌<◌};
 
 use crate::limits::{Limits, Protocol, limit_silence};
-use silt_event::Answerer;
 use silt_resp::{LENGTH_LEN, Settings, resp_session};
 use silt_session::{Asking, Client, Outlet};
 use silt_wire::client_session;
@@ -31,7 +30,7 @@ fn read_len(protocol: Protocol) -> usize
 }
 
 /// Replies to the lines or commands of a connection, the one with this number, with events asked this way. If out of memory for
-/// the bytes of a read, it gets no reply.
+/// the bytes of a read, or if commands come and values have no room for a string's length, it gets no reply.
 pub fn answer_client<A: Asking>(
     alloc: Global,
     asking: A,
@@ -53,40 +52,24 @@ pub fn answer_client<A: Asking>(
     let mut client = Client::new(value_len, asking, limits.protocol.pipelines(), &cut);
     let mut outlet = Outlet { stream, cut: &cut };
     let buffer = buffer.as_mut_slice();
-    if let Protocol::Resp = limits.protocol {
-        let settings = Settings {
-            value_len,
-            password: limits.password,
-        };
-        answer_commands(
-            alloc,
-            &settings,
-            number,
-            buffer,
-            stream,
-            &mut outlet,
-            &mut client,
-        );
-    } else {
+    if limits.protocol != Protocol::Resp {
         let _ = client_session(alloc, value_len, buffer, stream, &mut outlet, &mut client);
-    }
-}
-
-// Replies to the commands of a Redis client. Values that have no room for a string's length serve none.
-fn answer_commands<A: Answerer>(
-    alloc: Global,
-    settings: &Settings,
-    number: u32,
-    buffer: &mut [u8],
-    stream: &TcpStream,
-    outlet: &mut Outlet<'_>,
-    client: &mut A,
-)
-    requires len { A.value_len client.old ≡ settings.now.value_len }
-    requires room { 0 < length buffer.old }
-{
-    if settings.value_len < LENGTH_LEN {
         return;
     }
-    let _ = resp_session(alloc, settings, number, buffer, stream, outlet, client);
+    if value_len < LENGTH_LEN {
+        return;
+    }
+    let settings = Settings {
+        value_len,
+        password: limits.password,
+    };
+    let _ = resp_session(
+        alloc,
+        &settings,
+        number,
+        buffer,
+        stream,
+        &mut outlet,
+        &mut client,
+    );
 }

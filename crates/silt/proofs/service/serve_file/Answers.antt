@@ -1,12 +1,8 @@
-use Rattle.std.proofs.Common.{inl, inr}
-use Rattle.silt_wire.proofs.Statuses.{status_told, told_weaker}
+use Rattle.std.proofs.Common.{inl, inr, refl}
 use Rattle.silt.proofs.service.serve_file.Goals as goal
 
-pub returns-in-Ok-clause-printed : goal.returns-in-Ok-clause-printed
-returns-in-Ok-clause-printed g c = told_weaker c.serve_disk-disk.result.1 (λ reported. inr (c.in-Ok.disk, c.in-Ok.ensures.opened, (reported, c.serve_disk-disk.ensures.left))) c.serve_disk-disk.ensures.printed
+pub returns-in-Ok : goal.returns-in-Ok
+returns-in-Ok g c = inr (c.in-Ok.disk, c.in-Ok.ensures.opened, c.serve_disk.ensures)
 
-pub returns-in-Ok-clause-served : goal.returns-in-Ok-clause-served
-returns-in-Ok-clause-served g c = λ is. (c.in-Ok.disk, c.in-Ok.ensures.opened, (c.serve_disk-disk.ensures.served is, c.serve_disk-disk.ensures.left, c.serve_disk-disk.ensures.failed is))
-
-pub returns-in-Err-clause-printed : goal.returns-in-Err-clause-printed
-returns-in-Err-clause-printed g c = status_told c.refuse_no_disk.result (λ h. inl (c.in-Err.error, (c.in-Err.ensures.not_opened, h.1), h.0)) c.refuse_no_disk.ensures
+pub returns-in-Err : goal.returns-in-Err
+returns-in-Err g c = inl (refl, (c.in-Err.error, c.in-Err.ensures.not_opened, refl, c.refuse.ensures))

@@ -1,6 +1,6 @@
-use Rattle.std.proofs.Common.{rules, ◌≡◌, ◌∙◌, ◌+◌, ◌-◌, refl, arith, sym, take}
-use Rattle.std.proofs.lemmas.List.{take_all, take_more_set}
-use Rattle.sha1.specs.Sha1.{first_words, schedule}
+use Rattle.std.proofs.Common.{rules, ◌∙◌, ◌+◌, ◌-◌, refl, arith}
+use Rattle.std.proofs.lemmas.List.{take_more_set}
+use Rattle.sha1.specs.Sha1.{first_words}
 use Rattle.silt_hasher.proofs.Compressing.{no_word_made, one_word, one_word_made}
 use Rattle.silt_hasher.proofs.compress.words_of.Goals as goal
 

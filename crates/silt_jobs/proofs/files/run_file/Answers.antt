@@ -1,16 +1,13 @@
 use Rattle.std.proofs.Common.{inl, inr}
-use Rattle.silt_wire.proofs.Statuses.{status_told}
-use Rattle.silt_jobs.proofs.Outcomes.{run_broken, run_weaker}
+use Rattle.silt_jobs.proofs.Openings.{opened_on, refused_opening}
 use Rattle.silt_jobs.proofs.files.run_file.Goals as goal
 
-pub returns-in-Ok-clause-printed : goal.returns-in-Ok-clause-printed
-returns-in-Ok-clause-printed g c =
-    run_weaker c.run_on-disk.result.1 (λ reported. inr (c.in-Ok.disk, c.in-Ok.ensures.opened, reported)) (λ life. (c.in-Ok.disk, c.in-Ok.ensures.opened, life)) c.run_on-disk.ensures.printed
+pub returns-in-Ok : goal.returns-in-Ok
+returns-in-Ok g c =
+    let opened = opened_on g.S.Disk.Disk _ c.open.result c.in-Ok.core c.open.ensures.opened c.in-Ok.ensures.opened in
+    inr (opened.0, opened.1, (c.in-Ok.core, opened.2, c.run_opened-disk.ensures))
 
-pub returns-in-Ok-clause-answered : goal.returns-in-Ok-clause-answered
-returns-in-Ok-clause-answered g c = λ is. (c.in-Ok.disk, c.in-Ok.ensures.opened, c.run_on-disk.ensures.answered is)
-
-pub returns-in-Err-clause-printed : goal.returns-in-Err-clause-printed
-returns-in-Err-clause-printed g c =
-    run_broken _ _ c.refuse_no_disk.result
-    (status_told c.refuse_no_disk.result (λ h. inl (c.in-Err.error, (c.in-Err.ensures.not_opened, h.1), h.0)) c.refuse_no_disk.ensures)
+pub returns-in-Err : goal.returns-in-Err
+returns-in-Err g c =
+    inl (refused_opening g.S.Disk.Disk _ _ c.open.result _ c.in-Err.unopened.why _ _ _ c.open.ensures.opened c.open.ensures.not_opened
+    (rw (← c.refuse.ensures.disk) at c.in-Err.ensures.refused) c.refuse.ensures.printed)

@@ -1,10 +1,10 @@
-use Rattle.std.proofs.Common.{◌∙◌}
+use Rattle.std.proofs.Common.{◌∙◌, refl}
 use Rattle.std.proofs.lemmas.Result.{IfOk-weaker}
 use Rattle.silt_jobs.proofs.jobs.answer_reader.Goals as goal
 
 pub returns-in-Ok : goal.returns-in-Ok
 returns-in-Ok g c =
-    IfOk-weaker c.write_untended.result _ _ (λ printed untended. (
+    IfOk-weaker c.write_untended-status.result _ _ (λ printed untended. (
       c.answer_lines-core.result.1,
       c.answer_lines-core.result.2,
       c.answer_lines-core.new.writer,
@@ -12,6 +12,6 @@ returns-in-Ok g c =
       untended.0 ∙ (rw (c.tally-in-Ok.ensures) at c.run_status-status.ensures),
       c.in-Ok.ensures,
       c.answer_lines-core.ensures,
-      (c.report_end.new.notes, c.report_end.ensures, rw (c.lines.ensures, c.tally.ensures, c.value_len-value_len.ensures.value, c.geometry.ensures) at c.report_tally.ensures),
+      rw (c.session_error.ensures, c.refused.ensures, c.tally.ensures, c.value_len-value_len.ensures.value, c.geometry.ensures) refl,
       untended.1,
-    )) c.write_untended.ensures
+    )) c.write_untended-status.ensures

@@ -1,0 +1,52 @@
+-- How a job ended, and what it wrote.
+use Rattle.std.specs.Prelude.{◌≡◌, ℕ, IfOk, List, Option, Some, None, codes}
+use Rattle.std.specs.Io.KnownBytes.{Appends}
+use Rattle.silt_event.specs.declared.refusal.Refusal.{Refusal}
+use Rattle.silt_event.specs.declared.reply.Reply.TheVariants.{Refused as RefusedReply}
+use Rattle.silt_jobs.specs.Scripts.{reply_line}
+use Rattle.silt_jobs.specs.declared.ended.Ended.{Ended}
+use Rattle.silt_jobs.specs.declared.ended.Why.{Why}
+use Rattle.silt_jobs.specs.declared.ended.Why.TheVariants.{NoDisk, Refused, Holds, IsStream, FewRegions, ShortValues, OutOfLimits, NoPlan, NotListening, NoJob}
+use Rattle.silt_jobs.specs.declared.failure.Failure.{Failure}
+use Rattle.silt_jobs.specs.declared.failures.Failures.{Failures}
+
+-- no call failed
+abbrev pub none_failed : Failures
+none_failed = record { read = None; last = None }
+
+-- these are the calls of the disk that failed
+abbrev pub HasFailed : {D : Type 0} → (D → Option Failure → Type 0) → (D → Option Failure) → D → Failures → Type 0
+HasFailed kept_read last_failure disk failures = kept_read disk failures.read × (failures.last ≡ last_failure disk)
+
+module _ {E F : Type 0} where
+  -- the line that says why a job was refused
+  abbrev pub why_line : Why E F → List ℕ
+  why_line (NoDisk error) = codes "refused 5 Device\n"
+  why_line (Refused refusal at) = reply_line (RefusedReply refusal)
+  why_line (Holds holding) = codes "refused 5 Device\n"
+  why_line (IsStream stream) = codes "refused 5 Device\n"
+  why_line (FewRegions hashes) = codes "refused 2 BadGeometry\n"
+  why_line ShortValues = codes "refused 2 BadGeometry\n"
+  why_line (OutOfLimits numbers) = codes "refused 2 BadGeometry\n"
+  why_line (NoPlan request) = codes "no plan\n"
+  why_line (NotListening socket error) = codes "network fault\n"
+  why_line NoJob = codes "usage\n"
+
+  -- the status of a job that was refused
+  abbrev pub why_status : Why E F → ℕ
+  why_status NoJob = 2
+  why_status why = 1
+
+  -- the job was refused for this reason: the line says so, if it was written
+  abbrev pub Refuses : Why E F → Ended E F → Option (List ℕ) → Option (List ℕ) → Type 0
+  Refuses why ended before after =
+      (ended.why ≡ Some why) × (ended.found ≡ None) × (ended.failures ≡ none_failed)
+      × IfOk ended.status (λ status. (status ≡ why_status why) × Appends before after (why_line why))
+
+  -- the store refused so, with the offset of the damage, if that is known
+  abbrev pub RefusesSo : Refusal F → Ended E F → Option (List ℕ) → Option (List ℕ) → Type 0
+  RefusesSo refusal ended before after = (at : Option ℕ) × Refuses (Refused refusal at) ended before after
+
+  -- the job was done: this text was written, if the writer did not fail
+  abbrev pub IsDone : List ℕ → Ended E F → Option (List ℕ) → Option (List ℕ) → Type 0
+  IsDone text ended before after = (ended.why ≡ None) × IfOk ended.status (λ status. (status ≡ 0) × Appends before after text)

@@ -1,0 +1,99 @@
+// What people are told at once, before a job has ended.
+ghost use Rattle.std.specs.Prelude.{◌≡◌, ℕ, List, ⊤};
+ghost use Rattle.silt_jobs.specs.declared.urgent.Urgent.{Urgent as UrgentOf};
+
+use crate::failure::Failure;
+use crate::held_data::HeldStore;
+use crate::progress::AfterProgress;
+use crate::streams::StreamError;
+use silt_store_set::{Place, Refusal};
+use silt_wire::print_refusal;
+use std::alloc::Global;
+use std::io::{self, Stderr, Write};
+use std::net::SocketAddr;
+
+/// What cannot wait for the end of a job.
+#[derive(Drop)]
+pub enum Urgent {
+    /// This store is overwritten.
+    Overwrites(HeldStore),
+    /// This call failed, and with it the store.
+    FailedStore(Failure),
+    /// The file gives the server no password.
+    NoPassword(StreamError),
+    /// The text that the server is to listen on is no IP address.
+    NoAddress,
+    /// The server cannot listen on this socket.
+    NoPort(SocketAddr, StreamError),
+    /// A merge found this part damaged, which begins at this offset, if that is known. The text needs memory.
+    Unmerged(Global, Place, Option<u64>),
+}
+
+/// Tells people at once what is urgent. No output for programs depends on it.
+pub trait Tells {
+    /// This was told of the file of this name, or of this text.
+    ghost told: { Self → Self → List ℕ → UrgentOf → Type 0 };
+
+    /// Tells this of the file of this name, or of this text.
+    fn tell(&mut self, file: &str, urgent: &Urgent)
+        ensures { told self.old self.new file.now urgent.now };
+}
+
+impl Tells for Stderr {
+    ghost told = { λ _ _ _ _. ⊤ };
+
+    fn tell(&mut self, file: &str, urgent: &Urgent) {
+        let _ = write_urgent(file, urgent, self);
+    }
+}
+
+impl<W: Write> Tells for AfterProgress<'_, W> {
+    ghost told = { λ _ _ _ _. ⊤ };
+
+    fn tell(&mut self, file: &str, urgent: &Urgent) {
+        let _ = write_urgent(file, urgent, self);
+    }
+}
+
+// Writes a line about what is urgent.
+fn write_urgent<W: Write>(file: &str, urgent: &Urgent, out: &mut W) -> io::Result<()> {
+    match urgent {
+        Urgent::Overwrites(store) => {
+            writeln!(out, "silt: {file} holds a store{store}; it is overwritten")
+        }
+        Urgent::FailedStore(failure) => writeln!(
+            out,
+            "silt: {failure}; the store takes nothing more until it is opened again"
+        ),
+        Urgent::NoPassword(StreamError { error }) => writeln!(out, "silt: {file}: {error}"),
+        Urgent::NoAddress => writeln!(out, "silt: {file}: it is no IP address"),
+        Urgent::NoPort(address, StreamError { error }) => {
+            writeln!(out, "silt: {address}: {error}")
+        }
+        Urgent::Unmerged(alloc, place, at) => write_unmerged(*alloc, file, *place, *at, out),
+    }
+}
+
+// Writes that a merge found a damaged part. It names the refusal as a reply does, if there is memory for its text.
+fn write_unmerged<W: Write>(
+    alloc: Global,
+    file: &str,
+    place: Place,
+    at: Option<u64>,
+    out: &mut W,
+) -> io::Result<()> {
+    write!(out, "silt: {file}: a merge is ")?;
+    match print_refusal(alloc, &Refusal::<()>::Damaged(place)) {
+        Ok(refused) => out.write_all(refused.as_bytes())?,
+        Err(_) => out.write_all(b"refused")?,
+    }
+    write_place(place, at, out)
+}
+
+/// Writes the end of a line: what a damaged part is, and where it begins, if that is known.
+pub fn write_place<W: Write>(place: Place, at: Option<u64>, out: &mut W) -> io::Result<()> {
+    match at {
+        Some(at) => writeln!(out, ": {place}, at byte {at}"),
+        None => writeln!(out, ": {place}"),
+    }
+}
