@@ -1,0 +1,10 @@
+pub mod Alike
+pub mod Joins
+pub mod KeySteps
+pub mod Lists
+pub mod Marks
+pub mod Openings
+pub mod Projections
+pub mod SetMaps
+pub mod ShardLives
+pub mod WholeMaps

@@ -1,0 +1,126 @@
+-- Each list of maps of which every key asks one is a map.
+use Rattle.std.proofs.Common.{◌≡◌, ◌<◌, ℕ, zero, suc, ◌+◌, ◌%◌, ◌==◌, Bool, true, false, cond, Option, Some, None, List, [], ◌∷◌, ◌++◌, inl, inr, refl, ap, sym, ◌∙◌, arith}
+use Rattle.std.specs.Cmp.Lexicographic.{slice_cmp}
+use Rattle.std.specs.FinMap.{entries, find, from_entries, get, get-entries, get-from_entries}
+use Rattle.std.specs.Option.{option_or}
+use Rattle.std.specs.Ordering.{nat_cmp, eq_by_cmp}
+use Rattle.std.specs.Prelude.{filter, option_and_then, slice_get}
+use Rattle.std.proofs.lemmas.Bool.{cases_Bool, eq-eqb, ne_eqb}
+use Rattle.std.proofs.lemmas.Cmp.{nat_list_cmp_total}
+use Rattle.std.proofs.lemmas.Slice.Eq.{bytes_eq-Decides}
+use Rattle.silt_disk.specs.Numbers.{number_at}
+use Rattle.silt_event.specs.Commands.{Map}
+use Rattle.silt_event.proofs.Rows.{same_key}
+
+-- entries of keys and values
+abbrev Entries : Type 0
+Entries = List (List ℕ × List ℕ)
+
+-- the value of the first entry of a key
+abbrev first_of : List ℕ → Entries → Option (List ℕ)
+first_of q es = find (slice_cmp nat_cmp) q es
+
+-- keys that tie are the same
+tie_same : (q key : List ℕ) → eq_by_cmp (slice_cmp nat_cmp) q key ≡ true → q ≡ key
+tie_same q key tie = sym ((bytes_eq-Decides key q).0 (sym (same_key q key) ∙ tie))
+
+-- the first entry of a key in two lists
+first_append : (q : List ℕ) (es more : Entries) → first_of q (es ++ more) ≡ option_or (first_of q es) (first_of q more)
+first_append q [] more = refl
+first_append q (e ∷ es) more = elim (cases_Bool (eq_by_cmp (slice_cmp nat_cmp) q e.0)) [
+  | inl tie ↦
+      ap (λ (b : Bool). cond b (Some e.1) (first_of q (es ++ more))) tie ∙ sym (ap (λ (b : Bool). option_or (cond b (Some e.1) (first_of q es)) (first_of q more)) tie)
+  | inr apart ↦
+      ap (λ (b : Bool). cond b (Some e.1) (first_of q (es ++ more))) apart ∙ first_append q es more
+      ∙ sym (ap (λ (b : Bool). option_or (cond b (Some e.1) (first_of q es)) (first_of q more)) apart)
+]
+
+module _ (test : List ℕ → Bool) where
+  -- the entries whose keys pass
+  abbrev passing : Entries → Entries
+  passing es = filter (λ (e : List ℕ × List ℕ). test e.0) es
+
+  -- a key that passes has its entry among them
+  first_passing : (q : List ℕ) (es : Entries) → test q ≡ true → first_of q (passing es) ≡ first_of q es
+  first_passing q [] passes = refl
+  first_passing q (e ∷ es) passes = elim (cases_Bool (test e.0)) [
+    | inl stays ↦
+        ap (λ (b : Bool). first_of q (cond b (e ∷ passing es) (passing es))) stays
+        ∙ ap (cond (eq_by_cmp (slice_cmp nat_cmp) q e.0) (Some e.1)) (first_passing q es passes)
+    | inr goes ↦
+        ap (λ (b : Bool). first_of q (cond b (e ∷ passing es) (passing es))) goes ∙ first_passing q es passes
+        ∙ sym (ap (λ (b : Bool). cond b (Some e.1) (first_of q es)) (other_tie q e.0 passes goes))
+  ]
+    where
+      other_tie : (q key : List ℕ) → test q ≡ true → test key ≡ false → eq_by_cmp (slice_cmp nat_cmp) q key ≡ false
+      other_tie q key passes goes = elim (cases_Bool (eq_by_cmp (slice_cmp nat_cmp) q key)) [
+        | inl tie ↦ absurd (let same : test q ≡ test key = ap test (tie_same q key tie) in cc)
+        | inr apart ↦ apart
+      ]
+
+  -- a key that does not has none
+  first_failing : (q : List ℕ) (es : Entries) → test q ≡ false → first_of q (passing es) ≡ None
+  first_failing q [] fails = refl
+  first_failing q (e ∷ es) fails = elim (cases_Bool (test e.0)) [
+    | inl stays ↦
+        ap (λ (b : Bool). first_of q (cond b (e ∷ passing es) (passing es))) stays
+        ∙ ap (λ (b : Bool). cond b (Some e.1) (first_of q (passing es))) (other_tie q e.0 fails stays) ∙ first_failing q es fails
+    | inr goes ↦
+        ap (λ (b : Bool). first_of q (cond b (e ∷ passing es) (passing es))) goes ∙ first_failing q es fails
+  ]
+    where
+      other_tie : (q key : List ℕ) → test q ≡ false → test key ≡ true → eq_by_cmp (slice_cmp nat_cmp) q key ≡ false
+      other_tie q key fails stays = elim (cases_Bool (eq_by_cmp (slice_cmp nat_cmp) q key)) [
+        | inl tie ↦ absurd (let same : test q ≡ test key = ap test (tie_same q key tie) in cc)
+        | inr apart ↦ apart
+      ]
+
+module _ {C : Type 0} (map_in : C → Map) (count : ℕ) where
+  -- the shard of a key's bytes
+  abbrev shard_in : List ℕ → ℕ
+  shard_in q = number_at 4 4 q % count
+
+  -- the entries of each store whose keys belong to it, from this shard on
+  abbrev own_entries : ℕ → List C → Entries
+  own_entries next [] = []
+  own_entries next (core ∷ cores) = passing (λ q. shard_in q == next) (entries (map_in core)) ++ own_entries (suc next) cores
+
+  -- a key of an earlier shard has no entry
+  first_past : (q : List ℕ) (next : ℕ) (cores : List C) → shard_in q < next → first_of q (own_entries next cores) ≡ None
+  first_past q next [] past = refl
+  first_past q next (core ∷ cores) past =
+      let other : (shard_in q ≡ next) → ⊥ = λ same. absurd (omega (arith, past, same)) in
+      first_append q (passing (λ k. shard_in k == next) (entries (map_in core))) (own_entries (suc next) cores)
+      ∙ ap (λ o. option_or o (first_of q (own_entries (suc next) cores))) (first_failing (λ k. shard_in k == next) q (entries (map_in core)) (ne_eqb (shard_in q) next other))
+      ∙ first_past q (suc next) cores (omega (arith, past))
+
+  -- nothing behind an entry
+  or_none : (o : Option (List ℕ)) → option_or o None ≡ o
+  or_none None = refl
+  or_none (Some value) = refl
+
+  -- a key has what its own store has
+  first_own : (q : List ℕ) (next ahead : ℕ) (cores : List C) → shard_in q ≡ next + ahead
+      → first_of q (own_entries next cores) ≡ option_and_then (λ (core : C). get (map_in core) q) (slice_get cores ahead)
+  first_own q next ahead [] is = refl
+  first_own q next zero (core ∷ cores) is =
+      let same : shard_in q ≡ next = omega (arith, is) in
+      let later : shard_in q < suc next = omega (arith, same) in
+      first_append q (passing (λ k. shard_in k == next) (entries (map_in core))) (own_entries (suc next) cores)
+      ∙ ap (option_or (first_of q (passing (λ k. shard_in k == next) (entries (map_in core))))) (first_past q (suc next) cores later)
+      ∙ or_none (first_of q (passing (λ k. shard_in k == next) (entries (map_in core))))
+      ∙ first_passing (λ k. shard_in k == next) q (entries (map_in core)) (eq-eqb (shard_in q) next same)
+      ∙ sym (get-entries (map_in core) q)
+  first_own q next (suc ahead) (core ∷ cores) is =
+      let other : (shard_in q ≡ next) → ⊥ = λ same. absurd (omega (arith, is, same)) in
+      first_append q (passing (λ k. shard_in k == next) (entries (map_in core))) (own_entries (suc next) cores)
+      ∙ ap (λ o. option_or o (first_of q (own_entries (suc next) cores))) (first_failing (λ k. shard_in k == next) q (entries (map_in core)) (ne_eqb (shard_in q) next other))
+      ∙ first_own q (suc next) ahead cores (omega (arith, is))
+
+  -- the map of all own entries
+  pub whole_map : List C → Map
+  whole_map cores = from_entries (own_entries 0 cores)
+
+  pub whole_get : (cores : List C) (q : List ℕ) → get (whole_map cores) q ≡ option_and_then (λ (core : C). get (map_in core) q) (slice_get cores (shard_in q))
+  unfolding whole_map
+  whole_get cores q = get-from_entries nat_list_cmp_total (own_entries 0 cores) q ∙ first_own q 0 (shard_in q) cores (omega arith)

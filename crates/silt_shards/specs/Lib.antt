@@ -1,0 +1,6 @@
+pub mod Marks
+pub mod Opening
+pub mod Routing
+pub mod SetLaws
+pub mod Sets
+pub mod Stores

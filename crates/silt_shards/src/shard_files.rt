@@ -1,0 +1,182 @@
+// Files that open as one set.
+ghost use Rattle.std.specs.Prelude.{◌≡◌, ◌<◌, ◌↔◌, ℕ, Some, IsTrue, OnOk, IfOk, IfErr, IfNone, IfSome, length, slice_get, vec_len};
+ghost use Rattle.std.specs.List.{AllZip};
+ghost use Rattle.silt_store_set.specs.CoreState.{Opens};
+ghost use Rattle.silt_shards.specs.Opening.{AreOfOneShape, AreShards, CausedAt, HasOtherNumbers, IsLike, IsRefusedSet, IsRefusedUnopened, Says};
+ghost use Rattle.silt_shards.specs.Routing.{IsShardCount};
+ghost use Rattle.silt_shards.specs.Sets.{AreAlike};
+ghost use Rattle.silt_shards.specs.declared.mark.Marking.TheVariants.{Marked};
+
+use crate::fault::{MarkFault, SetCause, SetFault};
+use crate::mark::{Mark, Marking, read_mark};
+use silt_disk::{Disk, Geometry};
+use silt_event::Refusal;
+use silt_store_set::{Core, OpenFault};
+use std::alloc::Global;
+
+/// Opens the stores on these disks, which are, in their order, the shards of one set. First it compares their marks: each says
+/// that its file is this shard, of a set of as many shards as there are disks, and all have the same bytes of a set. Then it
+/// opens one store after the other, and compares their six numbers.
+///
+/// # Errors
+///
+/// The first disk that is not the shard that is due, or on which no store opens, and why. The stores that were opened before it
+/// are closed. If it is out of memory for the list of stores, that is shard 0's.
+pub fn open_shards<D: Disk>(alloc: Global, disks: Vec<D>) -> Result<Vec<Core<D>>, SetFault<D>>
+    requires { IsShardCount (vec_len disks) }
+    ensures opens { IfOk result (λ cores. AllZip (λ disk core. Opens D.Disk (D.content disk) core) disks.items cores.items) }
+    ensures count { IfOk result (λ cores. vec_len cores ≡ vec_len disks) }
+    ensures shape { IfOk result (λ cores. AreOfOneShape cores.items) }
+    ensures alike { IfOk result (λ cores. AreAlike (λ core. core.shape.value_len) cores.items) }
+    ensures shards { IfOk result (λ _. AreShards D.Disk disks.items) }
+    ensures cause { IfErr result (λ fault. IsRefusedSet D.Disk disks.items fault.shard fault.disk fault.cause) }
+{
+    match compare_marks(disks.as_slice()) {
+        Ok(()) => open_each(alloc, disks),
+        Err((shard, cause)) => Err(refused(disks, shard, cause)),
+    }
+}
+
+// The disks are refused because of this one.
+fn refused<D: Disk>(disks: Vec<D>, shard: u32, cause: SetCause<D::Fault>) -> SetFault<D>
+    requires { shard < vec_len disks }
+    ensures shard { result.shard ≡ shard }
+    ensures disk { slice_get disks.items shard ≡ Some result.disk }
+    ensures cause { result.cause ≡ cause }
+{
+    let mut disks = disks;
+    SetFault {
+        shard,
+        disk: disks.swap_remove(shard as usize),
+        cause,
+    }
+}
+
+// The mark of a disk, if it is that of the shard that is due.
+fn due_mark<D: Disk>(disk: &D, count: u32, due: u32) -> Result<Mark, SetCause<D::Fault>>
+    ensures mark { IfOk result (λ mark. (mark.count ≡ count) × (mark.shard ≡ due) × Says D.Disk disk.now (Marked mark)) }
+    ensures cause { (first : D) → IfErr result (CausedAt D.Disk count due first disk.now disk.now) }
+{
+    let mark = match read_mark(disk) {
+        Ok(Marking::Marked(mark)) => mark,
+        Ok(Marking::Unmarked) => return Err(SetCause::NotDue(MarkFault::Unmarked)),
+        Ok(Marking::Unknown) => return Err(SetCause::NotDue(MarkFault::Unknown)),
+        Err(fault) => return Err(SetCause::Refused(Refusal::Device(fault))),
+    };
+    match fault_of(&mark, count, due) {
+        Some(fault) => Err(SetCause::NotDue(fault)),
+        None => Ok(mark),
+    }
+}
+
+// Why a mark is not that of the shard that is due, if it is not.
+fn fault_of(mark: &Mark, count: u32, due: u32) -> Option<MarkFault>
+    ensures fault { IfSome result (HasOtherNumbers count due mark.now) }
+    ensures none { IfNone result ((mark.now.count ≡ count) × (mark.now.shard ≡ due)) }
+{
+    if mark.count != count {
+        return Some(MarkFault::OtherCount {
+            found: mark.count,
+            asked: count,
+        });
+    }
+    if mark.shard != due {
+        return Some(MarkFault::OtherShard {
+            found: mark.shard,
+            of: mark.count,
+            due,
+        });
+    }
+    None
+}
+
+// Whether two marks have the same bytes of a set.
+fn are_of_one_set(first: &Mark, other: &Mark) -> bool
+    ensures { IsTrue result ↔ (other.now.set ≡ first.now.set) }
+{
+    other.set == first.set
+}
+
+// Compares the marks of all disks.
+fn compare_marks<D: Disk>(disks: &[D]) -> Result<(), (u32, SetCause<D::Fault>)>
+    requires { IsShardCount (length disks.now) }
+    ensures shards { OnOk result (AreShards D.Disk disks.now) }
+    ensures cause { IfErr result (λ fault. IsRefusedUnopened D.Disk disks.now fault.0 fault.1) }
+{
+    let count = disks.len() as u32;
+    let first = match due_mark(&disks[0], count, 0) {
+        Ok(mark) => mark,
+        Err(cause) => return Err((0, cause)),
+    };
+    for shard in 1..count {
+        match due_mark(&disks[shard as usize], count, shard) {
+            Ok(mark) => {
+                if !are_of_one_set(&first, &mark) {
+                    return Err((shard, SetCause::NotDue(MarkFault::OtherSet)));
+                }
+            }
+            Err(cause) => return Err((shard, cause)),
+        }
+    }
+    Ok(())
+}
+
+// Opens a store on each disk, all of one geometry.
+fn open_each<D: Disk>(alloc: Global, disks: Vec<D>) -> Result<Vec<Core<D>>, SetFault<D>>
+    requires { IsShardCount (vec_len disks) }
+    ensures opens { IfOk result (λ cores. AllZip (λ disk core. Opens D.Disk (D.content disk) core) disks.items cores.items) }
+    ensures count { IfOk result (λ cores. vec_len cores ≡ vec_len disks) }
+    ensures shape { IfOk result (λ cores. AreOfOneShape cores.items) }
+    ensures cause { IfErr result (λ fault. IsRefusedSet D.Disk disks.items fault.shard fault.disk fault.cause) }
+{
+    let Ok(mut cores) = Vec::with_capacity(alloc, disks.len()) else {
+        return Err(refused(disks, 0, SetCause::Refused(Refusal::NoMemory)));
+    };
+    for disk in disks {
+        match open_shard(alloc, disk, cores.as_slice()) {
+            Ok(core) => cores.push_reserved(core),
+            Err(fault) => return Err(fault),
+        }
+    }
+    Ok(cores)
+}
+
+// Opens the store on the disk of the next shard, behind those that are open.
+fn open_shard<D: Disk>(alloc: Global, disk: D, cores: &[Core<D>]) -> Result<Core<D>, SetFault<D>>
+    requires { length cores.now < 64 }
+    ensures opens { IfOk result (Opens D.Disk (D.content disk)) }
+    ensures like { IfOk result (IsLike cores.now) }
+    ensures shard { IfErr result (λ fault. fault.shard ≡ length cores.now) }
+    ensures cause { (count : ℕ) (first : D) → IfSome (slice_get cores.now 0) (Opens D.Disk (D.content first))
+        → IfErr result (λ fault. CausedAt D.Disk count (length cores.now) first disk fault.disk fault.cause) }
+{
+    let shard = cores.len() as u32;
+    let core = match Core::open(alloc, disk) {
+        Ok(core) => core,
+        Err(OpenFault { disk, refusal }) => {
+            return Err(SetFault {
+                shard,
+                disk,
+                cause: SetCause::Refused(refusal),
+            });
+        }
+    };
+    if is_like(&core, cores) {
+        return Ok(core);
+    }
+    Err(SetFault {
+        shard,
+        disk: core.close(),
+        cause: SetCause::NotDue(MarkFault::OtherGeometry),
+    })
+}
+
+// Whether a store has the geometry of the first of these, if there is one.
+fn is_like<D: Disk>(core: &Core<D>, cores: &[Core<D>]) -> bool
+    ensures { IsTrue result ↔ IsLike cores.now core.now }
+{
+    match cores.first() {
+        Some(first) => core.geometry() == first.geometry(),
+        None => true,
+    }
+}
