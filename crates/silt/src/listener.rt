@@ -1,4 +1,4 @@
-// The listener of a server. It continues if the system is briefly out of descriptors.
+// The listener of a server. It goes on after an accept that failed for a cause that may pass.
 ghost use Rattle.std.specs.Prelude.{◌≡◌, IfErr, IfOk};
 ghost use Rattle.std.specs.Net.Grammar.{IsIpText};
 ghost use Rattle.silt_words.specs.Jobs.{named_access};
@@ -19,11 +19,8 @@ use std::{io, thread};
 /// The address to listen on if none is given.
 const THIS_MACHINE: &str = "127.0.0.1";
 
-/// How many milliseconds a server waits before it accepts again, if the system was out of descriptors or memory.
+/// How many milliseconds a server waits before it accepts again, where an accept asks for a pause.
 const PAUSE: u64 = 10;
-
-/// The errors that pass once a connection is closed or memory is freed: ENOMEM, ENFILE, EMFILE and ENOBUFS.
-const PASSING: [i32; 4] = [12, 23, 24, 105];
 
 /// Where a server is entered: the listener of its connections and the socket of that, and the digest of the password that it asks
 /// for, if it asks for one.
@@ -106,21 +103,44 @@ pub fn tell_no_entrance<T: Tells>(file: &str, why: NoEntrance<'_>, people: &mut 
     }
 }
 
-/// A listener that accepts again, after a pause, if the system was out of descriptors or memory for the next
-/// connection. It keeps the first error of another kind.
+// What an accept that failed asks for.
+enum Cure {
+    /// The next connection: only this one failed.
+    Next,
+    /// A pause: the system lacks descriptors or memory, until a connection is closed or memory is freed.
+    Pause,
+    /// A pause, and a note: the cause may pass, as a network that is down or a rule of a firewall.
+    NotedPause,
+    /// No further accept: the listener is none.
+    End,
+}
+
+// What an accept asks for that failed so.
+fn cure_of(error: &io::Error) -> Cure {
+    match error.raw_os_error() {
+        Some(4 | 103 | 104) => Cure::Next, // EINTR, ECONNABORTED, ECONNRESET
+        Some(12 | 23 | 24 | 105) => Cure::Pause, // ENOMEM, ENFILE, EMFILE, ENOBUFS
+        Some(9 | 14 | 22 | 88 | 95) => Cure::End, // EBADF, EFAULT, EINVAL, ENOTSOCK, EOPNOTSUPP
+        _ => Cure::NotedPause,
+    }
+}
+
+/// A listener on a socket that accepts again if an accept fails for a cause that may pass. It keeps the error of another kind.
 #[derive(Drop)]
-pub struct PatientListener<'a, H: Clock + Wait> {
-    listener: TcpListener,
+pub struct PatientListener<'a, H> {
     rt: &'a H,
+    listener: TcpListener,
+    socket: SocketAddr,
     failure: OnceLock<io::Error>,
 }
 
-impl<'a, H: Clock + Wait> PatientListener<'a, H> {
-    /// The connections of this listener.
-    pub fn new(listener: TcpListener, rt: &'a H) -> PatientListener<'a, H> {
+impl<'a, H: Clock + Wait + StandardStreams> PatientListener<'a, H> {
+    /// The connections of this listener on this socket.
+    pub fn new(rt: &'a H, listener: TcpListener, socket: SocketAddr) -> PatientListener<'a, H> {
         PatientListener {
-            listener,
             rt,
+            listener,
+            socket,
             failure: OnceLock::new(),
         }
     }
@@ -129,17 +149,20 @@ impl<'a, H: Clock + Wait> PatientListener<'a, H> {
     pub fn failure(&self) -> Option<io::Error> {
         self.failure.get().copied()
     }
-}
 
-// Whether the system was out of descriptors or memory for the connection.
-fn is_lacking(error: &io::Error) -> bool {
-    match error.raw_os_error() {
-        Some(number) => PASSING.contains(&number),
-        None => false,
+    // Tells people that an accept failed.
+    fn note(&self, error: io::Error) {
+        let urgent = Urgent::NotAccepting(self.socket, StreamError { error });
+        self.rt.errors().tell("", &urgent);
     }
 }
 
-impl<H: Clock + Wait> Listens for PatientListener<'_, H> {
+// Waits before the next accept.
+fn pause<H: Clock + Wait>(rt: &H) {
+    thread::sleep(rt, Duration::from_millis(PAUSE));
+}
+
+impl<H: Clock + Wait + StandardStreams> Listens for PatientListener<'_, H> {
     ghost has_port = { λ listener port. Unit {0} };
 
     fn port(&self) -> io::Result<u16> {
@@ -147,16 +170,26 @@ impl<H: Clock + Wait> Listens for PatientListener<'_, H> {
     }
 
     fn wait(&self) -> io::Result<TcpStream> {
+        let mut is_noted = false;
         for _ in self.rt.forever() {
-            match self.listener.wait() {
-                Err(error) if is_lacking(&error) => {
-                    thread::sleep(self.rt, Duration::from_millis(PAUSE));
+            let error = match self.listener.wait() {
+                Ok(stream) => return Ok(stream),
+                Err(error) => error,
+            };
+            match cure_of(&error) {
+                Cure::Next => {}
+                Cure::Pause => pause(self.rt),
+                Cure::NotedPause => {
+                    if !is_noted {
+                        self.note(error);
+                    }
+                    is_noted = true;
+                    pause(self.rt);
                 }
-                Err(error) => {
-                    let _ = self.failure.try_set(error); // the first one stays
+                Cure::End => {
+                    let _ = self.failure.try_set(error);
                     return Err(error);
                 }
-                Ok(stream) => return Ok(stream),
             }
         }
         unreachable!()

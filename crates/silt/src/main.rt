@@ -1,12 +1,13 @@
 //! The program silt.
 //!
 //! - `silt plan KEYS V [--memory BYTES]` prints the six numbers of a store for this many keys, and what they cost.
-//! - `silt format FILE V B CAP NL NH S [--force]` makes an empty store of this geometry in a file, and prints the file's
-//!   length. Without `--force` a file with other data stays as it is.
+//! - `silt format FILE V B CAP NL NH S [--force] [--sparse]` makes an empty store of this geometry in a file, and prints the
+//!   file's length. Without `--force` a file with other data stays as it is. Without `--sparse` all of the file is written.
+//!   With `--shards M` it makes an empty set of the files FILE.0 to FILE.(M-1), each a shard of one store.
 //! - `silt run FILE [--tend] [--strict] [--merge-at K]` is one life of the store in a file: it reads lines to the end, and
 //!   writes one reply line for each. The end of the input flushes nothing. With `--tend` it does the background work that
 //!   is due between the lines; if that is refused, it prints why behind the replies, and ends with status 1. With
-//!   `--strict` it ends with status 3 if a line was refused.
+//!   `--strict` it ends with status 3 if a line was refused. With `--shards M` it is one life of the set of these M files.
 //! - `silt tend FILE [--merge-at K]` does all background work of the store in a file.
 //! - `silt check FILE` prints a report of the store in a file, in numbers.
 //! - `silt dump FILE` prints a line for each key with a value, which puts that value.
@@ -27,19 +28,23 @@
 
 mod clash;
 mod file_identity;
+mod file_systems;
 mod listener;
+mod mounts;
 mod password;
 mod program;
+mod random_bytes;
 mod service;
 mod standard_streams;
 
+use file_systems::tell_weakness;
 use program::{program, refuse_words};
 use silt_device::FileDisks;
 use silt_jobs::{
     AfterProgress, KeepsLines, Progress, Subject, WatchedFiles, WatchedReader, WatchedWriter,
     print_ended, print_of,
 };
-use silt_words::WordsError;
+use silt_words::{WordsError, read_words};
 use standard_streams::{NULL_DEVICE, StandardStreams, fill_descriptors};
 use std::env::{self, Env};
 use std::fs::File;
@@ -90,9 +95,14 @@ fn done<
             return ExitCode::from(ended.exit_status());
         }
     };
-    let files = WatchedFiles::new(FileDisks::new(rt), at_once, &progress);
-    let mut reader = WatchedReader::new(rt.alloc(), rt.reader());
     let words = words.as_slice();
+    if let Some(mut people) = terminal(at_once)
+        && let Ok(job) = read_words(rt.alloc(), words)
+    {
+        tell_weakness(rt.alloc(), rt, &job, &mut people);
+    }
+    let files = WatchedFiles::new(FileDisks::new(rt, &progress), at_once, &progress);
+    let mut reader = WatchedReader::new(rt.alloc(), rt.reader());
     let (file, ended) = program(rt, files, words, &mut reader, &mut writer, &mut errors);
     let subject = Subject {
         words,

@@ -1,16 +1,18 @@
 // The program's work, over any source of disks, reader and writer.
 ghost use Rattle.std.specs.Prelude.{◌≡◌, map, option_map, string_bytes};
 ghost use Rattle.silt_jobs.specs.Ended.{HasFailed};
-ghost use Rattle.silt.specs.Programs.{Answers, DoesJob, EndsJob, RefusesWords};
+ghost use Rattle.silt.specs.Programs.{Answers, DoesJob, EndsJob, FormatsNamed, RefusesWords};
 
 use crate::clash::{clash_of, refuse_clash};
+use crate::random_bytes::random_set;
 use crate::service::serve_file;
 use crate::standard_streams::StandardStreams;
-use silt_device::DiskSource;
+use silt_device::DiskSources;
 use silt_disk::Disk;
 use silt_jobs::{
-    Ended, KeepsError, KeepsLines, KeepsTally, NewStore, Tells, Tended, Watched, Why, check_file,
-    dump_file, format_file, run_file, run_script, tend_file, write_plan,
+    Ended, KeepsError, KeepsLines, KeepsTally, NewSet, NewStore, SetFiles, StreamError, Tells,
+    Tended, Watched, Why, check_file, dump_file, format_file, format_set, run_file, run_script,
+    run_set, tend_file, write_plan,
 };
 use silt_store_set::Refusal;
 use silt_words::{Job, WordsError, read_words};
@@ -26,7 +28,7 @@ use std::time::Clock;
 /// the program's own. A job whose file is a standard stream is refused before anything is opened, read or printed.
 pub fn program<
     'a,
-    S: DiskSource,
+    S: DiskSources,
     H: Net<Listener = TcpListener, Stream = TcpStream>
         + AllocGlobal
         + Clock
@@ -48,7 +50,7 @@ pub fn program<
 where
     S::Disk: Tended + Watched,
     ensures { Answers S.Disk.Disk (HasFailed S.Disk.Watched.kept_read S.Disk.Watched.last_failure) S.DiskSource source
-        W.contents W.kept_error W.kept_tally T.told people.old people.new (H.are_file rt.now)
+        W.contents W.kept_error W.kept_tally T.told people.old people.new (H.begins rt.now) (H.are_file rt.now)
         (map string_bytes words.entry.now) (option_map (λ file. file.now) result.0) (R.kept_error reader.new) result.1 (R.remaining reader.old) (R.remaining reader.new) writer.old writer.new }
 {
     match read_words(rt.alloc(), words) {
@@ -59,7 +61,7 @@ where
 
 // Does a job, unless its file is a standard stream.
 fn answer<
-    S: DiskSource,
+    S: DiskSources,
     H: Net<Listener = TcpListener, Stream = TcpStream>
         + AllocGlobal
         + Clock
@@ -81,7 +83,7 @@ fn answer<
 where
     S::Disk: Tended + Watched,
     ensures { EndsJob S.Disk.Disk (HasFailed S.Disk.Watched.kept_read S.Disk.Watched.last_failure) S.DiskSource source
-        W.contents W.kept_error W.kept_tally T.told people.old people.new (H.are_file rt.now)
+        W.contents W.kept_error W.kept_tally T.told people.old people.new (H.begins rt.now) (H.are_file rt.now)
         job.entry (R.kept_error reader.new) result (R.remaining reader.old) (R.remaining reader.new) writer.old writer.new }
 {
     match clash_of(rt, &job) {
@@ -92,7 +94,7 @@ where
 
 // Does a job.
 fn do_job<
-    S: DiskSource,
+    S: DiskSources,
     H: Net<Listener = TcpListener, Stream = TcpStream>
         + AllocGlobal
         + Clock
@@ -114,7 +116,7 @@ fn do_job<
 where
     S::Disk: Tended + Watched,
     ensures { DoesJob S.Disk.Disk (HasFailed S.Disk.Watched.kept_read S.Disk.Watched.last_failure) S.DiskSource source
-        W.contents W.kept_error W.kept_tally T.told people.old people.new
+        W.contents W.kept_error W.kept_tally T.told people.old people.new (H.begins rt.now)
         job.entry (R.kept_error reader.new) result (R.remaining reader.old) (R.remaining reader.new) writer.old writer.new }
 {
     let alloc = rt.alloc();
@@ -122,22 +124,64 @@ where
         Job::Format {
             file,
             numbers,
-            force,
+            options,
         } => {
             let asked = NewStore {
                 file,
                 numbers,
-                force,
+                options,
             };
             format_file(alloc, source, &asked, writer, people).1
         }
+        Job::FormatSet {
+            file,
+            shards,
+            numbers,
+            options: made,
+        } => {
+            let store = NewStore {
+                file,
+                numbers,
+                options: made,
+            };
+            format_named(rt, source, store, shards, writer, people)
+        }
         Job::Script(numbers) => run_script(alloc, &numbers, reader, writer),
         Job::Run { file, options } => run_file(alloc, source, file, options, reader, writer).1,
+        Job::RunSet {
+            file,
+            shards,
+            options,
+        } => {
+            let files = SetFiles { name: file, shards };
+            run_set(alloc, source, &files, options, reader, writer)
+        }
         Job::Tend { file, merge_at } => tend_file(alloc, source, file, merge_at, writer).1,
         Job::Check { file } => check_file(alloc, source, file, writer).1,
         Job::Dump { file } => dump_file(alloc, source, file, writer).1,
         Job::Plan(request) => write_plan(alloc, &request, writer),
         Job::Serve(service) => serve_file(rt, source, &service, writer, people).1,
+    }
+}
+
+// Makes an empty set of so many shards, with random bytes for its name, unless the system gives none.
+fn format_named<S: DiskSources, H: AllocGlobal + StandardStreams, W: Write, T: Tells>(
+    rt: &H,
+    source: S,
+    store: NewStore<'_>,
+    shards: u32,
+    writer: &mut W,
+    people: &mut T,
+) -> Ended<S::Error, <S::Disk as Disk>::Fault>
+    ensures { FormatsNamed S.Disk.Disk S.DiskSource source T.told people.old people.new (H.begins rt.now) store.entry.file.now store.entry.numbers store.entry.options shards
+        result (W.contents writer.old) (W.contents writer.new) }
+{
+    match random_set(rt) {
+        Ok(set) => {
+            let asked = NewSet { store, shards, set };
+            format_set(rt.alloc(), source, &asked, writer, people)
+        }
+        Err(error) => Ended::refuse(rt.alloc(), Why::NoRandom(StreamError { error }), writer),
     }
 }
 

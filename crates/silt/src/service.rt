@@ -202,8 +202,8 @@ fn serve_store<
         let (disk, status) = refuse_network(core, writer);
         return (disk, status, None);
     };
-    let listener = PatientListener::new(entrance.listener, rt);
     let limits = limits_of(service, entrance.password);
+    let listener = PatientListener::new(rt, entrance.listener, entrance.socket);
     let geometry = core.geometry();
     let gate = MergeGate {
         rt,

@@ -1,4 +1,5 @@
 mod Files
+mod Filled
 mod Freeing
 mod Gathering
 mod Marked

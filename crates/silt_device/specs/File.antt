@@ -1,5 +1,5 @@
 -- The content of a disk in a file.
-use Rattle.std.specs.Prelude.{◌≡◌, ℕ, IsTrue, cond}
+use Rattle.std.specs.Prelude.{◌≡◌, ℕ, zero, suc, ◌+◌, IsTrue, cond, List, length}
 use Rattle.std.specs.Fs.{metadata_len}
 use Rattle.std.specs.declared.fs.attrs.Metadata.{Metadata}
 use Rattle.silt_disk.specs.Disk.{Content, Settles, size}
@@ -79,6 +79,27 @@ pub record IsFoundFile {F : Type 0} (content : F → Content) (found : F → Typ
 pub record IsResizedFile {F : Type 0} (content : F → Content) (resized : F → ℕ → F → Type 0) (synced : F → F → Type 0) (old : F) (len : ℕ) (new : F) : Type 0 where
   pub mid : F
   pub sized : resized old len mid
+  pub settled : synced mid new
+  pub cut : Resizes len (content old) (content mid)
+  pub holds : Settles (content mid) (content new)
+
+-- the system wrote the first bytes of a file, so many, in so many pieces one behind the other
+unfoldable pub Rewrites : {F : Type 0} → (F → ℕ → List ℕ → F → Type 0) → ℕ → F → ℕ → F → Type 0
+Rewrites written_at zero old len new = (len ≡ 0) × (new ≡ old)
+Rewrites {F} written_at (suc pieces) old len new =
+    (mid : F) × (at : ℕ) × (bytes : List ℕ) × Rewrites written_at pieces old at mid × written_at mid at bytes new × (len ≡ at + length bytes)
+
+-- the system wrote the first bytes of a file, so many
+abbrev pub IsWritten : {F : Type 0} → (F → ℕ → List ℕ → F → Type 0) → F → ℕ → F → Type 0
+IsWritten written_at old len new = (pieces : ℕ) × Rewrites written_at pieces old len new
+
+-- A file that was given this length, of which all bytes were written, and which was then synced: its old bytes up to this length are
+-- settled, followed by zeros.
+pub record IsFilledFile {F : Type 0} (content : F → Content) (written_at : F → ℕ → List ℕ → F → Type 0) (synced : F → F → Type 0) (old : F) (len : ℕ) (new : F) : Type 0 where
+  pub first : F
+  pub last : F
+  pub mid : F
+  pub written : IsWritten written_at first len last
   pub settled : synced mid new
   pub cut : Resizes len (content old) (content mid)
   pub holds : Settles (content mid) (content new)

@@ -10,3 +10,8 @@ with_length len image = take len image ++ replicate (len - length image) 0
 pub record Resizes (len : ℕ) (old new : Content) : Type 0 where
   pub honest : new.honest ≡ old.honest
   pub shown : IsTrue old.honest → new.shown ≡ with_length len old.shown
+
+-- a file that shows what it showed
+pub record ShowsAlike (old new : Content) : Type 0 where
+  pub honest : new.honest ≡ old.honest
+  pub shown : IsTrue old.honest → new.shown ≡ old.shown

@@ -2,6 +2,7 @@
 ghost use Rattle.std.specs.Prelude.{◌≡◌, ◌≤◌, ◌^◌, ◌+◌, ◌%◌, IfOk, OnOk, IsErr};
 
 use crate::calls::Calls;
+use crate::filling::{Filling, fill_file};
 use crate::system::{FileSystem, RandomAccessFile};
 use silt_disk::{Call, CallAt, Disk};
 use std::error::Error;
@@ -61,6 +62,18 @@ pub struct RandomAccessDisk<F: RandomAccessFile = File> {
     file: F,
     len: u64,
     calls: Calls,
+    // Whether the file was made for this disk.
+    is_new: bool,
+}
+
+// Makes the file, or opens the one that is there. Returns whether it was made.
+fn make_or_open<R: FileSystem>(system: &R, path: &str) -> io::Result<(R::File, bool)>
+    ensures { IfOk result (λ found. R.made system.now path.now found.0) }
+{
+    match system.make_new_file_at(path) {
+        Ok(file) => Ok((file, true)),
+        Err(_) => Ok((system.make_file_at(path)?, false)),
+    }
 }
 
 impl<F: RandomAccessFile> Model for RandomAccessDisk<F> {
@@ -75,7 +88,7 @@ impl<F: RandomAccessFile> Model for RandomAccessDisk<F> {
 
 impl<F: RandomAccessFile> RandomAccessDisk<F> {
     ghost use Rattle.std.specs.Fs.{metadata_len};
-    ghost use Rattle.silt_device.specs.File.{file_gave, HasLength, IsOpened, IsOpenedFile, IsFoundFile, IsMadeFile, IsResizedFile};
+    ghost use Rattle.silt_device.specs.File.{file_gave, HasLength, IsOpened, IsOpenedFile, IsFoundFile, IsFilledFile, IsMadeFile, IsResizedFile};
 
     /// Opens the file, or makes an empty one, and locks it. Nothing in the file changes: the disk has its bytes and its length. The
     /// folder of the file is synced; if the path is a link, the folder of the link. The disk holds the lock: until the disk is
@@ -88,10 +101,13 @@ impl<F: RandomAccessFile> RandomAccessDisk<F> {
         ensures found { IfOk result (IsFoundFile F.content (R.made system.now path.now) (R.locked system.now) F.measured) }
         ensures folder { OnOk result (R.folder_synced system.now path.now) }
     {
-        let found = system.lock_file(system.make_file_at(path)?)?;
+        let (file, is_new) = make_or_open(system, path)?;
+        let found = system.lock_file(file)?;
         system.sync_folder_of(path)?;
         let metadata = found.measure()?;
-        Ok(RandomAccessDisk::measured(found, &metadata))
+        let mut disk = RandomAccessDisk::measured(found, &metadata);
+        disk.is_new = is_new;
+        Ok(disk)
     }
 
     /// Gives the file exactly this length in bytes, and syncs it. Its bytes up to this length stay, and new bytes are zeros.
@@ -105,9 +121,43 @@ impl<F: RandomAccessFile> RandomAccessDisk<F> {
         ensures resized { IfOk result (λ disk. IsResizedFile F.content F.resized F.synced self.file len disk.file) }
         ensures too_long { 2 ^ 63 ≤ len → IsErr result }
     {
-        let mut file = self.into_file().resize(len)?;
+        let mut file = self.into_file();
+        file.resize(len)?;
         file.settle()?;
         Ok(RandomAccessDisk::of_len(file, len))
+    }
+
+    /// Gives the file at this path, in which the disk is, exactly this length in bytes, writes all of its bytes, and syncs it. Its
+    /// bytes up to this length stay, and new bytes are zeros. So the system has room for each byte before a store needs it.
+    ///
+    /// # Errors
+    ///
+    /// The error of the system, if the file cannot be resized, read, written or synced. An error of kind out of memory, if a piece of
+    /// 1 MiB cannot be allocated. A length of 2^63 or more is always an error. Then the file gets its old length again, if the system
+    /// does that. What `find` has made is removed while the lock is still held.
+    pub fn fill<R: FileSystem<File = F> + AllocGlobal, P: Filling>(
+        self,
+        system: &R,
+        path: &str,
+        len: u64,
+        progress: &P,
+    ) -> io::Result<RandomAccessDisk<F>>
+        ensures opened { IfOk result (IsOpened F.content len) }
+        ensures filled { IfOk result (λ disk. IsFilledFile F.content F.written_at F.synced self.file len disk.file) }
+        ensures too_long { 2 ^ 63 ≤ len → IsErr result }
+    {
+        let (old, is_new) = (self.len, self.is_new);
+        let mut file = self.into_file();
+        match fill_file(system.alloc(), &mut file, old, len, progress) {
+            Ok(()) => Ok(RandomAccessDisk::of_len(file, len)),
+            Err(error) => {
+                let _ = file.resize(old);
+                if is_new {
+                    let _ = system.remove_file_at(path);
+                }
+                Err(error)
+            }
+        }
     }
 
     /// Opens the file, or makes it, and locks it. Then gives it exactly this length in bytes, and syncs it and its folder. Bytes of an
@@ -183,6 +233,7 @@ impl<F: RandomAccessFile> RandomAccessDisk<F> {
             file,
             len,
             calls: Calls::none(),
+            is_new: false,
         }
     }
 

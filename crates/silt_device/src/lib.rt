@@ -17,6 +17,7 @@ mod buffered_disk;
 mod calls;
 mod fault;
 mod file;
+mod filling;
 mod life;
 mod marks;
 mod memory;
@@ -29,12 +30,13 @@ mod write_buffers;
 pub use buffered_disk::{BufferFault, BufferedDisk, saves_writes_law};
 pub use fault::FaultDisk;
 pub use file::{FileFault, RandomAccessDisk};
+pub use filling::Filling;
 pub use life::{Fill, Stop};
 pub use memory::{MemDisk, MemFault};
 pub use silt_disk::{
     BadGeometry, Call, CallAt, Disk, Geometry, HEADER_LEN, REGIONS_AT, SECTOR, Stoppable,
     geometry_of, header_bytes, is_formatted, regions_law, slot_start, write_synced,
 };
-pub use source::{DiskSource, FileDisks};
+pub use source::{DiskSource, DiskSources, FileDisks};
 pub use system::{FileSystem, RandomAccessFile};
 pub use system_disk::FileDisk;

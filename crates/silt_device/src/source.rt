@@ -3,6 +3,7 @@ ghost use Rattle.std.specs.Prelude.{◌≡◌, ℕ, List, IfOk, IfErr};
 ghost use Rattle.silt_disk.specs.Disk.{size};
 
 use crate::FileDisk;
+use crate::filling::Filling;
 use crate::system::FileSystem;
 use silt_disk::Disk;
 use std::alloc::Global;
@@ -41,6 +42,12 @@ pub trait DiskSource: Drop {
     /// A disk that `find` returned cannot be given this length, with this error.
     ghost not_resized: { Self.Disk → ℕ → Self.Error → Type 0 };
 
+    /// A disk that `find` returned was given this length in bytes, all of them were written, and it became the second one.
+    ghost filled: { Self.Disk → ℕ → Self.Disk → Type 0 };
+
+    /// A disk that `find` returned cannot be given this length and written, with this error.
+    ghost not_filled: { Self.Disk → ℕ → Self.Error → Type 0 };
+
     /// Opens an existing disk for exclusive use.
     fn open(self, path: &str) -> Result<Self::Disk, Self::Error>
         ensures opened { IfOk result (opened self path.now) }
@@ -52,38 +59,67 @@ pub trait DiskSource: Drop {
         ensures not_shared { IfErr result (not_shared self path.now) };
 
     /// Opens the disk, or makes one of length 0, for exclusive use. It changes no bytes.
-    fn find(self, path: &str) -> Result<Self::Disk, Self::Error>
-        ensures found { IfOk result (found self path.now) }
-        ensures not_found { IfErr result (not_found self path.now) };
+    fn find(&self, path: &str) -> Result<Self::Disk, Self::Error>
+        ensures found { IfOk result (found self.now path.now) }
+        ensures not_found { IfErr result (not_found self.now path.now) };
 
     /// Gives a disk that `find` returned exactly this length in bytes.
     fn resize(alloc: Global, disk: Self::Disk, len: u64) -> Result<Self::Disk, Self::Error>
         ensures resized { IfOk result (resized disk len) }
         ensures size { IfOk result (λ new. size (Self.Disk.Disk.content new) ≡ len) }
         ensures not_resized { IfErr result (not_resized disk len) };
+
+    /// Gives the disk that `find` returned for this path exactly this length in bytes, and writes all of them, so that there is room
+    /// for each. Bytes up to this length stay, and new ones are zeros. A disk that `find` made is removed if there is no room.
+    fn fill(self, path: &str, disk: Self::Disk, len: u64) -> Result<Self::Disk, Self::Error>
+        ensures filled { IfOk result (filled disk len) }
+        ensures size { IfOk result (λ new. size (Self.Disk.Disk.content new) ≡ len) }
+        ensures not_filled { IfErr result (not_filled disk len) };
+}
+
+/// A source of several disks.
+pub trait DiskSources: DiskSource {
+    /// The same source once more, for one more disk.
+    fn another(&self) -> Self
+        ensures { result ≡ self.now };
 }
 
 /// The files of a system, each a disk.
 #[derive(Drop)]
-pub struct FileDisks<S> {
+pub struct FileDisks<S, P> {
     system: S,
+    progress: P,
 }
 
-impl<S> FileDisks<S> {
-    /// The files of this system.
-    pub fn new(system: S) -> Self
+impl<S, P> FileDisks<S, P> {
+    /// The files of this system. The progress shows how far a filling is.
+    pub fn new(system: S, progress: P) -> Self
         ensures { result.system ≡ system }
     {
-        FileDisks { system }
+        FileDisks { system, progress }
     }
 }
 
-impl<S> DiskSource for FileDisks<S>
+impl<S, P> DiskSources for FileDisks<S, P>
+where
+    S: FileSystem<File = File> + AllocGlobal + Copy + Drop,
+    P: Filling + Copy + Drop,
+{
+    fn another(&self) -> Self {
+        FileDisks {
+            system: self.system,
+            progress: self.progress,
+        }
+    }
+}
+
+impl<S, P> DiskSource for FileDisks<S, P>
 where
     S: FileSystem<File = File> + AllocGlobal + Drop,
+    P: Filling + Drop,
 {
     ghost use Rattle.std.specs.Prelude.{⊤};
-    ghost use Rattle.silt_device.specs.File.{IsFoundFile, IsOpened, IsOpenedFile, IsResizedFile};
+    ghost use Rattle.silt_device.specs.File.{IsFilledFile, IsFoundFile, IsOpened, IsOpenedFile, IsResizedFile};
     ghost use Rattle.silt_assumption.specs.Files.{system_content};
 
     type Disk = FileDisk;
@@ -106,6 +142,10 @@ where
 
     ghost not_resized = { λ _ _ _. ⊤ };
 
+    ghost filled = { λ old len new. IsOpened system_content len new.inner.inner × IsFilledFile system_content (λ _ _ _ _. ⊤) (λ _ _. ⊤) old.inner.inner.file len new.inner.inner.file };
+
+    ghost not_filled = { λ _ _ _. ⊤ };
+
     fn open(self, path: &str) -> io::Result<FileDisk> {
         FileDisk::open(&self.system, path)
     }
@@ -114,11 +154,15 @@ where
         FileDisk::open_shared(&self.system, path)
     }
 
-    fn find(self, path: &str) -> io::Result<FileDisk> {
+    fn find(&self, path: &str) -> io::Result<FileDisk> {
         FileDisk::find(&self.system, path)
     }
 
     fn resize(alloc: Global, disk: FileDisk, len: u64) -> io::Result<FileDisk> {
         disk.resize(alloc, len)
+    }
+
+    fn fill(self, path: &str, disk: FileDisk, len: u64) -> io::Result<FileDisk> {
+        disk.fill(&self.system, path, len, &self.progress)
     }
 }

@@ -6,7 +6,7 @@ ghost use Rattle.std.specs.declared.fs.attrs.Metadata.{Metadata as MetadataOf};
 ghost use Rattle.silt_disk.specs.Disk.{Content, Tears, Writes, Settles, Stays, size};
 ghost use Rattle.silt_device.specs.System.{Resizes};
 
-use std::fs::{File, Metadata, OpenOptions, TryLockError};
+use std::fs::{self, File, Metadata, OpenOptions, TryLockError};
 use std::io::{self, ErrorKind};
 use std::os::unix::fs::FileExt;
 use std::path::Path;
@@ -44,10 +44,10 @@ pub trait RandomAccessFile: Drop {
     /// The system was asked to write these bytes from this offset on, and failed. The file became the second one.
     ghost not_written_at: { Self → ℕ → List ℕ → Self → Type 0 };
 
-    /// Truncates the file to this length, or extends it with zeros, and returns it.
-    fn resize(self, len: u64) -> io::Result<Self>
-        ensures resized { IfOk result (resized self len) }
-        ensures content { IfOk result (λ file. Resizes len (content self) (content file)) }
+    /// Truncates the file to this length, or extends it with zeros.
+    fn resize(&mut self, len: u64) -> io::Result<()>
+        ensures resized { OnOk result (resized self.old len self.new) }
+        ensures content { OnOk result (Resizes len (content self.old) (content self.new)) }
         ensures too_long { 2 ^ 63 ≤ len → IsErr result };
 
     /// The metadata of the file: for a file that behaves, its length.
@@ -95,6 +95,9 @@ pub trait FileSystem {
     /// The system opened this file at this path, to read and write. It made the file if there was none.
     ghost made: { Self → List ℕ → Self.File → Type 0 };
 
+    /// The system removed the name of the file at this path.
+    ghost removed: { Self → List ℕ → Type 0 };
+
     /// The system opened this file at this path, to read only.
     ghost opened_to_read: { Self → List ℕ → Self.File → Type 0 };
 
@@ -114,6 +117,14 @@ pub trait FileSystem {
     /// Opens the file, or makes an empty one, to read and write.
     fn make_file_at(&self, path: &str) -> io::Result<Self::File>
         ensures { IfOk result (made self.now path.now) };
+
+    /// Makes an empty file, to read and write. It is an error if the path has a file already.
+    fn make_new_file_at(&self, path: &str) -> io::Result<Self::File>
+        ensures { IfOk result (made self.now path.now) };
+
+    /// Removes the name of the file. Open files stay.
+    fn remove_file_at(&self, path: &str) -> io::Result<()>
+        ensures { OnOk result (removed self.now path.now) };
 
     /// Opens an existing file, to read only.
     fn open_file_to_read_at(&self, path: &str) -> io::Result<Self::File>
@@ -172,9 +183,8 @@ impl RandomAccessFile for File {
     ghost not_written_at = { λ _ _ _ _. ⊤ };
 
     #[tactic(auto, using(crate::proofs::Files::system_resizes))]
-    fn resize(self, len: u64) -> io::Result<File> {
-        self.set_len(len)?;
-        Ok(self)
+    fn resize(&mut self, len: u64) -> io::Result<()> {
+        self.set_len(len)
     }
 
     fn measure(&self) -> io::Result<Metadata> {
@@ -210,6 +220,8 @@ impl<R: Files<File = File>> FileSystem for R {
 
     ghost made = { λ _ _ _. ⊤ };
 
+    ghost removed = { λ _ _. ⊤ };
+
     ghost opened_to_read = { λ _ _ _. ⊤ };
 
     ghost locked = { λ _ _ _. ⊤ };
@@ -228,6 +240,18 @@ impl<R: Files<File = File>> FileSystem for R {
             .write(true)
             .create(true)
             .open(self, path)
+    }
+
+    fn make_new_file_at(&self, path: &str) -> io::Result<File> {
+        OpenOptions::new()
+            .read(true)
+            .write(true)
+            .create_new(true)
+            .open(self, path)
+    }
+
+    fn remove_file_at(&self, path: &str) -> io::Result<()> {
+        fs::remove_file(self, path)
     }
 
     fn open_file_to_read_at(&self, path: &str) -> io::Result<File> {

@@ -3,6 +3,7 @@ ghost use Rattle.std.specs.Prelude.{⊤, ◌≡◌, ◌≤◌, ◌^◌, ◌+◌,
 
 use crate::buffered_disk::{BufferFault, BufferedDisk};
 use crate::file::{FileFault, RandomAccessDisk};
+use crate::filling::Filling;
 use crate::system::FileSystem;
 use silt_disk::Disk;
 use std::alloc::Global;
@@ -18,7 +19,7 @@ pub struct FileDisk {
 }
 
 impl FileDisk {
-    ghost use Rattle.silt_device.specs.File.{IsOpened, IsOpenedFile, IsFoundFile, IsMadeFile, IsResizedFile};
+    ghost use Rattle.silt_device.specs.File.{IsOpened, IsOpenedFile, IsFilledFile, IsFoundFile, IsMadeFile, IsResizedFile};
     ghost use Rattle.silt_assumption.specs.Files.{system_content};
 
     /// Opens the file, or makes an empty one, and locks it. Nothing in the file changes: the disk has its bytes and its length. The
@@ -55,6 +56,32 @@ impl FileDisk {
     {
         let disk = self.inner.into_inner().resize(len)?;
         let inner = BufferedDisk::new(alloc, disk)?;
+        Ok(FileDisk { inner })
+    }
+
+    /// Gives the file at this path, in which the disk is, exactly this length in bytes, writes all of its bytes, and syncs it. Its
+    /// bytes up to this length stay, and new bytes are zeros. So the system has room for each byte before a store needs it. Bytes that
+    /// were written on the disk and not yet synced may be lost.
+    ///
+    /// # Errors
+    ///
+    /// The error of the system, if the file cannot be resized, read, written or synced. A length of 2^63 or more is always an error.
+    /// Then the file gets its old length again, if the system does that. What `find` has made is removed while the lock is still held.
+    /// An error of kind out of memory, if a piece of 1 MiB or the buffer cannot be allocated.
+    pub fn fill<R: FileSystem<File = File> + AllocGlobal, P: Filling>(
+        self,
+        system: &R,
+        path: &str,
+        len: u64,
+        progress: &P,
+    ) -> io::Result<FileDisk>
+        ensures opened { IfOk result (λ disk. IsOpened system_content len disk.inner.inner) }
+        ensures filled { IfOk result (λ disk. IsFilledFile system_content (λ _ _ _ _. ⊤) (λ _ _. ⊤) self.inner.inner.file len disk.inner.inner.file) }
+        ensures too_long { 2 ^ 63 ≤ len → IsErr result }
+    {
+        let disk = self.inner.into_inner();
+        let filled = disk.fill(system, path, len, progress)?;
+        let inner = BufferedDisk::new(system.alloc(), filled)?;
         Ok(FileDisk { inner })
     }
 

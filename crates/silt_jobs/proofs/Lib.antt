@@ -12,3 +12,5 @@ pub mod Stops
 pub mod Tallies
 pub mod BackgroundWork
 pub mod Texts
+pub mod MadeShards
+pub mod TendingSets

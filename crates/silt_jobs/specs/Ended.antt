@@ -6,17 +6,17 @@ use Rattle.silt_event.specs.declared.reply.Reply.TheVariants.{Refused as Refused
 use Rattle.silt_jobs.specs.Scripts.{reply_line}
 use Rattle.silt_jobs.specs.declared.ended.Ended.{Ended}
 use Rattle.silt_jobs.specs.declared.ended.Why.{Why}
-use Rattle.silt_jobs.specs.declared.ended.Why.TheVariants.{NoDisk, Refused, Holds, IsStream, FewRegions, ShortValues, OutOfLimits, NoPlan, NotListening, NoJob}
+use Rattle.silt_jobs.specs.declared.ended.Why.TheVariants.{NoDisk, Refused, Holds, IsStream, FewRegions, ShortValues, OutOfLimits, NoPlan, NotListening, NoRandom, NotDue, NoJob}
 use Rattle.silt_jobs.specs.declared.failure.Failure.{Failure}
 use Rattle.silt_jobs.specs.declared.failures.Failures.{Failures}
 
 -- no call failed
 abbrev pub none_failed : Failures
-none_failed = record { read = None; last = None }
+none_failed = record { read = None; last = None; shard = None }
 
 -- these are the calls of the disk that failed
 abbrev pub HasFailed : {D : Type 0} → (D → Option Failure → Type 0) → (D → Option Failure) → D → Failures → Type 0
-HasFailed kept_read last_failure disk failures = kept_read disk failures.read × (failures.last ≡ last_failure disk)
+HasFailed kept_read last_failure disk failures = kept_read disk failures.read × (failures.last ≡ last_failure disk) × (failures.shard ≡ None)
 
 module _ {E F : Type 0} where
   -- the line that says why a job was refused
@@ -30,6 +30,8 @@ module _ {E F : Type 0} where
   why_line (OutOfLimits numbers) = codes "refused 2 BadGeometry\n"
   why_line (NoPlan request) = codes "no plan\n"
   why_line (NotListening socket error) = codes "network fault\n"
+  why_line (NoRandom error) = codes "refused 5 Device\n"
+  why_line (NotDue fault) = codes "refused 2 BadGeometry\n"
   why_line NoJob = codes "usage\n"
 
   -- the status of a job that was refused

@@ -1,9 +1,13 @@
 -- What the jobs on the disk of a path do.
-use Rattle.std.specs.Prelude.{◌≡◌, ◌⊎◌, ℕ, Bool, List, MatchResult, Option, Some, None, Result}
+use Rattle.std.specs.Prelude.{◌≡◌, ◌⊎◌, ℕ, Bool, true, false, List, MatchResult, Option, Some, None, Result}
 use Rattle.std.specs.Option.{IsSomeAnd}
-use Rattle.silt_disk.specs.Disk.{size}
+use Rattle.silt_disk.specs.Disk.{GaveAny, LeavesOnly, size}
 use Rattle.silt_disk.specs.Layout.{InLimits, Shape, device_size}
 use Rattle.silt_disk.specs.declared.disk.Disk.{Ghosts}
+use Rattle.silt_event.specs.declared.refusal.Refusal.TheVariants.{Device}
+use Rattle.silt_shards.specs.Marks.{marking_of}
+use Rattle.silt_shards.specs.Opening.{Says}
+use Rattle.silt_shards.specs.declared.mark.Marking.TheVariants.{Unmarked}
 use Rattle.silt_store_set.specs.CoreState.{CoreState, Opens}
 use Rattle.silt_words.specs.declared.job.Numbers.{Numbers}
 use Rattle.silt_words.specs.declared.job.RunOptions.{RunOptions}
@@ -13,7 +17,7 @@ use Rattle.silt_jobs.specs.Jobs.{Checks, Formats, RunsOpened, TendsOpened}
 use Rattle.silt_jobs.specs.Numbers.{shape_asked}
 use Rattle.silt_jobs.specs.Openings.{RefusesNoDisk, RefusesOpening}
 use Rattle.silt_jobs.specs.declared.ended.Ended.{Ended}
-use Rattle.silt_jobs.specs.declared.ended.Why.TheVariants.{OutOfLimits}
+use Rattle.silt_jobs.specs.declared.ended.Why.TheVariants.{OutOfLimits, Refused}
 use Rattle.silt_jobs.specs.declared.failures.Failures.{Failures}
 use Rattle.silt_jobs.specs.declared.held_data.Holding.{Holding}
 use Rattle.silt_jobs.specs.declared.streams.StreamError.{StreamError}
@@ -44,13 +48,30 @@ module _ {D E F : Type 0} (facts : Ghosts D F) where
   ChecksFile Given NotGiven given ended before after =
       RefusesNoDisk NotGiven given ended before after ⊎ ((disk : D) × Given disk × (given ≡ Some disk) × Checks facts disk ended before after)
 
+-- what giving a length does to a disk that is to be sparse, or to one of which all bytes are written
+abbrev pub sized_by : {D X : Type 0} → Bool → (D → ℕ → X → Type 0) → (D → ℕ → X → Type 0) → D → ℕ → X → Type 0
+sized_by true resized filled = resized
+sized_by false resized filled = filled
+
+module _ {D F : Type 0} (facts : Ghosts D F) where
+  -- the disk has no mark of a shard and stays as it was, or the mark's gate was closed
+  abbrev pub Unmarks : D → D → Type 0
+  Unmarks old new = ((new ≡ old) × Says facts old Unmarked) ⊎ LeavesOnly (facts.content new) (λ image. marking_of image ≡ Unmarked)
+
+module _ {D E F : Type 0} (facts : Ghosts D F) where
+  -- the disk has no mark any more, and was formatted or not; or its mark could not be read or closed
+  abbrev pub FormatsUnmarked : Shape → D → D → Ended E F → Option (List ℕ) → Option (List ℕ) → Type 0
+  FormatsUnmarked shape old new ended before after =
+      ((unmarked : D) × Unmarks facts old unmarked × Formats facts shape unmarked new ended before after)
+      ⊎ ((fault : F) × GaveAny facts.gave new fault × Refuses (Refused (Device fault) None) ended before after)
+
 module _ {D E F : Type 0} (facts : Ghosts D F) (Resized : D → ℕ → D → Type 0) (NotResized : D → ℕ → E → Type 0) where
   -- the length of this shape was set, and the disk was formatted or not; or it could not be set
   abbrev pub FormatsSized : Shape → D → Option D → Ended E F → Option (List ℕ) → Option (List ℕ) → Type 0
   FormatsSized shape found given ended before after =
       RefusesNoDisk (NotResized found (device_size shape)) given ended before after
       ⊎ ((sized : D) × Resized found (device_size shape) sized × (size (facts.content sized) ≡ device_size shape)
-      × IsSomeAnd given (λ disk. Formats facts shape sized disk ended before after))
+      × IsSomeAnd given (λ disk. FormatsUnmarked facts shape sized disk ended before after))
 
 module _ {D E F : Type 0} (facts : Ghosts D F) (Resized : D → ℕ → D → Type 0) (NotResized : D → ℕ → E → Type 0) (Told : Urgent → Type 0) (Quiet : Type 0) where
   -- The data on the found disk was read. If it may be overwritten, a store is told of before that. If not, it stays, and the disk is returned

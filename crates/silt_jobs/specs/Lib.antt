@@ -10,6 +10,7 @@ pub mod HeldData
 pub mod PlanCosts
 pub mod Plans
 pub mod Scripts
+pub mod SetFiles
 pub mod Stops
 pub mod Tally
 pub mod BackgroundWork

@@ -11,7 +11,7 @@ use crate::urgent::write_place;
 use silt_store_set::{Place, Refusal};
 use silt_wire::SessionEnd;
 use silt_words::{VERSION, asks_version, complaint_of, forms_for};
-use std::fmt::Display;
+use std::fmt::{self, Display};
 use std::io::{self, ErrorKind, Write};
 
 /// The number of the refusal of a value of another length.
@@ -28,6 +28,37 @@ pub struct Subject<'a> {
     pub lines: &'a InputLines,
 }
 
+/// The device that gives random bytes.
+pub const RANDOM_DEVICE: &str = "/dev/urandom";
+
+/// The name of a job's file, or of one file of its set.
+#[derive(Clone, Copy)]
+struct FileName<'a> {
+    name: &'a str,
+    shard: Option<u32>,
+}
+
+impl<'a> FileName<'a> {
+    // The name of the file that a job found out something of.
+    fn of(name: &'a str, found: &Option<Found>) -> FileName<'a> {
+        let shard = match found {
+            Some(Found::Shard(shard)) => Some(*shard),
+            _ => None,
+        };
+        FileName { name, shard }
+    }
+}
+
+impl fmt::Display for FileName<'_> {
+    fn fmt<W: fmt::Write>(&self, f: &mut fmt::Formatter<W>) -> fmt::Result {
+        let FileName { name, shard } = *self;
+        match shard {
+            Some(shard) => write!(f, "{name}.{shard}"),
+            None => f.write_str(name),
+        }
+    }
+}
+
 /// Prints how a job ended: `silt: `, the subject, and the words of the system. A line that cannot be written is left out.
 pub fn print_ended<E: Display + Drop, F: Display + Drop, W: Write>(
     subject: &Subject<'_>,
@@ -40,7 +71,7 @@ pub fn print_ended<E: Display + Drop, F: Display + Drop, W: Write>(
         Some(Why::NoJob) => print_words(subject.words, out),
         // The writer's error says enough of a plan that could not be written.
         Some(Why::NoPlan(_)) if !is_printed => {}
-        Some(why) => print_why(subject.file, why, out),
+        Some(why) => print_why(FileName::of(subject.file, &ended.found), why, out),
     }
     match &ended.found {
         Some(Found::Session(session)) => print_session(session, subject.lines, out),
@@ -50,7 +81,11 @@ pub fn print_ended<E: Display + Drop, F: Display + Drop, W: Write>(
     }
     for failure in [ended.failures.read, ended.failures.last] {
         if let Some(failure) = failure {
-            print_of(subject.file, &failure, out);
+            let file = FileName {
+                name: subject.file,
+                shard: ended.failures.shard,
+            };
+            print_of_name(file, &failure, out);
         }
     }
     if let Err(error) = ended.status {
@@ -60,6 +95,11 @@ pub fn print_ended<E: Display + Drop, F: Display + Drop, W: Write>(
 
 /// Prints this of a file.
 pub fn print_of<T: Display, W: Write>(file: &str, it: &T, out: &mut W) {
+    let _ = writeln!(out, "silt: {file}: {it}");
+}
+
+// Prints this of a file of this name.
+fn print_of_name<T: Display, W: Write>(file: FileName<'_>, it: &T, out: &mut W) {
     let _ = writeln!(out, "silt: {file}: {it}");
 }
 
@@ -83,12 +123,14 @@ fn print_words<W: Write>(words: &[String], out: &mut W) {
 }
 
 // Prints why a job was refused, if it is not for the words.
-fn print_why<E: Display, F: Display, W: Write>(file: &str, why: &Why<E, F>, out: &mut W) {
+fn print_why<E: Display, F: Display, W: Write>(file: FileName<'_>, why: &Why<E, F>, out: &mut W) {
     match why {
-        Why::NoDisk(error) => print_of(file, error, out),
+        Why::NoDisk(error) => print_of_name(file, error, out),
+        Why::NotDue(fault) => print_of_name(file, fault, out),
         Why::Refused(refusal, at) => print_refusal_of(file, refusal, *at, out),
         Why::Holds(holding) => print_holding(file, holding, out),
-        Why::IsStream(stream) => print_of(file, stream, out),
+        Why::IsStream(stream) => print_of_name(file, stream, out),
+        Why::NoRandom(StreamError { error }) => print_of(RANDOM_DEVICE, error, out),
         _ => {
             let _ = write_unfit(file, why, out);
         }
@@ -96,7 +138,7 @@ fn print_why<E: Display, F: Display, W: Write>(file: &str, why: &Why<E, F>, out:
 }
 
 // Writes why what was asked for cannot be.
-fn write_unfit<E, F, W: Write>(file: &str, why: &Why<E, F>, out: &mut W) -> io::Result<()> {
+fn write_unfit<E, F, W: Write>(file: FileName<'_>, why: &Why<E, F>, out: &mut W) -> io::Result<()> {
     match why {
         Why::FewRegions(hashes) => writeln!(
             out,
@@ -121,7 +163,7 @@ fn write_unfit<E, F, W: Write>(file: &str, why: &Why<E, F>, out: &mut W) -> io::
 // Prints the fault of a disk, the damage that begins at this offset, or that there is no store, if the refusal is one of
 // these.
 fn print_refusal_of<F: Display, W: Write>(
-    file: &str,
+    file: FileName<'_>,
     refusal: &Refusal<F>,
     at: Option<u64>,
     out: &mut W,
@@ -139,7 +181,7 @@ fn print_refusal_of<F: Display, W: Write>(
 
 // Writes that a part of a file is damaged, and where it begins, if that is known.
 fn write_damage<W: Write>(
-    file: &str,
+    file: FileName<'_>,
     place: Place,
     at: Option<u64>,
     out: &mut W,
@@ -149,7 +191,7 @@ fn write_damage<W: Write>(
 }
 
 // Prints that a file has data that stays.
-fn print_holding<W: Write>(file: &str, holding: &Holding, out: &mut W) {
+fn print_holding<W: Write>(file: FileName<'_>, holding: &Holding, out: &mut W) {
     let _ = match holding {
         Holding::Store(store) => writeln!(
             out,

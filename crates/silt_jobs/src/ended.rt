@@ -11,6 +11,7 @@ use crate::plan_cost::PlanCost;
 use crate::refusal::refuse;
 use crate::streams::{Stream, StreamError};
 use crate::tally::{KINDS, Refusals};
+use silt_shards::MarkFault;
 use silt_store_set::Refusal;
 use silt_wire::SessionEnd;
 use silt_words::{Numbers, PlanRequest};
@@ -39,6 +40,10 @@ pub enum Why<E, F> {
     NoPlan(PlanRequest),
     /// The listener on this socket failed.
     NotListening(SocketAddr, StreamError),
+    /// The system gave no random bytes to name a set.
+    NoRandom(StreamError),
+    /// The file is not the shard of a set that is due.
+    NotDue(MarkFault),
     /// The words name no job.
     NoJob,
 }
@@ -64,6 +69,8 @@ pub enum Found {
     Cost(PlanCost),
     /// How a session went.
     Session(Session),
+    /// Because of which shard of a set the job was refused.
+    Shard(u32),
 }
 
 /// How a job ended. `E` is the error of the source of disks, `F` the fault of its disks.
@@ -118,10 +125,10 @@ fn write_why<E, F: Drop, W: Write>(alloc: Global, why: &Why<E, F>, writer: &mut 
 {
     match why {
         Why::Refused(refusal, _) => refuse(alloc, refusal, writer),
-        Why::NoDisk(_) | Why::Holds(_) | Why::IsStream(_) => {
+        Why::NoDisk(_) | Why::Holds(_) | Why::IsStream(_) | Why::NoRandom(_) => {
             write_line(b"refused 5 Device\n", 1, writer)
         }
-        Why::FewRegions(_) | Why::ShortValues | Why::OutOfLimits(_) => {
+        Why::FewRegions(_) | Why::ShortValues | Why::OutOfLimits(_) | Why::NotDue(_) => {
             write_line(b"refused 2 BadGeometry\n", 1, writer)
         }
         Why::NoPlan(_) => write_line(b"no plan\n", 1, writer),

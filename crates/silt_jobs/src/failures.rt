@@ -9,6 +9,8 @@ use crate::failure::{Failure, Watched};
 pub struct Failures {
     pub read: Option<Failure>,
     pub last: Option<Failure>,
+    /// Of which shard of a set the disk is, if it is of one.
+    pub shard: Option<u32>,
 }
 
 impl Failures {
@@ -19,6 +21,7 @@ impl Failures {
         Failures {
             read: None,
             last: None,
+            shard: None,
         }
     }
 
@@ -29,6 +32,7 @@ impl Failures {
         Failures {
             read: disk.failed_read(),
             last: disk.last_failure(),
+            shard: None,
         }
     }
 }

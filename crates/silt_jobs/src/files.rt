@@ -1,7 +1,10 @@
 // The jobs on the disk of a path.
-ghost use Rattle.std.specs.Prelude.{◌≡◌};
+ghost use Rattle.std.specs.Prelude.{◌≡◌, ◌+◌, ◌≤◌, IfErr, IfOk, OnOk};
+ghost use Rattle.silt_disk.specs.Disk.{GaveAny, size};
+ghost use Rattle.silt_disk.specs.Layout.{device_size};
+ghost use Rattle.silt_shards.specs.Marks.{mark_at, mark_len};
 ghost use Rattle.silt_jobs.specs.Ended.{HasFailed};
-ghost use Rattle.silt_jobs.specs.Files.{ChecksFile, FormatsFile, FormatsFound, FormatsSized, RunsFile, TendsFile};
+ghost use Rattle.silt_jobs.specs.Files.{ChecksFile, FormatsFile, FormatsFound, FormatsSized, FormatsUnmarked, RunsFile, TendsFile, Unmarks, sized_by};
 ghost use Rattle.silt_jobs.specs.HeldData.{TellsStore};
 
 use crate::background_work::Tended;
@@ -15,19 +18,22 @@ use crate::streams::{KeepsError, KeepsLines, KeepsTally};
 use crate::urgent::{Tells, Urgent};
 use silt_device::DiskSource;
 use silt_disk::{Disk, Geometry};
-use silt_words::{Numbers, RunOptions};
+use silt_shards::{Marking, close_mark, read_mark};
+use silt_store_set::Refusal;
+use silt_words::{FormatOptions, Numbers, RunOptions};
 use std::alloc::Global;
 use std::io::{Read, Write};
 
-/// Where an empty store is to be made, of which numbers, and whether that overwrites anything.
+/// Where an empty store is to be made, of which numbers, whether that overwrites anything, and how the file is made.
 #[derive(Clone, Copy, Debug)]
 pub struct NewStore<'a> {
     pub file: &'a str,
     pub numbers: Numbers,
-    pub force: bool,
+    pub options: FormatOptions,
 }
 
-/// Opens or makes the disk of a path, sets its length to that of the geometry of these numbers, and formats it. Returns
+/// Opens or makes the disk of a path, sets its length to that of the geometry of these numbers, and formats it. Unless the
+/// disk is to be sparse, all its bytes are written before, so that there is room for each. Returns
 /// the disk, and how the job ended, with the status 0 after the length was written, and 1 if it is refused. Numbers out of
 /// their limits are refused before the source opens a disk. The data on the disk is read before its length changes. Without
 /// `force` only an empty disk or a store without keys is overwritten. A disk with a store that may have keys, or with other
@@ -39,8 +45,9 @@ pub fn format_file<S: DiskSource, W: Write, T: Tells>(
     writer: &mut W,
     people: &mut T,
 ) -> (Option<S::Disk>, Ended<S::Error, <S::Disk as Disk>::Fault>)
-    ensures { FormatsFile S.Disk.Disk (S.found source asked.now.file.now) (S.not_found source asked.now.file.now) S.resized S.not_resized
-        (T.told people.old people.new asked.now.file.now) (people.new ≡ people.old) asked.now.numbers asked.now.force
+    ensures { FormatsFile S.Disk.Disk (S.found source asked.now.file.now) (S.not_found source asked.now.file.now)
+        (sized_by asked.now.options.sparse S.resized S.filled) (sized_by asked.now.options.sparse S.not_resized S.not_filled)
+        (T.told people.old people.new asked.now.file.now) (people.new ≡ people.old) asked.now.numbers asked.now.options.force
         result.0 result.1 (W.contents writer.old) (W.contents writer.new) }
 {
     let Ok(geometry) = geometry_of(&asked.numbers) else {
@@ -50,7 +57,7 @@ pub fn format_file<S: DiskSource, W: Write, T: Tells>(
         );
     };
     match source.find(asked.file) {
-        Ok(disk) => format_found::<S, W, T>(alloc, disk, geometry, asked, writer, people),
+        Ok(disk) => format_found(alloc, source, disk, geometry, asked, writer, people),
         Err(error) => (None, Ended::refuse(alloc, Why::NoDisk(error), writer)),
     }
 }
@@ -58,19 +65,20 @@ pub fn format_file<S: DiskSource, W: Write, T: Tells>(
 // Formats a disk that was found, if its data may be overwritten.
 fn format_found<S: DiskSource, W: Write, T: Tells>(
     alloc: Global,
+    source: S,
     disk: S::Disk,
     geometry: Geometry,
     asked: &NewStore<'_>,
     writer: &mut W,
     people: &mut T,
 ) -> (Option<S::Disk>, Ended<S::Error, <S::Disk as Disk>::Fault>)
-    ensures { FormatsFound S.Disk.Disk S.resized S.not_resized (T.told people.old people.new asked.now.file.now) (people.new ≡ people.old)
-        geometry asked.now.force disk result.0 result.1 (W.contents writer.old) (W.contents writer.new) }
+    ensures { FormatsFound S.Disk.Disk (sized_by asked.now.options.sparse S.resized S.filled) (sized_by asked.now.options.sparse S.not_resized S.not_filled)
+        (T.told people.old people.new asked.now.file.now) (people.new ≡ people.old) geometry asked.now.options.force disk result.0 result.1 (W.contents writer.old) (W.contents writer.new) }
 {
-    match may_overwrite(alloc, &disk, asked.force) {
+    match may_overwrite(alloc, &disk, asked.options.force) {
         Ok(store) => {
             tell_store(asked.file, store, people);
-            format_sized::<S, W>(alloc, disk, geometry, writer)
+            format_sized(alloc, source, disk, geometry, asked, writer)
         }
         Err(why) => (Some(disk), Ended::refuse(alloc, why, writer)),
     }
@@ -86,21 +94,75 @@ fn tell_store<T: Tells>(file: &str, store: Option<HeldStore>, people: &mut T)
     }
 }
 
+// Gives a disk this length. Unless it is to be sparse, all its bytes are written.
+fn size_disk<S: DiskSource>(
+    alloc: Global,
+    source: S,
+    disk: S::Disk,
+    len: u64,
+    asked: &NewStore<'_>,
+) -> Result<S::Disk, S::Error>
+    ensures sized { IfOk result (sized_by asked.now.options.sparse S.resized S.filled disk len) }
+    ensures size { IfOk result (λ new. size (S.Disk.Disk.content new) ≡ len) }
+    ensures not_sized { IfErr result (sized_by asked.now.options.sparse S.not_resized S.not_filled disk len) }
+{
+    if asked.options.sparse {
+        S::resize(alloc, disk, len)
+    } else {
+        source.fill(asked.file, disk, len)
+    }
+}
+
 // Sets the length of a disk to that of a geometry, and formats it.
 fn format_sized<S: DiskSource, W: Write>(
     alloc: Global,
+    source: S,
     disk: S::Disk,
     geometry: Geometry,
+    asked: &NewStore<'_>,
     writer: &mut W,
 ) -> (Option<S::Disk>, Ended<S::Error, <S::Disk as Disk>::Fault>)
-    ensures { FormatsSized S.Disk.Disk S.resized S.not_resized geometry disk result.0 result.1 (W.contents writer.old) (W.contents writer.new) }
+    ensures { FormatsSized S.Disk.Disk (sized_by asked.now.options.sparse S.resized S.filled) (sized_by asked.now.options.sparse S.not_resized S.not_filled)
+        geometry disk result.0 result.1 (W.contents writer.old) (W.contents writer.new) }
 {
-    match S::resize(alloc, disk, geometry.size()) {
+    match size_disk(alloc, source, disk, geometry.size(), asked) {
         Ok(disk) => {
-            let (disk, ended) = format_on(alloc, disk, geometry, writer);
+            let (disk, ended) = format_unmarked(alloc, disk, geometry, writer);
             (Some(disk), ended)
         }
         Err(error) => (None, Ended::refuse(alloc, Why::NoDisk(error), writer)),
+    }
+}
+
+// Formats a disk of this length, which has no mark then.
+fn format_unmarked<E: Drop, D: Disk, W: Write>(
+    alloc: Global,
+    disk: D,
+    geometry: Geometry,
+    writer: &mut W,
+) -> (D, Ended<E, D::Fault>)
+    requires { size (D.content disk) ≡ device_size geometry }
+    ensures { FormatsUnmarked D.Disk geometry disk result.0 result.1 (W.contents writer.old) (W.contents writer.new) }
+{
+    let mut disk = disk;
+    match unmark(&mut disk) {
+        Ok(()) => format_on(alloc, disk, geometry, writer),
+        Err(fault) => {
+            let why = Why::Refused(Refusal::Device(fault), None);
+            (disk, Ended::refuse(alloc, why, writer))
+        }
+    }
+}
+
+// Closes the gate of a disk's mark, if it has one.
+fn unmark<D: Disk>(disk: &mut D) -> Result<(), D::Fault>
+    requires { mark_at + mark_len ≤ size (D.content disk.old) }
+    ensures unmarked { OnOk result (Unmarks D.Disk disk.old disk.new) }
+    ensures fault { IfErr result (GaveAny D.gave disk.new) }
+{
+    match read_mark(disk)? {
+        Marking::Unmarked => Ok(()),
+        Marking::Unknown | Marking::Marked(_) => close_mark(disk),
     }
 }
 

@@ -93,7 +93,7 @@ fn answer_reader<D: Tended, R: Read + KeepsError + KeepsLines, W: Write + KeepsE
 }
 
 // The error of the reader or the writer of a session that ended so, if that is why it broke off.
-fn session_error<R: KeepsError, W: KeepsError>(
+pub(crate) fn session_error<R: KeepsError, W: KeepsError>(
     end: SessionEnd,
     reader: &R,
     writer: &W,
@@ -131,7 +131,7 @@ fn answer_lines<D: Tended, R: Read, W: Write>(
 }
 
 // The status of a run by the end of its session, by its background work and, if the run is strict, by its replies.
-fn run_status(
+pub(crate) fn run_status(
     options: RunOptions,
     tally: &Tally,
     end: SessionEnd,
@@ -148,7 +148,7 @@ fn run_status(
 }
 
 // Writes behind the replies why background work was refused, if it was, unless the writer has failed. Returns the status.
-fn write_untended<W: Write>(
+pub(crate) fn write_untended<W: Write>(
     alloc: Global,
     end: SessionEnd,
     refusal: Option<Refusal<()>>,

@@ -30,6 +30,7 @@ mod progress;
 mod refusal;
 mod script;
 mod script_lines;
+mod sets;
 mod stop;
 mod streams;
 mod tally;
@@ -40,7 +41,7 @@ mod watched_file;
 pub use background_work::Tended;
 pub use damage::merge_damage_at;
 pub use dump::dump_file;
-pub use end_lines::{Subject, print_ended, print_of};
+pub use end_lines::{RANDOM_DEVICE, Subject, print_ended, print_of};
 pub use ended::{Ended, Found, Session, Why};
 pub use failure::{Failure, Watched};
 pub use failures::Failures;
@@ -54,6 +55,7 @@ pub use plan_cost::{PlanCost, Remedy};
 pub use progress::{AfterProgress, Progress};
 pub use refusal::refuse;
 pub use script::run_script;
+pub use sets::{NewSet, SetFiles, format_set, run_set};
 pub use streams::{
     KeepsError, KeepsLines, KeepsTally, Stream, StreamError, WatchedReader, WatchedWriter,
 };

@@ -1,20 +1,21 @@
-// The progress of the opening of a store, for people.
+// The progress of the opening of a store, or of the making of its file, for people.
 ghost use Rattle.std.specs.Prelude.{◌≡◌, ◌-◌, ◌%◌, nat_le};
 ghost use Rattle.std.specs.Io.KnownBytes.{Keeps, WriteAppends};
 ghost use Rattle.std.specs.Io.{WritesAtMost};
 
+use silt_device::Filling;
 use std::io::{self, Stderr, Write};
 use std::sync::atomic::{AtomicBool, AtomicU64, Ordering};
 
-/// The line is written again after reads of this cost: 16 MiB, or 65,536 heads of rows.
+/// The line is written again after reads of this cost, 16 MiB or 65,536 heads of rows, or after 16 MiB that were written.
 const STEP: u64 = 16_777_216;
 
 /// The least cost of a read.
 const LEAST: usize = 256;
 
-/// The progress of an opening, as one line of a terminal. The line is written again when much more was read, and ends
-/// before any other note or reply. A short opening shows none. The disk reports its reads here; no contract speaks of
-/// it.
+/// The progress of an opening, or of the making of a file, as one line of a terminal. The line is written again when much
+/// more was read or written, and ends before any other note or reply. What is short shows none. The disk reports its reads
+/// here, and a new file what was written of it; no contract speaks of it.
 #[derive(Drop)]
 pub struct Progress {
     terminal: Option<Stderr>,
@@ -22,6 +23,8 @@ pub struct Progress {
     cost: AtomicU64,
     // The length of the file in the last line.
     len: AtomicU64,
+    // Whether a file is being made.
+    is_filling: AtomicBool,
     is_shown: AtomicBool,
     is_over: AtomicBool,
 }
@@ -34,6 +37,7 @@ impl Progress {
             bytes: AtomicU64::new(0),
             cost: AtomicU64::new(0),
             len: AtomicU64::new(0),
+            is_filling: AtomicBool::new(false),
             is_shown: AtomicBool::new(false),
             is_over: AtomicBool::new(false),
         }
@@ -63,7 +67,7 @@ impl Progress {
     // Writes the line again.
     fn show(&self, bytes: u64, len: u64) {
         if let Some(mut terminal) = self.terminal {
-            let _ = write_line(&mut terminal, bytes, len);
+            let _ = write_line(&mut terminal, self.is_filling(), bytes, len);
             self.len.store(len, Ordering::SeqCst);
             self.is_shown.store(true, Ordering::SeqCst);
         }
@@ -77,8 +81,29 @@ impl Progress {
         self.is_over.store(true, Ordering::SeqCst);
         if let (Some(mut terminal), true) = (self.terminal, self.is_shown.load(Ordering::SeqCst)) {
             let bytes = self.bytes.load(Ordering::SeqCst);
-            let _ = write_end(&mut terminal, bytes, self.len.load(Ordering::SeqCst));
+            let len = self.len.load(Ordering::SeqCst);
+            let _ = write_end(&mut terminal, self.is_filling(), bytes, len);
         }
+    }
+
+    // Whether a file is being made.
+    fn is_filling(&self) -> bool {
+        self.is_filling.load(Ordering::SeqCst)
+    }
+}
+
+impl Filling for &Progress {
+    fn filled(&self, count: usize, len: u64) {
+        if !self.is_filling() {
+            // What was read of an old file before it is overwritten does not count.
+            self.end();
+            self.is_shown.store(false, Ordering::SeqCst);
+            self.is_over.store(false, Ordering::SeqCst);
+            self.bytes.store(0, Ordering::SeqCst);
+            self.cost.store(0, Ordering::SeqCst);
+            self.is_filling.store(true, Ordering::SeqCst);
+        }
+        self.add(count, len);
     }
 }
 
@@ -89,18 +114,24 @@ fn is_due(before: u64, cost: u64) -> bool
     STEP - before % STEP <= cost
 }
 
-// Writes how many bytes were read from a file of this length, over the old line.
-fn write_line<W: Write>(to: &mut W, bytes: u64, len: u64) -> io::Result<()> {
-    let (read, whole) = (bytes >> 20, len >> 20);
+// Writes how many bytes were read from a file of this length, or written of a new one, over the old line.
+fn write_line<W: Write>(to: &mut W, is_filling: bool, bytes: u64, len: u64) -> io::Result<()> {
+    let (done, whole) = (bytes >> 20, len >> 20);
+    if is_filling {
+        return write!(to, "\rsilt: new file: {done} MiB written of {whole} MiB");
+    }
     write!(
         to,
-        "\rsilt: opening: {read} MiB read of a file of {whole} MiB"
+        "\rsilt: opening: {done} MiB read of a file of {whole} MiB"
     )
 }
 
-// Writes how many bytes were read in all, and ends the line.
-fn write_end<W: Write>(to: &mut W, bytes: u64, len: u64) -> io::Result<()> {
-    write_line(to, bytes, len)?;
+// Writes how many bytes were read or written in all, and ends the line.
+fn write_end<W: Write>(to: &mut W, is_filling: bool, bytes: u64, len: u64) -> io::Result<()> {
+    write_line(to, is_filling, bytes, len)?;
+    if is_filling {
+        return to.write_all(b"\n");
+    }
     to.write_all(b", 100 percent of what it needs\n")
 }
 

@@ -25,6 +25,8 @@ pub enum Urgent {
     NoAddress,
     /// The server cannot listen on this socket.
     NoPort(SocketAddr, StreamError),
+    /// The system gives this socket no connection. The server tries again.
+    NotAccepting(SocketAddr, StreamError),
     /// A merge found this part damaged, which begins at this offset, if that is known. The text needs memory.
     Unmerged(Global, Place, Option<u64>),
 }
@@ -70,6 +72,10 @@ fn write_urgent<W: Write>(file: &str, urgent: &Urgent, out: &mut W) -> io::Resul
         Urgent::NoPort(address, StreamError { error }) => {
             writeln!(out, "silt: {address}: {error}")
         }
+        Urgent::NotAccepting(address, StreamError { error }) => writeln!(
+            out,
+            "silt: {address}: a connection is not accepted: {error}; the server tries again"
+        ),
         Urgent::Unmerged(alloc, place, at) => write_unmerged(*alloc, file, *place, *at, out),
     }
 }

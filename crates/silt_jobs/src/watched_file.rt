@@ -7,7 +7,7 @@ use crate::background_work::{Tended, tend_plain};
 use crate::failure::{Failure, Watched};
 use crate::progress::Progress;
 use crate::urgent::{Tells, Urgent};
-use silt_device::{DiskSource, FileDisk};
+use silt_device::{DiskSource, DiskSources, FileDisk};
 use silt_disk::Disk;
 use silt_event::{Event, Reply};
 use silt_store_set::{Core, Refusal, Served};
@@ -198,6 +198,16 @@ fn watched(disk: FileDisk, errors: Stderr, progress: &Progress) -> WatchedFile<'
     }
 }
 
+impl<'a, S: DiskSources<Disk = FileDisk>> DiskSources for WatchedFiles<'a, S> {
+    fn another(&self) -> Self {
+        WatchedFiles {
+            files: self.files.another(),
+            errors: self.errors,
+            progress: self.progress,
+        }
+    }
+}
+
 impl<'a, S: DiskSource<Disk = FileDisk>> DiskSource for WatchedFiles<'a, S> {
     type Disk = WatchedFile<'a>;
 
@@ -219,6 +229,10 @@ impl<'a, S: DiskSource<Disk = FileDisk>> DiskSource for WatchedFiles<'a, S> {
 
     ghost not_resized = { λ old len error. S.not_resized old.disk len error };
 
+    ghost filled = { λ old len new. S.filled old.disk len new.disk };
+
+    ghost not_filled = { λ old len error. S.not_filled old.disk len error };
+
     fn open(self, path: &str) -> Result<WatchedFile<'a>, S::Error> {
         match self.files.open(path) {
             Ok(disk) => Ok(watched(disk, self.errors, self.progress)),
@@ -233,9 +247,21 @@ impl<'a, S: DiskSource<Disk = FileDisk>> DiskSource for WatchedFiles<'a, S> {
         }
     }
 
-    fn find(self, path: &str) -> Result<WatchedFile<'a>, S::Error> {
+    fn find(&self, path: &str) -> Result<WatchedFile<'a>, S::Error> {
         match self.files.find(path) {
             Ok(disk) => Ok(watched(disk, self.errors, self.progress)),
+            Err(error) => Err(error),
+        }
+    }
+
+    fn fill(
+        self,
+        path: &str,
+        disk: WatchedFile<'a>,
+        len: u64,
+    ) -> Result<WatchedFile<'a>, S::Error> {
+        match self.files.fill(path, disk.disk, len) {
+            Ok(file) => Ok(watched(file, disk.errors, disk.progress)),
             Err(error) => Err(error),
         }
     }

@@ -7,7 +7,8 @@ use Rattle.clap.specs.declared.builder.Command.{Command}
 use Rattle.clap.specs.declared.builder.ArgAction.TheVariants.{Set, SetTrue}
 use Rattle.silt_wire.specs.Numbers.{number_of}
 use Rattle.silt_words.specs.Addresses.{is_address, is_loopback}
-use Rattle.silt_words.specs.Jobs.{Named, NamedAccess, NamedService, format, script, run, tend, check, dump, plan, serve}
+use Rattle.silt_words.specs.Jobs.{Named, NamedAccess, NamedService, format, format_set, script, run, run_set, tend, check, dump, plan, serve}
+use Rattle.silt_words.specs.declared.job.FormatOptions.{FormatOptions}
 use Rattle.silt_words.specs.declared.job.Numbers.{Numbers}
 use Rattle.silt_words.specs.declared.job.PlanRequest.{PlanRequest}
 use Rattle.silt_words.specs.declared.job.RunOptions.{RunOptions}
@@ -43,13 +44,13 @@ with_numbers app =
 
 -- the commands, each with its values and options
 abbrev pub format_app : App
-format_app = with_flag (with_numbers (with_file (new_app (codes "format")))) (codes "force")
+format_app = with_option (with_flag (with_flag (with_numbers (with_file (new_app (codes "format")))) (codes "force")) (codes "sparse")) (codes "shards")
 
 abbrev pub script_app : App
 script_app = with_numbers (new_app (codes "script"))
 
 abbrev pub run_app : App
-run_app = with_option (with_flag (with_flag (with_file (new_app (codes "run"))) (codes "tend")) (codes "strict")) (codes "merge-at")
+run_app = with_option (with_option (with_flag (with_flag (with_file (new_app (codes "run"))) (codes "tend")) (codes "strict")) (codes "merge-at")) (codes "shards")
 
 abbrev pub tend_app : App
 tend_app = with_option (with_file (new_app (codes "tend"))) (codes "merge-at")
@@ -126,9 +127,22 @@ abbrev pub is_within : Option ℕ → Bool
 is_within None = true
 is_within (Some number) = nat_le number 1024
 
+-- whether a number of shards, if one is given, is that of a set: 2 to 64
+abbrev pub makes_set : Option ℕ → Bool
+makes_set None = true
+makes_set (Some shards) = nat_le 2 shards && nat_le shards 64
+
+-- the number of shards of a set: none if the option is not given, and else 2 to 64
+abbrev pub shards_in : List Row → Option (Option ℕ)
+shards_in rows = option_and_then (λ given. if makes_set given then Some given else None) (option_in rows (codes "shards"))
+
 -- whether an option without a value is given
 abbrev pub flag_in : List Row → Text → Bool
 flag_in rows name = option_map_or (λ text. bytes_eq text (codes "true")) (first_of name rows) false
+
+-- how the file of a new store is to be made
+abbrev pub format_options_in : List Row → FormatOptions
+format_options_in rows = record { force = flag_in rows (codes "force"); sparse = flag_in rows (codes "sparse") }
 
 -- a number of hash stores is given, and no background work that would merge them
 abbrev pub merges_untended : Option ℕ → Bool → Bool
@@ -141,6 +155,25 @@ run_options_in rows =
     if merges_untended merge_at (flag_in rows (codes "tend")) then None
     else Some (record { tend = flag_in rows (codes "tend"); strict = flag_in rows (codes "strict"); merge_at = merge_at }))
     (count_in rows (codes "merge-at"))
+
+-- the formatting of a file, or of all files of a set
+abbrev pub format_or_set : List ℕ → Numbers → FormatOptions → Option ℕ → Named
+format_or_set file numbers options None = format file numbers options
+format_or_set file numbers options (Some shards) = format_set file shards numbers options
+
+-- the run of a file, or of a set
+abbrev pub run_or_set : List ℕ → RunOptions → Option ℕ → Named
+run_or_set file options None = run file options
+run_or_set file options (Some shards) = run_set file shards options
+
+-- the formatting that is asked for
+abbrev pub format_in : List Row → Option Named
+format_in rows =
+    option_and_then (λ file. option_and_then (λ numbers. option_map (format_or_set file numbers (format_options_in rows)) (shards_in rows)) (numbers_in rows)) (file_in rows)
+
+-- the run that is asked for
+abbrev pub run_in : List Row → Option Named
+run_in rows = option_and_then (λ file. option_and_then (λ options. option_map (run_or_set file options) (shards_in rows)) (run_options_in rows)) (file_in rows)
 
 -- the address that a text gives, if a text is given
 abbrev pub address_given : Option Text → Option (Option Text)
@@ -193,9 +226,9 @@ request_in rows =
 -- the job of the command that was met
 abbrev pub job_in : Text → List Row → Option Named
 job_in name rows =
-    if bytes_eq name (codes "format") then option_and_then (λ file. option_map (λ numbers. format file numbers (flag_in rows (codes "force"))) (numbers_in rows)) (file_in rows)
+    if bytes_eq name (codes "format") then format_in rows
     else if bytes_eq name (codes "script") then option_map script (numbers_in rows)
-    else if bytes_eq name (codes "run") then option_and_then (λ file. option_map (λ options. run file options) (run_options_in rows)) (file_in rows)
+    else if bytes_eq name (codes "run") then run_in rows
     else if bytes_eq name (codes "tend") then option_and_then (λ file. option_map (λ merge_at. tend file merge_at) (count_in rows (codes "merge-at"))) (file_in rows)
     else if bytes_eq name (codes "check") then option_map check (file_in rows)
     else if bytes_eq name (codes "dump") then option_map dump (file_in rows)

@@ -1,7 +1,8 @@
 -- The jobs that the words of a command line may name.
 use Rattle.std.specs.Prelude.{ℕ, Bool, List, Option, Some, None, option_map}
 use Rattle.silt_words.specs.declared.job.Job.{Job}
-use Rattle.silt_words.specs.declared.job.Job.TheVariants.{Format, Script, Run, Tend, Check, Dump, Plan, Serve}
+use Rattle.silt_words.specs.declared.job.Job.TheVariants.{Format, FormatSet, Script, Run, RunSet, Tend, Check, Dump, Plan, Serve}
+use Rattle.silt_words.specs.declared.job.FormatOptions.{FormatOptions}
 use Rattle.silt_words.specs.declared.job.Numbers.{Numbers}
 use Rattle.silt_words.specs.declared.job.PlanRequest.{PlanRequest}
 use Rattle.silt_words.specs.declared.job.RunOptions.{RunOptions}
@@ -52,9 +53,11 @@ named_service service = record {
 
 -- a job, by the text of its file's name
 pub data Named : Type 0 where
-  format : List ℕ → Numbers → Bool → Named
+  format : List ℕ → Numbers → FormatOptions → Named
+  format_set : List ℕ → ℕ → Numbers → FormatOptions → Named
   script : Numbers → Named
   run : List ℕ → RunOptions → Named
+  run_set : List ℕ → ℕ → RunOptions → Named
   tend : List ℕ → Option ℕ → Named
   check : List ℕ → Named
   dump : List ℕ → Named
@@ -63,20 +66,24 @@ pub data Named : Type 0 where
 
 -- what a job is by that text
 abbrev pub named : Job → Named
-named (Format file numbers force) = format file.now numbers force
+named (Format file numbers options) = format file.now numbers options
+named (FormatSet file shards numbers options) = format_set file.now shards numbers options
 named (Script numbers) = script numbers
 named (Run file options) = run file.now options
+named (RunSet file shards options) = run_set file.now shards options
 named (Tend file merge_at) = tend file.now merge_at
 named (Check file) = check file.now
 named (Dump file) = dump file.now
 named (Plan request) = plan request
 named (Serve service) = serve (named_service service)
 
--- the name of the file that a job works on, if it works on one
+-- the name of the file that a job works on, or of the files of its set, if it works on one
 abbrev pub job_file : Job → Option (List ℕ)
-job_file (Format file numbers force) = Some file.now
+job_file (Format file numbers options) = Some file.now
+job_file (FormatSet file shards numbers options) = Some file.now
 job_file (Script numbers) = None
 job_file (Run file options) = Some file.now
+job_file (RunSet file shards options) = Some file.now
 job_file (Tend file merge_at) = Some file.now
 job_file (Check file) = Some file.now
 job_file (Dump file) = Some file.now

@@ -70,7 +70,9 @@ fn format<'a>(alloc: Global) -> Result<Command<'a>, AllocError>
     let with_nl = add_value(with_cap, alloc, "NL");
     let with_nh = add_value(with_nl, alloc, "NH");
     let with_s = add_value(with_nh, alloc, "S");
-    add_flag(with_s, alloc, "force")
+    let with_force = add_flag(with_s, alloc, "force");
+    let with_sparse = add_flag(with_force, alloc, "sparse");
+    add_option(with_sparse, alloc, "shards")
 }
 
 fn script<'a>(alloc: Global) -> Result<Command<'a>, AllocError>
@@ -90,7 +92,8 @@ fn run<'a>(alloc: Global) -> Result<Command<'a>, AllocError>
     let with_file = add_value(Ok(Command::new(alloc, "run")), alloc, "FILE");
     let with_tend = add_flag(with_file, alloc, "tend");
     let with_strict = add_flag(with_tend, alloc, "strict");
-    add_option(with_strict, alloc, "merge-at")
+    let with_merge_at = add_option(with_strict, alloc, "merge-at");
+    add_option(with_merge_at, alloc, "shards")
 }
 
 fn tend<'a>(alloc: Global) -> Result<Command<'a>, AllocError>

@@ -41,6 +41,27 @@ const FORCE: Choice = Choice {
     line: "--force           formats a file that holds keys or other data; they are lost",
 };
 
+const SPARSE: Choice = Choice {
+    name: "--sparse",
+    operand: None,
+    needs: None,
+    line: "--sparse          gives the file its length alone, and does not write all of it",
+};
+
+const FORMAT_SHARDS: Choice = Choice {
+    name: "--shards",
+    operand: Some(NUMBER),
+    needs: None,
+    line: "--shards M        format: makes the files FILE.0, FILE.1 .., each one of M shards of a store, 2 to 64",
+};
+
+const RUN_SHARDS: Choice = Choice {
+    name: "--shards",
+    operand: Some(NUMBER),
+    needs: None,
+    line: "--shards M        run: replies with the M shards in the files FILE.0, FILE.1 .. as one store",
+};
+
 const TEND: Choice = Choice {
     name: "--tend",
     operand: None,
@@ -166,56 +187,56 @@ const STOPS: &str = "stop K FILL       crashes the life before it at its K-th wr
 const FORMS: [Form; 8] = [
     Form {
         job: "format",
-        line: "silt format FILE V B CAP NL NH S [--force]  makes an empty store in a file",
+        line: "silt format FILE V B CAP NL NH S [OPTION]...  makes an empty store in a file",
         values: &["FILE", "V", "B", "CAP", "NL", "NH", "S"],
-        options: &[FORCE],
+        options: &[FORCE, SPARSE, FORMAT_SHARDS],
         input: &[],
     },
     Form {
         job: "run",
-        line: "silt run FILE [OPTION]...                   replies to the lines of the standard input",
+        line: "silt run FILE [OPTION]...                     replies to the lines of the standard input",
         values: &["FILE"],
-        options: &[TEND, STRICT, RUN_MERGE_AT],
+        options: &[TEND, STRICT, RUN_MERGE_AT, RUN_SHARDS],
         input: &[EVENTS, STEPS],
     },
     Form {
         job: "tend",
-        line: "silt tend FILE [--merge-at K]               does all background work that is due",
+        line: "silt tend FILE [--merge-at K]                 does all background work that is due",
         values: &["FILE"],
         options: &[TEND_MERGE_AT],
         input: &[],
     },
     Form {
         job: "check",
-        line: "silt check FILE                             prints what the store in a file consists of",
+        line: "silt check FILE                               prints what the store in a file consists of",
         values: &["FILE"],
         options: &[],
         input: &[],
     },
     Form {
         job: "dump",
-        line: "silt dump FILE                              prints a line for each key that puts its value",
+        line: "silt dump FILE                                prints a line for each key that puts its value",
         values: &["FILE"],
         options: &[],
         input: &[],
     },
     Form {
         job: "plan",
-        line: "silt plan KEYS V [--memory BYTES]           prints the six numbers of a store for so many keys",
+        line: "silt plan KEYS V [--memory BYTES]             prints the six numbers of a store for so many keys",
         values: &["KEYS", "V"],
         options: &[MEMORY],
         input: &[],
     },
     Form {
         job: "script",
-        line: "silt script V B CAP NL NH S                 runs the lives of the standard input in memory",
+        line: "silt script V B CAP NL NH S                   runs the lives of the standard input in memory",
         values: &["V", "B", "CAP", "NL", "NH", "S"],
         options: &[],
         input: &[EVENTS, STEPS, STOPS],
     },
     Form {
         job: "serve",
-        line: "silt serve FILE PORT [OPTION]...            replies to the lines of a port's connections",
+        line: "silt serve FILE PORT [OPTION]...              replies to the lines of a port's connections",
         values: &["FILE", "PORT"],
         options: &[
             AUDIT,

@@ -12,6 +12,15 @@ pub struct Numbers {
     pub sorted_capacity: u32,
 }
 
+/// How the file of a new store is to be made.
+#[derive(Clone, Copy, Debug, PartialEq, Eq)]
+pub struct FormatOptions {
+    /// Whether a file with keys or other data may be overwritten.
+    pub force: bool,
+    /// Whether a new file gets its length alone. Else all of it is written.
+    pub sparse: bool,
+}
+
 /// How the lines of a run are to be answered.
 #[derive(Clone, Copy, Debug, PartialEq, Eq)]
 pub struct RunOptions {
@@ -72,17 +81,34 @@ pub struct PlanRequest {
 /// What the words ask for.
 #[derive(Clone, Copy, Debug)]
 pub enum Job<'a> {
-    /// Makes an empty store in a file. With `force` the file may hold anything.
+    /// Makes an empty store in a file.
     Format {
         file: &'a str,
         numbers: Numbers,
-        force: bool,
+        options: FormatOptions,
+    },
+    /// Makes an empty store in each file of a set, and makes it that shard of the set.
+    FormatSet {
+        /// The name of the set. A file has it, a dot, and the number of its shard.
+        file: &'a str,
+        /// The number of shards, 2 to 64.
+        shards: u32,
+        numbers: Numbers,
+        options: FormatOptions,
     },
     /// Replies to lines with a new store in memory.
     Script(Numbers),
     /// Replies to lines with the store in a file.
     Run {
         file: &'a str,
+        options: RunOptions,
+    },
+    /// Replies to lines with the stores in the files of a set.
+    RunSet {
+        /// The name of the set. A file has it, a dot, and the number of its shard.
+        file: &'a str,
+        /// The number of shards, 2 to 64.
+        shards: u32,
         options: RunOptions,
     },
     /// Does all background work of the store in a file.
@@ -109,13 +135,15 @@ impl<'a> Job<'a> {
     ghost use Rattle.std.specs.Prelude.{◌≡◌, option_map};
     ghost use Rattle.silt_words.specs.Jobs.{job_file};
 
-    /// The name of the file that it works on, if it works on one.
+    /// The name of the file that it works on, or of its set, if it works on one.
     pub fn file(&self) -> Option<&'a str>
         ensures { option_map (λ file. file.now) result ≡ job_file self.now }
     {
         match *self {
             Job::Format { file, .. } => Some(file),
+            Job::FormatSet { file, .. } => Some(file),
             Job::Run { file, .. } => Some(file),
+            Job::RunSet { file, .. } => Some(file),
             Job::Tend { file, .. } => Some(file),
             Job::Check { file } => Some(file),
             Job::Dump { file } => Some(file),

@@ -2,7 +2,7 @@
 
 use crate::address::{is_address, is_loopback};
 use crate::forms::{Form, Forms, MOST_OPTIONS, form_of};
-use crate::words::MOST_CLIENTS;
+use crate::words::{FEWEST_SHARDS, MOST_CLIENTS, MOST_SHARDS};
 use silt_wire::number_of;
 use std::fmt;
 
@@ -81,6 +81,9 @@ fn why_no_number(name: &str, word: &str) -> &'static str {
         }
         if name == "--merge-at" && number_of(word.as_bytes()) == Some(0) {
             return "a merge is of at least one hash store";
+        }
+        if name == "--shards" {
+            return "a set has 2 to 64 shards";
         }
         if name == "--clients" {
             return "a server has 1 to 1024 clients at once";
@@ -297,6 +300,8 @@ fn is_value(name: &str, word: &str) -> bool {
         "--clients" => {
             number_of(word.as_bytes()).is_some_and(|clients| 0 < clients && clients <= MOST_CLIENTS)
         }
+        "--shards" => number_of(word.as_bytes()).is_some_and(|shards| FEWEST_SHARDS <= shards
+            && shards <= MOST_SHARDS),
         "PORT" => number_of(word.as_bytes()).is_some_and(|port| port <= 65_535),
         "--merge-at" => number_of(word.as_bytes()).is_some_and(|stores| stores > 0),
         _ => number_of(word.as_bytes()).is_some(),

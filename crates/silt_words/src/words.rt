@@ -1,14 +1,17 @@
 // The words of the command line.
 ghost use Rattle.std.specs.Prelude.{◌≡◌, Some, None, MatchResult, codes, map, option_map, string_bytes};
 ghost use Rattle.clap.specs.Words.{first_of, found_of, rows_of, subcommand_rows_of};
-ghost use Rattle.silt_words.specs.Commands.{access_in, address_given, clients_in, count_in, file_in, flag_in, job_in, job_met, job_named};
+ghost use Rattle.silt_words.specs.Commands.{access_in, address_given, clients_in, count_in, file_in, flag_in, format_options_in, job_in, job_met, job_named};
+ghost use Rattle.silt_words.specs.Commands.{format_in, run_in, shards_in};
 ghost use Rattle.silt_words.specs.Commands.{limit_in, may_listen, number_in, numbers_in, option_in, port_in, request_in, run_options_in, service_in};
 ghost use Rattle.silt_words.specs.Jobs.{named, named_access, named_service};
 ghost use Rattle.silt_words.specs.declared.job.WordsError.TheVariants.{Usage};
 
 use crate::address::{is_address, is_loopback};
 use crate::command::command;
-use crate::job::{Access, Job, Numbers, PlanRequest, RunOptions, Service, WordsError};
+use crate::job::{
+    Access, FormatOptions, Job, Numbers, PlanRequest, RunOptions, Service, WordsError,
+};
 use clap::ArgMatches;
 use clap::error::ErrorKind;
 use silt_wire::number_of;
@@ -16,6 +19,11 @@ use std::alloc::Global;
 
 /// The most clients that a server has at once.
 pub const MOST_CLIENTS: u32 = 1024;
+
+/// The fewest and the most shards of a set.
+pub const FEWEST_SHARDS: u32 = 2;
+
+pub const MOST_SHARDS: u32 = 64;
 
 fn number_at(matches: &ArgMatches<'_>, name: &str) -> Option<u32>
     ensures { result ≡ number_in (rows_of (found_of matches.now)) name.now }
@@ -95,6 +103,16 @@ fn is_given(matches: &ArgMatches<'_>, name: &str) -> bool
     }
 }
 
+// How the file of a new store is to be made.
+fn format_options_of(matches: &ArgMatches<'_>) -> FormatOptions
+    ensures { result ≡ format_options_in (rows_of (found_of matches.now)) }
+{
+    FormatOptions {
+        force: is_given(matches, "force"),
+        sparse: is_given(matches, "sparse"),
+    }
+}
+
 // How the lines of a run are to be answered. Without background work no merge begins, so there is no number for it.
 fn run_options_of(matches: &ArgMatches<'_>) -> Option<RunOptions>
     ensures { result ≡ run_options_in (rows_of (found_of matches.now)) }
@@ -109,6 +127,54 @@ fn run_options_of(matches: &ArgMatches<'_>) -> Option<RunOptions>
         strict: is_given(matches, "strict"),
         merge_at,
     })
+}
+
+// The number of shards of a set, if it is given.
+fn shards_of(matches: &ArgMatches<'_>) -> Option<Option<u32>>
+    ensures { result ≡ shards_in (rows_of (found_of matches.now)) }
+{
+    match option_at(matches, "shards")? {
+        Some(shards) if shards < FEWEST_SHARDS || shards > MOST_SHARDS => None,
+        shards => Some(shards),
+    }
+}
+
+// The formatting of a file, or of all files of a set.
+fn format_of<'a>(matches: &ArgMatches<'a>) -> Option<Job<'a>>
+    ensures { option_map named result ≡ format_in (rows_of (found_of matches.now)) }
+{
+    let file = file_of(matches)?;
+    let numbers = numbers_of(matches)?;
+    let options = format_options_of(matches);
+    match shards_of(matches)? {
+        None => Some(Job::Format {
+            file,
+            numbers,
+            options,
+        }),
+        Some(shards) => Some(Job::FormatSet {
+            file,
+            shards,
+            numbers,
+            options,
+        }),
+    }
+}
+
+// The run of a file, or of a set.
+fn run_of<'a>(matches: &ArgMatches<'a>) -> Option<Job<'a>>
+    ensures { option_map named result ≡ run_in (rows_of (found_of matches.now)) }
+{
+    let file = file_of(matches)?;
+    let options = run_options_of(matches)?;
+    match shards_of(matches)? {
+        None => Some(Job::Run { file, options }),
+        Some(shards) => Some(Job::RunSet {
+            file,
+            shards,
+            options,
+        }),
+    }
 }
 
 // The text of an option, if it is given.
@@ -203,16 +269,9 @@ fn job_of<'a>(name: &str, matches: &ArgMatches<'a>) -> Option<Job<'a>>
     ensures { option_map named result ≡ job_in name.now (rows_of (found_of matches.now)) }
 {
     match name {
-        "format" => Some(Job::Format {
-            file: file_of(matches)?,
-            numbers: numbers_of(matches)?,
-            force: is_given(matches, "force"),
-        }),
+        "format" => format_of(matches),
         "script" => Some(Job::Script(numbers_of(matches)?)),
-        "run" => Some(Job::Run {
-            file: file_of(matches)?,
-            options: run_options_of(matches)?,
-        }),
+        "run" => run_of(matches),
         "tend" => Some(Job::Tend {
             file: file_of(matches)?,
             merge_at: merge_at_of(matches)?,

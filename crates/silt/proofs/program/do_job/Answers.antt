@@ -9,6 +9,12 @@ returns-in-Script g c = rw c.in-Script.is c.run_script.ensures
 pub returns-in-Run : goal.returns-in-Run
 returns-in-Run g c = rw c.in-Run.is (c.run_file.result.0, c.run_file.ensures)
 
+pub returns-in-FormatSet : goal.returns-in-FormatSet
+returns-in-FormatSet g c = rw c.in-FormatSet.is c.format_named.ensures
+
+pub returns-in-RunSet : goal.returns-in-RunSet
+returns-in-RunSet g c = rw c.in-RunSet.is c.run_set.ensures
+
 pub returns-in-Tend : goal.returns-in-Tend
 returns-in-Tend g c = rw c.in-Tend.is (c.tend_file.result.0, c.tend_file.ensures)
 

@@ -13,4 +13,6 @@ returns c =
     let stands5 = one_more _ _ (λ old arg new adds. adds.globals) _ _ c.add_value-with_nl.ensures stands4 in
     let stands6 = one_more _ _ (λ old arg new adds. adds.globals) _ _ c.add_value-with_nh.ensures stands5 in
     let stands7 = one_more _ _ (λ old arg new adds. adds.globals) _ _ c.add_value-with_s.ensures stands6 in
-    joins_as _ (λ old sub new adds. adds.shape) _ (one_more _ _ (λ old arg new adds. adds.globals) _ _ c.add_flag.ensures stands7)
+    let stands8 = one_more _ _ (λ old arg new adds. adds.globals) _ _ c.add_flag-with_force.ensures stands7 in
+    let stands9 = one_more _ _ (λ old arg new adds. adds.globals) _ _ c.add_flag-with_sparse.ensures stands8 in
+    joins_as _ (λ old sub new adds. adds.shape) _ (one_more _ _ (λ old arg new adds. adds.globals) _ _ c.add_option.ensures stands9)

@@ -9,4 +9,5 @@ returns c =
     let stands1 = one_more (new_app (codes "run")) _ (λ old arg new adds. adds.globals) (Ok c.new.result) _ c.add_value-with_file.ensures (c.new.ensures.app, c.new.ensures.local) in
     let stands2 = one_more _ _ (λ old arg new adds. adds.globals) _ _ c.add_flag-with_tend.ensures stands1 in
     let stands3 = one_more _ _ (λ old arg new adds. adds.globals) _ _ c.add_flag-with_strict.ensures stands2 in
-    joins_as _ (λ old sub new adds. adds.shape) _ (one_more _ _ (λ old arg new adds. adds.globals) _ _ c.add_option.ensures stands3)
+    let stands4 = one_more _ _ (λ old arg new adds. adds.globals) _ _ c.add_option-with_merge_at.ensures stands3 in
+    joins_as _ (λ old sub new adds. adds.shape) _ (one_more _ _ (λ old arg new adds. adds.globals) _ _ c.add_option.ensures stands4)

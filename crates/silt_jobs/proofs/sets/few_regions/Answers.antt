@@ -1,0 +1,11 @@
+use Rattle.std.proofs.Common.{◌∙◌, ap, sym}
+use Rattle.silt_disk.specs.Layout.{Shape}
+use Rattle.silt_jobs.proofs.sets.few_regions.Goals as goal
+
+pub returns-then-has_few_regions : goal.returns-then-has_few_regions
+returns-then-has_few_regions g c = (
+  c.in_ok-core.core.now,
+  sym c.in_ok-core.ensures.value,
+  c.hashes.ensures.value ∙ ap (λ (s : Shape). s.hashes) c.geometry.ensures,
+  c.has_few_regions.ensures.few c.if-has_few_regions.true,
+)
