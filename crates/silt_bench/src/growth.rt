@@ -7,7 +7,7 @@ use crate::figures::Thousandths;
 use crate::job::Plan;
 use crate::looks::{Looks, count_reads, looks_by_four, looks_by_one};
 use crate::read_counter::CountingDisk;
-use crate::store::{new_store, seated};
+use crate::store::{Blanks, new_store, seated};
 use crate::turns::Turns;
 use crate::writer::{Writer, fill, fill_all};
 use silt_desk::{Count, DeskId, Seat, Shared};
@@ -16,7 +16,6 @@ use silt_store_set::Core;
 use std::alloc::Global;
 use std::marker::Brand;
 use std::sync::atomic::AtomicU64;
-use std::sync::ledger::Blank;
 use std::sync::{RwLock, Wait};
 use std::thread::Threads;
 use std::time::Clock;
@@ -28,6 +27,13 @@ pub enum Detail {
     Reads,
     /// Also how many gets there are a second.
     Rates,
+}
+
+// What grows, and what is printed of it.
+#[derive(Clone, Copy)]
+struct Growth<'a> {
+    plan: &'a Plan,
+    detail: Detail,
 }
 
 /// Fills a store on a disk and merges all of it, and then prints what gets cost for each number of hash stores before
@@ -56,16 +62,8 @@ fn grow_new<D: Disk, R: Threads + Wait + Clock + Print + Sync>(
     plan: &Plan,
     detail: Detail,
 ) -> Result<(), BenchError> {
-    grow_seated::<_, Brand, _>(
-        rt,
-        alloc,
-        core,
-        reads,
-        plan,
-        detail,
-        Blank::new(3),
-        Blank::new(3),
-    )
+    let growth = Growth { plan, detail };
+    grow_seated::<_, Brand, _>(rt, alloc, core, reads, growth, Blanks::new())
 }
 
 /// Does the same with a small store in memory, and prints no rates.
@@ -93,19 +91,17 @@ fn grow_seated<D: Disk, N: DeskId + Send + Sync, R: Threads + Wait + Clock + Pri
     alloc: Global,
     core: Core<D>,
     reads: &AtomicU64,
-    plan: &Plan,
-    detail: Detail,
-    calls: Blank,
-    accepted: Blank,
+    growth: Growth<'_>,
+    blanks: Blanks,
 ) -> Result<(), BenchError>
-    requires calls { (calls.name ≡ N.calls_name) × (calls.parts ≡ N.seats) }
-    requires accepted { (accepted.name ≡ N.accepted_name) × (accepted.parts ≡ N.seats) }
+    requires calls { (blanks.calls.name ≡ N.calls_name) × (blanks.calls.parts ≡ N.seats) }
+    requires accepted { (blanks.accepted.name ≡ N.accepted_name) × (blanks.accepted.parts ≡ N.seats) }
     requires seats { N.seats ≡ 3 }
 {
-    let (desk, mut seats) = seated::<D, N>(alloc, core, calls, accepted)?;
+    let (desk, mut seats) = seated::<D, N>(alloc, core, blanks)?;
     let shared = RwLock::new(desk);
     match seats.pop() {
-        Some(seat) => grow_at(rt, alloc, &shared, seat, reads, plan, detail),
+        Some(seat) => grow_at(rt, alloc, &shared, seat, reads, growth),
         None => Err(BenchError::NoMemory),
     }
 }
@@ -117,18 +113,19 @@ fn grow_at<D: Disk, N: DeskId + Send + Sync, R: Threads + Wait + Clock + Print +
     shared: &Shared<D, Count, N>,
     seat: Seat<N>,
     reads: &AtomicU64,
-    plan: &Plan,
-    detail: Detail,
+    growth: Growth<'_>,
 ) -> Result<(), BenchError> {
-    let mut writer = Writer::new(seat, Background::Turns(Turns::new(plan.stores, plan.keys)));
-    fill_all(rt, alloc, shared, &mut writer, plan)?;
-    print_names(rt, detail)?;
+    let plan = growth.plan;
+    let background = Background::Turns(Turns::new(plan.stores, plan.keys));
+    let mut writer = Writer::new(alloc, seat, background, plan)?;
+    fill_all(rt, alloc, shared, &mut writer, plan.keys)?;
+    print_names(rt, growth.detail)?;
     let rows = u64::from(plan.geometry.log_capacity());
     let mut keys = plan.keys;
     for stores in 0..plan.stores {
-        print_state(rt, shared, reads, keys, plan.gets, stores, detail)?;
+        print_state(rt, shared, reads, growth, keys, stores)?;
         let end = keys.saturating_add(rows);
-        fill(rt, alloc, shared, &mut writer, plan, keys, end)?;
+        fill(rt, alloc, shared, &mut writer, keys, end)?;
         keys = end;
     }
     Ok(())
@@ -149,18 +146,18 @@ fn print_state<D: Disk, N: DeskId + Send + Sync, R: Threads + Wait + Clock + Pri
     rt: &R,
     shared: &Shared<D, Count, N>,
     reads: &AtomicU64,
+    growth: Growth<'_>,
     keys: u64,
-    gets: u64,
     stores: u64,
-    detail: Detail,
 ) -> Result<(), BenchError> {
+    let gets = growth.plan.gets;
     let present = Looks::present(keys, gets);
     let made = count_reads(rt, shared, reads, present)?;
     let made_absent = count_reads(rt, shared, reads, Looks::absent(keys, gets))?;
     let each = Thousandths::of(made, gets);
     let each_absent = Thousandths::of(made_absent, gets);
     print!(rt; "{stores}\t{each}\t{each_absent}")?;
-    match detail {
+    match growth.detail {
         Detail::Reads => println!(rt; "")?,
         Detail::Rates => {
             let one = looks_by_one(rt, shared, present)?;

@@ -8,7 +8,7 @@ use crate::job::{Plan, Work};
 use crate::looks::{Looks, count_reads, looks_by_four, looks_by_one};
 use crate::pauses::Lap;
 use crate::read_counter::CountingDisk;
-use crate::store::{new_store, open_store, seated};
+use crate::store::{Blanks, new_store, open_store, seated};
 use crate::turns::Turns;
 use crate::workers::fill_beside;
 use crate::writer::{Filled, Writer, fill_all};
@@ -19,7 +19,6 @@ use std::alloc::Global;
 use std::fs::Files;
 use std::marker::Brand;
 use std::sync::atomic::{AtomicU64, Ordering};
-use std::sync::ledger::Blank;
 use std::sync::{RwLock, Wait};
 use std::thread::Threads;
 use std::time::Clock;
@@ -64,15 +63,7 @@ pub fn measure<D: Disk, R: Threads + Wait + Clock + Print + Files + Sync>(
     work: Work,
 ) -> Result<(), BenchError> {
     let core = new_store(alloc, disk, plan.geometry)?;
-    let (disk, seen) = see::<_, Brand, _>(
-        rt,
-        alloc,
-        core,
-        plan,
-        work,
-        Blank::new(3),
-        Blank::new(3),
-    )?;
+    let (disk, seen) = see::<_, Brand, _>(rt, alloc, core, plan, work, Blanks::new())?;
     let (disk, open) = open_by_clock(rt, alloc, disk)?;
     let counted = count_opened(rt, alloc, disk, plan)?;
     print_numbers(rt, plan, &seen, open, &counted)
@@ -85,14 +76,13 @@ fn see<D: Disk, N: DeskId + Send + Sync, R: Threads + Wait + Clock + Files + Syn
     core: Core<D>,
     plan: &Plan,
     work: Work,
-    calls: Blank,
-    accepted: Blank,
+    blanks: Blanks,
 ) -> Result<(D, Seen), BenchError>
-    requires calls { (calls.name ≡ N.calls_name) × (calls.parts ≡ N.seats) }
-    requires accepted { (accepted.name ≡ N.accepted_name) × (accepted.parts ≡ N.seats) }
+    requires calls { (blanks.calls.name ≡ N.calls_name) × (blanks.calls.parts ≡ N.seats) }
+    requires accepted { (blanks.accepted.name ≡ N.accepted_name) × (blanks.accepted.parts ≡ N.seats) }
     requires seats { N.seats ≡ 3 }
 {
-    let (desk, seats) = seated::<D, N>(alloc, core, calls, accepted)?;
+    let (desk, seats) = seated::<D, N>(alloc, core, blanks)?;
     let shared = RwLock::new(desk);
     match fill_and_look(rt, alloc, &shared, seats, plan, work) {
         Ok(seen) => Ok((shared.into_inner().close(), seen)),
@@ -135,8 +125,9 @@ fn fill_by_turns<D: Disk, N: DeskId, R: Wait + Clock>(
     plan: &Plan,
 ) -> Result<Filled, BenchError> {
     let (seat, _second, _third) = seats;
-    let mut writer = Writer::new(seat, Background::Turns(Turns::new(plan.stores, plan.keys)));
-    fill_all(rt, alloc, shared, &mut writer, plan)
+    let background = Background::Turns(Turns::new(plan.stores, plan.keys));
+    let mut writer = Writer::new(alloc, seat, background, plan)?;
+    fill_all(rt, alloc, shared, &mut writer, plan.keys)
 }
 
 // Measures looks at a store that is filled.
@@ -182,7 +173,7 @@ fn count_opened<D: Disk, R: Wait>(
 ) -> Result<Counted, BenchError> {
     let reads = AtomicU64::new(0);
     let core = open_store(alloc, CountingDisk::new(disk, &reads))?;
-    count_seated::<_, Brand, _>(rt, alloc, core, &reads, plan, Blank::new(3), Blank::new(3))
+    count_seated::<_, Brand, _>(rt, alloc, core, &reads, plan, Blanks::new())
 }
 
 // Counts the reads of looks at a store that was just opened.
@@ -192,15 +183,14 @@ fn count_seated<D: Disk, N: DeskId, R: Wait>(
     core: Core<D>,
     reads: &AtomicU64,
     plan: &Plan,
-    calls: Blank,
-    accepted: Blank,
+    blanks: Blanks,
 ) -> Result<Counted, BenchError>
-    requires calls { (calls.name ≡ N.calls_name) × (calls.parts ≡ N.seats) }
-    requires accepted { (accepted.name ≡ N.accepted_name) × (accepted.parts ≡ N.seats) }
+    requires calls { (blanks.calls.name ≡ N.calls_name) × (blanks.calls.parts ≡ N.seats) }
+    requires accepted { (blanks.accepted.name ≡ N.accepted_name) × (blanks.accepted.parts ≡ N.seats) }
     requires seats { N.seats ≡ 3 }
 {
     let opening = reads.load(Ordering::SeqCst);
-    let (desk, _seats) = seated::<D, N>(alloc, core, calls, accepted)?;
+    let (desk, _seats) = seated::<D, N>(alloc, core, blanks)?;
     let shared = RwLock::new(desk);
     count_looks(rt, &shared, reads, plan, opening)
 }

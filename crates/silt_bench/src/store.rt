@@ -29,17 +29,36 @@ pub fn open_store<D: Disk>(alloc: Global, disk: D) -> Result<Core<D>, BenchError
     }
 }
 
+/// The blanks that become the ledgers of a desk with three seats.
+#[derive(Drop)]
+pub struct Blanks {
+    pub calls: Blank,
+    pub accepted: Blank,
+}
+
+impl Blanks {
+    /// Two new ones.
+    pub fn new() -> Blanks
+        ensures { (result.calls.parts ≡ 3) × (result.accepted.parts ≡ 3) }
+    {
+        Blanks {
+            calls: Blank::new(3),
+            accepted: Blank::new(3),
+        }
+    }
+}
+
 /// A store at a desk with three seats.
 pub fn seated<D: Disk, N: DeskId>(
     alloc: Global,
     core: Core<D>,
-    calls: Blank,
-    accepted: Blank,
+    blanks: Blanks,
 ) -> Result<(Desk<D, Count, N>, Vec<Seat<N>>), BenchError>
-    requires calls { (calls.name ≡ N.calls_name) × (calls.parts ≡ N.seats) }
-    requires accepted { (accepted.name ≡ N.accepted_name) × (accepted.parts ≡ N.seats) }
+    requires calls { (blanks.calls.name ≡ N.calls_name) × (blanks.calls.parts ≡ N.seats) }
+    requires accepted { (blanks.accepted.name ≡ N.accepted_name) × (blanks.accepted.parts ≡ N.seats) }
     requires seats { N.seats ≡ 3 }
 {
+    let Blanks { calls, accepted } = blanks;
     match Desk::new(alloc, core, Count::new(), 3, calls, accepted) {
         Ok(made) => Ok(made),
         Err(_) => Err(BenchError::NoMemory),

@@ -5,10 +5,9 @@ use crate::error::BenchError;
 use crate::job::Plan;
 use crate::turns::rows_before_freeze;
 use crate::writer::{Filled, Writer, fill_all};
-use crossbeam_channel::{Receiver, Sender};
 use silt_desk::{
-    Count, DeskId, Gate, Seat, Shared, ShiftGate, Spot, Turn, Wake, Wakes, converter, join_over,
-    merge_once,
+    Count, DeskId, Gate, Seat, Shared, ShiftGate, Spot, Turn, Wake, Wakes, WorkerEnds, converter,
+    join_over, merge_once,
 };
 use silt_device::Disk;
 use std::alloc::{AllocError, Global};
@@ -16,12 +15,11 @@ use std::sync::Wait;
 use std::thread::Threads;
 use std::time::Clock;
 
-/// The place of a worker: its seat, where it is woken, and how it wakes the other one.
+/// The place of a worker: its seat, and its ends of the channels.
 #[derive(Drop)]
 struct Worker<N: DeskId> {
     seat: Seat<N>,
-    wakes: Receiver<Wake>,
-    other: Sender<Wake>,
+    ends: WorkerEnds,
 }
 
 /// The threads that fill a store: a writer and two workers.
@@ -41,7 +39,7 @@ pub fn fill_beside<D: Disk, N: DeskId + Send + Sync, R: Threads + Wait + Clock +
     plan: &Plan,
 ) -> Result<Filled, BenchError> {
     match threads_of(alloc, seats, plan) {
-        Ok(threads) => run_threads(rt, alloc, shared, threads, plan),
+        Ok(threads) => run_threads(rt, alloc, shared, threads, plan.keys),
         Err(_) => Err(BenchError::NoMemory),
     }
 }
@@ -58,13 +56,17 @@ fn threads_of<N: DeskId>(
     let (to_nobody, _) = crossbeam_channel::unbounded(alloc)?;
     let converter = Worker {
         seat: seats.1,
-        wakes: converter_wakes,
-        other: to_nobody,
+        ends: WorkerEnds {
+            wakes: converter_wakes,
+            other: to_nobody,
+        },
     };
     let merger = Worker {
         seat: seats.2,
-        wakes: merger_wakes,
-        other: to_converter.clone()?,
+        ends: WorkerEnds {
+            wakes: merger_wakes,
+            other: to_converter.clone()?,
+        },
     };
     let wakes = Wakes {
         converter: to_converter,
@@ -73,8 +75,9 @@ fn threads_of<N: DeskId>(
     let rows = plan
         .stores
         .saturating_mul(rows_before_freeze(&plan.geometry));
+    let background = Background::Workers(Workers::new(wakes, rows));
     Ok(FillThreads {
-        writer: Writer::new(seats.0, Background::Workers(Workers::new(wakes, rows))),
+        writer: Writer::new(alloc, seats.0, background, plan)?,
         converter,
         merger,
     })
@@ -86,7 +89,7 @@ fn run_threads<D: Disk, N: DeskId + Send + Sync, R: Threads + Wait + Clock + Syn
     alloc: Global,
     shared: &Shared<D, Count, N>,
     threads: FillThreads<N>,
-    plan: &Plan,
+    keys: u64,
 ) -> Result<Filled, BenchError> {
     let FillThreads {
         writer,
@@ -97,13 +100,13 @@ fn run_threads<D: Disk, N: DeskId + Send + Sync, R: Threads + Wait + Clock + Syn
         rt,
         shared,
         move |desk: &Shared<D, Count, N>| both_workers(rt, alloc, desk, converter, merger),
-        move |desk: &Shared<D, Count, N>| write(rt, alloc, desk, writer, plan),
+        move |desk: &Shared<D, Count, N>| write(rt, alloc, desk, writer, keys),
     );
     filled
 }
 
 // Runs the two workers, each until it is stopped.
-fn both_workers<D: Disk, N: DeskId + Send + Sync, R: Threads + Wait + Sync>(
+fn both_workers<D: Disk, N: DeskId + Send + Sync, R: Threads + Wait + Clock + Sync>(
     rt: &R,
     alloc: Global,
     shared: &Shared<D, Count, N>,
@@ -115,18 +118,10 @@ fn both_workers<D: Disk, N: DeskId + Send + Sync, R: Threads + Wait + Sync>(
         rt,
         shared,
         move |desk: &Shared<D, Count, N>| {
-            converter(rt, alloc, desk, first.seat, gate, first.wakes, first.other)
+            converter(rt, alloc, desk, first.seat, gate, first.ends)
         },
         move |desk: &Shared<D, Count, N>| {
-            merge_when_woken(
-                rt,
-                alloc,
-                desk,
-                second.seat,
-                gate,
-                second.wakes,
-                second.other,
-            )
+            merge_when_woken(rt, alloc, desk, second.seat, gate, second.ends)
         },
     )
 }
@@ -139,15 +134,14 @@ fn merge_when_woken<D: Disk, N: DeskId, G: Gate, R: Wait>(
     shared: &Shared<D, Count, N>,
     mut seat: Seat<N>,
     gate: &G,
-    wakes: Receiver<Wake>,
-    converter: Sender<Wake>,
+    ends: WorkerEnds,
 ) -> Seat<N> {
     for _ in rt.forever() {
-        if !matches!(wakes.recv(rt), Ok(Wake::Go)) {
+        if !matches!(ends.wakes.recv(rt), Ok(Wake::Go)) {
             return seat;
         }
         merge_to_end(rt, alloc, shared, &mut seat, gate);
-        let _ = converter.send(rt, Wake::Go); // it may have ended
+        let _ = ends.other.send(rt, Wake::Go); // it may have ended
     }
     unreachable!()
 }
@@ -175,9 +169,9 @@ fn write<D: Disk, N: DeskId, R: Wait + Clock>(
     alloc: Global,
     shared: &Shared<D, Count, N>,
     mut writer: Writer<N>,
-    plan: &Plan,
+    keys: u64,
 ) -> Result<Filled, BenchError> {
-    let filled = fill_all(rt, alloc, shared, &mut writer, plan);
+    let filled = fill_all(rt, alloc, shared, &mut writer, keys);
     writer.background.stop(rt);
     filled
 }

@@ -10,7 +10,8 @@ use silt_desk::{Count, Desk, DeskId, Seat, Shared};
 use silt_device::Disk;
 use silt_event::Refusal;
 use silt_frame::Key;
-use std::alloc::Global;
+use std::alloc::{AllocError, Global};
+use std::ops::Range;
 use std::sync::Wait;
 use std::thread;
 use std::time::{Clock, Duration};
@@ -38,17 +39,29 @@ pub struct Writer<N: DeskId> {
     pub background: Background,
     pub puts: Pauses,
     pub flushes: Pauses,
+    // How many puts are flushed together.
+    group: u64,
+    // The value of the next put.
+    value: Vec<u8>,
 }
 
 impl<N: DeskId> Writer<N> {
-    /// A writer that has put nothing yet.
-    pub fn new(seat: Seat<N>, background: Background) -> Writer<N> {
-        Writer {
+    /// A writer of the plan's values that has put nothing yet.
+    pub fn new(
+        alloc: Global,
+        seat: Seat<N>,
+        background: Background,
+        plan: &Plan,
+    ) -> Result<Writer<N>, AllocError> {
+        let value = vec![in alloc; 0u8; plan.geometry.value_len() as usize]?;
+        Ok(Writer {
             seat,
             background,
             puts: Pauses::new(),
             flushes: Pauses::new(),
-        }
+            group: plan.group.max(1),
+            value,
+        })
     }
 
     // The times of a fill that took this many nanoseconds in all.
@@ -63,16 +76,16 @@ impl<N: DeskId> Writer<N> {
     }
 }
 
-/// Puts the plan's keys, and finishes all background work.
+/// Puts so many keys, and finishes all background work.
 pub fn fill_all<D: Disk, N: DeskId, R: Wait + Clock>(
     rt: &R,
     alloc: Global,
     shared: &Shared<D, Count, N>,
     writer: &mut Writer<N>,
-    plan: &Plan,
+    keys: u64,
 ) -> Result<Filled, BenchError> {
     let mut lap = Lap::new(rt)?;
-    fill(rt, alloc, shared, writer, plan, 0, plan.keys)?;
+    fill(rt, alloc, shared, writer, 0, keys)?;
     writer
         .background
         .finish(rt, alloc, shared, &mut writer.seat)?;
@@ -87,40 +100,13 @@ pub fn fill<D: Disk, N: DeskId, R: Wait + Clock>(
     alloc: Global,
     shared: &Shared<D, Count, N>,
     writer: &mut Writer<N>,
-    plan: &Plan,
     first: u64,
     end: u64,
-) -> Result<(), BenchError> {
-    let mut value = vec![in alloc; 0u8; plan.geometry.value_len() as usize]?;
-    let filled = fill_groups(
-        rt,
-        alloc,
-        shared,
-        writer,
-        plan,
-        first,
-        end,
-        value.as_mut_slice(),
-    );
-    drop(value);
-    filled
-}
-
-// The same, with room for a value.
-fn fill_groups<D: Disk, N: DeskId, R: Wait + Clock>(
-    rt: &R,
-    alloc: Global,
-    shared: &Shared<D, Count, N>,
-    writer: &mut Writer<N>,
-    plan: &Plan,
-    first: u64,
-    end: u64,
-    value: &mut [u8],
 ) -> Result<(), BenchError> {
     let mut lap = Lap::new(rt)?;
-    for at in (first..end).step_by((plan.group as usize).max(1)) {
-        let next = at.saturating_add(plan.group.max(1)).min(end);
-        put_group(rt, alloc, shared, writer, at, next, value, &mut lap)?;
+    for at in (first..end).step_by((writer.group as usize).max(1)) {
+        let next = at.saturating_add(writer.group).min(end);
+        put_group(rt, alloc, shared, writer, at..next, &mut lap)?;
         flush_once(&mut *shared.write(rt), alloc, &mut writer.seat)?;
         writer.flushes.note(lap.turn(rt)?);
         writer.background.go_on(rt, alloc, shared, &mut writer.seat, next.saturating_sub(at))?;
@@ -128,36 +114,39 @@ fn fill_groups<D: Disk, N: DeskId, R: Wait + Clock>(
     Ok(())
 }
 
-// Puts the keys of the numbers from `first` up to `end`.
+// Puts the keys of these numbers.
 fn put_group<D: Disk, N: DeskId, R: Wait + Clock>(
     rt: &R,
     alloc: Global,
     shared: &Shared<D, Count, N>,
     writer: &mut Writer<N>,
-    first: u64,
-    end: u64,
-    value: &mut [u8],
+    numbers: Range<u64>,
     lap: &mut Lap,
 ) -> Result<(), BenchError> {
-    for number in first..end {
-        value.fill(byte_of(number));
-        put_patiently(rt, alloc, shared, writer, &key_of(number), value)?;
+    for number in numbers {
+        writer.value.fill(byte_of(number));
+        put_patiently(rt, alloc, shared, writer, &key_of(number))?;
         writer.puts.note(lap.turn(rt)?);
     }
     Ok(())
 }
 
-// Puts a value. While the store has no room for it, waits for the background work.
+// Puts the writer's value. While the store has no room for it, waits for the background work.
 fn put_patiently<D: Disk, N: DeskId, R: Wait + Clock>(
     rt: &R,
     alloc: Global,
     shared: &Shared<D, Count, N>,
     writer: &mut Writer<N>,
     key: &Key,
-    value: &[u8],
 ) -> Result<(), BenchError> {
     for _try in 0..MOST_TRIES {
-        if put_once(&mut *shared.write(rt), alloc, &mut writer.seat, key, value)? {
+        if put_once(
+            &mut *shared.write(rt),
+            alloc,
+            &mut writer.seat,
+            key,
+            &writer.value,
+        )? {
             return Ok(());
         }
         writer

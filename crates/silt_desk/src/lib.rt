@@ -44,5 +44,6 @@ pub use threads::join_over;
 pub use trace::{NotPrepared, Room, Trace};
 pub use wakes::{Wakes, wake};
 pub use worker::{
-    Due, Gate, Hears, OpenGate, Spot, Turn, Wake, convert_once, converter, merge_once, merger,
+    Due, Gate, Hears, OpenGate, Spot, Turn, Wake, WorkerEnds, convert_once, converter, merge_once,
+    merger,
 };

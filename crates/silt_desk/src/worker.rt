@@ -21,6 +21,10 @@ use silt_event::{Place, Progress, Refusal};
 use silt_store_set::LentBytes;
 use std::alloc::Global;
 use std::sync::Wait;
+use std::time::{Clock, Duration};
+
+/// How many seconds a worker waits before it tries a refused step again.
+const PAUSE: u64 = 1;
 
 /// A message to a worker.
 #[derive(Clone, Copy, Debug, PartialEq, Eq)]
@@ -91,11 +95,13 @@ pub enum Turn {
     WakeOther,
     /// There is nothing to do before a message.
     Wait,
-    /// The same, because this part of the device is damaged.
+    /// The step is refused for now, so it is tried again after a pause.
+    Pause,
+    /// There is nothing to do before a message, because this part of the device is damaged.
     Damaged(Place),
 }
 
-// What the result of a step asks of a worker. After a refused step it waits too.
+// What the result of a step asks of a worker. A failed store and a damaged part refuse each later step too.
 fn turn_after<F: Drop>(answer: Result<Progress, Refusal<F>>) -> Turn
     ensures { result ≡ turn_of answer }
 {
@@ -104,7 +110,8 @@ fn turn_after<F: Drop>(answer: Result<Progress, Refusal<F>>) -> Turn
         Ok(Progress::Finished) => Turn::WakeOther,
         Ok(Progress::Idle | Progress::Waiting) => Turn::Wait,
         Err(Refusal::Damaged(place)) => Turn::Damaged(place),
-        Err(_) => Turn::Wait,
+        Err(Refusal::Failed) => Turn::Wait,
+        Err(_) => Turn::Pause,
     }
 }
 
@@ -180,6 +187,11 @@ pub trait Hears: Drop {
     /// Waits for a message, and returns whether there may be work. It returns false if the worker is to end.
     fn goes_on<R: Wait>(&self, rt: &R) -> bool
         ensures { result ≡ false → has_ended self.now };
+
+    /// Waits for a message, but no longer than `PAUSE` seconds, and returns whether to try again. It returns false if the worker is
+    /// to end.
+    fn tries_again<R: Wait + Clock>(&self, rt: &R) -> bool
+        ensures { result ≡ false → has_ended self.now };
 }
 
 impl Hears for Receiver<Wake> {
@@ -188,56 +200,72 @@ impl Hears for Receiver<Wake> {
     fn goes_on<R: Wait>(&self, rt: &R) -> bool {
         matches!(self.recv(rt), Ok(Wake::Go))
     }
+
+    fn tries_again<R: Wait + Clock>(&self, rt: &R) -> bool {
+        match self.recv_timeout(rt, Duration::from_secs(PAUSE)) {
+            Ok(message) => message == Wake::Go,
+            Err(error) => error.is_timeout(),
+        }
+    }
+}
+
+/// A worker's ends of the channels: where it is woken, and how it wakes the other one.
+#[derive(Drop)]
+pub struct WorkerEnds<W: Drop = Receiver<Wake>> {
+    pub wakes: W,
+    pub other: Sender<Wake>,
 }
 
 // What a worker does between two steps, with no lock held: it wakes the other one, or waits for a message. It returns
 // false if it is to end.
-fn rest<G: Gate, W: Hears, R: Wait>(
+fn rest<G: Gate, W: Hears, R: Wait + Clock>(
     rt: &R,
     turn: Turn,
     spot: Spot,
     gate: &G,
-    wakes: &W,
-    other: &Sender<Wake>,
+    ends: &WorkerEnds<W>,
 ) -> bool
-    ensures { result ≡ false → W.has_ended wakes.now }
+    ensures { result ≡ false → W.has_ended ends.now.wakes }
 {
     match turn {
         Turn::GoOn => true,
         Turn::WakeOther => {
-            wake(rt, other);
+            wake(rt, &ends.other);
             gate.finished(spot);
             true
         }
         Turn::Wait => {
             gate.rest(spot);
-            wakes.goes_on(rt)
+            ends.wakes.goes_on(rt)
+        }
+        Turn::Pause => {
+            gate.rest(spot);
+            ends.wakes.tries_again(rt)
         }
         Turn::Damaged(place) => {
             gate.damaged(spot, place);
             gate.rest(spot);
-            wakes.goes_on(rt)
+            ends.wakes.goes_on(rt)
         }
     }
 }
 
 /// Does steps of conversion, each under a guard of its own, until it hears that it is to end. Gives its seat back.
-pub fn converter<D: Disk, T: Trace, N: DeskId, G: Gate, W: Hears, R: Wait>(
+pub fn converter<D: Disk, T: Trace, N: DeskId, G: Gate, W: Hears, R: Wait + Clock>(
     rt: &R,
     alloc: Global,
     shared: &Shared<D, T, N>,
     mut seat: Seat<N>,
     gate: &G,
-    wakes: W,
-    other: Sender<Wake>,
+    ends: WorkerEnds<W>,
 ) -> Seat<N>
     ensures number { result.number ≡ seat.number }
-    ensures ended { W.has_ended wakes }
+    ensures ended { W.has_ended ends.wakes }
 {
     for _ in rt.forever() {
         gate.pass(Spot::Converter);
         let turn = convert_once(&mut *shared.write(rt), alloc, &mut seat);
-        if !rest(rt, turn, Spot::Converter, gate, &wakes, &other) {
+        if !rest(rt, turn, Spot::Converter, gate, &ends) {
             return seat;
         }
     }
@@ -246,17 +274,16 @@ pub fn converter<D: Disk, T: Trace, N: DeskId, G: Gate, W: Hears, R: Wait>(
 
 /// Does steps of merging, each under a guard of its own, until it hears that it is to end. Gives its seat back. Between two
 /// steps, with no guard, it hashes what the merge has read. Without memory for that, the steps hash it.
-pub fn merger<D: Disk, T: Trace, N: DeskId, G: Gate, W: Hears, R: Wait>(
+pub fn merger<D: Disk, T: Trace, N: DeskId, G: Gate, W: Hears, R: Wait + Clock>(
     rt: &R,
     alloc: Global,
     shared: &Shared<D, T, N>,
     mut seat: Seat<N>,
     gate: &G,
-    wakes: W,
-    other: Sender<Wake>,
+    ends: WorkerEnds<W>,
 ) -> Seat<N>
     ensures number { result.number ≡ seat.number }
-    ensures ended { W.has_ended wakes }
+    ensures ended { W.has_ended ends.wakes }
 {
     let mut lent = LentBytes::new(alloc).ok();
     for _ in rt.forever() {
@@ -264,7 +291,7 @@ pub fn merger<D: Disk, T: Trace, N: DeskId, G: Gate, W: Hears, R: Wait>(
         let least = gate.merges_at();
         let turn = merge_ahead(&mut *shared.write(rt), alloc, &mut seat, least, &mut lent);
         hash_lent(&mut lent);
-        if !rest(rt, turn, Spot::Merger, gate, &wakes, &other) {
+        if !rest(rt, turn, Spot::Merger, gate, &ends) {
             return seat;
         }
     }

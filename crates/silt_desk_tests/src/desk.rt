@@ -14,7 +14,9 @@ mod steps;
 mod wakes;
 
 use crossbeam_channel::{Receiver, Sender};
-use silt_desk::{Desk, DeskId, Gate, Kept, Seat, Shared, Trace, Wake, converter, merger, settle};
+use silt_desk::{
+    Desk, DeskId, Gate, Kept, Seat, Shared, Trace, Wake, WorkerEnds, converter, merger, settle,
+};
 use silt_device::Disk;
 use silt_event::{Progress, Refusal};
 use silt_fixtures::{key, two_bytes};
@@ -25,6 +27,7 @@ use std::sync::ledger::Blank;
 use std::sync::{RwLock, Wait};
 use std::thread;
 use std::thread::Threads;
+use std::time::Clock;
 
 // The number of a refusal that lacks memory, of one by a failed store, and of one by a full history.
 const NO_MEMORY: u32 = 6;
@@ -269,7 +272,7 @@ enum Worker {
 }
 
 // Runs a worker that stops at its first message. Returns its seat, and its message to the other one.
-fn works_over<D: Disk, N: DeskId, G: Gate, R: Wait>(
+fn works_over<D: Disk, N: DeskId, G: Gate, R: Wait + Clock>(
     rt: &R,
     alloc: Global,
     shared: &Shared<D, Kept, N>,
@@ -285,16 +288,17 @@ fn works_over<D: Disk, N: DeskId, G: Gate, R: Wait>(
         others,
     } = channels;
     let _ = wake.send(rt, Wake::Stop);
+    let ends = WorkerEnds { wakes, other };
     let seat = match worker {
-        Worker::Converter => converter(rt, alloc, shared, seat, gate, wakes, other),
-        Worker::Merger => merger(rt, alloc, shared, seat, gate, wakes, other),
+        Worker::Converter => converter(rt, alloc, shared, seat, gate, ends),
+        Worker::Merger => merger(rt, alloc, shared, seat, gate, ends),
     };
     (seat, others.try_recv(rt).ok())
 }
 
 // Runs a worker with the last of these seats until there is nothing for it to do. Returns its
 // message to the other worker. None if there is no memory or no seat.
-fn works<D: Disk, N: DeskId, G: Gate, R: Wait>(
+fn works<D: Disk, N: DeskId, G: Gate, R: Wait + Clock>(
     rt: &R,
     alloc: Global,
     shared: &Shared<D, Kept, N>,

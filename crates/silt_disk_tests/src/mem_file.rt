@@ -75,13 +75,14 @@ impl RandomAccessFile for MemFile {
 
     ghost not_written_at = { λ _ _ _ _. ⊤ };
 
-    fn resize(self, len: u64) -> io::Result<MemFile> {
+    fn resize(&mut self, len: u64) -> io::Result<()> {
         if len >= 1 << 63 {
             return Err(io::Error::new(ErrorKind::InvalidInput, "the length"));
         }
         let mut bytes = self.disk.shown().to_vec(self.alloc)?;
         bytes.resize(len as usize, 0)?;
-        Ok(MemFile::new(self.alloc, &bytes)?)
+        self.disk = MemDisk::with_bytes(self.alloc, &bytes)?;
+        Ok(())
     }
 
     fn measure(&self) -> io::Result<Metadata> {
@@ -140,6 +141,8 @@ impl FileSystem for MemFolder {
 
     ghost made = { λ _ _ _. ⊤ };
 
+    ghost removed = { λ _ _. ⊤ };
+
     ghost opened_to_read = { λ _ _ _. ⊤ };
 
     ghost locked = { λ _ _ _. ⊤ };
@@ -154,6 +157,14 @@ impl FileSystem for MemFolder {
 
     fn make_file_at(&self, path: &str) -> io::Result<MemFile> {
         self.open_file_at(path)
+    }
+
+    fn make_new_file_at(&self, path: &str) -> io::Result<MemFile> {
+        self.open_file_at(path)
+    }
+
+    fn remove_file_at(&self, _path: &str) -> io::Result<()> {
+        Ok(())
     }
 
     fn open_file_to_read_at(&self, path: &str) -> io::Result<MemFile> {

@@ -159,7 +159,7 @@ struct OnFile<'a> {
 // The job on a file that a command line names.
 fn on_file(job: Result<Job<'_>, WordsError>) -> Option<OnFile<'_>> {
     let (letter, file, is_given) = match job {
-        Ok(Job::Format { file, force, .. }) => ('f', file, force),
+        Ok(Job::Format { file, options, .. }) => ('f', file, options.force),
         Ok(Job::Run { file, options }) => ('r', file, options.tend),
         Ok(Job::Tend { file, .. }) => ('t', file, false),
         Ok(Job::Check { file }) => ('c', file, false),
@@ -198,6 +198,25 @@ fn reads_the_options_without_a_number(rt: HostRuntime) -> Result<(), Fail> {
     has_flag(&rt, "silt run --tend disk", 'r', true)?;
     has_flag(&rt, "silt tend disk", 't', false)?;
     has_flag(&rt, "silt check disk", 'c', false)
+}
+
+// Whether a command line names a formatting that gives a file its length alone.
+fn is_sparse<S: AllocGlobal + Abort>(rt: &S, call: &str, sparse: bool) -> Result<(), Fail> {
+    let words = words(rt, call)?;
+    let options = match read_words(rt.alloc(), words.as_slice()) {
+        Ok(Job::Format { options, .. }) => Some(options),
+        _ => None,
+    };
+    assert_eq!(rt; options.map(|options| options.sparse), Some(sparse));
+    Ok(())
+}
+
+#[test]
+fn reads_whether_a_file_is_sparse(rt: HostRuntime) -> Result<(), Fail> {
+    is_sparse(&rt, "silt format disk 2 2 4 2 2 8", false)?;
+    is_sparse(&rt, "silt format disk 2 2 4 2 2 8 --force", false)?;
+    is_sparse(&rt, "silt format disk 2 2 4 2 2 8 --sparse", true)?;
+    is_sparse(&rt, "silt format --sparse disk 2 2 4 2 2 8 --force", true)
 }
 
 fn runs_with<S: AllocGlobal + Abort>(rt: &S, call: &str, expected: RunOptions) -> Result<(), Fail> {
@@ -331,7 +350,9 @@ fn refuses_options_that_are_not_the_jobs(rt: HostRuntime) -> Result<(), Fail> {
         "silt format disk 2 2 4 2 2 8 --force=true",
         "silt format disk 2 2 4 2 2 8 --force=",
         "silt format disk 2 2 4 2 2 8 -- --force",
+        "silt format disk 2 2 4 2 2 8 --sparse --sparse",
         "silt format disk 2 2 4 2 2 8 --tend",
+        "silt run disk --sparse",
         "silt --force format disk 2 2 4 2 2 8",
         "silt run disk --force",
         "silt run disk --tend --tend",

@@ -16,6 +16,11 @@ abbrev pub busy_text : Protocol → ℕ → List ℕ
 busy_text Resp clients = codes "-ERR max number of clients reached\r\n"
 busy_text protocol clients = codes "busy: " ++ (decimal clients ++ codes " connections are served already\n")
 
+-- why a connection with a place is closed: the system gives no thread for it
+abbrev pub no_thread_text : Protocol → List ℕ
+no_thread_text Resp = codes "-ERR max number of clients reached\r\n"
+no_thread_text protocol = codes "busy: the system gives no thread\n"
+
 -- how many calls are recorded
 abbrev pub calls_text : ℕ → List ℕ
 calls_text calls = codes "calls " ++ (decimal calls ++ codes "\n")

@@ -2,8 +2,8 @@
 ghost use Rattle.std.specs.Prelude.{◌≡◌, ◌+◌, ◌^◌, ◌<◌, ◌≤◌, length, take, IfOk, IfSome, IsNone};
 
 use crate::counting_listener::{CountingListener, Listens};
-use crate::limits::Limits;
-use crate::written::turn_away;
+use crate::limits::{Limits, Protocol};
+use crate::written::{lack_thread, turn_away};
 use silt_inbox::InboxId;
 use silt_session::{SessionSlot, free_slot};
 use std::alloc::Global;
@@ -65,11 +65,16 @@ impl<N: InboxId> Door<'_, N> {
         }
     }
 
-    // Gives the slot of this number back.
-    fn free<R: Wait>(&self, rt: &R, number: usize) {
-        if let Some(slot) = self.slots.get(number) {
-            slot.lock(rt).leave();
+    // Writes to the connection in the slot of this number that there is no thread for it, closes it, and gives the slot back.
+    fn give_up<R: Wait>(&self, rt: &R, number: usize) {
+        let Some(slot) = self.slots.get(number) else {
+            return;
+        };
+        let mut slot = slot.lock(rt);
+        if let Some(stream) = slot.connection() {
+            lack(self.limits.protocol, &stream);
         }
+        slot.leave();
     }
 
     // Accepts a connection, and gives it to a free slot. None if the accept failed only for this connection, or if there
@@ -88,6 +93,14 @@ impl<N: InboxId> Door<'_, N> {
             Ok(stream) => Ok(self.admit(rt, stream)),
             Err(error) => pass(error),
         }
+    }
+}
+
+// Writes to a connection that there is no thread for it. The listener waits for no client.
+fn lack(protocol: Protocol, stream: &TcpStream) {
+    if stream.set_nonblocking(true).is_ok() {
+        let mut out = stream;
+        lack_thread(protocol, &mut out);
     }
 }
 
@@ -151,7 +164,7 @@ pub fn accept_clients<
                     { serve(shared, number) },
                 );
                 if started.is_err() {
-                    door.free(rt, number);
+                    door.give_up(rt, number);
                     continue;
                 }
                 count = count.saturating_add(1);

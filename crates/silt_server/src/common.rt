@@ -5,14 +5,15 @@ use crate::admission::{Door, accept_clients};
 use crate::connection::answer_client;
 use crate::counting_listener::Listens;
 use crate::limits::Limits;
-use crate::threads::{Parts, run_beside};
+use crate::threads::{Ended, Parts, run_beside};
 use crate::workers::{Worker, Workers, WriterParts};
-use silt_desk::{DeskId, Gate, Seat, Shared, Trace, converter, merger};
+use silt_desk::{DeskId, Gate, Seat, Shared, Trace, WorkerEnds, converter, merger};
 use silt_disk::Disk;
 use silt_event::{Event, Reply};
 use silt_inbox::{Inbox, InboxId, Taker};
 use silt_session::{
-    AskBy, Job, RoomGate, RoomWait, Session, SessionSlot, Unanswered, Workplace, WriterLink,
+    AskBy, Job, JobLog, LogId, RoomGate, RoomWait, Session, SessionSlot, Unanswered, Workplace,
+    WriterLink,
 };
 use std::alloc::Global;
 use std::io;
@@ -20,13 +21,14 @@ use std::sync::{Mutex, Wait};
 use std::thread::Threads;
 use std::time::Clock;
 
-/// What the threads of a server share. `S` is the desk under its lock.
+/// What the threads of a server share. `S` is the desk under its lock, and `J` the jobs of its writer.
 #[derive(Drop)]
-pub struct Serving<'a, S, N: InboxId, G, R> {
+pub struct Serving<'a, S, J: Drop, N: InboxId + LogId, G, R> {
     pub rt: &'a R,
     pub alloc: Global,
     pub desk: &'a S,
-    pub inbox: &'a Inbox<Job, N>,
+    pub inbox: &'a Inbox<J, N>,
+    pub log: &'a JobLog<N>,
     pub slots: &'a [Mutex<SessionSlot<N>>],
     pub value_len: usize,
     pub limits: Limits,
@@ -35,10 +37,10 @@ pub struct Serving<'a, S, N: InboxId, G, R> {
 
 /// What one of the workers needs, or the writer.
 #[derive(Drop)]
-pub enum Part<N: DeskId + InboxId> {
+pub enum Part<D: Disk, T: Trace, N: DeskId + InboxId + LogId> {
     Merger(Worker<N>),
     Converter(Worker<N>),
-    Writer(WriterParts<N>, Taker<N>),
+    Writer(WriterParts<D, T, N>, Taker<N>),
 }
 
 /// What comes back when the sessions have ended: the seats, and whether the listener failed.
@@ -48,23 +50,21 @@ pub struct Served<N: DeskId> {
     pub accepted: io::Result<()>,
 }
 
-// What came back from the merger, the converter, and the writer and the sessions. None if the writer had no thread.
-fn gather_served<N: DeskId>(
-    back: (Seat<N>, Seat<N>, Option<(Seat<N>, io::Result<()>)>),
-) -> Option<Served<N>> {
-    let (merged, converted, written) = back;
-    match written {
-        Some((writer, accepted)) => Some(Served {
-            seats: (writer, converted, merged),
-            accepted,
+// What came back, if all threads ran.
+fn gather_served<N: DeskId>(back: Option<Ended<Seat<N>>>) -> Option<Served<N>> {
+    match back {
+        Some(ended) => Some(Served {
+            seats: (ended.writer, ended.converter, ended.merger),
+            accepted: ended.sessions,
         }),
         None => None,
     }
 }
 
-impl<D: Disk, T: Trace, N: DeskId + InboxId, G: Gate, R: Wait + Clock> Serving<
+impl<D: Disk, T: Trace, N: DeskId + InboxId + LogId, G: Gate, R: Wait + Clock> Serving<
     '_,
     Shared<D, T, N>,
+    Job<D, T, N>,
     N,
     G,
     R,
@@ -79,15 +79,11 @@ impl<D: Disk, T: Trace, N: DeskId + InboxId, G: Gate, R: Wait + Clock> Serving<
             gate: self.gate,
             room: worker.room,
         };
-        converter(
-            self.rt,
-            self.alloc,
-            self.desk,
-            worker.seat,
-            &gate,
-            worker.wakes,
-            worker.other,
-        )
+        let ends = WorkerEnds {
+            wakes: worker.wakes,
+            other: worker.other,
+        };
+        converter(self.rt, self.alloc, self.desk, worker.seat, &gate, ends)
     }
 
     // Does steps of merging until the merger is told to end, and gives its seat back. The writer hears when there may be
@@ -100,20 +96,16 @@ impl<D: Disk, T: Trace, N: DeskId + InboxId, G: Gate, R: Wait + Clock> Serving<
             gate: self.gate,
             room: worker.room,
         };
-        merger(
-            self.rt,
-            self.alloc,
-            self.desk,
-            worker.seat,
-            &gate,
-            worker.wakes,
-            worker.other,
-        )
+        let ends = WorkerEnds {
+            wakes: worker.wakes,
+            other: worker.other,
+        };
+        merger(self.rt, self.alloc, self.desk, worker.seat, &gate, ends)
     }
 
     // Does the requests of the sessions until there are no more, and gives the writer's seat back. A command waits for room
     // as long as the limits say.
-    fn write(&self, parts: WriterParts<N>, taker: Taker<N>) -> Seat<N>
+    fn write(&self, parts: WriterParts<D, T, N>, taker: Taker<N>) -> Seat<N>
         ensures { result.number ≡ parts.seat.number }
     {
         let room = RoomWait {
@@ -133,7 +125,7 @@ impl<D: Disk, T: Trace, N: DeskId + InboxId, G: Gate, R: Wait + Clock> Serving<
     }
 
     // Does the work of one worker or of the writer until it is to end, and gives its seat back.
-    fn work(&self, part: Part<N>) -> Seat<N> {
+    fn work(&self, part: Part<D, T, N>) -> Seat<N> {
         match part {
             Part::Merger(worker) => self.merge(worker),
             Part::Converter(worker) => self.convert(worker),
@@ -156,6 +148,7 @@ impl<D: Disk, T: Trace, N: DeskId + InboxId, G: Gate, R: Wait + Clock> Serving<
                     rt: self.rt,
                     alloc: self.alloc,
                     inbox: self.inbox,
+                    log: self.log,
                     slot,
                 },
                 settles_gets: self.limits.protocol.settles_gets(),
@@ -184,10 +177,10 @@ impl<D: Disk, T: Trace, N: DeskId + InboxId, G: Gate, R: Wait + Clock> Serving<
 impl<
     D: Disk,
     T: Trace + Send + Sync,
-    N: DeskId + InboxId + Send + Sync,
+    N: DeskId + InboxId + LogId + Send + Sync,
     G: Gate + Sync,
     R: Threads + Wait + Clock + Sync,
-> Serving<'_, Shared<D, T, N>, N, G, R> {
+> Serving<'_, Shared<D, T, N>, Job<D, T, N>, N, G, R> {
     // Serves the connections of a listener, and then closes the inbox.
     fn serve_sessions<L: Listens>(&self, listener: &L) -> io::Result<()> {
         let door = Door {
@@ -200,7 +193,7 @@ impl<
             listener,
             &door,
             self,
-            &|serving: &Serving<'_, Shared<D, T, N>, N, G, R>, number: usize| {
+            &|serving: &Serving<'_, Shared<D, T, N>, Job<D, T, N>, N, G, R>, number: usize| {
                 serving.serve_slot(number)
             },
         );
@@ -212,11 +205,11 @@ impl<
     }
 
     /// Runs the workers, the writer and the replier beside the sessions of a listener's connections, until these have ended
-    /// and all their requests are done. None if the writer has no thread.
+    /// and all their requests are done. None if a worker or the writer has no thread.
     pub fn run<L: Listens>(
         &self,
         listener: &L,
-        workers: Workers<N>,
+        workers: Workers<D, T, N>,
         taker: Taker<N>,
     ) -> Option<Served<N>> {
         let Workers {
@@ -237,10 +230,12 @@ impl<
             self.rt,
             self,
             parts,
-            &|serving: &Serving<'_, Shared<D, T, N>, N, G, R>, part: Part<N>| -> Seat<N> {
-                serving.work(part)
-            },
-            &|serving: &Serving<'_, Shared<D, T, N>, N, G, R>| -> io::Result<()> {
+            &|serving: &Serving<'_, Shared<D, T, N>, Job<D, T, N>, N, G, R>, part: Part<
+                D,
+                T,
+                N,
+            >| -> Seat<N> { serving.work(part) },
+            &|serving: &Serving<'_, Shared<D, T, N>, Job<D, T, N>, N, G, R>| -> io::Result<()> {
                 serving.serve_sessions(listener)
             },
         ))

@@ -18,7 +18,7 @@ use silt_desk::{Count, Desk, DeskId, Gate, Kept, Seat, Shared, Trace};
 use silt_disk::Disk;
 use silt_event::Refusal;
 use silt_inbox::{Inbox, InboxId, Taker};
-use silt_session::{Job, SessionSlot, slots_of};
+use silt_session::{Job, JobLog, LogId, LogStart, SessionSlot, slots_of};
 use silt_store_set::Core;
 use std::alloc::{AllocError, Global};
 use std::io::{self, Write};
@@ -93,17 +93,17 @@ impl<L: Listens, G: Gate + Sync, R: Threads + Wait + Clock + Sync> Server<'_, L,
     }
 
     // Serves a store with a trace of its calls.
-    fn serve_traced<D: Disk, T: Trace + Send + Sync, N: DeskId + InboxId + Send + Sync, W: Write>(
-        &self,
-        core: Core<D>,
-        trace: T,
-        blanks: Blanks,
-        out: &mut W,
-    ) -> (D, io::Result<u8>)
+    fn serve_traced<
+        D: Disk,
+        T: Trace + Send + Sync,
+        N: DeskId + InboxId + LogId + Send + Sync,
+        W: Write,
+    >(&self, core: Core<D>, trace: T, blanks: Blanks, out: &mut W) -> (D, io::Result<u8>)
         requires calls { (blanks.calls.name ≡ N.calls_name) × (blanks.calls.parts ≡ N.seats) × (N.seats ≡ 3) }
         requires accepted { (blanks.accepted.name ≡ N.accepted_name) × (blanks.accepted.parts ≡ N.seats) }
         requires put { (blanks.put.name ≡ N.put_name) × (blanks.put.parts ≡ N.feeders) × (N.feeders ≡ 1024) }
         requires taken { (blanks.taken.name ≡ N.taken_name) × (blanks.taken.parts ≡ 1) }
+        requires log { blanks.log ≡ N.log }
         requires trace { T.agrees trace (seen D.Disk core) × T.counts trace 0 0 }
         ensures served { result.1 ≡ Ok 0 → (core : CoreState D) × (trace : T) × (core.disk ≡ result.0) × T.agrees trace (seen D.Disk core)
             × PrintsServed (L.has_port self.now.listener.now) T.counts trace (W.contents out.old) (W.contents out.new) }
@@ -115,10 +115,12 @@ impl<L: Listens, G: Gate + Sync, R: Threads + Wait + Clock + Sync> Server<'_, L,
             accepted,
             put,
             taken,
+            log,
         } = blanks;
         match Desk::<D, T, N>::new(self.alloc, core, trace, WORKERS, calls, accepted) {
             Ok((desk, seats)) => {
-                let Some(state) = ServerState::<N>::new(self.alloc, seats, put, taken) else {
+                let Some(state) = ServerState::<D, T, N>::new(self.alloc, seats, put, taken, log)
+                else {
                     let status = refuse(self.alloc, &Refusal::<()>::NoMemory, out);
                     return (desk.close(), status);
                 };
@@ -135,10 +137,15 @@ impl<L: Listens, G: Gate + Sync, R: Threads + Wait + Clock + Sync> Server<'_, L,
 
     /// Serves the store of a desk to the connections of the listener, within the limits, and gives the desk back with the
     /// status: its trace has every call that a session made.
-    pub fn serve_desk<D: Disk, T: Trace + Send + Sync, N: DeskId + InboxId + Send + Sync, W: Write>(
+    pub fn serve_desk<
+        D: Disk,
+        T: Trace + Send + Sync,
+        N: DeskId + InboxId + LogId + Send + Sync,
+        W: Write,
+    >(
         &self,
         desk: Desk<D, T, N>,
-        state: ServerState<N>,
+        state: ServerState<D, T, N>,
         out: &mut W,
     ) -> (Desk<D, T, N>, io::Result<u8>)
         ensures served { result.1 ≡ Ok 0 → PrintsServed (L.has_port self.now.listener.now) T.counts result.0.trace (W.contents out.old) (W.contents out.new) }
@@ -154,10 +161,15 @@ impl<L: Listens, G: Gate + Sync, R: Threads + Wait + Clock + Sync> Server<'_, L,
     }
 
     // Serves the store of a desk once the head is written, and writes the last lines.
-    fn serve_begun<D: Disk, T: Trace + Send + Sync, N: DeskId + InboxId + Send + Sync, W: Write>(
+    fn serve_begun<
+        D: Disk,
+        T: Trace + Send + Sync,
+        N: DeskId + InboxId + LogId + Send + Sync,
+        W: Write,
+    >(
         &self,
         desk: Desk<D, T, N>,
-        state: ServerState<N>,
+        state: ServerState<D, T, N>,
         out: &mut W,
     ) -> (Desk<D, T, N>, io::Result<u8>)
         ensures calls { result.1 ≡ Ok 0 → PrintsCalls T.counts result.0.trace (W.contents out.old) (W.contents out.new) }
@@ -172,16 +184,17 @@ impl<L: Listens, G: Gate + Sync, R: Threads + Wait + Clock + Sync> Server<'_, L,
     }
 
     // Runs the workers and the replier beside the sessions, until these have ended and all their requests are done. Values
-    // have so many bytes. None if the writer has no thread.
-    fn run_threads<D: Disk, T: Trace + Send + Sync, N: DeskId + InboxId + Send + Sync>(
+    // have so many bytes. None if a worker or the writer has no thread.
+    fn run_threads<D: Disk, T: Trace + Send + Sync, N: DeskId + InboxId + LogId + Send + Sync>(
         &self,
         desk: &Shared<D, T, N>,
-        state: ServerState<N>,
+        state: ServerState<D, T, N>,
         value_len: usize,
     ) -> Option<Served<N>> {
         let ServerState {
             workers,
             inbox,
+            log,
             slots,
             taker,
         } = state;
@@ -190,6 +203,7 @@ impl<L: Listens, G: Gate + Sync, R: Threads + Wait + Clock + Sync> Server<'_, L,
             alloc: self.alloc,
             desk,
             inbox: &inbox,
+            log: &log,
             slots: slots.as_slice(),
             value_len,
             limits: self.limits,
@@ -219,13 +233,14 @@ fn write_no_network<W: Write>(out: &mut W) -> io::Result<u8>
     write_network_fault(out)
 }
 
-// The blanks that become the ledgers of a desk and of an inbox.
+// The blanks that become the ledgers of a desk and of an inbox, and the log of the jobs.
 #[derive(Drop)]
 struct Blanks {
     calls: Blank,
     accepted: Blank,
     put: Blank,
     taken: Blank,
+    log: LogStart,
 }
 
 impl Blanks {
@@ -238,30 +253,34 @@ impl Blanks {
             accepted: Blank::new(WORKERS),
             put: Blank::new(MOST_SESSIONS),
             taken: Blank::new(1),
+            log: LogStart::new(),
         }
     }
 }
 
-/// The state between the connections and the desk: the writer and the workers, the inbox of the sessions' jobs, a slot for
-/// each session, and the writer's end of the inbox.
+/// The state between the connections and the desk: the writer and the workers, the inbox of the sessions' jobs, their log, a
+/// slot for each session, and the writer's end of the inbox.
 #[derive(Drop)]
-pub struct ServerState<N: DeskId + InboxId> {
-    workers: Workers<N>,
-    inbox: Inbox<Job, N>,
+pub struct ServerState<D: Disk, T: Trace, N: DeskId + InboxId + LogId> {
+    workers: Workers<D, T, N>,
+    inbox: Inbox<Job<D, T, N>, N>,
+    log: JobLog<N>,
     slots: Vec<Mutex<SessionSlot<N>>>,
     taker: Taker<N>,
 }
 
-impl<N: DeskId + InboxId> ServerState<N> {
-    /// The writer and the workers on these seats, and the inbox with ledgers of these blanks. None if out of memory.
+impl<D: Disk, T: Trace, N: DeskId + InboxId + LogId> ServerState<D, T, N> {
+    /// The writer and the workers on these seats, the inbox with ledgers of these blanks, and this log. None if out of memory.
     pub fn new(
         alloc: Global,
         seats: Vec<Seat<N>>,
         put: Blank,
         taken: Blank,
-    ) -> Option<ServerState<N>>
+        log: LogStart,
+    ) -> Option<ServerState<D, T, N>>
         requires put { (put.name ≡ N.put_name) × (put.parts ≡ N.feeders) × (N.feeders ≡ 1024) }
         requires taken { (taken.name ≡ N.taken_name) × (taken.parts ≡ 1) }
+        requires log { log ≡ N.log }
     {
         let (inbox, feeders, taker) = Inbox::new(alloc, MOST_SESSIONS, put, taken).ok()?;
         let slots = slots_of(alloc, feeders).ok()?;
@@ -269,6 +288,7 @@ impl<N: DeskId + InboxId> ServerState<N> {
         Some(ServerState {
             workers,
             inbox,
+            log: log.named(),
             slots,
             taker,
         })

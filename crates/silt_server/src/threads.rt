@@ -2,8 +2,9 @@
 ghost use Rattle.std.specs.Prelude.{◌≡◌};
 
 use crossbeam_channel::Receiver;
-use silt_desk::{Wake, Wakes, join_over};
-use silt_session::{Job, send_batches};
+use silt_desk::{Trace, Wake, Wakes};
+use silt_disk::Disk;
+use silt_session::{Job, LogId, send_batches};
 use std::sync::Wait;
 use std::thread::Threads;
 use std::{io, thread};
@@ -11,12 +12,12 @@ use std::{io, thread};
 /// What the workers and the writer need, the ways to stop the converter and the merger, and the replier's end of its
 /// channel.
 #[derive(Drop)]
-pub struct Parts<X> {
+pub struct Parts<X, D: Disk, T: Trace, N: LogId> {
     pub merger: X,
     pub converter: X,
     pub writer: X,
     pub stops: Wakes,
-    pub batches: Receiver<Vec<Job>>,
+    pub batches: Receiver<Vec<Job<D, T, N>>>,
 }
 
 // Runs the writer and the replier in threads of their own beside the sessions, until these have ended. They close the
@@ -26,6 +27,9 @@ fn write_beside<
     S: Sync,
     X: Send + Drop,
     Y: Send + Drop,
+    D: Disk,
+    T: Trace + Send,
+    N: LogId + Send,
     C: Fn(&S, X) -> Y + Sync,
     F: Fn(&S) -> io::Result<()>,
     R: Threads + Wait + Sync,
@@ -33,7 +37,7 @@ fn write_beside<
     rt: &R,
     shared: &S,
     writer: X,
-    batches: Receiver<Vec<Job>>,
+    batches: Receiver<Vec<Job<D, T, N>>>,
     work: &C,
     sessions: &F,
 ) -> Option<(Y, io::Result<()>)>
@@ -60,47 +64,78 @@ fn write_beside<
     )
 }
 
+// Does the first job in a thread of its own beside the second one. None if that thread cannot be started, and then neither
+// is done, or if the second one gives none.
+fn both<
+    S: Sync,
+    X: Send + Drop,
+    Y,
+    A: FnOnce(&S) -> X + Send,
+    B: FnOnce(&S) -> Option<Y>,
+    R: Threads + Wait,
+>(rt: &R, shared: &S, first: A, second: B) -> Option<(X, Y)>
+    requires first { A.IsAlwaysCallable first }
+    requires second { B.IsAlwaysCallable second }
+{
+    thread::scope(
+        thread::scope_env(),
+        rt,
+        move |scope| -> Option<(X, Y)>
+            requires { A.IsAlwaysCallable first × B.IsAlwaysCallable second }
+        {
+            let Ok(handle) = scope.spawn(
+                move || -> X
+                    requires { A.IsAlwaysCallable first }
+                { first(shared) },
+            ) else {
+                return None;
+            };
+            let done = second(shared);
+            let ended = handle.join(rt);
+            Some((ended, done?))
+        },
+    )
+}
+
+/// What came back from the threads: from the merger, the converter and the writer, and from the sessions.
+#[derive(Drop)]
+pub struct Ended<Y> {
+    pub merger: Y,
+    pub converter: Y,
+    pub writer: Y,
+    pub sessions: io::Result<()>,
+}
+
 /// Runs the merger, the converter, the writer and the replier beside the sessions, until these have ended and all their
-/// requests are done. Then each worker is stopped. The sessions close the inbox. Returns what the merger, the converter,
-/// and the writer and the sessions gave; the last two are None if the writer has no thread.
+/// requests are done. Then each worker is stopped. The sessions close the inbox. None if the merger, the converter or the
+/// writer has no thread; then there are no sessions.
 pub fn run_beside<
     S: Sync,
     X: Send + Drop,
     Y: Send + Drop,
+    D: Disk,
+    T: Trace + Send,
+    N: LogId + Send,
     C: Fn(&S, X) -> Y + Sync,
     F: Fn(&S) -> io::Result<()>,
     R: Threads + Wait + Sync,
->(
-    rt: &R,
-    shared: &S,
-    parts: Parts<X>,
-    work: &C,
-    sessions: &F,
-) -> (Y, Y, Option<(Y, io::Result<()>)>)
+>(rt: &R, shared: &S, parts: Parts<X, D, T, N>, work: &C, sessions: &F) -> Option<Ended<Y>>
     requires work { C.IsAlwaysCallable work.now }
     requires sessions { F.IsAlwaysCallable sessions.now }
 {
-    let Parts {
-        merger,
-        converter,
-        writer,
-        stops,
-        batches,
-    } = parts;
-    let Wakes {
-        converter: stop_converter,
-        merger: stop_merger,
-    } = stops;
-    let (merged, (converted, written)) = join_over(
+    let (merger, converter, writer) = (parts.merger, parts.converter, parts.writer);
+    let (stops, batches) = (parts.stops, parts.batches);
+    let (stop_converter, stop_merger) = (stops.converter, stops.merger);
+    let (merger, (converter, (writer, sessions))) = both(
         rt,
         shared,
         move |shared: &S| -> Y
             requires { C.IsAlwaysCallable work.now }
         { work(shared, merger) },
-        move |shared: &S| -> (Y, Option<(Y, io::Result<()>)>)
+        move |shared: &S| -> Option<(Y, (Y, io::Result<()>))>
             requires { C.IsAlwaysCallable work.now × F.IsAlwaysCallable sessions.now }
         {
-            let done = join_over(
+            let done = both(
                 rt,
                 shared,
                 move |shared: &S| -> Y
@@ -117,6 +152,11 @@ pub fn run_beside<
             let _ = stop_merger.send(rt, Wake::Stop); // the merger may have ended
             done
         },
-    );
-    (merged, converted, written)
+    )?;
+    Some(Ended {
+        merger,
+        converter,
+        writer,
+        sessions,
+    })
 }

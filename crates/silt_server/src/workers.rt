@@ -3,8 +3,9 @@ ghost use Rattle.std.specs.Prelude.{◌≡◌, ◌++◌, ◌∷◌, [], List, If
 ghost use Rattle.silt_desk.specs.Seats.{SeatState};
 
 use crossbeam_channel::{Receiver, Sender};
-use silt_desk::{DeskId, Seat, Wake, Wakes};
-use silt_session::{Job, replier_channel, room_channel};
+use silt_desk::{DeskId, Seat, Trace, Wake, Wakes};
+use silt_disk::Disk;
+use silt_session::{Job, LogId, replier_channel, room_channel};
 use std::alloc::{AllocError, Global};
 
 // How many messages a worker's channel holds. The writer, the other worker and the thread that stops it each send one
@@ -25,28 +26,28 @@ pub struct Worker<N: DeskId> {
 /// What the writer needs: its seat, how it wakes the workers, where it hears that there may be room, and its end of the
 /// channel to the replier.
 #[derive(Drop)]
-pub struct WriterParts<N: DeskId> {
+pub struct WriterParts<D: Disk, T: Trace, N: DeskId + LogId> {
     pub seat: Seat<N>,
     pub wakes: Wakes,
     pub heard: Receiver<Wake>,
-    pub replier: Sender<Vec<Job>>,
+    pub replier: Sender<Vec<Job<D, T, N>>>,
 }
 
 /// What the writer and the workers need, the ways to stop the converter and the merger, and the replier's end of its
 /// channel.
 #[derive(Drop)]
-pub struct Workers<N: DeskId> {
-    pub writer: WriterParts<N>,
+pub struct Workers<D: Disk, T: Trace, N: DeskId + LogId> {
+    pub writer: WriterParts<D, T, N>,
     pub converter: Worker<N>,
     pub merger: Worker<N>,
     pub stops: Wakes,
-    pub batches: Receiver<Vec<Job>>,
+    pub batches: Receiver<Vec<Job<D, T, N>>>,
 }
 
-impl<N: DeskId> Workers<N> {
+impl<D: Disk, T: Trace, N: DeskId + LogId> Workers<D, T, N> {
     /// The writer and the workers, with the last three of these seats. None if there are fewer than three, or if out of
     /// memory for the channels.
-    pub fn new(alloc: Global, seats: Vec<Seat<N>>) -> Option<Workers<N>>
+    pub fn new(alloc: Global, seats: Vec<Seat<N>>) -> Option<Workers<D, T, N>>
         ensures { IfSome result (λ workers. (others : List SeatState) × (seats.items ≡ others ++ workers.writer.seat ∷ workers.converter.seat ∷ workers.merger.seat ∷ [])) }
     {
         let mut seats = seats;
@@ -62,7 +63,7 @@ impl<N: DeskId> Workers<N> {
         writer: Seat<N>,
         converter: Seat<N>,
         merger: Seat<N>,
-    ) -> Result<Workers<N>, AllocError>
+    ) -> Result<Workers<D, T, N>, AllocError>
         ensures { IfOk result (λ workers. (workers.writer.seat ≡ writer) × (workers.converter.seat ≡ converter) × (workers.merger.seat ≡ merger)) }
     {
         let (first, second) = two_ways(alloc)?;

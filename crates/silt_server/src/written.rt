@@ -3,7 +3,7 @@ ghost use Rattle.std.specs.Prelude.{◌≡◌, ℕ, List, OnOk, IfOk, codes, str
 ghost use Rattle.std.specs.Io.KnownBytes.{Appends};
 ghost use Rattle.silt_server.specs.Serving.{network_text};
 ghost use Rattle.silt_wire.specs.Sessions.{IsBeginning};
-ghost use Rattle.silt_server.specs.Texts.{busy_text, calls_text, listening_text, refused_text};
+ghost use Rattle.silt_server.specs.Texts.{busy_text, calls_text, listening_text, no_thread_text, refused_text};
 
 use crate::limits::{Limits, Protocol};
 use silt_event::Refusal;
@@ -65,6 +65,23 @@ pub fn turn_away<W: Write>(alloc: Global, limits: &Limits, out: &mut W)
         return;
     };
     let _ = out.write(text.as_bytes());
+}
+
+// That the system gives no thread for a connection.
+fn no_thread_text(protocol: Protocol) -> &'static [u8]
+    ensures { result.now ≡ no_thread_text protocol }
+{
+    match protocol {
+        Protocol::Resp => b"-ERR max number of clients reached\r\n",
+        _ => b"busy: the system gives no thread\n",
+    }
+}
+
+/// Writes that the system gives no thread for a connection, or as much of that as it takes at once.
+pub fn lack_thread<W: Write>(protocol: Protocol, out: &mut W)
+    ensures { (written : List ℕ) × IsBeginning written (no_thread_text protocol) × Appends (W.contents out.old) (W.contents out.new) written }
+{
+    let _ = out.write(no_thread_text(protocol));
 }
 
 /// Writes that the network failed, and returns the status.

@@ -1,5 +1,6 @@
 -- What a batch does to the writer's seat, and one batch more.
 use Rattle.std.proofs.Common.{◌≡◌, ◌⊎◌, inl, inr, ℕ, zero, suc, ◌+◌, ◌-◌, ◌<◌, ◌≤◌, ◌&&◌, ◌||◌, Bool, true, false, Option, Some, None, Result, Ok, Err, List, [], ◌∷◌, ◌++◌, append_assoc, drop, drop_of_length-le, get_or, length, take, refl, sym, ◌∙◌, ap, subst, arith}
+use Rattle.std.specs.List.{AllZip}
 use Rattle.std.specs.Prelude.{MatchBool}
 use Rattle.std.proofs.lemmas.List.{append-nil, drop-append-le, take-append-le, take_all}
 use Rattle.silt_disk.specs.declared.disk.Disk.{Ghosts}
@@ -17,8 +18,9 @@ use Rattle.silt_desk.specs.Notes.{plain_answer}
 use Rattle.silt_desk.specs.Seats.{SeatState}
 use Rattle.silt_desk.specs.declared.trace.Trace.{Ghosts as TraceOf}
 use Rattle.silt_desk.specs.declared.worker.Due.{Due}
-use Rattle.silt_session.specs.Requests.{Answer, Flushed, compared}
-use Rattle.silt_session.specs.Batches.{FindsNoRoom, FindsNoRoomTimes, Flushes, IsBatch, IsDueAt, KeepsLeft, MayMakeRoom, Performs, PerformsAll, PerformsAtOnce, PerformsJob, PerformsLast, PerformsLater, PerformsRequest, PerformsTask, RepliesToAll, ServesBatch, ServesBatches, StepsThrough, TriesAgain, TriesOnce, WriterState, done_in, lacks_room, left_in, may_get_room, writer_at}
+use Rattle.silt_session.specs.Requests.{Answer, Flushed, TaskState, compared, requests_of}
+use Rattle.silt_session.specs.Origins.{Flushes, HasDone, Performs, WasFlushed}
+use Rattle.silt_session.specs.Batches.{FindsNoRoom, FindsNoRoomTimes, IsBatch, IsDueAt, KeepsLeft, MayMakeRoom, PerformsAll, PerformsAtOnce, PerformsJob, PerformsLast, PerformsLater, PerformsRequest, PerformsTask, RepliesTo, RepliesToAll, ServesBatch, ServesBatches, StepsThrough, TriesAgain, TriesOnce, WriterState, done_in, lacks_room, left_in, may_get_room, writer_at}
 use Rattle.silt_session.specs.declared.held.Batch.{Batch}
 use Rattle.silt_session.specs.declared.job.Job.{Job}
 use Rattle.silt_session.specs.declared.job.Request.{Request}
@@ -72,15 +74,42 @@ module _ {D F T : Type 0} (facts : Ghosts D F) (trace : TraceOf T) where
   pub flush_number : (old new : DeskState D T) (seat after : SeatState) (answer : Flushed) → Flushes facts trace old new seat after answer → after.number ≡ seat.number
   flush_number old new seat after answer does = serves_number old new seat after event.Flush (flush_reply does.0) does.2
 
+  -- a call that did a request with this result
+  performs_done : (before then : DeskState D T) (seat after : SeatState) (request : Request) (answer : Option Answer)
+      → Performs facts trace before then seat after request answer → HasDone facts trace request answer
+  performs_done before then seat after request None does = tt
+  performs_done before then seat after request (Some answer) does = record { before = before; then = then; seat = seat; after = after; done = does }
+
+  last_done : (seat after : SeatState) (request : Request) (answer : Option Answer) → PerformsLast facts trace seat request answer after → HasDone facts trace request answer
+  last_done seat after request answer does = performs_done does.0 does.1 seat after request answer does.2
+
+  none_done : (seat after : SeatState) (request : Request) (answer : Option Answer) → answer ≡ Some (Err NoRoom) → FindsNoRoom facts trace seat request after
+      → HasDone facts trace request answer
+  none_done seat after request answer is does =
+      subst (λ (a : Option Answer). HasDone facts trace request a) (sym is) (performs_done does.0 does.1 seat after request (Some (Err NoRoom)) does.2)
+
+  again_done : (is_over : Type 0) (seat after : SeatState) (request : Request) (answer : Option Answer) → TriesAgain facts trace is_over seat request answer after
+      → HasDone facts trace request answer
+  again_done is_over seat after request answer all =
+      let go : PerformsLast facts trace all.1 request answer after ⊎ ((answer ≡ Some (Err NoRoom)) × FindsNoRoom facts trace all.1 request after × ((all.0 ≡ 6) ⊎ is_over))
+      → HasDone facts trace request answer = elim [
+        | inl does ↦ last_done all.1 after request answer does
+        | inr none ↦ none_done all.1 after request answer none.0 none.1
+      ] in
+      go all.4
+
+  pub flush_done : (old new : DeskState D T) (seat after : SeatState) (answer : Flushed) → Flushes facts trace old new seat after answer → WasFlushed facts trace answer
+  flush_done old new seat after answer does = record { before = old; then = new; seat = seat; after = after; done = does }
+
   -- the number stays
-  abbrev Numbered : WriterState → WriterState → Type 0
+  abbrev Numbered : {N : Type 0} → WriterState D T N F → WriterState D T N F → Type 0
   Numbered before after = after.seat.number ≡ before.seat.number
 
-  numbered_both : (a b c : WriterState) → Numbered a b → Numbered b c → Numbered a c
+  numbered_both : {N : Type 0} (a b c : WriterState D T N F) → Numbered a b → Numbered b c → Numbered a c
   numbered_both a b c first second = second ∙ first
 
-  module _ (seconds : ℕ) (is_over : Type 0) where
-    at_once_number : (before after : WriterState) (request : Request) (answer : Option Answer) → PerformsAtOnce facts trace seconds is_over before request answer after → Numbered before after
+  module _ {N : Type 0} (seconds : ℕ) (is_over : Type 0) where
+    at_once_number : (before after : WriterState D T N F) (request : Request) (answer : Option Answer) → PerformsAtOnce facts trace seconds is_over before request answer after → Numbered before after
     at_once_number before after request answer does =
         let go : PerformsLast facts trace before.seat request answer after.seat
         ⊎ ((answer ≡ Some (Err NoRoom)) × FindsNoRoom facts trace before.seat request after.seat × (seconds ≡ 0)) → Numbered before after = elim [
@@ -89,24 +118,59 @@ module _ {D F T : Type 0} (facts : Ghosts D F) (trace : TraceOf T) where
         ] in
         go does.1
 
-    later_number : (before after : WriterState) (request : Request) (answer : Option Answer) → PerformsLater facts trace seconds is_over before request answer after → Numbered before after
+    later_number : (before after : WriterState D T N F) (request : Request) (answer : Option Answer) → PerformsLater facts trace seconds is_over before request answer after → Numbered before after
     later_number before after request answer does =
         let (sure, first, second, none, round, empty, again) = does in
         again_number is_over second after.seat request answer again
         ∙ (flush_number round.1 round.2 first second round.0 round.3 ∙ none_number before.seat first request none)
 
-    request_number : (before after : WriterState) (request : Request) (answer : Option Answer) → PerformsRequest facts trace seconds is_over before request answer after → Numbered before after
+    request_number : (before after : WriterState D T N F) (request : Request) (answer : Option Answer) → PerformsRequest facts trace seconds is_over before request answer after → Numbered before after
     request_number before after request answer = elim [
       | inl does ↦ at_once_number before after request answer does
       | inr does ↦ later_number before after request answer does
     ]
 
-    job_number : (before after : WriterState) (x y : Job) → PerformsJob facts trace seconds is_over before x y after → Numbered before after
+    -- the result of a request comes from a call that did it
+    at_once_done : (before after : WriterState D T N F) (request : Request) (answer : Option Answer) → PerformsAtOnce facts trace seconds is_over before request answer after
+        → HasDone facts trace request answer
+    at_once_done before after request answer does =
+        let go : PerformsLast facts trace before.seat request answer after.seat
+        ⊎ ((answer ≡ Some (Err NoRoom)) × FindsNoRoom facts trace before.seat request after.seat × (seconds ≡ 0)) → HasDone facts trace request answer = elim [
+          | inl last ↦ last_done before.seat after.seat request answer last
+          | inr none ↦ none_done before.seat after.seat request answer none.0 none.1
+        ] in
+        go does.1
+
+    later_done : (before after : WriterState D T N F) (request : Request) (answer : Option Answer) → PerformsLater facts trace seconds is_over before request answer after
+        → HasDone facts trace request answer
+    later_done before after request answer does =
+        let (sure, first, second, none, round, empty, again) = does in again_done is_over second after.seat request answer again
+
+    request_done : (before after : WriterState D T N F) (request : Request) (answer : Option Answer) → PerformsRequest facts trace seconds is_over before request answer after
+        → HasDone facts trace request answer
+    request_done before after request answer = elim [
+      | inl does ↦ at_once_done before after request answer does
+      | inr does ↦ later_done before after request answer does
+    ]
+
+    -- a task's request was done, and the task has the result
+    pub task_done : (before after : WriterState D T N F) (asked request : Request) (answer : Option Answer) → asked ≡ request
+        → PerformsRequest facts trace seconds is_over before asked answer after → HasDone facts trace request answer
+    task_done before after asked request answer is does = subst (λ (r : Request). HasDone facts trace r answer) is (request_done before after asked answer does)
+
+    pub task_performed : (before after : WriterState D T N F) (asked : Request) (old new : TaskState) (answer : Option Answer) → asked ≡ old.request
+        → new ≡ record old { answer = answer } → PerformsRequest facts trace seconds is_over before asked answer after
+        → PerformsTask facts trace seconds is_over before old new after
+    task_performed before after asked old new answer is same does =
+        subst (λ (t : TaskState). PerformsTask facts trace seconds is_over before old t after) (sym same)
+        (subst (λ (r : Request). PerformsRequest facts trace seconds is_over before r answer after) is does, refl, refl)
+
+    job_number : (before after : WriterState D T N F) (x y : Job D T N F) → PerformsJob facts trace seconds is_over before x y after → Numbered before after
     job_number before after x y does =
         steps_keep (PerformsTask facts trace seconds is_over) Numbered (λ s. refl) numbered_both
         (λ a b old new one. request_number a b old.request new.answer one.0) before (record { seat = after.seat; done = does.0 }) x.tasks.items y.tasks.items does.1
 
-    pub all_number : (before after : WriterState) (xs ys : List Job) → PerformsAll facts trace seconds is_over before xs ys after → after.seat.number ≡ before.seat.number
+    pub all_number : (before after : WriterState D T N F) (xs ys : List (Job D T N F)) → PerformsAll facts trace seconds is_over before xs ys after → after.seat.number ≡ before.seat.number
     all_number before after xs ys all = steps_keep (PerformsJob facts trace seconds is_over) Numbered (λ s. refl) numbered_both job_number before after xs ys all
 
 -- ---- a request that is refused for want of room
@@ -227,39 +291,39 @@ module _ {X : Type 0} where
   pub left_before : (n : ℕ) (xs back all : List X) → xs ++ back ≡ all → n ≤ length xs → take n xs ≡ take n all
   left_before n xs back all is within = sym (take-append-le n xs back within) ∙ ap (take n) is
 
-pub keeps_none : (batch : Batch) → IsBatch batch → KeepsLeft batch batch
+pub keeps_none : {D T N F : Type 0} (batch : Batch D T N F) → IsBatch batch → KeepsLeft batch batch
 keeps_none batch within = record { left = refl; count = refl; within = within; fewer = omega arith; room = refl }
 
-pub keeps_both : (a b c : Batch) → KeepsLeft a b → KeepsLeft b c → KeepsLeft a c
+pub keeps_both : {D T N F : Type 0} (a b c : Batch D T N F) → KeepsLeft a b → KeepsLeft b c → KeepsLeft a c
 keeps_both a b c first second =
     record { left = second.left ∙ first.left; count = second.count ∙ first.count; within = second.within; fewer = omega (arith, first.fewer, second.fewer); room = second.room ∙ first.room }
 
-module _ {D F T : Type 0} (facts : Ghosts D F) (trace : TraceOf T) (seconds : ℕ) (is_over : Type 0) where
+module _ {D F T N : Type 0} (facts : Ghosts D F) (trace : TraceOf T) (seconds : ℕ) (is_over : Type 0) where
   -- one job more is done, and waits behind the others
-  pub jobs_more : (start : WriterState) (seat after : SeatState) (batch next worked held : Batch) (all old done : List Job) (job new : Job)
+  pub jobs_more : (start : WriterState D T N F) (seat after : SeatState) (batch next worked held : Batch D T N F) (all old done : List (Job D T N F)) (job new : Job D T N F)
       → old ++ left_in batch ≡ all → PerformsAll facts trace seconds is_over start old done (writer_at seat batch)
       → left_in batch ≡ job ∷ left_in next → done_in next ≡ done_in batch
       → StepsThrough (PerformsTask facts trace seconds is_over) (writer_at seat next) job.tasks.items new.tasks.items (writer_at after worked)
-      → new.replies ≡ job.replies → left_in held ≡ left_in next → done_in held ≡ done_in worked ++ new ∷ []
-      → (olds : List Job) × (dones : List Job) × (olds ++ left_in held ≡ all) × PerformsAll facts trace seconds is_over start olds dones (writer_at after held)
-  jobs_more start seat after batch next worked held all old done job new is so_far first same steps replies left behind =
-      let from = subst (λ (l : List Job). StepsThrough (PerformsTask facts trace seconds is_over) (record { seat = seat; done = l }) job.tasks.items new.tasks.items (writer_at after worked)) same steps in (
+      → new.tasks.ticket ≡ job.tasks.ticket → new.replies ≡ job.replies → left_in held ≡ left_in next → done_in held ≡ done_in worked ++ new ∷ []
+      → (olds : List (Job D T N F)) × (dones : List (Job D T N F)) × (olds ++ left_in held ≡ all) × PerformsAll facts trace seconds is_over start olds dones (writer_at after held)
+  jobs_more start seat after batch next worked held all old done job new is so_far first same steps ticket replies left behind =
+      let from = subst (λ (l : List (Job D T N F)). StepsThrough (PerformsTask facts trace seconds is_over) (record { seat = seat; done = l }) job.tasks.items new.tasks.items (writer_at after worked)) same steps in (
         old ++ job ∷ [],
         done ++ new ∷ [],
-        append_assoc old (job ∷ []) (left_in held) ∙ ap (λ (l : List Job). old ++ job ∷ l) left ∙ ap (λ (l : List Job). old ++ l) (sym first) ∙ is,
-        steps_more (PerformsJob facts trace seconds is_over) start (writer_at seat batch) (writer_at after held) old done job new so_far (done_in worked, from, replies, behind),
+        append_assoc old (job ∷ []) (left_in held) ∙ ap (λ (l : List (Job D T N F)). old ++ job ∷ l) left ∙ ap (λ (l : List (Job D T N F)). old ++ l) (sym first) ∙ is,
+        steps_more (PerformsJob facts trace seconds is_over) start (writer_at seat batch) (writer_at after held) old done job new so_far (done_in worked, from, ticket, replies, behind),
       )
 
   -- no job is left
-  pub jobs_all : (start : WriterState) (seat : SeatState) (batch : Batch) (all old done : List Job) → old ++ left_in batch ≡ all → batch.left ≡ 0
+  pub jobs_all : (start : WriterState D T N F) (seat : SeatState) (batch : Batch D T N F) (all old done : List (Job D T N F)) → old ++ left_in batch ≡ all → batch.left ≡ 0
       → PerformsAll facts trace seconds is_over start old done (writer_at seat batch) → PerformsAll facts trace seconds is_over start all done (writer_at seat batch)
   jobs_all start seat batch all old done is none so_far =
       let none_left : left_in batch ≡ [] = ap (λ (n : ℕ). take n batch.jobs.items) none in
-      let whole : old ≡ all = sym (append-nil old) ∙ ap (λ (l : List Job). old ++ l) (sym none_left) ∙ is in
-      subst (λ (l : List Job). PerformsAll facts trace seconds is_over start l done (writer_at seat batch)) whole so_far
+      let whole : old ≡ all = sym (append-nil old) ∙ ap (λ (l : List (Job D T N F)). old ++ l) (sym none_left) ∙ is in
+      subst (λ (l : List (Job D T N F)). PerformsAll facts trace seconds is_over start l done (writer_at seat batch)) whole so_far
 
   -- a batch from its first job to its last flush
-  pub batch_served : (batch after : Batch) (jobs done new : List Job) (seat mid end : SeatState) (flushed : Flushed) (before then : DeskState D T) (due : Due)
+  pub batch_served : (batch after : Batch D T N F) (jobs done new : List (Job D T N F)) (seat mid end : SeatState) (flushed : Flushed) (before then : DeskState D T) (due : Due)
       → batch.jobs.items ≡ jobs → length jobs ≤ batch.left
       → PerformsAll facts trace seconds is_over (writer_at seat batch) (left_in batch) done (writer_at mid after) → after.left ≡ 0
       → Flushes facts trace before then mid end flushed → IsDueAt then due → RepliesToAll flushed after.jobs.items new
@@ -268,16 +332,36 @@ module _ {D F T : Type 0} (facts : Ghosts D F) (trace : TraceOf T) (seconds : �
       let long : length batch.jobs.items ≤ batch.left = omega (arith, over, ap length is) in
       let no_done : done_in batch ≡ [] = drop_of_length-le batch.jobs.items long in
       let whole : left_in batch ≡ jobs = take_all batch.left batch.jobs.items long ∙ is in
-      let from = subst (λ (l : List Job). PerformsAll facts trace seconds is_over (record { seat = seat; done = l }) (left_in batch) done (writer_at mid after)) no_done all in
-      let does = subst (λ (l : List Job). PerformsAll facts trace seconds is_over (record { seat = seat; done = [] }) l done (writer_at mid after)) whole from in
+      let from = subst (λ (l : List (Job D T N F)). PerformsAll facts trace seconds is_over (record { seat = seat; done = l }) (left_in batch) done (writer_at mid after)) no_done all in
+      let does = subst (λ (l : List (Job D T N F)). PerformsAll facts trace seconds is_over (record { seat = seat; done = [] }) l done (writer_at mid after)) whole from in
       let last : after.jobs.items ≡ done_in after = ap (λ (n : ℕ). drop n after.jobs.items) (sym none) in
-      (done, writer_at mid after, flushed, before, then, does, flushes, work, subst (λ (l : List Job). RepliesToAll flushed l new) last replies)
+      (done, writer_at mid after, flushed, before, then, does, flushes, work, subst (λ (l : List (Job D T N F)). RepliesToAll flushed l new) last replies)
+
+-- ---- the requests of a job stay
+
+-- the requests are the same after a flush's replies
+pub replied_same : (flushed : Flushed) (xs ys : List TaskState) → AllZip (RepliesTo flushed) xs ys → requests_of ys ≡ requests_of xs
+replied_same flushed [] [] all = refl
+replied_same flushed (x ∷ xs) (y ∷ ys) all =
+    ap (λ (r : Request). r ∷ requests_of ys) all.0.1 ∙ ap (λ (l : List Request). x.request ∷ l) (replied_same flushed xs ys all.1)
+replied_same flushed [] (y ∷ ys) all = absurd all
+replied_same flushed (x ∷ xs) [] all = absurd all
+
+module _ {D F T N : Type 0} (facts : Ghosts D F) (trace : TraceOf T) (seconds : ℕ) (is_over : Type 0) where
+  -- the requests are the same once they are done
+  pub performed_same : (before after : WriterState D T N F) (xs ys : List TaskState) → StepsThrough (PerformsTask facts trace seconds is_over) before xs ys after
+      → requests_of ys ≡ requests_of xs
+  performed_same before after [] [] all = refl
+  performed_same before after (x ∷ xs) (y ∷ ys) all =
+      ap (λ (r : Request). r ∷ requests_of ys) all.1.1 ∙ ap (λ (l : List Request). x.request ∷ l) (performed_same all.0 after xs ys all.2)
+  performed_same before after [] (y ∷ ys) all = absurd all
+  performed_same before after (x ∷ xs) [] all = absurd all
 
 -- ---- batch after batch
 
-module _ {D F T : Type 0} (facts : Ghosts D F) (trace : TraceOf T) (seconds : ℕ) (is_over : Type 0) where
+module _ {D F T N : Type 0} (facts : Ghosts D F) (trace : TraceOf T) (seconds : ℕ) (is_over : Type 0) where
   -- a batch more is done behind the others
-  pub batches_more : (seat mid after : SeatState) (taken then end : ℕ) (batches : List (List Job)) (jobs done : List Job) (due : Due)
+  pub batches_more : (seat mid after : SeatState) (taken then end : ℕ) (batches : List (List (Job D T N F))) (jobs done : List (Job D T N F)) (due : Due)
       → ServesBatches facts trace seconds is_over seat taken batches mid then
       → ServesBatch facts trace seconds is_over mid jobs done after due → end ≡ then + length jobs
       → ServesBatches facts trace seconds is_over seat taken (batches ++ jobs ∷ []) after end

@@ -3,3 +3,4 @@ mod Clients
 mod Lists
 mod Marks
 mod Pipelines
+mod JobLogs

@@ -1,5 +1,5 @@
 -- Which marks are set.
-use Rattle.std.proofs.Common.{◌≡◌, ◌≢◌, ◌<◌, ◌⊎◌, ℕ, zero, suc, ◌+◌, ◌*◌, ◌/◌, ◌%◌, ◌^◌, List, [], ◌∷◌, inl, inr, length, get_or, replicate, refl, sym, ◌∙◌, ap, arith, slice_set, bit_or, w64}
+use Rattle.std.proofs.Common.{◌≡◌, ◌≢◌, ◌<◌, ◌⊎◌, ℕ, zero, suc, ◌*◌, ◌/◌, ◌%◌, ◌^◌, List, inl, inr, length, get_or, replicate, refl, sym, ◌∙◌, ap, arith, slice_set, bit_or, w64}
 use Rattle.std.specs.Int.{bit_at}
 use Rattle.std.specs.Prelude.{◌↔◌}
 use Rattle.std.proofs.lemmas.Bool.{cases_order}

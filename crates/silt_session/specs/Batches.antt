@@ -1,23 +1,18 @@
 -- What is done for a batch of jobs.
-use Rattle.std.specs.Prelude.{◌≡◌, ◌≢◌, ◌≤◌, ◌&&◌, ◌||◌, ◌⊎◌, ℕ, zero, suc, ◌+◌, Bool, true, false, IsSomeAnd, MatchOption, List, [], ◌∷◌, ◌++◌, drop, length, take, Option, Some, None, Result, Err, vec_capacity, vec_len}
+use Rattle.std.specs.Prelude.{◌≡◌, ◌≢◌, ◌≤◌, ◌&&◌, ◌||◌, ◌⊎◌, ℕ, zero, suc, ◌+◌, Bool, true, false, MatchOption, List, [], ◌∷◌, ◌++◌, drop, length, take, Option, Some, Err, vec_capacity, vec_len}
 use Rattle.std.specs.List.{AllZip}
 use Rattle.silt_disk.specs.declared.disk.Disk.{Ghosts}
-use Rattle.silt_event.specs.declared.event.Event.TheVariants as event
-use Rattle.silt_event.specs.declared.refusal.Refusal.{Refusal}
 use Rattle.silt_event.specs.declared.refusal.Refusal.TheVariants.{NoRoom}
 use Rattle.silt_store_set.specs.CoreState.{wants_convert, wants_merge}
-use Rattle.silt_store_set.specs.Replies.{change_reply, flush_reply, swap_reply}
-use Rattle.silt_desk.specs.DeskState.{DeskState, Serves}
-use Rattle.silt_desk.specs.Notes.{plain_answer}
+use Rattle.silt_desk.specs.DeskState.{DeskState}
 use Rattle.silt_desk.specs.Seats.{SeatState}
 use Rattle.silt_desk.specs.declared.trace.Trace.{Ghosts as TraceOf}
 use Rattle.silt_desk.specs.declared.worker.Due.{Due}
-use Rattle.silt_session.specs.Requests.{Answer, Flushed, compared, reply_due, reply_in}
+use Rattle.silt_session.specs.Origins.{Flushes, Performs}
+use Rattle.silt_session.specs.Requests.{Answer, Flushed, TaskState, reply_due}
 use Rattle.silt_session.specs.declared.held.Batch.{Batch}
 use Rattle.silt_session.specs.declared.job.Job.{Job}
 use Rattle.silt_session.specs.declared.job.Request.{Request}
-use Rattle.silt_session.specs.declared.job.Request.TheVariants.{Put, Delete, Swap, Flush}
-use Rattle.silt_session.specs.declared.job.Task.{Task}
 
 -- steps of a state, one after the other, take the items of one list to those of another
 abbrev pub StepsThrough : {S X : Type 0} → (S → X → X → S → Type 0) → S → List X → List X → S → Type 0
@@ -25,42 +20,17 @@ StepsThrough Steps before [] [] after = after ≡ before
 StepsThrough {S} Steps before (x ∷ xs) (y ∷ ys) after = (mid : S) × Steps before x y mid × StepsThrough Steps mid xs ys after
 StepsThrough Steps before xs ys after = ⊥
 
-module _ {D F T : Type 0} (facts : Ghosts D F) (trace : TraceOf T) where
-  -- the desk does a request with this result
-  abbrev pub Performs : DeskState D T → DeskState D T → SeatState → SeatState → Request → Option Answer → Type 0
-  Performs old new seat after (Put key value) (Some answer) =
-      (reported : Result ℕ (Refusal F)) × (answer ≡ compared (plain_answer reported))
-      × Serves facts trace old new seat after (event.Put key value) (change_reply reported)
-  Performs old new seat after (Delete key) (Some answer) =
-      (reported : Result ℕ (Refusal F)) × (answer ≡ compared (plain_answer reported))
-      × Serves facts trace old new seat after (event.Delete key) (change_reply reported)
-  Performs old new seat after (Swap key expected value) (Some answer) =
-      (reported : Result (Option ℕ) (Refusal F)) × (answer ≡ plain_answer reported)
-      × Serves facts trace old new seat after (event.Swap key expected value) (swap_reply reported)
-  Performs old new seat after (Put key value) None = (length value ≢ old.core.shape.value_len) × (new ≡ old) × (after ≡ seat)
-  Performs old new seat after (Swap key expected value) None =
-      (IsSomeAnd expected (λ v. length v ≢ old.core.shape.value_len) ⊎ IsSomeAnd value (λ v. length v ≢ old.core.shape.value_len))
-      × (new ≡ old) × (after ≡ seat)
-  Performs old new seat after Flush None = (new ≡ old) × (after ≡ seat)
-  Performs old new seat after request answer = ⊥
-
-  -- the desk does a flush from this seat with this result
-  abbrev pub Flushes : DeskState D T → DeskState D T → SeatState → SeatState → Flushed → Type 0
-  Flushes old new seat after answer =
-      (reported : Result ℕ (Refusal F)) × (answer ≡ plain_answer reported)
-      × Serves facts trace old new seat after event.Flush (flush_reply reported)
-
 -- a task has its reply after this flush, and is otherwise as it was
-abbrev pub RepliesTo : Flushed → Task → Task → Type 0
-RepliesTo flushed old new =
-    (reply_in new.reply ≡ reply_due old.request old.answer flushed) × (new.request ≡ old.request) × (new.answer ≡ old.answer)
+abbrev pub RepliesTo : Flushed → TaskState → TaskState → Type 0
+RepliesTo flushed old new = (new.reply ≡ reply_due old.request old.answer flushed) × (new.request ≡ old.request) × (new.answer ≡ old.answer)
 
 -- the same of each task of a job
-abbrev pub RepliesToJob : Flushed → Job → Job → Type 0
-RepliesToJob flushed old new = AllZip (RepliesTo flushed) old.tasks.items new.tasks.items × (new.replies ≡ old.replies)
+abbrev pub RepliesToJob : {D T N F : Type 0} → Flushed → Job D T N F → Job D T N F → Type 0
+RepliesToJob flushed old new =
+    AllZip (RepliesTo flushed) old.tasks.items new.tasks.items × (new.tasks.ticket ≡ old.tasks.ticket) × (new.replies ≡ old.replies)
 
 -- the same of each job
-abbrev pub RepliesToAll : Flushed → List Job → List Job → Type 0
+abbrev pub RepliesToAll : {D T N F : Type 0} → Flushed → List (Job D T N F) → List (Job D T N F) → Type 0
 RepliesToAll flushed old new = AllZip (RepliesToJob flushed) old new
 
 -- the background work that there is to do at this desk
@@ -83,18 +53,18 @@ MayMakeRoom desk answer due = MatchOption due (may_get_room desk answer ≡ fals
 -- ---- the jobs of a batch
 
 -- the jobs that are left to do, and behind them those that are done and wait for a flush
-abbrev pub left_in : Batch → List Job
+abbrev pub left_in : {D T N F : Type 0} → Batch D T N F → List (Job D T N F)
 left_in batch = take batch.left batch.jobs.items
 
-abbrev pub done_in : Batch → List Job
+abbrev pub done_in : {D T N F : Type 0} → Batch D T N F → List (Job D T N F)
 done_in batch = drop batch.left batch.jobs.items
 
 -- no more jobs are left than there are
-abbrev pub IsBatch : Batch → Type 0
+abbrev pub IsBatch : {D T N F : Type 0} → Batch D T N F → Type 0
 IsBatch batch = batch.left ≤ vec_len batch.jobs
 
 -- the jobs that are left to do stay, and there is room for as many jobs as before
-pub record KeepsLeft (old new : Batch) : Type 0 where
+pub record KeepsLeft {D T N F : Type 0} (old new : Batch D T N F) : Type 0 where
   pub left : left_in new ≡ left_in old
   pub count : new.left ≡ old.left
   pub within : IsBatch new
@@ -102,12 +72,12 @@ pub record KeepsLeft (old new : Batch) : Type 0 where
   pub room : vec_capacity new.jobs ≡ vec_capacity old.jobs
 
 -- where the writer is: its seat, and the jobs that are done and wait for a flush
-pub record WriterState : Type 0 where
+pub record WriterState (D T N F : Type 0) : Type 0 where
   pub seat : SeatState
-  pub done : List Job
+  pub done : List (Job D T N F)
 
 -- a writer at this seat with the jobs of this batch
-abbrev pub writer_at : SeatState → Batch → WriterState
+abbrev pub writer_at : {D T N F : Type 0} → SeatState → Batch D T N F → WriterState D T N F
 writer_at seat batch = record { seat = seat; done = done_in batch }
 
 module _ {D F T : Type 0} (facts : Ghosts D F) (trace : TraceOf T) where
@@ -140,15 +110,15 @@ module _ {D F T : Type 0} (facts : Ghosts D F) (trace : TraceOf T) where
       × (PerformsLast mid request answer after ⊎ ((answer ≡ Some (Err NoRoom)) × FindsNoRoom mid request after × ((times ≡ 6) ⊎ is_over)))
 
   -- one flush from this seat, and then the tasks of each of these jobs have their replies
-  abbrev pub EndsRound : WriterState → SeatState → Type 0
-  EndsRound writer after =
+  abbrev pub EndsRound : {N : Type 0} → WriterState D T N F → SeatState → Type 0
+  EndsRound {N} writer after =
       (flushed : Flushed) × (before : DeskState D T) × (then : DeskState D T) × Flushes facts trace before then writer.seat after flushed
-      × ((replied : List Job) × RepliesToAll flushed writer.done replied)
+      × ((replied : List (Job D T N F)) × RepliesToAll flushed writer.done replied)
 
-  module _ (seconds : ℕ) (is_over : Type 0) where
+  module _ {N : Type 0} (seconds : ℕ) (is_over : Type 0) where
     -- One call does a request, and no job is flushed. If it is refused for want of room, there is no work that may make room, or the
     -- writer does not wait.
-    abbrev pub PerformsAtOnce : WriterState → Request → Option Answer → WriterState → Type 0
+    abbrev pub PerformsAtOnce : WriterState D T N F → Request → Option Answer → WriterState D T N F → Type 0
     PerformsAtOnce writer request answer after =
         (after.done ≡ writer.done)
         × (PerformsLast writer.seat request answer after.seat
@@ -156,44 +126,44 @@ module _ {D F T : Type 0} (facts : Ghosts D F) (trace : TraceOf T) where
 
     -- One call is refused for want of room. Then the round ends: the jobs that are done have their replies, after a flush. Then at most
     -- seven more calls do the request.
-    abbrev pub PerformsLater : WriterState → Request → Option Answer → WriterState → Type 0
+    abbrev pub PerformsLater : WriterState D T N F → Request → Option Answer → WriterState D T N F → Type 0
     PerformsLater writer request answer after =
         (seconds ≢ 0) × (first : SeatState) × (second : SeatState) × FindsNoRoom writer.seat request first
         × EndsRound (record { seat = first; done = writer.done }) second × (after.done ≡ [])
         × TriesAgain is_over second request answer after.seat
 
     -- the desk does a request, at once or later
-    abbrev pub PerformsRequest : WriterState → Request → Option Answer → WriterState → Type 0
+    abbrev pub PerformsRequest : WriterState D T N F → Request → Option Answer → WriterState D T N F → Type 0
     PerformsRequest writer request answer after = PerformsAtOnce writer request answer after ⊎ PerformsLater writer request answer after
 
     -- the desk does a task's request, and the task has the result
-    abbrev pub PerformsTask : WriterState → Task → Task → WriterState → Type 0
+    abbrev pub PerformsTask : WriterState D T N F → TaskState → TaskState → WriterState D T N F → Type 0
     PerformsTask writer old new after =
         PerformsRequest writer old.request new.answer after × (new.request ≡ old.request) × (new.reply ≡ old.reply)
 
     -- the same for each task of a job, one after the other; then the job waits for a flush, behind the others
-    abbrev pub PerformsJob : WriterState → Job → Job → WriterState → Type 0
+    abbrev pub PerformsJob : WriterState D T N F → Job D T N F → Job D T N F → WriterState D T N F → Type 0
     PerformsJob writer old new after =
-        (done : List Job) × StepsThrough PerformsTask writer old.tasks.items new.tasks.items (record { seat = after.seat; done = done })
-        × (new.replies ≡ old.replies) × (after.done ≡ done ++ new ∷ [])
+        (done : List (Job D T N F)) × StepsThrough PerformsTask writer old.tasks.items new.tasks.items (record { seat = after.seat; done = done })
+        × (new.tasks.ticket ≡ old.tasks.ticket) × (new.replies ≡ old.replies) × (after.done ≡ done ++ new ∷ [])
 
     -- the same for each job, one after the other
-    abbrev pub PerformsAll : WriterState → List Job → List Job → WriterState → Type 0
+    abbrev pub PerformsAll : WriterState D T N F → List (Job D T N F) → List (Job D T N F) → WriterState D T N F → Type 0
     PerformsAll writer old new after = StepsThrough PerformsJob writer old new after
 
     -- The desk does each job's tasks in order. If one of them waits for room, the jobs before it are flushed, and have their replies. At
     -- the end comes one more flush, and then the tasks of each other job have their replies. This is the work to do after that flush.
-    abbrev pub ServesBatch : SeatState → List Job → List Job → SeatState → Due → Type 0
+    abbrev pub ServesBatch : SeatState → List (Job D T N F) → List (Job D T N F) → SeatState → Due → Type 0
     ServesBatch seat old new after due =
-        (done : List Job) × (mid : WriterState) × (flushed : Flushed) × (before : DeskState D T) × (then : DeskState D T)
+        (done : List (Job D T N F)) × (mid : WriterState D T N F) × (flushed : Flushed) × (before : DeskState D T) × (then : DeskState D T)
         × PerformsAll (record { seat = seat; done = [] }) old done mid
         × Flushes facts trace before then mid.seat after flushed
         × IsDueAt then due
         × RepliesToAll flushed mid.done new
 
     -- the desk does batch after batch from the seat, and this many jobs are taken in all
-    abbrev pub ServesBatches : SeatState → ℕ → List (List Job) → SeatState → ℕ → Type 0
+    abbrev pub ServesBatches : SeatState → ℕ → List (List (Job D T N F)) → SeatState → ℕ → Type 0
     ServesBatches seat taken [] after then = (after ≡ seat) × (then ≡ taken)
     ServesBatches seat taken (jobs ∷ batches) after then =
-        (left : List Job) × (mid : SeatState) × (due : Due) × ServesBatch seat jobs left mid due
+        (left : List (Job D T N F)) × (mid : SeatState) × (due : Due) × ServesBatch seat jobs left mid due
         × ServesBatches mid (taken + length jobs) batches after then

@@ -1,4 +1,6 @@
 pub mod Requests
+pub mod Origins
+pub mod JobLogs
 pub mod Batches
 pub mod Marks
 pub mod Sessions

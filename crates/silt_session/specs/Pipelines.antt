@@ -1,5 +1,5 @@
 -- The events that a session asks at once, on their way to replies.
-use Rattle.std.specs.Prelude.{◌≡◌, ◌≢◌, ◌⊎◌, ◌↔◌, ℕ, ◌+◌, ◌≤◌, Bool, false, true, nat_le, if◌then◌else◌, All, IfSome, IsSomeAnd, IsTrue, not, ◌&&◌, is_some, MatchBool, MatchOption, Ok, Option, Some, None, List, [], ◌∷◌, ◌++◌, vec_capacity, vec_len}
+use Rattle.std.specs.Prelude.{◌≡◌, ◌≢◌, ◌⊎◌, ◌↔◌, ℕ, ◌+◌, ◌≤◌, Bool, false, true, nat_le, if◌then◌else◌, All, IfSome, IsSomeAnd, IsTrue, not, ◌&&◌, is_some, MatchBool, MatchOption, map, Ok, Option, Some, None, List, [], ◌∷◌, ◌++◌, vec_capacity, vec_len}
 use Rattle.std.specs.List.{AllZip}
 use Rattle.std.specs.VecDeque.{deque_capacity, deque_len}
 use Rattle.silt_disk.specs.declared.disk.Disk.{Ghosts}
@@ -9,18 +9,17 @@ use Rattle.silt_event.specs.declared.event.Event.{Event}
 use Rattle.silt_event.specs.declared.event.Event.TheVariants.{Get, Convert, Merge}
 use Rattle.silt_event.specs.declared.refusal.Refusal.TheVariants.{NoMemory}
 use Rattle.silt_event.specs.declared.reply.Reply.TheVariants.{Acknowledged, NotServed, Refused}
-use Rattle.silt_inbox.specs.Answers.{event_kind}
-use Rattle.silt_inbox.specs.declared.answered.EventKind.TheVariants as kind
 use Rattle.silt_engine.specs.Lookup.{changes_key}
 use Rattle.silt_store_set.specs.CoreState.{CoreState}
 use Rattle.silt_store_set.specs.Replies.{get_reply}
 use Rattle.silt_store_set.specs.declared.store_core.Look.{Look}
+use Rattle.silt_desk.specs.declared.trace.Trace.{Ghosts as TraceOf}
 use Rattle.silt_session.specs.Marks.{IsMarked, mark_of}
-use Rattle.silt_session.specs.Requests.{Allows, HasReply, IsNew, asked_event, changed_key}
-use Rattle.silt_session.specs.Sessions.{AnswersGet, Came, IsAnswer, IsKept}
+use Rattle.silt_session.specs.Origins.{Origin}
+use Rattle.silt_session.specs.Requests.{IsNew, TaskState, asked_event, changed_key, requests_of}
+use Rattle.silt_session.specs.Sessions.{AnswersGet, IsAnswer, IsKept, IsReplyOf}
 use Rattle.silt_session.specs.declared.job.Request.{Request}
 use Rattle.silt_session.specs.declared.job.Request.TheVariants.{Flush}
-use Rattle.silt_session.specs.declared.job.Task.{Task}
 use Rattle.silt_session.specs.declared.key_marks.KeyMarks.{KeyMarks}
 use Rattle.silt_session.specs.declared.pipeline.Pipeline.{Pipeline}
 use Rattle.silt_session.specs.declared.place.Place.{Place}
@@ -51,92 +50,101 @@ shown_of settles value look = record { reply = get_reply value (Ok look.found); 
 -- the reply at a place if out of memory for the tasks
 abbrev pub reply_without_tasks : Place → PlainReply
 reply_without_tasks (Shows shown) = if is_some shown.until then Refused NoMemory else shown.reply
-reply_without_tasks (Waits kind) = Refused NoMemory
+reply_without_tasks Waits = Refused NoMemory
 
--- what a place takes of the tasks that came back, the next one if its request waited, and its reply
-abbrev pub FillsOne : Option PlainReply → List Task → Place → PlainReply → List Task → Type 0
-FillsOne flushed tasks (Shows shown) reply left = (given_by flushed shown ≡ Some reply) × (left ≡ tasks)
-FillsOne flushed tasks (Waits kind) reply left = (task : Task) × (tasks ≡ task ∷ left) × HasReply task reply × Allows kind reply
+module _ {D F T : Type 0} (facts : Ghosts D F) (trace : TraceOf T) where
+  -- what a place takes of the tasks that came back, the next one if its request waited, and its reply
+  abbrev pub FillsOne : Option PlainReply → List TaskState → Place → PlainReply → List TaskState → Type 0
+  FillsOne flushed tasks (Shows shown) reply left = (given_by flushed shown ≡ Some reply) × (left ≡ tasks)
+  FillsOne flushed tasks Waits reply left = (task : TaskState) × (tasks ≡ task ∷ left) × IsReplyOf facts trace task reply
 
--- the same of places in order
-abbrev pub Fills : Option PlainReply → List Task → List Place → List PlainReply → List Task → Type 0
-Fills flushed tasks [] [] left = left ≡ tasks
-Fills flushed tasks (place ∷ places) (reply ∷ replies) left =
-    (mid : List Task) × FillsOne flushed tasks place reply mid × Fills flushed mid places replies left
-Fills flushed tasks places replies left = ⊥
+  -- the same of places in order
+  abbrev pub Fills : Option PlainReply → List TaskState → List Place → List PlainReply → List TaskState → Type 0
+  Fills flushed tasks [] [] left = left ≡ tasks
+  Fills flushed tasks (place ∷ places) (reply ∷ replies) left =
+      (mid : List TaskState) × FillsOne flushed tasks place reply mid × Fills flushed mid places replies left
+  Fills flushed tasks places replies left = ⊥
 
--- the last task leaves, with this reply to a flush
-abbrev pub TakesFlush : List Task → List Task → PlainReply → Type 0
-TakesFlush tasks left reply = (task : Task) × (tasks ≡ left ++ task ∷ []) × HasReply task reply × Allows kind.Flush reply
+  -- the last task leaves, with this reply
+  abbrev pub TakesLast : List TaskState → List TaskState → PlainReply → Type 0
+  TakesLast tasks left reply = (task : TaskState) × (tasks ≡ left ++ task ∷ []) × IsReplyOf facts trace task reply
 
--- Places have these replies by the tasks that came back: each task of a request fills the next place that waits. The last task is that of
--- the flush if there is one.
-abbrev pub FillsAll : Bool → List Task → List Place → List PlainReply → Type 0
-FillsAll has_flush tasks places replies =
-    MatchBool has_flush
-    ((left : List Task) × (flushed : PlainReply) × TakesFlush tasks left flushed × Fills (Some flushed) left places replies [])
-    (Fills None tasks places replies [])
+  -- Places have these replies by the tasks that came back: each task of a request fills the next place that waits. The last task is that of
+  -- the flush if there is one.
+  abbrev pub FillsAll : Bool → List TaskState → List Place → List PlainReply → Type 0
+  FillsAll has_flush tasks places replies =
+      MatchBool has_flush
+      ((left : List TaskState) × (flushed : PlainReply) × TakesLast tasks left flushed × Fills (Some flushed) left places replies [])
+      (Fills None tasks places replies [])
 
--- these tasks were done, if there are any
-abbrev pub WereDone : (List Task → Type 0) → List Task → Type 0
-WereDone did tasks = (tasks ≡ []) ⊎ did tasks
+  -- there was no flush, or this reply comes from one
+  abbrev pub IsFlushedBy : Option PlainReply → Type 0
+  IsFlushedBy flushed = IfSome flushed (Origin facts trace Flush)
 
--- the reply to a flush came back, if there was one
-abbrev pub IsFlushedBy : (List Task → Type 0) → Option PlainReply → Type 0
-IsFlushedBy did flushed = IfSome flushed (Came did)
+  -- what is shown has this reply, by the reply to the flush that it waits for
+  abbrev pub SettlesShown : Shown → PlainReply → Type 0
+  SettlesShown shown reply =
+      (reply ≡ reply_without_tasks (Shows shown)) ⊎ ((flushed : Option PlainReply) × IsFlushedBy flushed × (given_by flushed shown ≡ Some reply))
 
--- a place has this reply once the tasks are back: that of its task, or what it shows, by the reply to the flush that it waits for
-abbrev pub Settles : (List Task → Type 0) → Place → PlainReply → Type 0
-Settles did (Waits kind) reply = (reply ≡ Refused NoMemory) ⊎ (Came did reply × Allows kind reply)
-Settles did (Shows shown) reply =
-    (reply ≡ reply_without_tasks (Shows shown)) ⊎ ((flushed : Option PlainReply) × IsFlushedBy did flushed × (given_by flushed shown ≡ Some reply))
+  -- places have these replies once the tasks are back: that of its own request where one waited, in order, or what is shown
+  abbrev pub SettlesEach : List Place → List Request → List PlainReply → Type 0
+  SettlesEach [] [] [] = Unit {0}
+  SettlesEach (Shows shown ∷ places) requests (reply ∷ replies) = SettlesShown shown reply × SettlesEach places requests replies
+  SettlesEach (Waits ∷ places) (request ∷ requests) (reply ∷ replies) = Origin facts trace request reply × SettlesEach places requests replies
+  SettlesEach places requests replies = ⊥
+
+-- the request of a flush, if it is needed
+abbrev pub flush_if : Bool → List Request
+flush_if needs_flush = if needs_flush then Flush ∷ [] else []
 
 -- ---- the places of a pipeline
 
 -- no request waits, and no reply waits for a flush
-pub record NothingWaits (pipeline : Pipeline) : Type 0 where
+pub record NothingWaits {D T F : Type 0} (pipeline : Pipeline D T F) : Type 0 where
   pub tasks : pipeline.tasks.items ≡ []
   pub memory : pipeline.lacks_memory ≡ false
   pub flush : pipeline.needs_flush ≡ false
   pub marks : (number : ℕ) → ¬ IsMarked pipeline.marks number
 
 -- the same, and each event has its reply
-abbrev pub IsSettled : Pipeline → Type 0
+abbrev pub IsSettled : {D T F : Type 0} → Pipeline D T F → Type 0
 IsSettled pipeline = (pipeline.places.items ≡ []) × NothingWaits pipeline
 
 -- no place is left, what waits stays, and there is as much room as before
-pub record MovesPlaces (old new : Pipeline) : Type 0 where
+pub record MovesPlaces {D T F : Type 0} (old new : Pipeline D T F) : Type 0 where
   pub places : new.places.items ≡ []
   pub same : new ≡ record old { replies = new.replies; places = new.places }
   pub replies_room : vec_capacity new.replies ≡ vec_capacity old.replies
   pub places_room : deque_capacity new.places ≡ deque_capacity old.places
 
 -- there is room for so many events more
-abbrev pub HasRoom : Pipeline → ℕ → Type 0
+abbrev pub HasRoom : {D T F : Type 0} → Pipeline D T F → ℕ → Type 0
 HasRoom pipeline n =
     (vec_len pipeline.replies + deque_len pipeline.places + n ≤ vec_capacity pipeline.replies) × (deque_len pipeline.places + n ≤ deque_capacity pipeline.places)
 
 -- the request's task, for which nothing is done yet, is behind those that wait, and memory sufficed for all of them
-abbrev pub GathersTask : Pipeline → Pipeline → Request → Type 0
+abbrev pub GathersTask : {D T F : Type 0} → Pipeline D T F → Pipeline D T F → Request → Type 0
 GathersTask old new request =
-    (old.lacks_memory ≡ false) × ((task : Task) × IsNew request task × (new.tasks.items ≡ old.tasks.items ++ task ∷ []))
+    (old.lacks_memory ≡ false) × ((task : TaskState) × IsNew request task × (new.tasks.items ≡ old.tasks.items ++ task ∷ []))
 
--- the requests that waited came back, and each place has its reply
-pub record SettlesAll (did : List Task → Type 0) (old new : Pipeline) : Type 0 where
-  pub given : List PlainReply
-  pub replies : new.replies.items ≡ old.replies.items ++ given
-  pub fits : AllZip (Settles did) old.places.items given
-  pub settled : IsSettled new
-  pub replies_room : vec_capacity new.replies ≡ vec_capacity old.replies
-  pub places_room : deque_capacity new.places ≡ deque_capacity old.places
+module _ {D F T : Type 0} (facts : Ghosts D F) (trace : TraceOf T) where
+  -- each place has its reply: the requests that waited came back, or out of memory for them
+  pub record SettlesAll (old new : Pipeline D T F) : Type 0 where
+    pub given : List PlainReply
+    pub replies : new.replies.items ≡ old.replies.items ++ given
+    pub fits : (given ≡ map reply_without_tasks old.places.items)
+        ⊎ ((old.lacks_memory ≡ false) × SettlesEach facts trace old.places.items (requests_of old.tasks.items) given)
+    pub settled : IsSettled new
+    pub replies_room : vec_capacity new.replies ≡ vec_capacity old.replies
+    pub places_room : deque_capacity new.places ≡ deque_capacity old.places
 
--- the same, or nothing happens
-abbrev pub MaySettle : (List Task → Type 0) → Pipeline → Pipeline → Type 0
-MaySettle did old new = (new ≡ old) ⊎ SettlesAll did old new
+  -- the same, or nothing happens
+  abbrev pub MaySettle : Pipeline D T F → Pipeline D T F → Type 0
+  MaySettle old new = (new ≡ old) ⊎ SettlesAll old new
 
 -- the tasks that are handed over: those that wait, and behind them a new one of a flush if it is needed
-abbrev pub AddsFlush : Bool → List Task → List Task → Type 0
-AddsFlush needs_flush tasks all = MatchBool needs_flush ((task : Task) × IsNew Flush task × (all ≡ tasks ++ task ∷ [])) (all ≡ tasks)
+abbrev pub AddsFlush : Bool → List TaskState → List TaskState → Type 0
+AddsFlush needs_flush tasks all = MatchBool needs_flush ((task : TaskState) × IsNew Flush task × (all ≡ tasks ++ task ∷ [])) (all ≡ tasks)
 
 -- these marks are set, and that of a key if there is one
 abbrev pub MarksToo : KeyMarks → Option Key → KeyMarks → Type 0
@@ -156,17 +164,17 @@ IsNoGetOf key event = Unit {0}
 abbrev pub NoneOvertakes : List Event → List Place → Type 0
 NoneOvertakes [] [] = Unit {0}
 NoneOvertakes (event ∷ events) (Shows shown ∷ places) = NoneOvertakes events places
-NoneOvertakes (event ∷ events) (Waits kind ∷ places) = All (IsNoGetOf (changed_key event)) events × NoneOvertakes events places
+NoneOvertakes (event ∷ events) (Waits ∷ places) = All (IsNoGetOf (changed_key event)) events × NoneOvertakes events places
 NoneOvertakes events places = ⊥
 
 -- the events whose requests wait
 abbrev pub waiting_events : List Event → List Place → List Event
-waiting_events (event ∷ events) (Waits kind ∷ places) = event ∷ waiting_events events places
+waiting_events (event ∷ events) (Waits ∷ places) = event ∷ waiting_events events places
 waiting_events (event ∷ events) (place ∷ places) = waiting_events events places
 waiting_events events places = []
 
 -- nothing is done yet for this event's request
-abbrev pub IsTaskOf : Event → Task → Type 0
+abbrev pub IsTaskOf : Event → TaskState → Type 0
 IsTaskOf event task = (request : Request) × (asked_event request ≡ event) × IsNew request task
 
 module _ {D F : Type 0} (facts : Ghosts D F) (settles : Bool) where
@@ -191,16 +199,17 @@ module _ {D F : Type 0} (facts : Ghosts D F) (settles : Bool) where
   -- the place of an event has a reply to it, or its request waits and its key is marked
   abbrev pub IsPlaceOf : KeyMarks → Event → Place → Type 0
   IsPlaceOf marks event (Shows shown) = IsShown event shown
-  IsPlaceOf marks event (Waits kind) =
-      ((request : Request) × (asked_event request ≡ event) × (kind ≡ event_kind event)) × IfSome (changed_key event) (λ key. IsMarked marks (mark_of key))
+  IsPlaceOf marks event Waits =
+      ((request : Request) × (asked_event request ≡ event)) × IfSome (changed_key event) (λ key. IsMarked marks (mark_of key))
 
-  -- The first of these events have their replies. Each other one has its place, in order, and the tasks are those of the requests that
-  -- wait. No get is looked up behind a request that changes its key and waits.
-  pub record AnswersSoFar (did : List Task → Type 0) (events : List Event) (pipeline : Pipeline) : Type 0 where
-    pub done : List Event
-    pub later : List Event
-    pub whole : events ≡ done ++ later
-    pub replied : AllZip (IsAnswer facts did settles) done pipeline.replies.items
-    pub placed : AllZip (IsPlaceOf pipeline.marks) later pipeline.places.items
-    pub tasks : pipeline.lacks_memory ≡ false → AllZip IsTaskOf (waiting_events later pipeline.places.items) pipeline.tasks.items
-    pub ordered : NoneOvertakes later pipeline.places.items
+  module _ {T : Type 0} (trace : TraceOf T) where
+    -- The first of these events have their replies. Each other one has its place, in order, and the tasks are those of the requests that
+    -- wait. No get is looked up behind a request that changes its key and waits.
+    pub record AnswersSoFar (events : List Event) (pipeline : Pipeline D T F) : Type 0 where
+      pub done : List Event
+      pub later : List Event
+      pub whole : events ≡ done ++ later
+      pub replied : AllZip (IsAnswer facts trace settles) done pipeline.replies.items
+      pub placed : AllZip (IsPlaceOf pipeline.marks) later pipeline.places.items
+      pub tasks : pipeline.lacks_memory ≡ false → AllZip IsTaskOf (waiting_events later pipeline.places.items) pipeline.tasks.items
+      pub ordered : NoneOvertakes later pipeline.places.items

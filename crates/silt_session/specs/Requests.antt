@@ -1,17 +1,13 @@
 -- Requests to the writer, and their replies.
-use Rattle.std.specs.Prelude.{◌≡◌, ℕ, true, Option, Some, None, Result, Ok, Err}
+use Rattle.std.specs.Prelude.{◌≡◌, ℕ, nat_le, if◌then◌else◌, Option, Some, None, Result, Ok, Err, List, map}
 use Rattle.silt_frame.specs.declared.key.Key.{Key}
 use Rattle.silt_event.specs.Events.{PlainReply}
 use Rattle.silt_event.specs.declared.event.Event.{Event}
 use Rattle.silt_event.specs.declared.event.Event.TheVariants as event
 use Rattle.silt_event.specs.declared.refusal.Refusal.{Refusal}
 use Rattle.silt_event.specs.declared.reply.Reply.TheVariants.{Accepted, Acknowledged, Differs, Refused, Unsettled}
-use Rattle.silt_inbox.specs.Answers.{is_allowed}
-use Rattle.silt_inbox.specs.declared.answered.Answered.{Answered}
-use Rattle.silt_inbox.specs.declared.answered.EventKind.{EventKind}
 use Rattle.silt_session.specs.declared.job.Request.{Request}
 use Rattle.silt_session.specs.declared.job.Request.TheVariants.{Put, Delete, Swap, Flush}
-use Rattle.silt_session.specs.declared.job.Task.{Task}
 
 -- the result of a flush at the desk, without its fault
 abbrev pub Flushed : Type 0
@@ -52,12 +48,12 @@ abbrev pub acknowledged : Flushed → PlainReply
 acknowledged (Ok n) = Acknowledged n
 acknowledged (Err refusal) = Refused refusal
 
--- the reply to a command with this result, after a flush with that one: an accepted command that was not flushed is unsettled, and a
--- swap that differs has that reply whether or not the flush is refused
+-- the reply to a command with this result, after a flush with that one: an accepted command is unsettled if the flush is refused or
+-- acknowledges fewer commands, and a swap that differs has that reply whether or not the flush is refused
 abbrev pub changed : Answer → Flushed → PlainReply
 changed (Err refusal) flushed = Refused refusal
 changed (Ok None) flushed = Differs
-changed (Ok (Some n)) (Ok m) = Accepted n
+changed (Ok (Some n)) (Ok m) = if nat_le n m then Accepted n else Unsettled n
 changed (Ok (Some n)) (Err refusal) = Unsettled n
 
 -- the reply to a request, by its own result and that of its batch's flush: no reply to a command that was not done
@@ -70,19 +66,16 @@ reply_due (Delete key) (Some answer) flushed = Some (changed answer flushed)
 reply_due (Swap key old new) (Some answer) flushed = Some (changed answer flushed)
 reply_due request None flushed = None
 
+-- what contracts see of a task: the request, its result at the desk if it was done, and its reply if there is one
+pub record TaskState : Type 0 where
+  pub request : Request
+  pub answer : Option Answer
+  pub reply : Option PlainReply
+
+-- the requests of tasks, in order
+abbrev pub requests_of : List TaskState → List Request
+requests_of tasks = map (λ (t : TaskState). t.request) tasks
+
 -- a request for which nothing is done yet
-abbrev pub IsNew : Request → Task → Type 0
+abbrev pub IsNew : Request → TaskState → Type 0
 IsNew request task = (task.request ≡ request) × (task.answer ≡ None) × (task.reply ≡ None)
-
--- the reply in a message
-abbrev pub reply_in : Option Answered → Option PlainReply
-reply_in None = None
-reply_in (Some answered) = Some answered.reply
-
--- this is the reply of the task
-abbrev pub HasReply : Task → PlainReply → Type 0
-HasReply task reply = reply_in task.reply ≡ Some reply
-
--- an event of this kind may have this reply
-abbrev pub Allows : EventKind → PlainReply → Type 0
-Allows kind reply = is_allowed kind reply ≡ true

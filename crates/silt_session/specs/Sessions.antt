@@ -1,5 +1,5 @@
 -- The replies to the events of a session.
-use Rattle.std.specs.Prelude.{◌≡◌, ◌⊎◌, ℕ, ◌≤◌, Bool, true, IsTrue, List, ◌∷◌, ◌++◌, Some, slice_get}
+use Rattle.std.specs.Prelude.{◌≡◌, ◌⊎◌, ℕ, ◌≤◌, Bool, true, IsTrue, List, Some, slice_get}
 use Rattle.silt_disk.specs.declared.disk.Disk.{Ghosts}
 use Rattle.silt_frame.specs.declared.key.Key.{Key}
 use Rattle.silt_event.specs.Events.{PlainReply, Step, plain}
@@ -9,10 +9,12 @@ use Rattle.silt_event.specs.declared.refusal.Refusal.{Refusal}
 use Rattle.silt_event.specs.declared.refusal.Refusal.TheVariants.{NoMemory}
 use Rattle.silt_event.specs.declared.reply.Reply.{Reply}
 use Rattle.silt_event.specs.declared.reply.Reply.TheVariants.{Acknowledged, Refused, NotServed}
-use Rattle.silt_inbox.specs.Answers.{event_kind}
 use Rattle.silt_store_set.specs.CoreState.{CoreState, Does}
-use Rattle.silt_session.specs.Requests.{Allows, HasReply}
-use Rattle.silt_session.specs.declared.job.Task.{Task}
+use Rattle.silt_desk.specs.declared.trace.Trace.{Ghosts as TraceOf}
+use Rattle.silt_session.specs.Origins.{Origin}
+use Rattle.silt_session.specs.Requests.{TaskState, asked_event}
+use Rattle.silt_session.specs.declared.job.Request.{Request}
+use Rattle.silt_session.specs.declared.job.Request.TheVariants.{Flush}
 use Rattle.silt_session.specs.declared.unanswered.Unanswered.{Unanswered}
 use Rattle.silt_session.specs.declared.unanswered.Unanswered.TheVariants as unanswered
 
@@ -25,30 +27,34 @@ module _ {D F : Type 0} (facts : Ghosts D F) where
   abbrev pub IsKept : CoreState D → Key → PlainReply → Type 0
   IsKept core key reply = IsTrue (facts.content core.disk).honest → Step core.base (Get key) reply core.base
 
--- one of the tasks that were done and came back has this reply
-abbrev pub Came : (List Task → Type 0) → PlainReply → Type 0
-Came did reply =
-    (tasks : List Task) × did tasks × (front : List Task) × (task : Task) × (rest : List Task) × (tasks ≡ front ++ task ∷ rest) × HasReply task reply
+module _ {D F T : Type 0} (facts : Ghosts D F) (trace : TraceOf T) where
+  -- the reply of a task comes from the task's request
+  abbrev pub IsReplyOf : TaskState → PlainReply → Type 0
+  IsReplyOf task reply = (task.reply ≡ Some reply) × Origin facts trace task.request reply
 
-module _ {D F : Type 0} (facts : Ghosts D F) (did : List Task → Type 0) (settles : Bool) where
-  -- a look at some store gives this reply; if gets settle what they show, the acknowledged commands give it too, or a flush
-  -- acknowledged all that were accepted
-  abbrev pub AnswersLook : Key → PlainReply → Type 0
-  AnswersLook key reply =
-      (core : CoreState D) × AnswersGet facts core key reply
-      × (settles ≡ true → IsKept facts core key reply ⊎ ((n : ℕ) × Came did (Acknowledged n) × (core.count ≤ n)))
+  -- the reply comes from the request of this event
+  abbrev pub ComesFrom : Event → PlainReply → Type 0
+  ComesFrom event reply = (request : Request) × (asked_event request ≡ event) × Origin facts trace request reply
 
-  -- the reply is why the flush behind a look is refused
-  abbrev pub IsUnsettledLook : PlainReply → Type 0
-  IsUnsettledLook reply = (settles ≡ true) × ((refusal : Refusal (Unit {0})) × (reply ≡ Refused refusal)) × Came did reply
+  module _ (settles : Bool) where
+    -- a look at some store gives this reply; if gets settle what they show, the acknowledged commands give it too, or a flush
+    -- acknowledged all that were accepted
+    abbrev pub AnswersLook : Key → PlainReply → Type 0
+    AnswersLook key reply =
+        (core : CoreState D) × AnswersGet facts core key reply
+        × (settles ≡ true → IsKept facts core key reply ⊎ ((n : ℕ) × Origin facts trace Flush (Acknowledged n) × (core.count ≤ n)))
 
-  -- A get has the reply of a look, or of the flush behind it, or of out of memory. A step is not served. Every other event has a reply
-  -- that came back and that its kind allows, or that of out of memory.
-  abbrev pub IsAnswer : Event → PlainReply → Type 0
-  IsAnswer (Get key) reply = (reply ≡ Refused NoMemory) ⊎ (AnswersLook key reply ⊎ IsUnsettledLook reply)
-  IsAnswer Convert reply = reply ≡ NotServed
-  IsAnswer Merge reply = reply ≡ NotServed
-  IsAnswer event reply = (reply ≡ Refused NoMemory) ⊎ (Came did reply × Allows (event_kind event) reply)
+    -- the reply is why the flush behind a look is refused
+    abbrev pub IsUnsettledLook : PlainReply → Type 0
+    IsUnsettledLook reply = (settles ≡ true) × ((refusal : Refusal (Unit {0})) × (reply ≡ Refused refusal)) × Origin facts trace Flush reply
+
+    -- A get has the reply of a look, or of the flush behind it, or of out of memory. A step is not served. Every other event has the reply
+    -- that comes from its own request, or that of out of memory.
+    abbrev pub IsAnswer : Event → PlainReply → Type 0
+    IsAnswer (Get key) reply = (reply ≡ Refused NoMemory) ⊎ (AnswersLook key reply ⊎ IsUnsettledLook reply)
+    IsAnswer Convert reply = reply ≡ NotServed
+    IsAnswer Merge reply = reply ≡ NotServed
+    IsAnswer event reply = (reply ≡ Refused NoMemory) ⊎ ComesFrom event reply
 
 -- what contracts see of a session's client: what it asks, and whether its session is lost
 pub record ClientState (A : Type 0) : Type 0 where

@@ -3,22 +3,24 @@ ghost use Rattle.std.specs.Prelude.{◌≡◌, ℕ, ◌+◌, ◌++◌, ◌∷◌
 ghost use Rattle.std.specs.List.{AllZip};
 ghost use Rattle.silt_event.specs.declared.event.Event.{Event as EventOf};
 ghost use Rattle.silt_event.specs.declared.event.Event.TheVariants as event_case;
-ghost use Rattle.silt_inbox.specs.Answers.{event_kind};
-ghost use Rattle.silt_session.specs.Pipelines.{AnswersSoFar, HasRoom, IsFree, IsSettled, IsShown, Looks, MaySettle, Settles, awaited, shown_of};
-ghost use Rattle.silt_session.specs.Requests.{Allows, IsNoRequest, asked_event};
-ghost use Rattle.silt_session.specs.Sessions.{Came, IsAnswer};
-ghost use Rattle.silt_session.specs.declared.place.Place.TheVariants as place;
+ghost use Rattle.silt_session.specs.Pipelines.{AnswersSoFar, HasRoom, IsFree, IsSettled, IsShown, Looks, MaySettle, SettlesShown, awaited, shown_of};
+ghost use Rattle.silt_session.specs.Requests.{IsNoRequest, requests_of};
+ghost use Rattle.silt_session.specs.Origins.{Origin};
+ghost use Rattle.silt_session.specs.Sessions.{IsAnswer};
 
-use crate::job::{Request, Task};
+use crate::job::Request;
+use crate::job_log::LogId;
 use crate::pipeline::{Pipeline, reply_alone};
 use crate::place::Shown;
-use crate::session::{Commits, Session};
+use crate::session::Session;
+use crate::task::Task;
 use crate::unanswered::Unanswered;
-use silt_desk::{Desk, DeskId, Look, Shared, Trace};
+use silt_desk::{Desk, DeskId, Look, Trace};
 use silt_disk::Disk;
 use silt_event::{Event, Refusal, Reply};
 use silt_frame::{Key, Value};
-use std::alloc::Global;
+use silt_inbox::InboxId;
+use std::alloc::{AllocError, Global};
 use std::sync::Wait;
 
 // How many commands a flush has to acknowledge before a look is shown, if it waits for one.
@@ -79,25 +81,30 @@ fn find<D: Disk, T: Trace, N: DeskId>(
     }
 }
 
-impl<S, W: Commits, R> Session<'_, S, W, R> {
+// The task of one request.
+fn alone<D: Disk, T: Trace>(alloc: Global, request: Request) -> Result<Vec<Task<D, T>>, AllocError>
+    ensures { IfOk result (λ tasks. requests_of tasks.items ≡ request ∷ []) }
+{
+    Ok(vec![in alloc; Task::new(request)]?)
+}
+
+impl<D: Disk, T: Trace, N: DeskId + InboxId + LogId, R: Wait> Session<'_, D, T, N, R> {
     // Has one request done, and returns its reply.
     fn request(&self, request: Request) -> Result<Reply<()>, Unanswered>
-        ensures came { IfOk result (Came (W.did self.now.writer)) }
-        ensures allowed { IfOk result (Allows (event_kind (asked_event request))) }
+        ensures { IfOk result (Origin D.Disk T.Trace request) }
     {
-        let kind = request.kind();
-        let Ok(tasks) = vec![in self.alloc; Task::new(request)] else {
+        let Ok(tasks) = alone(self.alloc, request) else {
             return Err(Unanswered::NoMemory);
         };
         match self.writer.commit(tasks) {
-            Ok(tasks) => reply_alone(tasks, kind).ok_or(Unanswered::Lost),
+            Ok(tasks) => reply_alone(tasks).ok_or(Unanswered::Lost),
             Err(lack) => Err(lack),
         }
     }
 
     // The reply to an event that is not for the writer, after a flush if it waits for one.
     fn give(&self, shown: Shown) -> Result<Reply<()>, Unanswered>
-        ensures { IfOk result (Settles (W.did self.now.writer) (place.Shows shown)) }
+        ensures { IfOk result (SettlesShown D.Disk T.Trace shown) }
     {
         let flushed = match shown.until {
             Some(_) => Some(self.request(Request::Flush)?),
@@ -107,10 +114,10 @@ impl<S, W: Commits, R> Session<'_, S, W, R> {
     }
 
     // Waits until no request waits that may change the key of this event.
-    fn settle_for(&self, pipeline: &mut Pipeline, event: &Event) -> Result<(), Unanswered>
+    fn settle_for(&self, pipeline: &mut Pipeline<D, T>, event: &Event) -> Result<(), Unanswered>
         requires { HasRoom pipeline.old 0 }
         ensures free { OnOk result (IsFree pipeline.new.marks event.now) }
-        ensures settled { OnOk result (MaySettle (W.did self.now.writer) pipeline.old pipeline.new) }
+        ensures settled { OnOk result (MaySettle D.Disk T.Trace pipeline.old pipeline.new) }
     {
         if pipeline.may_change(event) {
             pipeline.settle(self)
@@ -118,9 +125,7 @@ impl<S, W: Commits, R> Session<'_, S, W, R> {
             Ok(())
         }
     }
-}
 
-impl<D: Disk, T: Trace, N: DeskId, W: Commits, R: Wait> Session<'_, Shared<D, T, N>, W, R> {
     // The reply to an event that is not for the writer: a get is looked up, and a step is not served.
     fn answer_here(&self, event: &Event) -> Shown
         requires { IsNoRequest event.now }
@@ -144,7 +149,7 @@ impl<D: Disk, T: Trace, N: DeskId, W: Commits, R: Wait> Session<'_, Shared<D, T,
     ///
     /// No reply comes, or one that does not fit the event; or out of memory for the job.
     pub fn answer(&self, event: Event) -> Result<Reply<()>, Unanswered>
-        ensures { IfOk result (IsAnswer D.Disk (W.did self.now.writer) self.now.settles_gets event) }
+        ensures { IfOk result (IsAnswer D.Disk T.Trace self.now.settles_gets event) }
     {
         match Request::of(event) {
             Ok(request) => self.request(request),
@@ -153,10 +158,10 @@ impl<D: Disk, T: Trace, N: DeskId, W: Commits, R: Wait> Session<'_, Shared<D, T,
     }
 
     // Gives an event that is not for the writer its place, once no request waits that may change its key.
-    fn take_here(&self, pipeline: &mut Pipeline, event: &Event) -> Result<(), Unanswered>
+    fn take_here(&self, pipeline: &mut Pipeline<D, T>, event: &Event) -> Result<(), Unanswered>
         requires event { IsNoRequest event.now }
         requires room { HasRoom pipeline.old 1 }
-        ensures answers { OnOk result ((events : List EventOf) → AnswersSoFar D.Disk self.now.settles_gets (W.did self.now.writer) events pipeline.old → AnswersSoFar D.Disk self.now.settles_gets (W.did self.now.writer) (events ++ event.now ∷ []) pipeline.new) }
+        ensures answers { OnOk result ((events : List EventOf) → AnswersSoFar D.Disk self.now.settles_gets T.Trace events pipeline.old → AnswersSoFar D.Disk self.now.settles_gets T.Trace (events ++ event.now ∷ []) pipeline.new) }
         ensures room { OnOk result ((n : ℕ) → HasRoom pipeline.old (n + 1) → HasRoom pipeline.new n) }
     {
         self.settle_for(pipeline, event)?;
@@ -165,9 +170,9 @@ impl<D: Disk, T: Trace, N: DeskId, W: Commits, R: Wait> Session<'_, Shared<D, T,
     }
 
     // Takes one more event. A request waits for the writer.
-    fn take(&self, pipeline: &mut Pipeline, event: Event) -> Result<(), Unanswered>
+    fn take(&self, pipeline: &mut Pipeline<D, T>, event: Event) -> Result<(), Unanswered>
         requires { HasRoom pipeline.old 1 }
-        ensures answers { OnOk result ((events : List EventOf) → AnswersSoFar D.Disk self.now.settles_gets (W.did self.now.writer) events pipeline.old → AnswersSoFar D.Disk self.now.settles_gets (W.did self.now.writer) (events ++ event ∷ []) pipeline.new) }
+        ensures answers { OnOk result ((events : List EventOf) → AnswersSoFar D.Disk self.now.settles_gets T.Trace events pipeline.old → AnswersSoFar D.Disk self.now.settles_gets T.Trace (events ++ event ∷ []) pipeline.new) }
         ensures room { OnOk result ((n : ℕ) → HasRoom pipeline.old (n + 1) → HasRoom pipeline.new n) }
     {
         match Request::of(event) {
@@ -180,11 +185,11 @@ impl<D: Disk, T: Trace, N: DeskId, W: Commits, R: Wait> Session<'_, Shared<D, T,
     }
 
     // Takes all events, and waits until the last requests are done.
-    fn take_all(&self, pipeline: &mut Pipeline, events: Vec<Event>) -> Result<(), Unanswered>
+    fn take_all(&self, pipeline: &mut Pipeline<D, T>, events: Vec<Event>) -> Result<(), Unanswered>
         requires settled { IsSettled pipeline.old }
         requires none { pipeline.old.replies.items ≡ [] }
         requires room { HasRoom pipeline.old (vec_len events) }
-        ensures { OnOk result (AllZip (IsAnswer D.Disk (W.did self.now.writer) self.now.settles_gets) events.items pipeline.new.replies.items) }
+        ensures { OnOk result (AllZip (IsAnswer D.Disk T.Trace self.now.settles_gets) events.items pipeline.new.replies.items) }
     {
         for event in events {
             self.take(pipeline, event)?;
@@ -200,7 +205,7 @@ impl<D: Disk, T: Trace, N: DeskId, W: Commits, R: Wait> Session<'_, Shared<D, T,
     ///
     /// No reply comes, or one that does not fit its event; or out of memory for the replies.
     pub fn answer_all(&self, events: Vec<Event>) -> Result<Vec<Reply<()>>, Unanswered>
-        ensures { IfOk result (λ replies. AllZip (IsAnswer D.Disk (W.did self.now.writer) self.now.settles_gets) events.items replies.items) }
+        ensures { IfOk result (λ replies. AllZip (IsAnswer D.Disk T.Trace self.now.settles_gets) events.items replies.items) }
     {
         let Ok(mut pipeline) = Pipeline::new(self.alloc, events.len()) else {
             return Err(Unanswered::NoMemory);

@@ -1,12 +1,15 @@
 // A batch of jobs: the tasks of each are done, then all is flushed once, and then each task has its reply.
 ghost use Rattle.std.specs.Prelude.{◌≡◌, ◌≢◌, ◌≤◌, [], true, false, length, IfSome, IsSomeAnd, List, vec_capacity, vec_len};
-ghost use Rattle.silt_session.specs.Batches.{EndsRound, Flushes, IsBatch, IsDueAt, KeepsLeft, MayMakeRoom, Performs, PerformsAll, PerformsRequest, PerformsTask, ServesBatch, StepsThrough, TriesAgain, TriesOnce, done_in, left_in, writer_at};
+ghost use Rattle.silt_session.specs.Batches.{EndsRound, IsBatch, IsDueAt, KeepsLeft, MayMakeRoom, PerformsAll, PerformsRequest, PerformsTask, ServesBatch, StepsThrough, TriesAgain, TriesOnce, done_in, left_in, writer_at};
+ghost use Rattle.silt_session.specs.Origins.{Flushes, Performs};
 ghost use Rattle.silt_session.specs.Requests.{compared};
 ghost use Rattle.silt_session.specs.declared.job.Job.{Job as JobOf};
 
 use crate::held::{Batch, reply_to_all};
-use crate::job::{Answer, Job, Request, Task};
+use crate::job::{Job, Request, Tasks};
+use crate::job_log::LogId;
 use crate::room::{HearsRoom, RoomWait};
+use crate::task::{Answer, Task};
 use silt_desk::{Desk, DeskId, Due, Gate, Seat, Shared, Spot, Trace, plain};
 use silt_disk::Disk;
 use silt_event::{Refusal, bytes_of};
@@ -133,7 +136,7 @@ fn try_at<D: Disk, T: Trace, N: DeskId>(
     (answer, due)
 }
 
-impl<D: Disk, T: Trace, N: DeskId, G: Gate, H: HearsRoom, R: Wait + Clock> Workplace<
+impl<D: Disk, T: Trace, N: DeskId + LogId, G: Gate, H: HearsRoom, R: Wait + Clock> Workplace<
     '_,
     D,
     T,
@@ -185,7 +188,7 @@ impl<D: Disk, T: Trace, N: DeskId, G: Gate, H: HearsRoom, R: Wait + Clock> Workp
     }
 
     // Flushes, and sends the replies to the jobs that are done.
-    fn end_round(&self, seat: &mut Seat<N>, batch: &mut Batch)
+    fn end_round(&self, seat: &mut Seat<N>, batch: &mut Batch<D, T, N>)
         requires { IsBatch batch.old }
         ensures round { EndsRound D.Disk T.Trace (writer_at seat.old batch.old) seat.new }
         ensures none { done_in batch.new ≡ [] }
@@ -202,7 +205,7 @@ impl<D: Disk, T: Trace, N: DeskId, G: Gate, H: HearsRoom, R: Wait + Clock> Workp
     fn perform_request(
         &self,
         seat: &mut Seat<N>,
-        batch: &mut Batch,
+        batch: &mut Batch<D, T, N>,
         request: &Request,
     ) -> Option<Answer>
         requires { IsBatch batch.old }
@@ -222,26 +225,46 @@ impl<D: Disk, T: Trace, N: DeskId, G: Gate, H: HearsRoom, R: Wait + Clock> Workp
     }
 
     // Does each task's request, in order.
-    fn perform_tasks(&self, seat: &mut Seat<N>, batch: &mut Batch, tasks: &mut Vec<Task>)
+    fn perform_tasks(
+        &self,
+        seat: &mut Seat<N>,
+        batch: &mut Batch<D, T, N>,
+        tasks: &mut Vec<Task<D, T>>,
+    )
         requires { IsBatch batch.old }
         ensures steps { StepsThrough (PerformsTask D.Disk T.Trace self.now.room.now.seconds (H.has_ended self.now.room.now.heard)) (writer_at seat.old batch.old) tasks.old.items tasks.new.items (writer_at seat.new batch.new) }
         ensures left { KeepsLeft batch.old batch.new }
     {
         for task in tasks.iter_mut() {
-            let answer = self.perform_request(seat, batch, &task.request);
-            task.answer = answer;
+            let answer = self.perform_request(seat, batch, task.request());
+            task.finish(answer);
         }
     }
 
+    // Does the tasks of a job, in order.
+    fn perform_job(
+        &self,
+        seat: &mut Seat<N>,
+        batch: &mut Batch<D, T, N>,
+        tasks: &mut Tasks<D, T, N>,
+    )
+        requires { IsBatch batch.old }
+        ensures steps { StepsThrough (PerformsTask D.Disk T.Trace self.now.room.now.seconds (H.has_ended self.now.room.now.heard)) (writer_at seat.old batch.old) tasks.old.items tasks.new.items (writer_at seat.new batch.new) }
+        ensures left { KeepsLeft batch.old batch.new }
+        ensures ticket { tasks.new.ticket ≡ tasks.old.ticket }
+    {
+        self.perform_tasks(seat, batch, &mut tasks.items);
+    }
+
     // Does the tasks of each job, in order.
-    fn perform_all(&self, seat: &mut Seat<N>, batch: &mut Batch)
+    fn perform_all(&self, seat: &mut Seat<N>, batch: &mut Batch<D, T, N>)
         requires within { IsBatch batch.old }
         requires room { vec_len batch.old.jobs ≤ vec_capacity batch.old.jobs }
-        ensures steps { (done : List JobOf) × PerformsAll D.Disk T.Trace self.now.room.now.seconds (H.has_ended self.now.room.now.heard) (writer_at seat.old batch.old) (left_in batch.old) done (writer_at seat.new batch.new) }
+        ensures steps { (done : List (JobOf D T N D.Fault)) × PerformsAll D.Disk T.Trace self.now.room.now.seconds (H.has_ended self.now.room.now.heard) (writer_at seat.old batch.old) (left_in batch.old) done (writer_at seat.new batch.new) }
         ensures none { batch.new.left ≡ 0 }
     {
         while let Some(mut job) = batch.next() {
-            self.perform_tasks(seat, batch, &mut job.tasks);
+            self.perform_job(seat, batch, &mut job.tasks);
             batch.hold(job);
         }
     }
@@ -252,7 +275,11 @@ impl<D: Disk, T: Trace, N: DeskId, G: Gate, H: HearsRoom, R: Wait + Clock> Workp
     ///
     /// If a command is refused for want of room that a worker may make, it waits for room. Before that it flushes, and
     /// sends the replies to the jobs that are done.
-    pub fn serve_batch(&self, seat: &mut Seat<N>, jobs: Vec<Job>) -> (Vec<Job>, Due)
+    pub fn serve_batch(
+        &self,
+        seat: &mut Seat<N>,
+        jobs: Vec<Job<D, T, N>>,
+    ) -> (Vec<Job<D, T, N>>, Due)
         ensures number { seat.new.number ≡ seat.old.number }
         ensures batch { ServesBatch D.Disk T.Trace self.now.room.now.seconds (H.has_ended self.now.room.now.heard) seat.old jobs.items result.0.items seat.new result.1 }
     {

@@ -1,13 +1,18 @@
 // What goes from the sessions to the writer.
-ghost use Rattle.std.specs.Prelude.{◌≡◌, ◌≢◌, IfNone, IfSome, MatchResult};
+ghost use Rattle.std.specs.Prelude.{◌≡◌, Some, IfSome, MatchResult};
 ghost use Rattle.std.specs.Option.{option_copied};
-ghost use Rattle.silt_inbox.specs.Answers.{event_kind};
-ghost use Rattle.silt_session.specs.Requests.{Allows, HasReply, IsNew, IsNoRequest, acknowledged, changed, changed_key, asked_event, reply_due, reply_in};
+ghost use Rattle.silt_session.specs.Requests.{IsNoRequest, asked_event, changed_key, requests_of};
 
-use crossbeam_channel::Sender;
-use silt_event::{Event, Refusal, Reply};
+use crate::job_log::{JobLog, LogId};
+use crate::task::Task;
+use crate::ticket::Ticket;
+use crossbeam_channel::{Receiver, Sender};
+use silt_desk::Trace;
+use silt_disk::Disk;
+use silt_event::Event;
 use silt_frame::{Key, Value};
-use silt_inbox::{Answered, EventKind};
+use std::alloc::Global;
+use std::marker::Model;
 use std::sync::Wait;
 
 /// A request of a session to the writer.
@@ -21,18 +26,6 @@ pub enum Request {
 }
 
 impl Request {
-    /// The kind of the request's event.
-    pub fn kind(&self) -> EventKind
-        ensures { result ≡ event_kind (asked_event self.now) }
-    {
-        match self {
-            Request::Put(_, _) => EventKind::Put,
-            Request::Delete(_) => EventKind::Delete,
-            Request::Swap(_, _, _) => EventKind::Swap,
-            Request::Flush => EventKind::Flush,
-        }
-    }
-
     /// The key that the request may change.
     pub(crate) fn key(&self) -> Option<&Key>
         ensures { option_copied result ≡ changed_key (asked_event self.now) }
@@ -61,51 +54,70 @@ impl Request {
     }
 }
 
-/// The result of a command at the desk: the number of an accepted one, or `None` if a swap's old value differs.
-pub(crate) type Answer = Result<Option<u64>, Refusal<()>>;
-
-/// A request in progress: its result at the desk, and its reply.
+/// The tasks of a job, with its ticket. Its type says that the ticket was drawn for them.
 #[derive(Drop)]
-pub struct Task {
-    pub request: Request,
-    pub answer: Option<Result<Option<u64>, Refusal<()>>>,
-    pub reply: Option<Answered>,
+pub struct Tasks<D: Disk, T: Trace, N: LogId> {
+    pub(crate) items: Vec<Task<D, T>>,
+    ticket: Ticket<N>,
 }
 
-impl Task {
-    /// A request for which nothing is done yet.
-    pub fn new(request: Request) -> Task
-        ensures { IsNew request result }
-    {
-        Task {
-            request,
-            answer: None,
-            reply: None,
-        }
-    }
+impl<D: Disk, T: Trace, N: LogId> Model for Tasks<D, T, N> {
+    ghost use Rattle.std.specs.Prelude.{◌≡◌, Some};
+    ghost use Rattle.silt_session.specs.JobLogs.{TasksState};
+    ghost use Rattle.silt_session.specs.Requests.{requests_of};
 
-    /// The reply, if it is one to an event of this kind.
-    pub(crate) fn into_reply(self, kind: EventKind) -> Option<Reply<()>>
-        ensures reply { IfSome result (HasReply self) }
-        ensures allowed { IfSome result (Allows kind) }
-        ensures none { IfNone result (IfSome self.reply (λ answered. answered.kind ≢ kind)) }
+    ghost Value = { TasksState };
+
+    ghost view = { λ t. record { items = t.items.items; ticket = t.ticket } };
+
+    ghost invariant = { λ t. t.ticket.asked ≡ Some (requests_of t.items.items) };
+}
+
+impl<D: Disk, T: Trace, N: LogId> Tasks<D, T, N> {
+    /// The tasks, in order.
+    pub fn into_items(self) -> Vec<Task<D, T>>
+        ensures items { result.items ≡ self.items }
+        ensures asked { self.ticket.asked ≡ Some (requests_of result.items) }
     {
-        let answered = self.reply?;
-        if answered.kind() != kind {
-            return None;
-        }
-        Some(answered.into_reply())
+        self.items
     }
 }
 
 /// The tasks that a session hands over at once, and where they go back with their replies.
 #[derive(Drop)]
-pub struct Job {
-    pub tasks: Vec<Task>,
-    pub replies: Sender<Vec<Task>>,
+pub struct Job<D: Disk, T: Trace, N: LogId> {
+    pub tasks: Tasks<D, T, N>,
+    pub replies: Sender<Tasks<D, T, N>>,
 }
 
-impl Job {
+/// Where the tasks of a job come back, and its ticket.
+#[derive(Drop)]
+pub struct Awaited<D: Disk, T: Trace, N: LogId> {
+    pub ticket: Ticket<N>,
+    pub back: Receiver<Tasks<D, T, N>>,
+}
+
+impl<D: Disk, T: Trace, N: LogId> Job<D, T, N> {
+    /// A job of these tasks, and where they come back. It draws a ticket. None if out of memory for the channel.
+    pub fn new<R: Wait>(
+        rt: &R,
+        alloc: Global,
+        log: &JobLog<N>,
+        tasks: Vec<Task<D, T>>,
+    ) -> Option<(Job<D, T, N>, Awaited<D, T, N>)>
+        ensures tasks { IfSome result (λ made. made.0.tasks.items ≡ tasks.items) }
+        ensures asked { IfSome result (λ made. made.1.ticket.asked ≡ Some (requests_of tasks.items)) }
+    {
+        let (replies, back) = crossbeam_channel::bounded(alloc, 1).ok()?;
+        let ticket = Ticket::draw(rt, log, &tasks)?;
+        let mine = ticket.again();
+        let tasks = Tasks {
+            items: tasks,
+            ticket,
+        };
+        Some((Job { tasks, replies }, Awaited { ticket: mine, back }))
+    }
+
     /// Sends the tasks back with their replies. It takes no memory.
     pub(crate) fn send<R: Wait>(self, rt: &R) {
         let Job { tasks, replies } = self;
@@ -113,43 +125,15 @@ impl Job {
     }
 }
 
-/// The reply to a request with this result at the desk, after a flush of its batch with that result.
-pub(crate) fn reply_after(
-    request: &Request,
-    answer: &Option<Answer>,
-    flushed: &Result<u64, Refusal<()>>,
-) -> Option<Answered>
-    ensures { reply_in result ≡ reply_due request.now answer.now flushed.now }
-{
-    let reply = match request {
-        Request::Flush => acknowledged(flushed),
-        Request::Swap(_, _, _) => changed(answer.as_ref()?, flushed),
-        Request::Put(_, _) | Request::Delete(_) => match answer {
-            None | Some(Ok(None)) => return None,
-            Some(answer) => changed(answer, flushed),
-        },
-    };
-    Some(Answered::new(request.kind(), reply))
-}
-
-// The reply to a command, by its result and that of the flush after it.
-fn changed(answer: &Answer, flushed: &Result<u64, Refusal<()>>) -> Reply<()>
-    ensures { result ≡ changed answer.now flushed.now }
-{
-    match (answer, flushed) {
-        (Ok(Some(count)), Ok(_)) => Reply::Accepted(*count),
-        (Ok(Some(count)), Err(_)) => Reply::Unsettled(*count),
-        (Ok(None), _) => Reply::Differs,
-        (Err(refusal), _) => Reply::Refused(*refusal),
-    }
-}
-
-// The reply to a flush with this result.
-fn acknowledged(flushed: &Result<u64, Refusal<()>>) -> Reply<()>
-    ensures { result ≡ acknowledged flushed.now }
-{
-    match flushed {
-        Ok(count) => Reply::Acknowledged(*count),
-        Err(refusal) => Reply::Refused(*refusal),
+impl<D: Disk, T: Trace, N: LogId> Awaited<D, T, N> {
+    /// Waits until the tasks come back. None if they do not, or if those of another job come.
+    pub fn wait<R: Wait>(&self, rt: &R) -> Option<Vec<Task<D, T>>>
+        ensures { IfSome result (λ tasks. self.now.ticket.asked ≡ Some (requests_of tasks.items)) }
+    {
+        let tasks = self.back.recv(rt).ok()?;
+        if !tasks.ticket.is(&self.ticket) {
+            return None;
+        }
+        Some(tasks.into_items())
     }
 }

@@ -9,7 +9,9 @@
 //! A job has one [`Task`], or all changes of one read up to a get of a key that one of them may change. So a client that
 //! writes many lines before it reads waits for one flush, and its get still sees its changes before it.
 //!
-//! The contract of [`Workplace::serve_batch`] states the replies to a batch of jobs. Nothing is proved of whether messages arrive.
+//! The contract of [`Workplace::serve_batch`] states the replies to a batch of jobs, and that of [`Session::answer_all`] that each
+//! reply comes from its own request: a [`Task`] keeps which calls its reply comes from, and a [`Ticket`] says whose job it is.
+//! Nothing is proved of whether messages arrive.
 #![tactic(auto)]
 
 mod answers;
@@ -17,6 +19,7 @@ mod batch;
 mod client;
 mod held;
 mod job;
+mod job_log;
 mod key_marks;
 mod outlet;
 mod pipeline;
@@ -25,16 +28,21 @@ mod replier;
 mod room;
 mod session;
 mod session_slots;
+mod task;
+mod ticket;
 mod unanswered;
 mod work;
 
 pub use batch::Workplace;
 pub use client::{AskBy, Asking, Client};
-pub use job::{Job, Request, Task};
+pub use job::{Awaited, Job, Request, Tasks};
+pub use job_log::{JobLog, LogId, LogStart, LogView};
 pub use outlet::Outlet;
 pub use replier::{replier_channel, send_batches, send_replies};
 pub use room::{HearsRoom, RoomGate, RoomWait, room_channel};
-pub use session::{Commits, Session, WriterLink};
+pub use session::{Session, WriterLink};
 pub use session_slots::{SessionSlot, free_slot, slots_of};
+pub use task::Task;
+pub use ticket::Ticket;
 pub use unanswered::Unanswered;
 pub use work::Jobs;

@@ -2,31 +2,35 @@
 ghost use Rattle.std.specs.Prelude.{◌≡◌, ◌≤◌, ◌<◌, ◌+◌, ◌++◌, ◌∷◌, ◌||◌, ◌↔◌, [], List, false, is_some, map, true, IfOk, IfSome, OnOk, vec_capacity, vec_len};
 ghost use Rattle.std.specs.VecDeque.{deque_capacity, deque_len};
 ghost use Rattle.silt_event.specs.Events.{PlainReply};
-ghost use Rattle.silt_inbox.specs.Answers.{event_kind};
 ghost use Rattle.silt_session.specs.Pipelines.{AddsFlush, Fills, FillsAll, GathersTask, IsFree, IsSettled, MarksToo, MovesPlaces, NothingWaits};
-ghost use Rattle.silt_session.specs.Pipelines.{SettlesAll, TakesFlush, WereDone, reply_without_tasks};
-ghost use Rattle.silt_session.specs.Requests.{Allows, HasReply, asked_event, changed_key};
-ghost use Rattle.silt_session.specs.declared.job.Task.{Task as TaskOf};
+ghost use Rattle.silt_session.specs.Pipelines.{SettlesAll, TakesLast, flush_if, reply_without_tasks};
+ghost use Rattle.silt_session.specs.Requests.{TaskState, asked_event, changed_key, requests_of};
+ghost use Rattle.silt_session.specs.Sessions.{IsReplyOf};
 ghost use Rattle.silt_session.specs.declared.place.Place.TheVariants as place;
 
-use crate::job::{Request, Task};
+use crate::job::Request;
+use crate::job_log::LogId;
 use crate::key_marks::KeyMarks;
 use crate::place::{Place, Shown};
-use crate::session::{Commits, Session};
+use crate::session::Session;
+use crate::task::Task;
 use crate::unanswered::Unanswered;
+use silt_desk::{DeskId, Trace};
+use silt_disk::Disk;
 use silt_event::{Event, Reply};
-use silt_inbox::EventKind;
+use silt_inbox::InboxId;
 use std::alloc::{AllocError, Global};
 use std::collections::VecDeque;
 use std::mem;
+use std::sync::Wait;
 
 /// The replies to the first events, and the places of those behind them, in order.
 #[derive(Drop)]
-pub struct Pipeline {
+pub struct Pipeline<D: Disk, T: Trace> {
     pub replies: Vec<Reply<()>>,
     pub places: VecDeque<Place>,
     /// The tasks of the requests that wait, in order, unless out of memory for one of them.
-    pub tasks: Vec<Task>,
+    pub tasks: Vec<Task<D, T>>,
     pub lacks_memory: bool,
     /// The keys that these requests may change.
     pub marks: KeyMarks,
@@ -34,9 +38,9 @@ pub struct Pipeline {
     pub needs_flush: bool,
 }
 
-impl Pipeline {
+impl<D: Disk, T: Trace> Pipeline<D, T> {
     /// A pipeline for this many events. All memory for their replies is reserved.
-    pub fn new(alloc: Global, count: usize) -> Result<Pipeline, AllocError>
+    pub fn new(alloc: Global, count: usize) -> Result<Pipeline<D, T>, AllocError>
         ensures settled { IfOk result IsSettled }
         ensures none { IfOk result (λ pipeline. pipeline.replies.items ≡ []) }
         ensures replies { IfOk result (λ pipeline. count ≤ vec_capacity pipeline.replies) }
@@ -65,14 +69,14 @@ impl Pipeline {
     /// Adds a request to those that wait. If out of memory for its task, none of them is done.
     pub fn gather(&mut self, request: Request)
         requires room { deque_len self.old.places < deque_capacity self.old.places }
-        ensures places { self.new.places.items ≡ self.old.places.items ++ place.Waits (event_kind (asked_event request)) ∷ [] }
+        ensures places { self.new.places.items ≡ self.old.places.items ++ place.Waits ∷ [] }
         ensures tasks { self.new.lacks_memory ≡ false → GathersTask self.old self.new request }
         ensures marks { MarksToo self.old.marks (changed_key (asked_event request)) self.new.marks }
         ensures room { deque_capacity self.new.places ≡ deque_capacity self.old.places }
         ensures same { (self.new.replies ≡ self.old.replies) × (self.new.needs_flush ≡ self.old.needs_flush) }
     {
         self.mark(&request);
-        self.places.push_back_reserved(Place::Waits(request.kind()));
+        self.places.push_back_reserved(Place::Waits);
         let Ok(()) = self.tasks.push(Task::new(request)) else {
             self.lacks_memory = true;
             return;
@@ -108,12 +112,12 @@ impl Pipeline {
     /// # Errors
     ///
     /// No reply comes, or one that does not fit.
-    pub fn settle<S, W: Commits, R>(
+    pub fn settle<N: DeskId + InboxId + LogId, R: Wait>(
         &mut self,
-        session: &Session<'_, S, W, R>,
+        session: &Session<'_, D, T, N, R>,
     ) -> Result<(), Unanswered>
         requires room { vec_len self.old.replies + deque_len self.old.places ≤ vec_capacity self.old.replies }
-        ensures { OnOk result (SettlesAll (W.did session.now.writer) self.old self.new) }
+        ensures { OnOk result (SettlesAll D.Disk T.Trace self.old self.new) }
     {
         let has_flush = self.needs_flush;
         match self.commit(session) {
@@ -128,7 +132,7 @@ impl Pipeline {
 
     // Takes the tasks that wait, with that of a flush behind them if a reply waits for one. None if out of memory for one
     // of them.
-    fn take_tasks(&mut self, alloc: Global) -> Option<Vec<Task>>
+    fn take_tasks(&mut self, alloc: Global) -> Option<Vec<Task<D, T>>>
         ensures tasks { IfSome result (λ tasks. (self.old.lacks_memory ≡ false) × AddsFlush self.old.needs_flush self.old.tasks.items tasks.items) }
         ensures none { NothingWaits self.new }
         ensures same { (self.new.replies ≡ self.old.replies) × (self.new.places ≡ self.old.places) }
@@ -145,11 +149,11 @@ impl Pipeline {
     }
 
     // Has the tasks that wait done, if there are any.
-    fn commit<S, W: Commits, R>(
+    fn commit<N: DeskId + InboxId + LogId, R: Wait>(
         &mut self,
-        session: &Session<'_, S, W, R>,
-    ) -> Result<Vec<Task>, Unanswered>
-        ensures done { IfOk result (λ tasks. WereDone (W.did session.now.writer) tasks.items) }
+        session: &Session<'_, D, T, N, R>,
+    ) -> Result<Vec<Task<D, T>>, Unanswered>
+        ensures asked { IfOk result (λ tasks. (self.old.lacks_memory ≡ false) × (requests_of tasks.items ≡ requests_of self.old.tasks.items ++ flush_if self.old.needs_flush)) }
         ensures none { NothingWaits self.new }
         ensures same { (self.new.replies ≡ self.old.replies) × (self.new.places ≡ self.old.places) }
     {
@@ -163,16 +167,16 @@ impl Pipeline {
     }
 
     // Moves each place to the replies, by the tasks that came back. The last of them is a flush's if there is one.
-    fn fill(&mut self, tasks: Vec<Task>, has_flush: bool) -> Result<(), Unanswered>
+    fn fill(&mut self, tasks: Vec<Task<D, T>>, has_flush: bool) -> Result<(), Unanswered>
         requires { vec_len self.old.replies + deque_len self.old.places ≤ vec_capacity self.old.replies }
-        ensures replies { OnOk result ((given : List PlainReply) × (self.new.replies.items ≡ self.old.replies.items ++ given) × FillsAll has_flush tasks.items self.old.places.items given) }
+        ensures replies { OnOk result ((given : List PlainReply) × (self.new.replies.items ≡ self.old.replies.items ++ given) × FillsAll D.Disk T.Trace has_flush tasks.items self.old.places.items given) }
         ensures moved { OnOk result (MovesPlaces self.old self.new) }
     {
         let mut tasks = VecDeque::from(tasks);
         if !has_flush {
             return self.fill_places(tasks, &None);
         }
-        let Some(flushed) = take_flush(&mut tasks) else {
+        let Some(flushed) = take_last(&mut tasks) else {
             return Err(Unanswered::Lost);
         };
         self.fill_places(tasks, &Some(flushed))
@@ -181,11 +185,11 @@ impl Pipeline {
     // Moves each place to the replies, by the tasks and the reply to the flush behind them.
     fn fill_places(
         &mut self,
-        tasks: VecDeque<Task>,
+        tasks: VecDeque<Task<D, T>>,
         flushed: &Option<Reply<()>>,
     ) -> Result<(), Unanswered>
         requires { vec_len self.old.replies + deque_len self.old.places ≤ vec_capacity self.old.replies }
-        ensures replies { OnOk result ((given : List PlainReply) × (self.new.replies.items ≡ self.old.replies.items ++ given) × Fills flushed.now tasks.items self.old.places.items given []) }
+        ensures replies { OnOk result ((given : List PlainReply) × (self.new.replies.items ≡ self.old.replies.items ++ given) × Fills D.Disk T.Trace flushed.now tasks.items self.old.places.items given []) }
         ensures moved { OnOk result (MovesPlaces self.old self.new) }
     {
         let mut tasks = tasks;
@@ -215,7 +219,7 @@ impl Pipeline {
 }
 
 // Adds the task of a flush. None if out of memory for it.
-fn with_flush(tasks: Vec<Task>) -> Option<Vec<Task>>
+fn with_flush<D: Disk, T: Trace>(tasks: Vec<Task<D, T>>) -> Option<Vec<Task<D, T>>>
     ensures { IfSome result (λ all. AddsFlush true tasks.items all.items) }
 {
     let mut tasks = tasks;
@@ -225,21 +229,20 @@ fn with_flush(tasks: Vec<Task>) -> Option<Vec<Task>>
     }
 }
 
-// Takes the last task, and returns its reply if it is one to a flush.
-fn take_flush(tasks: &mut VecDeque<Task>) -> Option<Reply<()>>
-    ensures { IfSome result (TakesFlush tasks.old.items tasks.new.items) }
+// Takes the last task, and returns its reply.
+fn take_last<D: Disk, T: Trace>(tasks: &mut VecDeque<Task<D, T>>) -> Option<Reply<()>>
+    ensures { IfSome result (TakesLast D.Disk T.Trace tasks.old.items tasks.new.items) }
 {
-    tasks.pop_back()?.into_reply(EventKind::Flush)
+    tasks.pop_back()?.into_reply()
 }
 
-// The reply of a task that came back alone, if it is one to an event of this kind.
-pub(crate) fn reply_alone(tasks: Vec<Task>, kind: EventKind) -> Option<Reply<()>>
-    ensures reply { IfSome result (λ reply. (task : TaskOf) × (tasks.items ≡ task ∷ []) × HasReply task reply) }
-    ensures allowed { IfSome result (Allows kind) }
+// The reply of a task that came back alone.
+pub(crate) fn reply_alone<D: Disk, T: Trace>(tasks: Vec<Task<D, T>>) -> Option<Reply<()>>
+    ensures { IfSome result (λ reply. (task : TaskState) × (tasks.items ≡ task ∷ []) × IsReplyOf D.Disk T.Trace task reply) }
 {
     let mut tasks = tasks;
     if tasks.len() != 1 {
         return None;
     }
-    tasks.pop()?.into_reply(kind)
+    tasks.pop()?.into_reply()
 }

@@ -2,9 +2,10 @@
 ghost use Rattle.std.specs.Prelude.{◌≡◌, IfSome};
 ghost use Rattle.silt_session.specs.Pipelines.{FillsOne, given_by, reply_without_tasks};
 
-use crate::job::Task;
+use crate::task::Task;
+use silt_desk::Trace;
+use silt_disk::Disk;
 use silt_event::{Refusal, Reply};
-use silt_inbox::EventKind;
 use std::collections::VecDeque;
 
 /// The reply to an event that is not for the writer.
@@ -19,8 +20,8 @@ pub struct Shown {
 #[derive(Drop)]
 pub enum Place {
     Shows(Shown),
-    /// A request of this kind waits for the writer.
-    Waits(EventKind),
+    /// A request waits for the writer.
+    Waits,
 }
 
 impl Shown {
@@ -61,17 +62,17 @@ impl Shown {
 
 impl Place {
     /// The reply, by the tasks that came back in order, of which it takes the next one if its request waited, and by the
-    /// reply to the flush behind them. None if that task is missing, or has a reply that does not fit.
-    pub(crate) fn given(
+    /// reply to the flush behind them. None if that task is missing, or has no reply.
+    pub(crate) fn given<D: Disk, T: Trace>(
         self,
-        tasks: &mut VecDeque<Task>,
+        tasks: &mut VecDeque<Task<D, T>>,
         flushed: &Option<Reply<()>>,
     ) -> Option<Reply<()>>
-        ensures { IfSome result (λ reply. FillsOne flushed.now tasks.old.items self reply tasks.new.items) }
+        ensures { IfSome result (λ reply. FillsOne D.Disk T.Trace flushed.now tasks.old.items self reply tasks.new.items) }
     {
         match self {
             Place::Shows(shown) => shown.given(flushed),
-            Place::Waits(kind) => tasks.pop_front()?.into_reply(kind),
+            Place::Waits => tasks.pop_front()?.into_reply(),
         }
     }
 
@@ -81,7 +82,7 @@ impl Place {
     {
         match self {
             Place::Shows(shown) => shown.without_flush(),
-            Place::Waits(_) => Reply::Refused(Refusal::NoMemory),
+            Place::Waits => Reply::Refused(Refusal::NoMemory),
         }
     }
 }

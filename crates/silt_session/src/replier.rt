@@ -2,7 +2,10 @@
 ghost use Rattle.std.specs.Prelude.{◌≡◌, ◌≤◌, Some, IfSome, vec_len};
 
 use crate::job::Job;
+use crate::job_log::LogId;
 use crossbeam_channel::{Receiver, Sender};
+use silt_desk::Trace;
+use silt_disk::Disk;
 use std::alloc::{AllocError, Global};
 use std::sync::Wait;
 
@@ -17,21 +20,25 @@ const BATCHES: usize = 1;
 /// # Errors
 ///
 /// Out of memory for the channel.
-pub fn replier_channel(
+pub fn replier_channel<D: Disk, T: Trace, N: LogId>(
     alloc: Global,
-) -> Result<(Sender<Vec<Job>>, Receiver<Vec<Job>>), AllocError> {
+) -> Result<(Sender<Vec<Job<D, T, N>>>, Receiver<Vec<Job<D, T, N>>>), AllocError> {
     crossbeam_channel::bounded(alloc, BATCHES)
 }
 
 // Sends the replies of each job.
-fn send_all<R: Wait>(rt: &R, jobs: Vec<Job>) {
+fn send_all<D: Disk, T: Trace, N: LogId, R: Wait>(rt: &R, jobs: Vec<Job<D, T, N>>) {
     for job in jobs {
         job.send(rt);
     }
 }
 
 // Hands jobs to the replier. Gives them back if they are few, and if the replier is busy or has no thread.
-fn hand_over<R: Wait>(rt: &R, replier: &Sender<Vec<Job>>, jobs: Vec<Job>) -> Option<Vec<Job>>
+fn hand_over<D: Disk, T: Trace, N: LogId, R: Wait>(
+    rt: &R,
+    replier: &Sender<Vec<Job<D, T, N>>>,
+    jobs: Vec<Job<D, T, N>>,
+) -> Option<Vec<Job<D, T, N>>>
     ensures few { vec_len jobs ≤ 8 → result ≡ Some jobs }
     ensures back { IfSome result (λ left. left ≡ jobs) }
 {
@@ -45,14 +52,21 @@ fn hand_over<R: Wait>(rt: &R, replier: &Sender<Vec<Job>>, jobs: Vec<Job>) -> Opt
 }
 
 /// Sends the replies of jobs, or hands many jobs to the replier, which sends them. It does not wait for the replier.
-pub fn send_replies<R: Wait>(rt: &R, replier: &Sender<Vec<Job>>, jobs: Vec<Job>) {
+pub fn send_replies<D: Disk, T: Trace, N: LogId, R: Wait>(
+    rt: &R,
+    replier: &Sender<Vec<Job<D, T, N>>>,
+    jobs: Vec<Job<D, T, N>>,
+) {
     if let Some(jobs) = hand_over(rt, replier, jobs) {
         send_all(rt, jobs);
     }
 }
 
 /// What the replier does: sends the replies of the batches that come, until the writer has ended.
-pub fn send_batches<R: Wait>(rt: &R, batches: Receiver<Vec<Job>>) {
+pub fn send_batches<D: Disk, T: Trace, N: LogId, R: Wait>(
+    rt: &R,
+    batches: Receiver<Vec<Job<D, T, N>>>,
+) {
     for _ in rt.forever() {
         let Ok(jobs) = batches.recv(rt) else {
             return;

@@ -1,84 +1,66 @@
 // A session's ways to the store.
-ghost use Rattle.std.specs.Prelude.{◌≡◌, ◌+◌, IfOk, List, MatchResult};
-ghost use Rattle.silt_session.specs.declared.job.Task.{Task as TaskOf};
+ghost use Rattle.std.specs.Prelude.{◌≡◌, IfOk, Some};
+ghost use Rattle.silt_session.specs.Requests.{requests_of};
 
-use crate::job::{Job, Task};
+use crate::job::{Awaited, Job};
+use crate::job_log::{JobLog, LogId};
 use crate::session_slots::SessionSlot;
+use crate::task::Task;
 use crate::unanswered::Unanswered;
-use crossbeam_channel::Receiver;
-use silt_inbox::{Feeder, Inbox, InboxId, NotPutReason};
+use silt_desk::{DeskId, Shared, Trace};
+use silt_disk::Disk;
+use silt_inbox::{Inbox, InboxId, NotPutReason};
 use std::alloc::Global;
 use std::sync::{Mutex, Wait};
 
-/// Does the tasks of a session.
-pub trait Commits: Drop {
-    /// These tasks were done, and came back with their replies.
-    ghost did: { Self → List TaskOf → Type 0 };
-
-    /// Has tasks done together, and waits until they come back with their replies.
-    ///
-    /// # Errors
-    ///
-    /// They do not come back, or out of memory before any of them is done.
-    fn commit(&self, tasks: Vec<Task>) -> Result<Vec<Task>, Unanswered>
-        ensures { IfOk result (λ done. did self.now done.items) };
-}
-
 /// The way to the writer: it puts tasks into the inbox with the feeder of the session's slot.
 #[derive(Drop)]
-pub struct WriterLink<'a, N: InboxId, R> {
+pub struct WriterLink<'a, D: Disk, T: Trace, N: InboxId + LogId, R> {
     pub rt: &'a R,
     pub alloc: Global,
-    pub inbox: &'a Inbox<Job, N>,
+    pub inbox: &'a Inbox<Job<D, T, N>, N>,
+    pub log: &'a JobLog<N>,
     pub slot: &'a Mutex<SessionSlot<N>>,
 }
 
 /// A session's ways to the store: it looks keys up at the desk, at the same time as other sessions, and has its changes done
-/// by the writer. `S` is the desk under its lock.
+/// by the writer.
 #[derive(Drop)]
-pub struct Session<'a, S, W: Commits, R> {
+pub struct Session<'a, D: Disk, T: Trace, N: DeskId + InboxId + LogId, R> {
     pub rt: &'a R,
     pub alloc: Global,
-    pub desk: &'a S,
-    pub writer: W,
+    pub desk: &'a Shared<D, T, N>,
+    pub writer: WriterLink<'a, D, T, N, R>,
     /// Whether a get waits for a flush if a crash may take away what it shows.
     pub settles_gets: bool,
 }
 
-// Puts tasks into an inbox as one job, and returns where they will come back. If out of memory, nothing is put.
-fn put_job<N: InboxId, R: Wait>(
-    rt: &R,
-    alloc: Global,
-    inbox: &Inbox<Job, N>,
-    feeder: &mut Feeder<N>,
-    tasks: Vec<Task>,
-) -> Result<Receiver<Vec<Task>>, NotPutReason>
-    ensures { MatchResult result (λ _. feeder.new ≡ feeder.old + 1) (λ _. feeder.new ≡ feeder.old) }
-{
-    let Ok((replies, from)) = crossbeam_channel::bounded(alloc, 1) else {
-        return Err(NotPutReason::NoMemory);
-    };
-    match inbox.put(rt, feeder, Job { tasks, replies }) {
-        Ok(()) => Ok(from),
-        Err(refused) => Err(refused.reason),
-    }
-}
-
-impl<N: InboxId, R: Wait> WriterLink<'_, N, R> {
+impl<D: Disk, T: Trace, N: InboxId + LogId, R: Wait> WriterLink<'_, D, T, N, R> {
     // Hands tasks to the writer as one job, and returns where they will come back with their replies. If out of memory,
     // nothing is handed over.
-    fn hand_over(&self, tasks: Vec<Task>) -> Result<Receiver<Vec<Task>>, NotPutReason> {
+    fn hand_over(&self, tasks: Vec<Task<D, T>>) -> Result<Awaited<D, T, N>, NotPutReason>
+        ensures { IfOk result (λ awaited. awaited.ticket.asked ≡ Some (requests_of tasks.items)) }
+    {
+        let Some((job, awaited)) = Job::new(self.rt, self.alloc, self.log, tasks) else {
+            return Err(NotPutReason::NoMemory);
+        };
         let mut slot = self.slot.lock(self.rt);
-        put_job(self.rt, self.alloc, self.inbox, slot.feeder(), tasks)
+        match self.inbox.put(self.rt, slot.feeder(), job) {
+            Ok(()) => Ok(awaited),
+            Err(refused) => Err(refused.reason),
+        }
     }
-}
 
-impl<N: InboxId, R: Wait> Commits for WriterLink<'_, N, R> {
-    ghost did = { λ link tasks. Unit {0} };
-
-    fn commit(&self, tasks: Vec<Task>) -> Result<Vec<Task>, Unanswered> {
+    /// Has tasks done together, and waits until they come back with their replies: those of the same requests, in order.
+    ///
+    /// # Errors
+    ///
+    /// They do not come back, or out of memory before any of them is done.
+    pub fn commit(&self, tasks: Vec<Task<D, T>>) -> Result<Vec<Task<D, T>>, Unanswered>
+        ensures { IfOk result (λ done. requests_of done.items ≡ requests_of tasks.items) }
+    {
         match self.hand_over(tasks) {
-            Ok(back) => back.recv(self.rt).map_err(|_| Unanswered::Lost),
+            Ok(awaited) => awaited.wait(self.rt).ok_or(Unanswered::Lost),
             Err(NotPutReason::NoMemory) => Err(Unanswered::NoMemory),
             Err(NotPutReason::Closed) => Err(Unanswered::Lost),
         }

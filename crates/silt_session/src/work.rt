@@ -5,6 +5,7 @@ ghost use Rattle.silt_session.specs.declared.job.Job.{Job as JobOf};
 
 use crate::batch::Workplace;
 use crate::job::Job;
+use crate::job_log::LogId;
 use crate::replier::send_replies;
 use crate::room::HearsRoom;
 use crossbeam_channel::Sender;
@@ -15,46 +16,45 @@ use std::sync::Wait;
 use std::time::Clock;
 
 /// The source of the writer's jobs.
-pub trait Jobs<N: InboxId> {
+pub trait Jobs<D: Disk, T: Trace, N: InboxId + LogId> {
     /// There are no more jobs.
     ghost has_ended: { Self → Type 0 };
 
     /// Waits for jobs and takes all of them, in order. None if there are no more.
-    fn take_all<R: Wait>(&self, rt: &R, taker: &mut Taker<N>) -> Option<Vec<Job>>
+    fn take_all<R: Wait>(&self, rt: &R, taker: &mut Taker<N>) -> Option<Vec<Job<D, T, N>>>
         ensures { MatchOption result (has_ended self.now × (taker.new ≡ taker.old)) (λ jobs. taker.new ≡ taker.old + vec_len jobs) };
 }
 
-impl<N: InboxId> Jobs<N> for Inbox<Job, N> {
+impl<D: Disk, T: Trace, N: InboxId + LogId> Jobs<D, T, N> for Inbox<Job<D, T, N>, N> {
     ghost has_ended = { λ inbox. Unit {0} };
 
-    fn take_all<R: Wait>(&self, rt: &R, taker: &mut Taker<N>) -> Option<Vec<Job>> {
+    fn take_all<R: Wait>(&self, rt: &R, taker: &mut Taker<N>) -> Option<Vec<Job<D, T, N>>> {
         self.take_all(rt, taker)
     }
 }
 
-impl<D: Disk, T: Trace, N: DeskId + InboxId, G: Gate, H: HearsRoom, R: Wait + Clock> Workplace<
-    '_,
-    D,
-    T,
-    N,
-    G,
-    H,
-    R,
-> {
+impl<
+    D: Disk,
+    T: Trace,
+    N: DeskId + InboxId + LogId,
+    G: Gate,
+    H: HearsRoom,
+    R: Wait + Clock,
+> Workplace<'_, D, T, N, G, H, R> {
     /// Takes all jobs that wait, does their tasks, each call under a guard of its own, flushes once and then replies, until
     /// there are no more. It hands the replies of many jobs to the replier, so that it can go on with the next batch.
     /// After each batch it wakes the converter and the merger if they have work. A command that is refused for want of
     /// room waits for it, behind a flush and the replies of the jobs that are done. Gives its seat and its taker back.
-    pub fn serve_all<I: Jobs<N>>(
+    pub fn serve_all<I: Jobs<D, T, N>>(
         &self,
         mut seat: Seat<N>,
         inbox: &I,
         mut taker: Taker<N>,
-        replier: Sender<Vec<Job>>,
+        replier: Sender<Vec<Job<D, T, N>>>,
     ) -> (Seat<N>, Taker<N>)
         ensures number { result.0.number ≡ seat.number }
         ensures ended { I.has_ended inbox.now }
-        ensures batches { (batches : List (List JobOf)) × ServesBatches D.Disk T.Trace self.now.room.now.seconds (H.has_ended self.now.room.now.heard) seat taker batches result.0 result.1 }
+        ensures batches { (batches : List (List (JobOf D T N D.Fault))) × ServesBatches D.Disk T.Trace self.now.room.now.seconds (H.has_ended self.now.room.now.heard) seat taker batches result.0 result.1 }
     {
         for _ in self.rt.forever() {
             let Some(jobs) = inbox.take_all(self.rt, &mut taker) else {

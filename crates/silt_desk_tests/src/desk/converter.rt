@@ -6,8 +6,8 @@ use crate::desk::{
     seated,
 };
 use crate::same;
-use crossbeam_channel::{Receiver, Sender};
-use silt_desk::{DeskId, Gate, Kept, Seat, Shared, Spot, Wake, converter, join_over};
+use crossbeam_channel::Sender;
+use silt_desk::{DeskId, Gate, Kept, Seat, Shared, Spot, Wake, WorkerEnds, converter, join_over};
 use silt_device::Disk;
 use silt_event::Progress;
 use silt_fixtures::{key, opened, reaches};
@@ -101,13 +101,12 @@ fn run_both<D: Disk, N: DeskId + Send + Sync, R: Threads + Wait + Clock + Sync>(
     (mine, theirs): (Seat<N>, Seat<N>),
     gate: &Hold<'_, R>,
     wake: Sender<Wake>,
-    wakes: Receiver<Wake>,
-    other: Sender<Wake>,
+    ends: WorkerEnds,
 ) -> (Seat<N>, Seen) {
     join_over(
         rt,
         shared,
-        move |desk: &Shared<D, Kept, N>| converter(rt, alloc, desk, theirs, gate, wakes, other),
+        move |desk: &Shared<D, Kept, N>| converter(rt, alloc, desk, theirs, gate, ends),
         move |desk: &Shared<D, Kept, N>| call_beside(rt, alloc, desk, mine, gate, wake),
     )
 }
@@ -129,7 +128,15 @@ fn beside_held<D: Disk, N: DeskId + Send + Sync, R: Threads + Wait + Clock + Syn
         others,
     } = new_channels(alloc)?;
     let gate = Hold::new(rt);
-    let (_seat, seen) = run_both(rt, alloc, shared, seats, &gate, wake, wakes, other);
+    let (_seat, seen) = run_both(
+        rt,
+        alloc,
+        shared,
+        seats,
+        &gate,
+        wake,
+        WorkerEnds { wakes, other },
+    );
     let in_time = gate.missed.load(Ordering::SeqCst) == 0;
     Some((seen, in_time, others.try_recv(rt).ok()))
 }

@@ -12,6 +12,7 @@ use std::marker::Brand;
 use std::sync::Wait;
 use std::sync::ledger::Blank;
 use std::test::Fail;
+use std::time::Clock;
 
 // The message of the worker to the other one, and what a get returns.
 type Waits = Option<(Option<Wake>, Result<Option<[u8; 2]>, u32>)>;
@@ -20,7 +21,7 @@ type Waits = Option<(Option<Wake>, Result<Option<[u8; 2]>, u32>)>;
 // the store is failed.
 const WAITS: Waits = Some((None, Err(FAILED)));
 
-fn waits<D: Disk, N: DeskId, R: Wait>(
+fn waits<D: Disk, N: DeskId, R: Wait + Clock>(
     rt: &R,
     alloc: Global,
     shared: &Shared<D, Kept, N>,
@@ -36,7 +37,7 @@ fn waits<D: Disk, N: DeskId, R: Wait>(
 type Found = Option<(Waits, Option<(u64, u64)>)>;
 
 // The write of the first step of a conversion fails.
-fn failed_step<D: Disk, N: DeskId, R: Wait>(
+fn failed_step<D: Disk, N: DeskId, R: Wait + Clock>(
     rt: &R,
     alloc: Global,
     core: Core<D>,

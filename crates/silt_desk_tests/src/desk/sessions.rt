@@ -8,7 +8,8 @@ use crate::desk::{
 };
 use crossbeam_channel::{Receiver, Sender};
 use silt_desk::{
-    Desk, DeskId, Kept, OpenGate, RecordedCall, Seat, Shared, Wake, Wakes, converter, merger,
+    Desk, DeskId, Kept, OpenGate, RecordedCall, Seat, Shared, Wake, Wakes, WorkerEnds, converter,
+    merger,
 };
 use silt_device::{Disk, Geometry, MemDisk};
 use silt_event::{Event, Reply};
@@ -23,6 +24,7 @@ use std::sync::atomic::{AtomicU64, Ordering};
 use std::sync::ledger::Blank;
 use std::test::Fail;
 use std::thread::Threads;
+use std::time::Clock;
 
 /// The key of a thread with this number.
 fn key_of(thread: u8, number: u8) -> Key {
@@ -89,22 +91,15 @@ fn session<D: Disk, N: DeskId, R: Wait>(
     seat
 }
 
-/// The channel of a worker, and the way to the other one.
-#[derive(Drop)]
-struct Ends {
-    wakes: Receiver<Wake>,
-    other: Sender<Wake>,
-}
-
 /// What a thread does at the desk: it is a session, or a worker until it is stopped.
 #[derive(Drop)]
 enum Job<N: DeskId> {
     Call(Seat<N>),
-    Convert(Seat<N>, Ends),
-    Merge(Seat<N>, Ends),
+    Convert(Seat<N>, WorkerEnds),
+    Merge(Seat<N>, WorkerEnds),
 }
 
-fn perform<D: Disk, N: DeskId, R: Wait>(
+fn perform<D: Disk, N: DeskId, R: Wait + Clock>(
     rt: &R,
     alloc: Global,
     shared: &Shared<D, Kept, N>,
@@ -113,17 +108,13 @@ fn perform<D: Disk, N: DeskId, R: Wait>(
 ) -> Seat<N> {
     match job {
         Job::Call(seat) => session(rt, alloc, shared, busy, seat),
-        Job::Convert(seat, ends) => {
-            converter(rt, alloc, shared, seat, &OpenGate, ends.wakes, ends.other)
-        }
-        Job::Merge(seat, ends) => {
-            merger(rt, alloc, shared, seat, &OpenGate, ends.wakes, ends.other)
-        }
+        Job::Convert(seat, ends) => { converter(rt, alloc, shared, seat, &OpenGate, ends) }
+        Job::Merge(seat, ends) => { merger(rt, alloc, shared, seat, &OpenGate, ends) }
     }
 }
 
 /// Performs all jobs at once, and gives their seats back.
-fn perform_all<D: Disk, N: DeskId + Send + Sync, R: Threads + Wait + Sync>(
+fn perform_all<D: Disk, N: DeskId + Send + Sync, R: Threads + Wait + Clock + Sync>(
     rt: &R,
     alloc: Global,
     shared: &Shared<D, Kept, N>,
@@ -146,14 +137,14 @@ fn channel(alloc: Global) -> Option<(Receiver<Wake>, Sender<Wake>, Sender<Wake>)
 }
 
 /// The ways to wake both workers, and the ends of the converter and of the merger.
-fn new_ends(alloc: Global) -> Option<(Wakes, Ends, Ends)> {
+fn new_ends(alloc: Global) -> Option<(Wakes, WorkerEnds, WorkerEnds)> {
     let (to_convert, converter, by_merger) = channel(alloc)?;
     let (to_merge, merger, by_converter) = channel(alloc)?;
-    let first = Ends {
+    let first = WorkerEnds {
         wakes: to_convert,
         other: by_converter,
     };
-    let second = Ends {
+    let second = WorkerEnds {
         wakes: to_merge,
         other: by_merger,
     };
@@ -164,7 +155,7 @@ fn new_ends(alloc: Global) -> Option<(Wakes, Ends, Ends)> {
 fn of_workers<N: DeskId>(
     alloc: Global,
     (first, second): (Seat<N>, Seat<N>),
-    (convert, merge): (Ends, Ends),
+    (convert, merge): (WorkerEnds, WorkerEnds),
 ) -> Option<Vec<Job<N>>> {
     let mut jobs = Vec::new(alloc);
     jobs.push(Job::Convert(first, convert)).ok()?;
@@ -186,14 +177,14 @@ fn add_sessions<N: DeskId>(jobs: &mut Vec<Job<N>>, seats: Vec<Seat<N>>) -> bool 
 fn jobs<N: DeskId>(
     alloc: Global,
     mut seats: Vec<Seat<N>>,
-    ends: (Ends, Ends),
+    ends: (WorkerEnds, WorkerEnds),
 ) -> Option<Vec<Job<N>>> {
     let mut jobs = of_workers(alloc, pop_two(&mut seats)?, ends)?;
     add_sessions(&mut jobs, seats).then_some(jobs)
 }
 
 /// Runs the sessions and the workers at once, and gives all seats back.
-fn run_all<D: Disk, N: DeskId + Send + Sync, R: Threads + Wait + Sync>(
+fn run_all<D: Disk, N: DeskId + Send + Sync, R: Threads + Wait + Clock + Sync>(
     rt: &R,
     alloc: Global,
     shared: &Shared<D, Kept, N>,
@@ -357,7 +348,7 @@ fn ended<D: Disk, N: DeskId>(
 }
 
 /// Runs the sessions and the workers at once, and settles.
-fn run_and_settle<D: Disk, N: DeskId + Send + Sync, R: Threads + Wait + Sync>(
+fn run_and_settle<D: Disk, N: DeskId + Send + Sync, R: Threads + Wait + Clock + Sync>(
     rt: &R,
     alloc: Global,
     shared: &Shared<D, Kept, N>,
@@ -370,7 +361,7 @@ fn run_and_settle<D: Disk, N: DeskId + Send + Sync, R: Threads + Wait + Sync>(
     }
 }
 
-fn many_calls<D: Disk, N: DeskId + Send + Sync, R: Threads + Wait + Sync>(
+fn many_calls<D: Disk, N: DeskId + Send + Sync, R: Threads + Wait + Clock + Sync>(
     rt: &R,
     alloc: Global,
     core: Core<D>,

@@ -12,6 +12,7 @@ use std::marker::Brand;
 use std::sync::Wait;
 use std::sync::ledger::Blank;
 use std::test::Fail;
+use std::time::Clock;
 
 // The messages of the workers to each other.
 type Messages = Option<[Option<Wake>; 5]>;
@@ -21,7 +22,7 @@ const WAKES: Messages = Some([None, Some(Wake::Go), None, Some(Wake::Go), None])
 
 // Runs the merger before there is work, and then each worker twice, the converter first. A worker
 // that rests has left its shift to the other one.
-fn work_in_turn<D: Disk, N: DeskId, R: Wait>(
+fn work_in_turn<D: Disk, N: DeskId, R: Wait + Clock>(
     rt: &R,
     alloc: Global,
     shared: &Shared<D, Kept, N>,
@@ -42,7 +43,7 @@ fn work_in_turn<D: Disk, N: DeskId, R: Wait>(
 // That, and what the desk reports.
 type Found = Option<(Messages, Option<(u64, u64)>)>;
 
-fn does_what_is_wanted<D: Disk, N: DeskId, R: Wait>(
+fn does_what_is_wanted<D: Disk, N: DeskId, R: Wait + Clock>(
     rt: &R,
     alloc: Global,
     core: Core<D>,

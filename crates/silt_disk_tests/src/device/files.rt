@@ -1,7 +1,7 @@
 // Disks in files: the bytes of the file, and the errors of each call. Each test uses a folder or
 // file of its own in the current folder, and removes it at the end.
 use super::{FIRST, SECOND, Step, first_wrong, four_at};
-use silt_device::{Disk, DiskSource, FileDisk, FileDisks, write_synced};
+use silt_device::{Disk, DiskSource, FileDisk, FileDisks, Filling, write_synced};
 use std::alloc::Global;
 use std::fs;
 use std::io::{self, ErrorKind};
@@ -362,32 +362,57 @@ fn readers_share_a_file(rt: HostRuntime) -> Result<(), Fail> {
     Ok(())
 }
 
+// A progress that is not shown.
+#[derive(Clone, Copy, Drop)]
+struct Silent;
+
+impl Filling for Silent {
+    fn filled(&self, _count: usize, _len: u64) {}
+}
+
+// What a source does with a path.
+#[derive(Clone, Copy)]
+enum Asking {
+    Open,
+    Resize(u64),
+    Fill(u64),
+}
+
 // The length of the disk that a source opens, or finds and gives a length. None if it returns no
 // disk.
-fn len_from<S: DiskSource>(alloc: Global, source: S, path: &str, made: Option<u64>) -> Option<u64> {
-    let disk = match made {
-        Some(len) => S::resize(alloc, source.find(path).ok()?, len),
-        None => source.open(path),
+fn len_from<S: DiskSource>(alloc: Global, source: S, path: &str, asking: Asking) -> Option<u64> {
+    let disk = match asking {
+        Asking::Open => source.open(path),
+        Asking::Resize(len) => S::resize(alloc, source.find(path).ok()?, len),
+        Asking::Fill(len) => {
+            let found = source.find(path).ok()?;
+            source.fill(path, found, len)
+        }
     };
     Some(disk.ok()?.len())
 }
 
-// A path, the length to give its disk, and the length of the disk. A first none opens the disk, a
-// second none says that there is no disk.
-type Asked<'a> = (&'a str, Option<u64>, Option<u64>);
+// A path, what is done with it, and the length of the disk, or none if there is no disk.
+type Asked<'a> = (&'a str, Asking, Option<u64>);
 
-// The folder has no file at first.
-const OF_FILES: [Asked; 4] = [
-    ("source/disk", None, None),
-    ("source/disk", Some(7), Some(7)),
-    ("source/disk", None, Some(7)),
-    ("source/other", None, None),
+// The folder has no file at first. A filled file has several pieces of 1 MiB, the last one shorter. A file
+// that cannot be filled is removed if there was none before.
+const OF_FILES: [Asked; 9] = [
+    ("source/disk", Asking::Open, None),
+    ("source/disk", Asking::Resize(7), Some(7)),
+    ("source/disk", Asking::Open, Some(7)),
+    ("source/disk", Asking::Fill(2_100_000), Some(2_100_000)),
+    ("source/disk", Asking::Fill(5), Some(5)),
+    ("source/disk", Asking::Fill(1 << 63), None),
+    ("source/disk", Asking::Open, Some(5)),
+    ("source/other", Asking::Fill(1 << 63), None),
+    ("source/other", Asking::Open, None),
 ];
 
 // The first of these paths for which a source of files returns another disk.
 fn files_differ<'a>(rt: &HostRuntime, asked: &[Asked<'a>]) -> Option<&'a str> {
-    for (path, made, given) in asked {
-        if len_from(rt.alloc(), FileDisks::new(rt), path, *made) != *given {
+    for (path, asking, given) in asked {
+        if len_from(rt.alloc(), FileDisks::new(rt, Silent), path, *asking) != *given {
             return Some(*path);
         }
     }
@@ -399,6 +424,35 @@ fn files_in_a_folder_differ(rt: &HostRuntime) -> io::Result<Option<&'static str>
     let path = files_differ(rt, &OF_FILES);
     fs::remove_dir_all(rt, "source")?;
     Ok(path)
+}
+
+// The bytes of a file of FIRST that is filled to five bytes, and then to two.
+fn filled_first(rt: &HostRuntime) -> io::Result<(bool, bool)> {
+    make_folder(rt, "filled")?;
+    fs::write(rt, "filled/disk", FIRST.as_slice())?;
+    let _longer = len_from(
+        rt.alloc(),
+        FileDisks::new(rt, Silent),
+        "filled/disk",
+        Asking::Fill(5),
+    );
+    let longer = holds(rt, "filled/disk", &[0x11, 0x12, 0x13, 0x14, 0])?;
+    let _shorter = len_from(
+        rt.alloc(),
+        FileDisks::new(rt, Silent),
+        "filled/disk",
+        Asking::Fill(2),
+    );
+    let shorter = holds(rt, "filled/disk", &[0x11, 0x12])?;
+    fs::remove_dir_all(rt, "filled")?;
+    Ok((longer, shorter))
+}
+
+// A file that is filled keeps its bytes up to the new length, and grows by zeros.
+#[test]
+fn a_filled_file_keeps_its_bytes(rt: HostRuntime) -> Result<(), Fail> {
+    assert!(rt; filled_first(&rt)? == (true, true));
+    Ok(())
 }
 
 // A source of files returns the disk of the path.

@@ -1,12 +1,15 @@
 // The replies of jobs: who sends them, and that all arrive.
+ghost use Rattle.std.specs.Prelude.{◌≡◌};
 
 use crate::server::{Clients, connected, is_served, read_lines, roomy};
 use crossbeam_channel::{Receiver, Sender};
-use silt_desk::{Gate, Spot};
+use silt_desk::{Count, Gate, Spot};
+use silt_device::MemDisk;
 use silt_fixtures::reaches;
-use silt_session::{Job, Request, Task, send_replies};
+use silt_session::{Awaited, Job, JobLog, LogId, LogStart, Request, Task, send_replies};
 use std::alloc::{AllocError, Global};
 use std::io::{self, Write};
+use std::marker::Brand;
 use std::net::{Net, SocketAddr, TcpListener, TcpStream};
 use std::sync::Wait;
 use std::sync::atomic::{AtomicU64, Ordering};
@@ -16,13 +19,20 @@ use std::time::{Clock, Duration};
 
 /// Jobs, and where the replies of each come.
 #[derive(Drop)]
-struct JobsAndWays {
-    jobs: Vec<Job>,
-    ways: Vec<Receiver<Vec<Task>>>,
+struct JobsAndWays<N: LogId> {
+    jobs: Vec<Job<MemDisk, Count, N>>,
+    ways: Vec<Awaited<MemDisk, Count, N>>,
+}
+
+/// Where jobs are made and sent: their log, and the writer's end of the replier's channel.
+#[derive(Drop)]
+struct Sending<N: LogId> {
+    log: JobLog<N>,
+    replier: Sender<Vec<Job<MemDisk, Count, N>>>,
 }
 
 // The tasks of so many flushes.
-fn flushes(alloc: Global, count: usize) -> Result<Vec<Task>, AllocError> {
+fn flushes(alloc: Global, count: usize) -> Result<Vec<Task<MemDisk, Count>>, AllocError> {
     let mut tasks = Vec::new(alloc);
     for _ in 0..count {
         tasks.push(Task::new(Request::Flush))?;
@@ -30,35 +40,40 @@ fn flushes(alloc: Global, count: usize) -> Result<Vec<Task>, AllocError> {
     Ok(tasks)
 }
 
-impl JobsAndWays {
+impl<N: LogId> JobsAndWays<N> {
     // Adds a job of so many flushes.
-    fn add(&mut self, alloc: Global, count: usize) -> Result<(), AllocError> {
-        let (replies, way) = crossbeam_channel::bounded(alloc, 1)?;
-        self.ways.push(way)?;
-        let tasks = flushes(alloc, count)?;
-        self.jobs.push(Job { tasks, replies })?;
-        Ok(())
+    fn add<R: Wait>(&mut self, rt: &R, alloc: Global, log: &JobLog<N>, count: usize) -> Option<()> {
+        let tasks = flushes(alloc, count).ok()?;
+        let (job, way) = Job::new(rt, alloc, log, tasks)?;
+        self.ways.push(way).ok()?;
+        self.jobs.push(job).ok()
     }
 
     // Adds so many jobs. The first has no task, and each further one has one task more.
-    fn add_all(&mut self, alloc: Global, count: usize) -> Result<(), AllocError> {
+    fn add_all<R: Wait>(
+        &mut self,
+        rt: &R,
+        alloc: Global,
+        log: &JobLog<N>,
+        count: usize,
+    ) -> Option<()> {
         for number in 0..count {
-            self.add(alloc, number)?;
+            self.add(rt, alloc, log, number)?;
         }
-        Ok(())
+        Some(())
     }
 }
 
 // Whether the replies of a job of so many tasks have come.
-fn has_come<R: Wait>(rt: &R, way: &Receiver<Vec<Task>>, count: usize) -> bool {
-    match way.try_recv(rt) {
-        Ok(tasks) => tasks.len() == count,
+fn has_come<N: LogId, R: Wait>(rt: &R, way: &Awaited<MemDisk, Count, N>, count: usize) -> bool {
+    match way.back.try_recv(rt) {
+        Ok(tasks) => tasks.into_items().len() == count,
         Err(_) => false,
     }
 }
 
 // How many of the jobs have got their own replies.
-fn arrived<R: Wait>(rt: &R, ways: &[Receiver<Vec<Task>>]) -> usize {
+fn arrived<N: LogId, R: Wait>(rt: &R, ways: &[Awaited<MemDisk, Count, N>]) -> usize {
     let mut count = 0usize;
     for number in 0..ways.len() {
         if has_come(rt, &ways[number], number) {
@@ -69,31 +84,31 @@ fn arrived<R: Wait>(rt: &R, ways: &[Receiver<Vec<Task>>]) -> usize {
 }
 
 // Sends the replies of these jobs, and returns how many arrive.
-fn send_now<R: Wait>(rt: &R, replier: &Sender<Vec<Job>>, both: JobsAndWays) -> usize {
+fn send_now<N: LogId, R: Wait>(rt: &R, sending: &Sending<N>, both: JobsAndWays<N>) -> usize {
     let JobsAndWays { jobs, ways } = both;
-    send_replies(rt, replier, jobs);
+    send_replies(rt, &sending.replier, jobs);
     arrived(rt, ways.as_slice())
 }
 
 // How many of so many jobs get their replies from the writer.
-fn sent_by_writer<R: Wait>(
+fn sent_by_writer<N: LogId, R: Wait>(
     rt: &R,
     alloc: Global,
-    replier: &Sender<Vec<Job>>,
+    sending: &Sending<N>,
     count: usize,
 ) -> Option<usize> {
     let mut both = JobsAndWays {
         jobs: Vec::new(alloc),
         ways: Vec::new(alloc),
     };
-    match both.add_all(alloc, count) {
-        Ok(()) => Some(send_now(rt, replier, both)),
-        Err(_) => None,
+    match both.add_all(rt, alloc, &sending.log, count) {
+        Some(()) => Some(send_now(rt, sending, both)),
+        None => None,
     }
 }
 
 // How many jobs wait for the replier, which takes them now.
-fn waiting<R: Wait>(rt: &R, batches: &Receiver<Vec<Job>>) -> usize {
+fn waiting<N: LogId, R: Wait>(rt: &R, batches: &Receiver<Vec<Job<MemDisk, Count, N>>>) -> usize {
     match batches.try_recv(rt) {
         Ok(jobs) => jobs.len(),
         Err(_) => 0,
@@ -101,16 +116,27 @@ fn waiting<R: Wait>(rt: &R, batches: &Receiver<Vec<Job>>) -> usize {
 }
 
 // How many of 0 jobs and of 8 get their replies from the writer, and whether none waits.
-fn few_jobs<R: Wait>(rt: &R, alloc: Global) -> Result<([Option<usize>; 2], bool), AllocError> {
+fn few_jobs<N: LogId, R: Wait>(
+    rt: &R,
+    alloc: Global,
+    log: LogStart,
+) -> Result<([Option<usize>; 2], bool), AllocError>
+    requires { log ≡ N.log }
+{
     let (replier, batches) = crossbeam_channel::bounded(alloc, 1)?;
-    let none = sent_by_writer(rt, alloc, &replier, 0);
-    let eight = sent_by_writer(rt, alloc, &replier, 8);
+    let sending = Sending {
+        log: log.named::<N>(),
+        replier,
+    };
+    let none = sent_by_writer(rt, alloc, &sending, 0);
+    let eight = sent_by_writer(rt, alloc, &sending, 8);
     Ok(([none, eight], batches.is_empty()))
 }
 
 #[test]
 fn the_writer_replies_to_few_jobs(rt: HostRuntime) -> Result<(), Fail> {
-    assert!(rt; few_jobs(&rt, rt.alloc())? == ([Some(0), Some(8)], true));
+    let found = few_jobs::<Brand, _>(&rt, rt.alloc(), LogStart::new())?;
+    assert!(rt; found == ([Some(0), Some(8)], true));
     Ok(())
 }
 
@@ -118,35 +144,56 @@ fn the_writer_replies_to_few_jobs(rt: HostRuntime) -> Result<(), Fail> {
 type InTurn = (Option<usize>, Option<usize>, usize, Option<usize>, usize);
 
 // 9 jobs and 64 while the replier is busy, and then 10 jobs.
-fn beside_a_busy_replier<R: Wait>(rt: &R, alloc: Global) -> Result<InTurn, AllocError> {
+fn beside_a_busy_replier<N: LogId, R: Wait>(
+    rt: &R,
+    alloc: Global,
+    log: LogStart,
+) -> Result<InTurn, AllocError>
+    requires { log ≡ N.log }
+{
     let (replier, batches) = crossbeam_channel::bounded(alloc, 1)?;
-    let nine = sent_by_writer(rt, alloc, &replier, 9);
-    let many = sent_by_writer(rt, alloc, &replier, 64);
+    let sending = Sending {
+        log: log.named::<N>(),
+        replier,
+    };
+    let nine = sent_by_writer(rt, alloc, &sending, 9);
+    let many = sent_by_writer(rt, alloc, &sending, 64);
     let waited = waiting(rt, &batches);
-    let ten = sent_by_writer(rt, alloc, &replier, 10);
+    let ten = sent_by_writer(rt, alloc, &sending, 10);
     Ok((nine, many, waited, ten, waiting(rt, &batches)))
 }
 
 // The replier gets the first nine jobs. It is busy then, so the writer replies to the next ones itself.
 #[test]
 fn the_writer_does_not_wait_for_a_busy_replier(rt: HostRuntime) -> Result<(), Fail> {
-    let found = beside_a_busy_replier(&rt, rt.alloc())?;
+    let found = beside_a_busy_replier::<Brand, _>(&rt, rt.alloc(), LogStart::new())?;
     assert!(rt; found == (Some(0), Some(64), 9, Some(0), 10));
     Ok(())
 }
 
 // How many of 9 jobs and of 64 get their replies from the writer if there is no replier.
-fn without_a_replier<R: Wait>(rt: &R, alloc: Global) -> Result<[Option<usize>; 2], AllocError> {
+fn without_a_replier<N: LogId, R: Wait>(
+    rt: &R,
+    alloc: Global,
+    log: LogStart,
+) -> Result<[Option<usize>; 2], AllocError>
+    requires { log ≡ N.log }
+{
     let (replier, batches) = crossbeam_channel::bounded(alloc, 1)?;
     drop(batches);
-    let nine = sent_by_writer(rt, alloc, &replier, 9);
-    let many = sent_by_writer(rt, alloc, &replier, 64);
+    let sending = Sending {
+        log: log.named::<N>(),
+        replier,
+    };
+    let nine = sent_by_writer(rt, alloc, &sending, 9);
+    let many = sent_by_writer(rt, alloc, &sending, 64);
     Ok([nine, many])
 }
 
 #[test]
 fn the_writer_replies_if_there_is_no_replier(rt: HostRuntime) -> Result<(), Fail> {
-    assert!(rt; without_a_replier(&rt, rt.alloc())? == [Some(9), Some(64)]);
+    let found = without_a_replier::<Brand, _>(&rt, rt.alloc(), LogStart::new())?;
+    assert!(rt; found == [Some(9), Some(64)]);
     Ok(())
 }
 

@@ -8,7 +8,9 @@ use silt_device::{Disk, Fill, MemDisk, Stop};
 use silt_event::Reply;
 use silt_fixtures::{formatted, key, opened_on};
 use silt_frame::Value;
-use silt_session::{Job, Request, RoomWait, Task, Workplace, room_channel};
+use silt_session::{
+    Job, JobLog, LogId, LogStart, Request, RoomWait, Task, Workplace, room_channel,
+};
 use silt_store_set::Core;
 use std::alloc::{AllocError, Global};
 use std::marker::Brand;
@@ -64,7 +66,11 @@ fn request_of(alloc: Global, number: usize) -> Result<Request, AllocError> {
 }
 
 // The tasks of the requests from one number to another.
-fn tasks_of(alloc: Global, first: usize, last: usize) -> Result<Vec<Task>, AllocError> {
+fn tasks_of<D: Disk>(
+    alloc: Global,
+    first: usize,
+    last: usize,
+) -> Result<Vec<Task<D, Count>>, AllocError> {
     let mut tasks = Vec::new(alloc);
     for number in first..last {
         tasks.push(Task::new(request_of(alloc, number)?))?;
@@ -73,20 +79,32 @@ fn tasks_of(alloc: Global, first: usize, last: usize) -> Result<Vec<Task>, Alloc
 }
 
 // A job of these requests. Nobody receives its replies.
-fn job_of(alloc: Global, first: usize, last: usize) -> Result<Job, AllocError> {
-    let (replies, _) = crossbeam_channel::bounded(alloc, 1)?;
-    let tasks = tasks_of(alloc, first, last)?;
-    Ok(Job { tasks, replies })
+fn job_of<D: Disk, N: LogId, R: Wait>(
+    rt: &R,
+    alloc: Global,
+    log: &JobLog<N>,
+    first: usize,
+    last: usize,
+) -> Option<Job<D, Count, N>> {
+    let tasks = tasks_of(alloc, first, last).ok()?;
+    let (job, _) = Job::new(rt, alloc, log, tasks)?;
+    Some(job)
 }
 
 // All requests in jobs of so many, and a job of none.
-fn all_in_jobs(alloc: Global, most: usize) -> Result<Vec<Job>, AllocError> {
+fn all_in_jobs<D: Disk, N: LogId, R: Wait>(
+    rt: &R,
+    alloc: Global,
+    log: &JobLog<N>,
+    most: usize,
+) -> Option<Vec<Job<D, Count, N>>> {
     let step = if most == 0 { 1 } else { most };
     let mut jobs = Vec::new(alloc);
     for first in (0..REQUESTS + 1).step_by(step) {
-        jobs.push(job_of(alloc, first, REQUESTS.min(first.saturating_add(step)))?)?;
+        let last = REQUESTS.min(first.saturating_add(step));
+        jobs.push(job_of(rt, alloc, log, first, last)?).ok()?;
     }
-    Ok(jobs)
+    Some(jobs)
 }
 
 /// The reply to a task.
@@ -113,34 +131,35 @@ fn got_of(reply: Reply<()>) -> Got {
 }
 
 // The reply to this task.
-fn got_by(task: Task) -> Got {
-    let Task {
-        request: _,
-        answer: _,
-        reply,
-    } = task;
-    match reply {
-        Some(answered) => got_of(answered.into_reply()),
+fn got_by<D: Disk>(task: Task<D, Count>) -> Got {
+    match task.into_reply() {
+        Some(reply) => got_of(reply),
         None => Got::Nothing,
     }
 }
 
 // Appends the reply to each task of a job, in order.
-fn push_got(all: &mut Vec<Got>, job: Job) -> Result<(), AllocError> {
+fn push_got<D: Disk, N: LogId>(
+    all: &mut Vec<Got>,
+    job: Job<D, Count, N>,
+) -> Result<(), AllocError> {
     let Job { tasks, replies: _ } = job;
-    for task in tasks {
+    for task in tasks.into_items() {
         all.push(got_by(task))?;
     }
     Ok(())
 }
 
-// Whether the replies to the tasks of all jobs are these, in order.
-fn are_got(alloc: Global, jobs: Vec<Job>, due: &[Got]) -> Result<bool, AllocError> {
+// The replies to the tasks of all jobs, in order.
+fn all_got<D: Disk, N: LogId>(
+    alloc: Global,
+    jobs: Vec<Job<D, Count, N>>,
+) -> Result<Vec<Got>, AllocError> {
     let mut all = Vec::new(alloc);
     for job in jobs {
         push_got(&mut all, job)?;
     }
-    Ok(all.as_slice() == due)
+    Ok(all)
 }
 
 // A wait for room that ends at once.
@@ -155,14 +174,14 @@ fn no_wait(alloc: Global) -> Option<RoomWait<Receiver<Wake>>> {
     })
 }
 
-// Serves these jobs as one batch at this desk, from its seat. Returns them with their replies.
-fn serve_jobs<D: Disk, N: DeskId, R: Wait + Clock>(
+// Serves these jobs as one batch at this desk, from its seat. Returns their replies.
+fn serve_jobs<D: Disk, N: DeskId + LogId, R: Wait + Clock>(
     rt: &R,
     alloc: Global,
     desk: Desk<D, Count, N>,
     mut seats: Vec<Seat<N>>,
-    jobs: Vec<Job>,
-) -> Option<Vec<Job>> {
+    jobs: Vec<Job<D, Count, N>>,
+) -> Option<Vec<Got>> {
     let mut seat = seats.pop()?;
     let room = no_wait(alloc)?;
     let shared: Shared<D, Count, N> = RwLock::new(desk);
@@ -174,37 +193,42 @@ fn serve_jobs<D: Disk, N: DeskId, R: Wait + Clock>(
         room: &room,
     };
     let (jobs, _) = at.serve_batch(&mut seat, jobs);
-    Some(jobs)
+    all_got(alloc, jobs).ok()
 }
 
-// Serves these jobs as one batch at a desk of this store. None if out of memory for the desk.
-fn serve_at_desk<D: Disk, N: DeskId, R: Wait + Clock>(
+// Serves all requests in jobs of so many, as one batch, at a desk of this store. Returns their replies. None if out of
+// memory.
+fn serve_at_desk<D: Disk, N: DeskId + LogId, R: Wait + Clock>(
     rt: &R,
     alloc: Global,
     core: Core<D>,
-    jobs: Vec<Job>,
-    calls: Blank,
-    accepted: Blank,
-) -> Option<Vec<Job>>
-    requires calls { (calls.name ≡ N.calls_name) × (calls.parts ≡ N.seats) }
-    requires accepted { (accepted.name ≡ N.accepted_name) × (accepted.parts ≡ N.seats) }
+    most: usize,
+    desk_blanks: (Blank, Blank),
+    log: LogStart,
+) -> Option<Vec<Got>>
+    requires calls { (desk_blanks.0.name ≡ N.calls_name) × (desk_blanks.0.parts ≡ N.seats) }
+    requires accepted { (desk_blanks.1.name ≡ N.accepted_name) × (desk_blanks.1.parts ≡ N.seats) }
     requires seats { N.seats ≡ 1 }
+    requires log { log ≡ N.log }
 {
+    let jobs = all_in_jobs(rt, alloc, &log.named::<N>(), most)?;
+    let (calls, accepted) = desk_blanks;
     match Desk::<D, Count, N>::new(alloc, core, Count::new(), 1, calls, accepted) {
         Ok((desk, seats)) => serve_jobs(rt, alloc, desk, seats, jobs),
         Err(_) => None,
     }
 }
 
-// Serves these jobs as one batch at a desk of the store on this disk.
+// The same at a desk of the store on this disk.
 fn serve_on_disk<R: Wait + Clock>(
     rt: &R,
     alloc: Global,
     disk: MemDisk,
-    jobs: Vec<Job>,
-) -> Result<Vec<Job>, Fail> {
+    most: usize,
+) -> Result<Vec<Got>, Fail> {
     let core = opened_on(alloc, disk)?;
-    let served = serve_at_desk::<_, Brand, _>(rt, alloc, core, jobs, Blank::new(1), Blank::new(1));
+    let blanks = (Blank::new(1), Blank::new(1));
+    let served = serve_at_desk::<_, Brand, _>(rt, alloc, core, most, blanks, LogStart::new());
     Ok(served.ok_or("a desk")?)
 }
 
@@ -216,8 +240,8 @@ fn gets_in_jobs<R: Wait + Clock>(
     most: usize,
     due: &[Got],
 ) -> Result<bool, Fail> {
-    let jobs = serve_on_disk(rt, alloc, disk, all_in_jobs(alloc, most)?)?;
-    Ok(are_got(alloc, jobs, due)?)
+    let got = serve_on_disk(rt, alloc, disk, most)?;
+    Ok(got.as_slice() == due)
 }
 
 // The replies, whether each request is a job or some or all are one.

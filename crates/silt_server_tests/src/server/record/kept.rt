@@ -10,6 +10,7 @@ use silt_device::{Disk, Geometry, MemDisk};
 use silt_fixtures::{are_those, formatted_with, opened_with};
 use silt_inbox::InboxId;
 use silt_server::{Server, ServerState};
+use silt_session::{LogId, LogStart};
 use silt_store_set::Core;
 use std::alloc::Global;
 use std::io;
@@ -63,19 +64,24 @@ fn printed_by<D: Disk, N: DeskId>(alloc: Global, desk: Desk<D, Kept, N>) -> Opti
 type Ended = Option<(Printed, u8)>;
 
 // Serves the store of a desk with these seats. Returns what its record shows, and the status.
-fn serve_seated<D: Disk, N: DeskId + InboxId + Send + Sync, R: Threads + Wait + Clock + Sync>(
+fn serve_seated<
+    D: Disk,
+    N: DeskId + InboxId + LogId + Send + Sync,
+    R: Threads + Wait + Clock + Sync,
+>(
     rt: &R,
     alloc: Global,
     listener: &TcpListener,
     desk: Desk<D, Kept, N>,
     seats: Vec<Seat<N>>,
-    put: Blank,
-    taken: Blank,
+    inbox_blanks: (Blank, Blank, LogStart),
 ) -> Ended
-    requires put { (put.name ≡ N.put_name) × (put.parts ≡ N.feeders) × (N.feeders ≡ 1024) }
-    requires taken { (taken.name ≡ N.taken_name) × (taken.parts ≡ 1) }
+    requires put { (inbox_blanks.0.name ≡ N.put_name) × (inbox_blanks.0.parts ≡ N.feeders) × (N.feeders ≡ 1024) }
+    requires taken { (inbox_blanks.1.name ≡ N.taken_name) × (inbox_blanks.1.parts ≡ 1) }
+    requires log { inbox_blanks.2 ≡ N.log }
 {
-    let state = ServerState::<N>::new(alloc, seats, put, taken)?;
+    let (put, taken, log) = inbox_blanks;
+    let state = ServerState::<D, Kept, N>::new(alloc, seats, put, taken, log)?;
     let server = Server {
         rt,
         alloc,
@@ -90,26 +96,30 @@ fn serve_seated<D: Disk, N: DeskId + InboxId + Send + Sync, R: Threads + Wait + 
 }
 
 // Serves a store and records all calls. The blanks become the ledgers.
-fn serve_recorded<D: Disk, N: DeskId + InboxId + Send + Sync, R: Threads + Wait + Clock + Sync>(
+fn serve_recorded<
+    D: Disk,
+    N: DeskId + InboxId + LogId + Send + Sync,
+    R: Threads + Wait + Clock + Sync,
+>(
     rt: &R,
     alloc: Global,
     listener: &TcpListener,
     core: Core<D>,
     kept: Kept,
     desk_blanks: (Blank, Blank),
-    inbox_blanks: (Blank, Blank),
+    inbox_blanks: (Blank, Blank, LogStart),
 ) -> Ended
     requires calls { (desk_blanks.0.name ≡ N.calls_name) × (desk_blanks.0.parts ≡ N.seats) × (N.seats ≡ 3) }
     requires accepted { (desk_blanks.1.name ≡ N.accepted_name) × (desk_blanks.1.parts ≡ N.seats) }
     requires put { (inbox_blanks.0.name ≡ N.put_name) × (inbox_blanks.0.parts ≡ N.feeders) × (N.feeders ≡ 1024) }
     requires taken { (inbox_blanks.1.name ≡ N.taken_name) × (inbox_blanks.1.parts ≡ 1) }
+    requires log { inbox_blanks.2 ≡ N.log }
     requires trace { IsHistory kept (seen D.Disk core) × (kept.calls ≡ []) }
 {
     let (calls, accepted) = desk_blanks;
-    let (put, taken) = inbox_blanks;
     match Desk::<D, Kept, N>::new(alloc, core, kept, 3, calls, accepted) {
         Ok((desk, seats)) => {
-            serve_seated::<D, N, R>(rt, alloc, listener, desk, seats, put, taken)
+            serve_seated::<D, N, R>(rt, alloc, listener, desk, seats, inbox_blanks)
         }
         Err(_) => None,
     }
@@ -130,7 +140,7 @@ fn serve_kept<R: Threads + Wait + Clock + Sync>(
             core,
             kept,
             (Blank::new(3), Blank::new(3)),
-            (Blank::new(1024), Blank::new(1)),
+            (Blank::new(1024), Blank::new(1), LogStart::new()),
         ),
         Err(_) => None,
     }

@@ -5,3 +5,6 @@ ghosts-serve_traced-N-DeskId g a = record { calls_name = a.blanks.calls.name; ac
 
 abbrev pub ghosts-serve_traced-N-InboxId : goal.ghosts-serve_traced-N-InboxId
 ghosts-serve_traced-N-InboxId g a = record { put_name = a.blanks.put.name; taken_name = a.blanks.taken.name; feeders = a.blanks.put.parts }
+
+abbrev pub ghosts-serve_traced-N-LogId : goal.ghosts-serve_traced-N-LogId
+ghosts-serve_traced-N-LogId g a = record { log = a.blanks.log }

@@ -1,7 +1,8 @@
-use Rattle.std.proofs.Common.{refl, sym, ◌∙◌}
+use mir.Syntax.{of_param}
+use Rattle.std.proofs.Common.{rules, get_or, refl, sym, ◌∙◌}
 use Rattle.std.proofs.lemmas.List.{length-set}
 use Rattle.silt_session.specs.Batches.{PerformsTask, StepsThrough, writer_at}
-use Rattle.silt_session.proofs.Batches.{keeps_none, keeps_both}
+use Rattle.silt_session.proofs.Batches.{keeps_none, keeps_both, task_done, task_performed}
 use Rattle.silt_session.proofs.Lists.{changed_all, steps_next, rest_next}
 use Rattle.silt_session.proofs.batch.Workplace.perform_tasks.Goals as goal
 
@@ -12,11 +13,18 @@ pub loop-task-preserved : goal.loop-task-preserved
 loop-task-preserved g c =
     let before = c.loop-task.invariant in
     record {
-      done = steps_next (PerformsTask g.D.Disk g.T.Trace c.args.self.now.room.now.seconds (g.H.HearsRoom.has_ended c.args.self.now.room.now.heard)) _ _ _ c.deref_mut-task-items.result.now c.loop-task.task-items c.loop-task.task-index c.task-item.result _ c.loop-task-test.true before.same_length before.rest before.done (c.perform_request-answer.ensures.does, refl, refl);
+      done = steps_next (PerformsTask g.D.Disk g.T.Trace c.args.self.now.room.now.seconds (g.H.HearsRoom.has_ended c.args.self.now.room.now.heard)) _ _ _ c.deref_mut-task-items.result.now c.loop-task.task-items c.loop-task.task-index c.task-item.result c.finish.new.self c.loop-task-test.true before.same_length before.rest before.done (task_performed g.D.Disk g.T.Trace _ _ _ _ _ (get_or c.loop-task.task-items c.loop-task.task-index c.task-item.result) c.finish.new.self c.perform_request-answer.result c.request.ensures c.finish.ensures c.perform_request-answer.ensures.does);
       rest = rest_next c.deref_mut-task-items.result.now c.loop-task.task-items c.loop-task.task-index _ before.rest;
       same_length = length-set c.loop-task.task-items c.loop-task.task-index _ ∙ before.same_length;
       left = keeps_both _ _ _ before.left c.perform_request-answer.ensures.left;
     }
+
+pub finish-requires : goal.finish-requires
+finish-requires g c =
+    let done = task_done g.D.Disk g.T.Trace _ _ _ _ _ _ c.perform_request-answer.result c.request.ensures c.perform_request-answer.ensures.does in (
+      search rules,
+      (record { owned = c.type_bounds.send-D-Fault.owned; leaving = λ k. c.type_bounds.send-D-Fault.leaving (λ s. k (of_param 2)) }, (search rules, done)),
+    )
 
 pub returns-clause-steps : goal.returns-clause-steps
 returns-clause-steps g c =

@@ -6,16 +6,16 @@ use Rattle.silt_session.proofs.Pipelines.{fills_more}
 use Rattle.silt_session.proofs.pipeline.Pipeline.fill_places.Goals as goal
 
 pub loop-place-init : goal.loop-place-init
-loop-place-init c = record { same = refl; room = c.requires; replies_room = refl; places_room = refl; so_far = ([], [], refl, sym (append-nil _), refl) }
+loop-place-init g c = record { same = refl; room = c.requires; replies_room = refl; places_room = refl; so_far = ([], [], refl, sym (append-nil _), refl) }
 
 pub loop-place-preserved : goal.loop-place-preserved
-loop-place-preserved c =
+loop-place-preserved g c =
     let before = c.loop-place.invariant in
     let (done, given, whole, was, fills) = before.so_far in
     let place = c.in-Some.place in
     let reply = c.in-Some-given.reply in
     record {
-      same = ap (λ (p : Pipeline). record p { replies = c.push_reserved.new.self; places = c.pop_front.new.self }) before.same;
+      same = ap (λ (p : Pipeline _ _ _). record p { replies = c.push_reserved.new.self; places = c.pop_front.new.self }) before.same;
       room = search rules;
       replies_room = search rules;
       places_room = search rules;
@@ -24,6 +24,6 @@ loop-place-preserved c =
         given ++ reply ∷ [],
         append_assoc done (place ∷ []) c.pop_front.new.self.items ∙ ap (λ (l : List Place). done ++ l) (sym c.in-Some.ensures.items) ∙ whole,
         c.push_reserved.ensures.items ∙ ap (λ l. l ++ reply ∷ []) was ∙ append_assoc _ given (reply ∷ []),
-        fills_more _ _ _ _ done given place reply fills c.in-Some-given.ensures,
+        fills_more g.D.Disk g.T.Trace _ _ _ _ done given place reply fills c.in-Some-given.ensures,
       );
     }

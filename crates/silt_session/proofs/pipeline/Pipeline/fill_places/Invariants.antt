@@ -7,14 +7,14 @@ use Rattle.silt_session.proofs.pipeline.Pipeline.fill_places.Given as goal
 
 -- the places so far have their replies, by the first tasks
 abbrev pub invariant-loop-place : goal.invariant-loop-place
-invariant-loop-place l = record {
+invariant-loop-place g l = record {
   same : l.self ≡ record l.initial.self { replies = l.self.replies; places = l.self.places };
   room : vec_len l.self.replies + deque_len l.self.places ≤ vec_capacity l.self.replies;
   replies_room : vec_capacity l.self.replies ≡ vec_capacity l.initial.self.replies;
   places_room : deque_capacity l.self.places ≡ deque_capacity l.initial.self.places;
   so_far : (done : List Place) × (given : List PlainReply) × (done ++ l.self.places.items ≡ l.initial.self.places.items)
-      × (l.self.replies.items ≡ l.initial.self.replies.items ++ given) × Fills l.flushed l.initial.tasks.items done given l.tasks.items;
+      × (l.self.replies.items ≡ l.initial.self.replies.items ++ given) × Fills g.D.Disk g.T.Trace l.flushed l.initial.tasks.items done given l.tasks.items;
 }
 
 abbrev pub decreases-loop-place : goal.decreases-loop-place
-decreases-loop-place l = deque_len l.self.places
+decreases-loop-place g l = deque_len l.self.places

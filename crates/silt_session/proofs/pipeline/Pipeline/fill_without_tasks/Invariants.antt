@@ -1,12 +1,11 @@
-use Rattle.std.proofs.Common.{◌≡◌, ◌≤◌, ◌+◌, ◌++◌, List, map, vec_capacity, vec_len}
+use Rattle.std.proofs.Common.{◌≡◌, ◌≤◌, ◌+◌, ◌++◌, map, vec_capacity, vec_len}
 use Rattle.std.specs.VecDeque.{deque_capacity, deque_len}
 use Rattle.silt_session.specs.Pipelines.{reply_without_tasks}
-use Rattle.silt_session.specs.declared.place.Place.{Place}
 use Rattle.silt_session.proofs.pipeline.Pipeline.fill_without_tasks.Given as goal
 
 -- the places so far have their replies
 abbrev pub invariant-loop-place : goal.invariant-loop-place
-invariant-loop-place l = record {
+invariant-loop-place g l = record {
   same : l.self ≡ record l.initial.self { replies = l.self.replies; places = l.self.places };
   room : vec_len l.self.replies + deque_len l.self.places ≤ vec_capacity l.self.replies;
   replies_room : vec_capacity l.self.replies ≡ vec_capacity l.initial.self.replies;
@@ -15,4 +14,4 @@ invariant-loop-place l = record {
 }
 
 abbrev pub decreases-loop-place : goal.decreases-loop-place
-decreases-loop-place l = deque_len l.self.places
+decreases-loop-place g l = deque_len l.self.places

@@ -5,3 +5,6 @@ ghosts-serve_recorded-N-DeskId g a = record { calls_name = a.desk_blanks.0.name;
 
 abbrev pub ghosts-serve_recorded-N-InboxId : goal.ghosts-serve_recorded-N-InboxId
 ghosts-serve_recorded-N-InboxId g a = record { put_name = a.inbox_blanks.0.name; taken_name = a.inbox_blanks.1.name; feeders = a.inbox_blanks.0.parts }
+
+abbrev pub ghosts-serve_recorded-N-LogId : goal.ghosts-serve_recorded-N-LogId
+ghosts-serve_recorded-N-LogId g a = record { log = a.inbox_blanks.2 }

@@ -3,7 +3,7 @@ use Rattle.std.proofs.lemmas.List.{append-nil, nil_from_length}
 use Rattle.std.specs.Vec.Iter.{into_iter_items}
 use Rattle.silt_event.specs.declared.event.Event.{Event as EventOf}
 use Rattle.silt_session.proofs.Pipelines.{answers_none, settles_last}
-use Rattle.silt_session.proofs.answers.Session+Shared+D+T+N+W+R.take_all.Goals as goal
+use Rattle.silt_session.proofs.session.Session.take_all.Goals as goal
 
 pub loop-event-init : goal.loop-event-init
 loop-event-init g c =
@@ -12,7 +12,7 @@ loop-event-init g c =
       can = tt;
       finite = tt;
       room = (omega (arith, c.requires.room.0, ap length given.0, c.args.events.ok.0), omega (arith, c.requires.room.1, ap length given.0, c.args.events.ok.0));
-      so_far = ([], refl, answers_none g.D.Disk _ _ c.args.pipeline.now c.requires.settled c.requires.none);
+      so_far = ([], refl, answers_none g.D.Disk _ g.T.Trace c.args.pipeline.now c.requires.settled c.requires.none);
     }
 
 pub loop-event-preserved : goal.loop-event-preserved
@@ -37,5 +37,5 @@ returns g c =
     let given = c.into_iter-event-iterator.ensures.into_iter_gives in
     let left = c.loop-event.event-iterator in
     let ended = nil_from_length (into_iter_items left) (omega (arith, c.in-None.ensures.steps.0, left.rest.ok.0)) in
-    settles_last g.D.Disk _ _ c.settle.result c.args.events.items done c.loop-event.pipeline c.settle.new.self
+    settles_last g.D.Disk _ g.T.Trace c.settle.result c.args.events.items done c.loop-event.pipeline c.settle.new.self
     (sym (append-nil done) ∙ ap (λ (l : List EventOf). done ++ l) (sym ended) ∙ whole ∙ given.0) some c.settle.ensures

@@ -2,7 +2,7 @@ use Rattle.std.proofs.Common.{◌≡◌, ◌++◌, List, length}
 use Rattle.std.specs.Vec.Iter.{into_iter_items}
 use Rattle.silt_event.specs.declared.event.Event.{Event as EventOf}
 use Rattle.silt_session.specs.Pipelines.{AnswersSoFar, HasRoom}
-use Rattle.silt_session.proofs.answers.Session+Shared+D+T+N+W+R.take_all.Given as goal
+use Rattle.silt_session.proofs.session.Session.take_all.Given as goal
 
 -- the events so far have their replies or wait, and there is room for the others
 abbrev pub invariant-loop-event : goal.invariant-loop-event
@@ -11,5 +11,5 @@ invariant-loop-event g l = record {
   finite : (goal.iterator-loop-event g).is_finite l.event-iterator;
   room : HasRoom l.pipeline (length (into_iter_items l.event-iterator));
   so_far : (done : List EventOf) × (done ++ into_iter_items l.event-iterator ≡ into_iter_items l.initial.event-iterator)
-      × AnswersSoFar g.D.Disk l.self.settles_gets (g.W.Commits.did l.self.writer) done l.pipeline;
+      × AnswersSoFar g.D.Disk l.self.settles_gets g.T.Trace done l.pipeline;
 }

@@ -1,9 +1,0 @@
-use denote.Param.Send.{sendable}
-use Rattle.std.proofs.Crossing.{crosses}
-use Rattle.std.proofs.sync.RwLock.TheSendSync.{the_sync as lock_sync}
-use Rattle.silt_desk.proofs.Shares.{desk_send, desk_sync}
-use Rattle.silt_server.proofs.common.Serving.TheSendSync.{the_sync as serving_sync}
-use Rattle.silt_server.proofs.common.Serving+Shared+D+T+N+N+G+R.run.Goals as goal
-
-pub run_beside-requires-sync-S : goal.run_beside-requires-sync-S
-run_beside-requires-sync-S g c κs within = search (sendable, crosses, lock_sync, desk_send, desk_sync, serving_sync) depth 20

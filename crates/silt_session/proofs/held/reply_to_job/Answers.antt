@@ -1,0 +1,7 @@
+use Rattle.std.proofs.Common.{ap, sym, ◌∙◌}
+use Rattle.std.specs.Prelude.{Some}
+use Rattle.silt_session.proofs.Batches.{replied_same}
+use Rattle.silt_session.proofs.held.reply_to_job.Goals as goal
+
+pub invariant_of-tasks : goal.invariant_of-tasks
+invariant_of-tasks g c = c.tasks.invariant ∙ ap Some (sym (replied_same c.args.flushed.now _ _ c.reply_to_tasks.ensures))
