@@ -6,6 +6,7 @@ A part is a module `parts/test_NAME.py` with classes derived from `Case`. `tests
 import os
 import pathlib
 import random
+import re
 import shutil
 import subprocess
 import tempfile
@@ -58,6 +59,15 @@ def mounting(case):
     if ran.returncode:
         case.skipTest(f"no file system can be mounted here: {ran.stderr.strip()}")
     return words
+
+
+# What a terminal shows first of some file systems (`tests/run file_systems`).
+FILE_SYSTEM = re.compile(r"\Asilt: \S+: it lies (in memory|on ext4 without|on another machine).*\n")
+
+
+def without_note(shown):
+    """What a terminal shows, without what is known against the file system of the tests."""
+    return FILE_SYSTEM.sub("", shown)
 
 
 def closing(*numbers):

@@ -54,7 +54,7 @@ static const char *const call_names[] = {"read", "write", "pread", "pwrite", "fs
 static const struct { const char *name; int number; } error_names[] = {
     {"EIO", EIO}, {"ENOSPC", ENOSPC}, {"EINTR", EINTR}, {"EAGAIN", EAGAIN}, {"ENOMEM", ENOMEM}, {"EMFILE", EMFILE},
     {"ENFILE", ENFILE}, {"ECONNABORTED", ECONNABORTED}, {"ECONNRESET", ECONNRESET}, {"EPIPE", EPIPE},
-    {"EACCES", EACCES}, {"EBADF", EBADF}, {"EROFS", EROFS}, {"EDQUOT", EDQUOT}, {"EFBIG", EFBIG}, {"EINVAL", EINVAL}};
+    {"EPERM", EPERM}, {"EPROTO", EPROTO}, {"ENETDOWN", ENETDOWN}, {"EACCES", EACCES}, {"EBADF", EBADF}, {"EROFS", EROFS}, {"EDQUOT", EDQUOT}, {"EFBIG", EFBIG}, {"EINVAL", EINVAL}};
 
 enum what { FAIL, SHORT, DROP, SLOW, HOLD };
 
