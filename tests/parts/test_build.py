@@ -35,7 +35,7 @@ done
 [ "$name" = "$BROKEN" ] && { echo "an open goal"; exit 1; }
 case $1 in
     lib) mkdir -p out/rlib; echo made > out/rlib/stamp ;;
-    run) mkdir -p out; cp /bin/echo out/silt ;;
+    run) mkdir -p out; cp "${MADE:-/bin/echo}" out/silt ;;
     try) cat; echo "run=ended status=0 proved=no" >&2 ;;
 esac
 """
@@ -55,7 +55,8 @@ class Scripts(Case):
         (self.top / "crates.txt").write_text(CRATES)
         for name in ("build", "silt", "HANDLES"):
             shutil.copy2(TOP / name, self.top)
-        shutil.copytree(TOP / "tools", self.top / "tools")
+        for name in ("tools", "packaging"):
+            shutil.copytree(TOP / name, self.top / name)
         self.path("bin").mkdir()
         self.path("bin/rt").write_text(TOOLCHAIN)
         self.path("bin/rt").chmod(0o755)
@@ -234,9 +235,20 @@ class Build(Scripts):
         self.assertEqual(self.noted(), [])
 
     def test_installs_the_program(self):
-        ended = self.build("--prefix", str(self.path("there")))
-        self.assertEqual(ended.lines[-1], f"build: installed {self.path('there/bin/silt')}")
-        self.assertTrue(os.access(self.path("there/bin/silt"), os.X_OK))
+        there = self.path("there")
+        ended = self.build("--prefix", str(there), MADE=str(PROGRAM.resolve()))
+        files = [
+            "bin/silt",
+            "share/man/man1/silt.1",
+            "share/bash-completion/completions/silt",
+            "lib/systemd/system/silt@.service",
+        ]
+        said = [f"build: installed {there / it}" for it in files]
+        self.assertEqual(ended.lines[-4:], said, ended)
+        found = [str(it.relative_to(there)) for it in there.rglob("*") if it.is_file()]
+        self.assertEqual(sorted(found), sorted(files))
+        self.assertTrue(os.access(there / "bin/silt", os.X_OK))
+        self.assertIn(f"\nExecStart={there}/bin/silt serve ", (there / files[3]).read_text())
         ended = self.build("--prefix", "/dev/null")
         self.assertEqual(
             (ended.status, ended.err),

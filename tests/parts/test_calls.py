@@ -529,8 +529,8 @@ class Jobs(CallCase):
         """Judges that the null device is opened for streams that may be closed, and then the file
         so, and that it is locked before anything else is done. Returns the rest."""
         null, first, second, *rest = [it for it in calls if it.file == file or it.name == "open"]
-        self.assertEqual((null.name, null.file, null.asked & 0o103), ("open", "/dev/null", 0o2))
-        self.assertEqual((first.name, first.file, first.asked & 0o103), ("open", file, flags))
+        self.assertEqual((null.name, null.file, null.asked & 0o303), ("open", "/dev/null", 0o2))
+        self.assertEqual((first.name, first.file, first.asked & 0o303), ("open", file, flags))
         self.assertEqual((second.name, second.asked, second.result), ("flock", lock, 0))
         return rest
 
@@ -562,28 +562,41 @@ class Jobs(CallCase):
         path.write_bytes(content)
         self.assertEqual(changes(self.calls_of([])[0]), [("fsync", "store"), SYNC])
 
-    def test_a_format(self):
+    def judge_format(self, looks, filled, *options):
         """The folder is synced, what the file holds is looked at, and only then it is given its
-        length and synced."""
+        length, filled and synced. A file that is not there is made for this job alone."""
         due = Buffers().make(Rules(G).empty_store())
+        held = self.path("store").read_bytes() if self.path("store").exists() else None
+        ended, calls = self.recorded("format", "store", *G.split(), *options)
+        self.assertEqual(ended.out, "formatted 45056\n")
+        if held is not None:
+            mine = next(it for it in calls if it.file == "store" and it.name == "open")
+            self.assertEqual((mine.asked & 0o303, mine.error), (0o302, "EEXIST"))
+            calls.remove(mine)
+        rest = self.opened(calls, 0o302 if held is None else 0o102, 6)
+        folder = [it for it in calls if it.file == "."]
+        fill = [("pwrite", 0, (held or b"").ljust(45056, b"\0"))] if filled else []
+        self.assertEqual(
+            changes(folder + rest),
+            [("fsync", "."), ("ftruncate", "store"), *fill, ("fsync", "store"), *due],
+        )
+        self.assertEqual([it.at for it in calls if it.name == "ftruncate"], [45056])
+        names = [it.name for it in calls]
+        at = names.index("ftruncate")
+        self.assertLess(names.index("fsync"), at)
+        self.assertEqual(reads(calls[:at]), looks, "what is lost")
+        mark = (2048, 37)
+        self.assertEqual(reads(calls[at:]), [(0, 45056), mark] if filled else [mark])
+
+    def test_a_format(self):
         # Of a store it reads the header, what a check reads, and the header again for its numbers.
         check = [*HEAD, (12288, 4)]
-        for looks in ([], [*2 * HEAD[:1], *check]):
-            ended, calls = self.recorded("format", "store", *G.split())
-            self.assertEqual(ended.out, "formatted 45056\n")
-            rest = self.opened(calls, 0o102, 6)
-            folder = [it for it in calls if it.file == "."]
-            self.assertEqual(
-                changes(folder + rest),
-                [("fsync", "."), ("ftruncate", "store"), ("fsync", "store"), *due],
-            )
-            self.assertEqual([it.at for it in calls if it.name == "ftruncate"], [45056])
-            names = [it.name for it in calls]
-            self.assertLess(names.index("fsync"), names.index("ftruncate"))
-            self.assertEqual(reads(calls), looks, "what is lost")
-            self.assertEqual(reads(calls[names.index("ftruncate"):]), [])
-            if self.version == 1:
-                self.make_old()
+        for options in ((), ("--sparse",)):
+            self.path("store").unlink(missing_ok=True)
+            for looks in ([], [*2 * HEAD[:1], *check]):
+                self.judge_format(looks, not options, *options)
+                if self.version == 1:
+                    self.make_old()
 
     def test_a_check(self):
         """It reads what an opening reads, and the header once more for its numbers, and makes no

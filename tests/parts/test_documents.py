@@ -39,6 +39,8 @@ LEFT_OUT = {
     r"_tests_tests\b": "needs the test programs of crates",
     r"--bind 10\.": "needs an address of a network",
     r"^git\b": "works on the repository",
+    r"^tests/power\b": "runs virtual machines",
+    r"^apt-get\b": "installs packages",
 }
 if not shutil.which("redis-cli"):
     LEFT_OUT[r"\bredis-cli\b"] = "needs Debian's package redis-tools"
@@ -173,7 +175,8 @@ class Shell(Case):
         self.path("crates/silt/out").mkdir(parents=True)
         self.path("crates/silt/out/silt").symlink_to(PROGRAM)
         for folder in ("examples", "tools", "tests"):
-            shutil.copytree(TOP / folder, self.path(folder))
+            ignored = shutil.ignore_patterns("out")
+            shutil.copytree(TOP / folder, self.path(folder), ignore=ignored)
         self.path("bin").mkdir()
         self.path("bin/nc").write_text(NETCAT.format(python=sys.executable))
         self.path("bin/nc").chmod(0o755)

@@ -482,12 +482,42 @@ class Others(FaultCase):
     def test_a_script(self):
         self.try_all(Job(["script", *GEOMETRY.split()], LIVES), self.judge_script, STREAMS)
 
+    def is_filling(self, calls, at):
+        """Whether this call gives the store's file its length, fills it or syncs it."""
+        first = next(
+            (n for n, it in enumerate(calls) if (it.name, it.file) == ("ftruncate", "store")), at + 1
+        )
+        ends = (
+            n for n, it in enumerate(calls) if n > first and (it.name, it.file) == ("fsync", "store")
+        )
+        return first <= at <= next(ends, len(calls))
+
+    def judge_filling(self, job, fault, ended):
+        """There is no file where there was none, and an old one has its bytes and its length."""
+        self.assertEqual((ended.status, ended.out, self.left()), (1, DEVICE, job.before))
+        self.assertRegex(
+            ended.err, rf"\A(silt: store holds a store .*\n)?silt: store: {re.escape(fault.text)}\n\Z"
+        )
+
     def judge_format(self, job, fault, whole, ended, calls):
         """The file is no store, an empty one or the old one. The next formatting, by force, makes
         an empty store of it."""
+        at = self.failed_call(fault, calls)
+        if self.is_filling(calls, at):
+            self.judge_filling(job, fault, ended)
+            return
         left = self.left()
         empty = self.report_after(None, job)
-        call = calls[self.failed_call(fault, calls)]
+        call = calls[at]
+        if call.name == "open" and call.asked & 0o300 == 0o300 and not ended.status:
+            # A file that cannot be made anew is opened, and made if there is none.
+            self.assertEqual((ended, self.report(left)), (whole, empty))
+            return
+        if (fault.call, call.at, call.asked) == ("pread", 2048, 37):
+            # It cannot see whether the file is marked as a shard.
+            self.assertEqual((ended.status, ended.out), (1, DEVICE))
+            self.assertEqual(self.report_after(left, job), empty)
+            return
         if fault.call == "pread":
             # It cannot see the store that is lost, or not its numbers, or not how many keys.
             self.assertEqual((ended.status, ended.out, self.report(left)), (0, whole.out, empty))
@@ -651,5 +681,5 @@ class Files(FaultCase):
         ended = self.limited(30000, job, True)
         reason = "silt: store: File too large (os error 27)\n"
         self.assertEqual((ended.status, ended.out, ended.err), (1, DEVICE, reason))
-        self.assertEqual(self.report(self.left()), NO_STORE)
+        self.assertIsNone(self.left(), "what was made for it is removed")
         self.assertEqual(self.silt(*job.words).status, 0)

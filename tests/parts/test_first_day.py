@@ -2,10 +2,11 @@
 is reported with its reason."""
 import os
 import socket
+import subprocess
 import unittest
 
 from commands import answer, done, value_of
-from harness import Ended, scaled
+from harness import PROGRAM, Case, Ended, mounting, scaled
 from served import ServedCase
 from watch import WatchedCase, watching
 
@@ -39,6 +40,69 @@ OUT_OF_LIMITS = {
     "2 2 4 2 2 0": "S is 0, and may be 1 to 16777216",
     "2 2 4 2 2 4294967295": "S is 4294967295, and may be 1 to 16777216",
 }
+
+
+# Numbers of a larger store, and its length.
+LARGE = "2 16 64 8 16 4000"
+LARGE_LENGTH = 323_584
+NO_SPACE = "silt: store: No space left on device (os error 28)\n"
+# Mounts a small file system, and runs what follows in it. Its name and its size come before that.
+IN_A_SMALL_ONE = 'mount -t tmpfs -o size="$2" tmpfs "$1" && cd "$1" && shift 2 && eval "$1"'
+
+
+class Files(Case):
+    """The file of a new store has room for all of it, so that it is never full later."""
+
+    def blocks(self):
+        return 512 * self.path("store").stat().st_blocks
+
+    def test_all_of_a_file_is_written(self):
+        self.silt("format", "store", *LARGE.split(), "--sparse")
+        self.assertEqual(self.path("store").stat().st_size, LARGE_LENGTH)
+        self.assertLess(self.blocks(), LARGE_LENGTH)
+        sparse = self.path("store").read_bytes()
+        for before in ("none", "sparse", "other data"):
+            if before != "sparse":
+                self.path("store").unlink()
+            if before == "other data":
+                self.path("store").write_bytes(b"\0" * 5_000_000)
+            self.silt("format", "store", *LARGE.split(), "--force")
+            self.assertEqual(self.path("store").read_bytes(), sparse)
+            self.assertGreaterEqual(self.blocks(), LARGE_LENGTH)
+
+    def in_a_small_one(self, script):
+        """What this script prints in a file system of 256 KiB. `$SILT` is the program."""
+        self.path("small").mkdir()
+        ran = subprocess.run(
+            [*mounting(self), "sh", "-c", IN_A_SMALL_ONE, "sh", "small", "256k", script],
+            env={**os.environ, "SILT": PROGRAM},
+            cwd=self.folder,
+            capture_output=True,
+            text=True,
+        )
+        return ran.stdout, ran.stderr
+
+    def test_a_new_file_on_a_full_disk(self):
+        """It is refused at once, and removed."""
+        out, err = self.in_a_small_one(f"$SILT format store {LARGE}; echo $?; ls -A")
+        self.assertEqual((out, err), (f"{DEVICE}1\n", NO_SPACE))
+
+    def test_a_store_on_a_full_disk(self):
+        """It keeps all that it has. An empty file that was there before stays too."""
+        out, err = self.in_a_small_one(
+            f"$SILT format store {SMALL}; echo 'put =a 0102\nflush' | $SILT run store; cp store old;"
+            f"$SILT format --force store {LARGE}; echo $?; cmp store old && echo same; rm store;"
+            f"> store; $SILT format store {LARGE}; ls -As store"
+        )
+        kept = "formatted 45056\nopened\naccepted 1\nacknowledged 1\n"
+        self.assertEqual(out, f"{kept}{DEVICE}1\nsame\n{DEVICE}0 store\n")
+        overwritten = OVERWRITTEN.format(f" ({NAMED}) of at most 1 keys").replace("file", "store", 1)
+        self.assertEqual(err, overwritten + 2 * NO_SPACE)
+
+    def test_a_sparse_file_on_a_full_disk(self):
+        """It is made, as it has few blocks."""
+        out, err = self.in_a_small_one(f"$SILT format store {LARGE} --sparse")
+        self.assertEqual((out, err), (f"formatted {LARGE_LENGTH}\n", ""))
 
 
 class Formats(WatchedCase):

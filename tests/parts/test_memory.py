@@ -257,7 +257,10 @@ class Servers(MemoryCase):
         return replies
 
     def reply(self, answers):
+        """The next reply. None if the connection is closed, also with a line that no thread is there for it."""
         line = answers.readline()
+        if line == b"busy: the system gives no thread\n":
+            return None
         return line.decode().rstrip("\n") if line.endswith(b"\n") else None
 
     def serve(self, **plans):

@@ -9,7 +9,7 @@ import pty
 import tty
 import unittest
 
-from harness import PROVED
+from harness import PROVED, without_note
 from layout import COUNT, KEY_LEN, OPEN, SLOTS, Layout, as_version_1
 from watch import WatchedCase, read_record, watching
 
@@ -65,7 +65,7 @@ class Progress(WatchedCase):
                 else:
                     out = "".join(running.stdout.readline().decode() for _ in range(replies))
                     running.kill()
-            return running.returncode, out, shown.result()
+            return running.returncode, out, without_note(shown.result())
 
     def check_times(self):
         """The line was written right behind each read that made it due, and before the next one.
@@ -92,8 +92,23 @@ class Progress(WatchedCase):
                     due.append(
                         f"\rsilt: opening: {read >> 20} MiB read of a file of {size >> 20} MiB"
                     )
-        self.assertTrue(said.startswith("".join(due)), said)
+        self.assertTrue(without_note(said).startswith("".join(due)), said)
         return cost, opened
+
+    def test_a_long_filling(self):
+        """A new file shows how much of it is written, each 16 MiB. A sparse one shows nothing."""
+        geometry = "100 32768 32768 4 1 100000"
+        status, out, shown = self.on_terminal("format", "new", *geometry.split())
+        size = self.path("new").stat().st_size
+        self.assertEqual((status, out), (0, f"formatted {size}\n"))
+        line = "\rsilt: new file: {} MiB written of {} MiB"
+        parts = [line.format(done, size >> 20) for done in (*range(16, size >> 20, 16), size >> 20)]
+        self.assertGreater(size, 2 * STEP)
+        self.assertEqual(shown, "".join(parts) + "\n")
+        for options in (("--sparse", "--force"), ()):
+            status, out, shown = self.on_terminal("format", "small", *"2 2 4 2 2 8".split(), *options)
+            self.assertEqual((status, out), (0, "formatted 45056\n"))
+            self.assertNotIn("new file", shown)
 
     def test_a_long_opening(self):
         """Each job shows it that opens a store."""

@@ -6,7 +6,7 @@ import subprocess
 import unittest
 
 from harness import TIME_LIMIT
-from served import DESCRIPTORS, MOST_SESSIONS, ROOMY, SMALL, ServedCase, digits
+from served import CONVERTER, DESCRIPTORS, MERGER, MOST_SESSIONS, ROOMY, SMALL, ServedCase, digits
 from watch import read_record, watching
 
 FIVE_PUTS = [f"put {digits(it)} {it:04}" for it in range(1, 6)]
@@ -241,6 +241,25 @@ class Accepting(ServedCase):
     def test_a_passing_lack_of_memory(self):
         self.check_passing("ENOMEM")
 
+    def test_a_cause_that_may_pass(self):
+        self.check_passing("EPERM", "EPROTO", "ENETDOWN")
+
+    def noted(self, error):
+        """What a server of port 0 writes for people whose first three accepts fail so."""
+        server = self.serve(
+            "--sessions", 1, env=watching(self, fail=[f"accept:{it}:{error}" for it in (1, 2, 3)])
+        )
+        self.served_client(server).close()
+        return server.ended().err
+
+    def test_a_cause_that_people_should_know_is_noted_once(self):
+        note = "a connection is not accepted: Operation not permitted (os error 1); the server tries again"
+        self.assertEqual(self.noted("EPERM"), f"silt: 127.0.0.1:0: {note}\n")
+
+    def test_a_connection_that_is_gone_is_not_noted(self):
+        for error in ("ECONNABORTED", "EMFILE"):
+            self.assertEqual(self.noted(error), "")
+
     def gone(self):
         """How a server ends whose listener fails for good, while one session goes on."""
         server = self.serve(env=watching(self, fail="accept:2+:EINVAL"))
@@ -281,7 +300,7 @@ class Threads(ServedCase):
         server = self.serve("--sessions", 2, env=watching(self, fail=faults))
         for _ in range(MOST_SESSIONS):
             client = self.client(server)
-            client.send("get =abc")
+            self.assertEqual(client.reply(), "busy: the system gives no thread")
             self.assertIsNone(client.reply())
             client.close()
         clients = self.clients(server, 2)
@@ -290,8 +309,8 @@ class Threads(ServedCase):
             client.close()
         self.check_calls(server.ended(), 0)
 
-    def test_the_thread_of_the_writer(self):
-        ended = self.begin("store", 0, env=watching(self, fail="thread:3:EAGAIN")).ended()
+    def check_refused(self, *faults):
+        ended = self.begin("store", 0, env=watching(self, fail=list(faults))).ended()
         self.assertEqual(
             (ended.status, ended.lines[0], ended.lines[2:]),
             (1, "opened", ["refused 6 NoMemory"]),
@@ -299,11 +318,20 @@ class Threads(ServedCase):
         )
         self.check_whole()
 
-    def test_the_thread_of_the_replier(self):
-        self.check_late_work(["thread:4:EAGAIN"])
+    def test_the_thread_of_the_writer(self):
+        self.check_refused("thread:3:EAGAIN")
 
-    def check_late_work(self, faults):
-        server = self.serve("--sessions", 1, env=watching(self, fail=faults))
+    def test_the_thread_of_the_merger(self):
+        self.check_refused("thread:1:EAGAIN")
+
+    def test_the_thread_of_the_converter(self):
+        self.check_refused("thread:2:EAGAIN")
+
+    def test_no_thread_at_all(self):
+        self.check_refused("thread:1+:EAGAIN")
+
+    def test_the_thread_of_the_replier(self):
+        server = self.serve("--sessions", 1, env=watching(self, fail="thread:4:EAGAIN"))
         client = self.client(server)
         self.assertEqual(client.ask(*FIVE_PUTS), [f"accepted {it}" for it in range(1, 6)])
         client.close()
@@ -313,14 +341,33 @@ class Threads(ServedCase):
             (numbers["generation"], numbers["sorted entries"], numbers["charge"]), (3, 4, 5)
         )
 
-    def test_the_thread_of_the_merger(self):
-        self.check_late_work(["thread:1:EAGAIN"])
 
-    def test_the_thread_of_the_converter(self):
-        self.check_late_work(["thread:2:EAGAIN"])
+class Workers(ServedCase):
+    """A step of a worker that is refused."""
 
-    def test_the_threads_of_both(self):
-        self.check_late_work(["thread:1:EAGAIN", "thread:2:EAGAIN"])
+    def setUp(self):
+        super().setUp()
+        self.store(SMALL)
+
+    def check_tried_again(self, worker):
+        """The worker does its work in the end, though its first reads fail, more of them than commands come."""
+        faults = [f"pread@{worker}:{it}:EIO" for it in range(1, 8)]
+        server = self.serve(env=watching(self, fail=faults))
+        client = self.client(server)
+        self.assertEqual(client.ask(*FIVE_PUTS), [f"accepted {it}" for it in range(1, 6)])
+        self.wait_until(lambda: self.merged() == 4, "the work of both workers")
+        self.assertTrue(server.is_running())
+
+    def merged(self):
+        """How many entries of the sorted store a copy of the store's file has."""
+        self.path("copy").write_bytes(self.path("store").read_bytes())
+        return self.check_whole("copy")["sorted entries"]
+
+    def test_a_read_of_the_converter(self):
+        self.check_tried_again(CONVERTER)
+
+    def test_a_read_of_the_merger(self):
+        self.check_tried_again(MERGER)
 
 
 class Sessions(ServedCase):

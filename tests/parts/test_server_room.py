@@ -272,18 +272,6 @@ class Workers(RoomCase):
                 self.failing(f"memory@{worker}:1+:ENOMEM"), 16 if worker == MERGER else 8
             )
 
-    def test_workers_without_threads(self):
-        """If neither can be started, nobody makes room before the end, and nobody says so: each
-        wait ends by its limit."""
-        self.options = ("--pipeline", "--wait", 1)
-        self.store(TIGHT)
-        server = self.serve(
-            "--sessions", 1, env=watching(self, fail=["thread:1:EAGAIN", "thread:2:EAGAIN"])
-        )
-        replies = self.load(server, puts(10))
-        self.check_end(server)
-        self.assertEqual(replies, [f"accepted {it}" for it in range(1, 9)] + [NO_ROOM] * 2)
-
 
 class Held(RoomCase):
     """A converter that begins only when the test lets it. Two logs take 16 rows."""

@@ -23,6 +23,8 @@ LINES = [
     "flush",
     *(f"get {key}" for key in KEYS),
 ]
+# What a connection gets instead of a session.
+NO_THREAD = "busy: the system gives no thread"
 # How many calls of a kind fail, one in each server.
 MOST = 50
 # The errors that a server may report.
@@ -222,6 +224,9 @@ class Sweeps(ServedCase):
                 self.assertIn("refused 6 NoMemory", refusals, self.lines[number])
                 replies.cut(self.lines[number:])
                 break
+            if (number, reply) == (0, NO_THREAD):
+                self.assertIn("refused 6 NoMemory", refusals)
+                break  # no session has read a line
             replies.take(self.lines[number], reply, refusals)
         client.close()
 

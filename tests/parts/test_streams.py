@@ -15,7 +15,7 @@ import termios
 import unittest
 from dataclasses import dataclass
 
-from harness import TIME_LIMIT, Case, Ended, closing, mounting
+from harness import TIME_LIMIT, Case, Ended, closing, mounting, without_note
 from served import Client, ServedCase, listening_sockets
 
 GEOMETRY = "64 2 4 2 2 16"
@@ -370,7 +370,7 @@ class OtherStreams(StreamCase):
             os.close(terminal)
             self.assertEqual(running.wait(TIME_LIMIT), 0)
         self.assertEqual(
-            shown, self.due + "refused 20 BadLine\nsilt: 1 line refused 20 BadLine, first line 2\n"
+            without_note(shown), self.due + "refused 20 BadLine\nsilt: 1 line refused 20 BadLine, first line 2\n"
         )
 
 

@@ -162,7 +162,7 @@ class Loads(StrictCase):
         )
         script = (
             "mount -t tmpfs -o size=40k tmpfs full && "
-            '"$0" format full/store 100 64 224 2 2 1000 >made && '
+            '"$0" format full/store 100 64 224 2 2 1000 --sparse >made && '
             '"$0" run full/store $1 <lines'
         )
         ended = []

@@ -2,14 +2,14 @@
 letter."""
 from harness import Case, Ended
 
-FORMS = """silt format FILE V B CAP NL NH S [--force]  makes an empty store in a file
-silt run FILE [OPTION]...                   replies to the lines of the standard input
-silt tend FILE [--merge-at K]               does all background work that is due
-silt check FILE                             prints what the store in a file consists of
-silt dump FILE                              prints a line for each key that puts its value
-silt plan KEYS V [--memory BYTES]           prints the six numbers of a store for so many keys
-silt script V B CAP NL NH S                 runs the lives of the standard input in memory
-silt serve FILE PORT [OPTION]...            replies to the lines of a port's connections
+FORMS = """silt format FILE V B CAP NL NH S [OPTION]...  makes an empty store in a file
+silt run FILE [OPTION]...                     replies to the lines of the standard input
+silt tend FILE [--merge-at K]                 does all background work that is due
+silt check FILE                               prints what the store in a file consists of
+silt dump FILE                                prints a line for each key that puts its value
+silt plan KEYS V [--memory BYTES]             prints the six numbers of a store for so many keys
+silt script V B CAP NL NH S                   runs the lives of the standard input in memory
+silt serve FILE PORT [OPTION]...              replies to the lines of a port's connections
 
 FILE  the file of the store
 V     bytes of a value, 1 to 4096
@@ -22,9 +22,12 @@ KEYS  keys that have values at one time
 PORT  a port of this machine, at most 65535; 0 lets the system choose
 
 --force           formats a file that holds keys or other data; they are lost
+--sparse          gives the file its length alone, and does not write all of it
+--shards M        format: makes the files FILE.0, FILE.1 .., each one of M shards of a store, 2 to 64
 --tend            converts and merges between the lines, as long as work is due
 --strict          ends with status 3 if a line was refused
 --merge-at K      run --tend: merges once there are K hash stores, and not only if no region is free
+--shards M        run: replies with the M shards in the files FILE.0, FILE.1 .. as one store
 --merge-at K      tend: merges only if there are K hash stores; any number if left out
 --memory BYTES    what the store may take of memory, merge included
 --audit N         refuses every call after the first N, which it records in memory; the record is not printed
@@ -41,8 +44,8 @@ PORT  a port of this machine, at most 65535; 0 lets the system choose
 
 # The values and the options of each job.
 JOBS = {
-    "format": ("FILE V B CAP NL NH S", "--force"),
-    "run": ("FILE", "--tend --strict --merge-at"),
+    "format": ("FILE V B CAP NL NH S", "--force --sparse --shards"),
+    "run": ("FILE", "--tend --strict --merge-at --shards"),
     "tend": ("FILE", "--merge-at"),
     "check": ("FILE", ""),
     "dump": ("FILE", ""),
@@ -103,6 +106,13 @@ COMPLAINTS = {
     "format disk 2 2 4 2 2": "S is missing",
     "format disk 2 2 4 2 2 8 8": "'8' is one word too many",
     "format disk 2 2 4 2 2 8 -- --force": "'--force' is one word too many",
+    "format disk 2 2 4 2 2 8 --sparse --sparse": "--sparse is given twice",
+    "format disk 2 2 4 2 2 8 --sparse=1": "'--sparse=1' is no option here",
+    "format disk 2 2 4 2 2 8 --shards": "--shards needs a number behind it",
+    "format disk 2 2 4 2 2 8 --shards=1": "--shards cannot be '1': a set has 2 to 64 shards",
+    "run disk --shards 2 --shards 2": "--shards is given twice",
+    "run disk --shards two": "--shards cannot be 'two': a number is written in digits alone",
+    "tend disk --shards 2": "'--shards' is no option here",
     "format disk 2 2 4 2 2 -8": "'-8' is no option here",
     "format disk 2 2 4 2 2 +8": f"S cannot be '+8': {NO_DIGITS}",
     "format disk 2 x 4 2 2 8": f"B cannot be 'x': {NO_DIGITS}",
@@ -192,7 +202,7 @@ def form_of(job):
     options = [
         line
         for line in options
-        if not line.startswith("--merge-at") or line.split()[2].rstrip(":") == job
+        if not line.startswith(("--merge-at", "--shards")) or line.split()[2].rstrip(":") == job
     ]
     named, chosen = (
         [line for line in part if line.split()[0] in names.split()]
