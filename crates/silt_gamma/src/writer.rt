@@ -57,11 +57,12 @@ impl BitWriter {
         BitReader::new(&self.bytes, start, count)
     }
 
-    /// A copy of these bits, with no more memory than it needs.
-    pub fn try_clone(&self, alloc: Global) -> Result<BitWriter, AllocError>
+    /// A copy of these bits, with room for this many bytes more. So these bytes need no further memory, and the bits need not be
+    /// copied again for them.
+    pub fn try_clone_with_room(&self, alloc: Global, more: usize) -> Result<BitWriter, AllocError>
         ensures { IfOk result (λ copy. copy ≡ self.now) }
     {
-        let mut bytes = Vec::with_capacity(alloc, self.bytes.len())?;
+        let mut bytes = Vec::with_capacity(alloc, self.bytes.len().saturating_add(more))?;
         bytes.extend_from_slice(&self.bytes)?;
         Ok(BitWriter {
             bytes,

@@ -5,7 +5,7 @@ ghost use Rattle.silt_disk.specs.Layout.{device_size, row_len};
 ghost use Rattle.silt_hash_store.specs.Slots.{HoldsSlots, hash_rows};
 ghost use Rattle.silt_log.specs.Found.{put_place};
 
-use crate::lookup::find_in;
+use crate::lookup::{Sought, find_in};
 use crate::rebuild::{Rebuilt, rebuild_region};
 use crate::region::{HashRegion, Head};
 use crate::tags::Tags;
@@ -122,13 +122,21 @@ impl HashStore {
         ensures fault { IfErr result (GaveAny D.gave disk.now) }
     {
         let (first, second) = key_buckets(&key.0, self.region.geometry.buckets());
-        if let Some(found) = find_in(&self.region, &self.tags, disk, first, second, key, front)? {
+        let sought = Sought {
+            key: *key,
+            tag: second,
+        };
+        if let Some(found) = find_in(&self.region, &self.tags, disk, first, sought, front)? {
             return Ok(Some(found));
         }
         if first == second {
             return Ok(None);
         }
-        find_in(&self.region, &self.tags, disk, second, first, key, front)
+        let sought = Sought {
+            key: *key,
+            tag: first,
+        };
+        find_in(&self.region, &self.tags, disk, second, sought, front)
     }
 
     // Like `look_up` with the head of each slot. If no slot has a tag of the key, it needs no bytes for heads.

@@ -152,8 +152,7 @@ impl Rebuilt {
         len: usize,
         bytes: &[u8],
     ) -> Result<(), ScanError<D::Fault>>
-        requires within { first + count ≤ 4 * self.old.store.shape.buckets }
-        requires small { first + count ≤ 2 ^ 17 }
+        requires within { (first + count ≤ 4 * self.old.store.shape.buckets) × (first + count ≤ 2 ^ 17) }
         requires len { len ≡ row_len self.old.store.shape }
         requires bytes { length bytes.now ≡ count * len }
         requires counts { (self.old.store.puts ≤ self.old.rows) × (self.old.rows ≤ first) }
@@ -174,21 +173,16 @@ impl Rebuilt {
         Ok(())
     }
 
-    // Reads this many slots from a slot on into a buffer of exactly their length, `len` bytes each. Feeds the bytes to the hasher, and
-    // adds the slots.
+    // Reads this many slots from a slot on into a buffer of exactly their length. Feeds the bytes to the hasher, and adds the slots.
     fn add_read<D: Disk>(
         &mut self,
         disk: &D,
         first: u32,
         count: u32,
-        len: usize,
         buffer: &mut [u8],
         hasher: &mut Sha1,
     ) -> Result<(), ScanError<D::Fault>>
-        requires some { 0 < count }
-        requires within { first + count ≤ 4 * self.old.store.shape.buckets }
-        requires small { first + count ≤ 2 ^ 17 }
-        requires len { len ≡ row_len self.old.store.shape }
+        requires within { (0 < count) × (first + count ≤ 4 * self.old.store.shape.buckets) × (first + count ≤ 2 ^ 17) }
         requires buffer { length buffer.old ≡ count * row_len self.old.store.shape }
         requires counts { (self.old.store.puts ≤ self.old.rows) × (self.old.rows ≤ first) }
         requires size { device_size self.old.store.shape ≤ size (D.content disk.now) }
@@ -204,6 +198,7 @@ impl Rebuilt {
             return Err(ScanError::Device(fault));
         }
         hasher.update(buffer);
+        let len = self.store.geometry().row_len();
         self.add_slots(disk, first, count, len, buffer)
     }
 
@@ -216,11 +211,8 @@ impl Rebuilt {
         buffer: &mut [u8],
         most: u32,
     ) -> Result<Digest, ScanError<D::Fault>>
-        requires all { count ≡ 4 * self.old.store.shape.buckets }
-        requires small { count ≤ 2 ^ 17 }
-        requires len { len ≡ row_len self.old.store.shape }
-        requires some { 0 < most }
-        requires buffer { most * len ≤ length buffer.old }
+        requires all { (count ≡ 4 * self.old.store.shape.buckets) × (count ≤ 2 ^ 17) }
+        requires buffer { (0 < most) × (len ≡ row_len self.old.store.shape) × (most * len ≤ length buffer.old) }
         requires counts { (self.old.store.puts ≡ 0) × (self.old.rows ≡ 0) }
         requires size { device_size self.old.store.shape ≤ size (D.content disk.now) }
         ensures region { (self.new.store.shape ≡ self.old.store.shape) × (self.new.store.region ≡ self.old.store.region) }
@@ -239,7 +231,6 @@ impl Rebuilt {
                 disk,
                 slot,
                 next,
-                len,
                 &mut buffer[..next as usize * len],
                 &mut hasher,
             )?;

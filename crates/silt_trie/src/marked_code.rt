@@ -1,8 +1,8 @@
 //! The code of keys with marks.
 ghost use Rattle.std.specs.Prelude.{◌≡◌, ℕ, ◌+◌, ◌^◌, ◌<◌, ◌≤◌, List, [], ◌∷◌, ◌++◌, length, OnOk, OnErr, IfOk};
-ghost use Rattle.silt_trie.specs.Code.{IsCodable, with_bit};
+ghost use Rattle.silt_trie.specs.Code.{IsCodable, trie_code, with_bit};
 ghost use Rattle.silt_trie.specs.Coded.{Grows, bytes_of};
-ghost use Rattle.silt_trie.specs.Marks.{grouped_code, head_code, marks_of};
+ghost use Rattle.silt_trie.specs.Marks.{head_code, marks_of};
 
 use super::code_of_keys::count_left;
 use super::marks::{Mark, SKIPS};
@@ -11,25 +11,23 @@ use silt_frame::Key;
 use silt_gamma::BitWriter;
 use std::alloc::AllocError;
 
-/// Appends the codes of the groups of keys, by the next `groups` bits, one behind the other, and a
-/// mark of each prefix of `levels` bits. `place` keys come before these keys. After an error part
-/// of both may have been appended.
+/// Appends the code of keys that agree in their first `depth` bits, and a mark of each prefix of the
+/// next `levels` bits. `place` keys come before these keys. After an error part of both may have
+/// been appended.
 pub fn write_marked(
     bits: &mut BitWriter,
     marks: &mut Vec<Mark>,
     keys: &[Key],
     place: u32,
     depth: usize,
-    groups: usize,
     levels: usize,
 ) -> Result<(), AllocError>
     requires codable { IsCodable (bytes_of keys.now) depth }
     requires counted { place + length keys.now < 2 ^ 32 }
     requires within { depth + levels ≤ 160 }
-    requires grouped { groups ≤ levels }
-    ensures code { OnOk result (bits.new ≡ bits.old ++ grouped_code groups (bytes_of keys.now) depth) }
+    ensures code { OnOk result (bits.new ≡ bits.old ++ trie_code (bytes_of keys.now) depth) }
     ensures marks { OnOk result (marks.new.items
-        ≡ marks.old.items ++ marks_of levels groups (bytes_of keys.now) depth (length bits.old) place) }
+        ≡ marks.old.items ++ marks_of levels 0 (bytes_of keys.now) depth (length bits.old) place) }
     ensures err { OnErr result (Grows bits.old bits.new × Grows marks.old.items marks.new.items) }
 {
     if levels == 0 {
@@ -38,19 +36,11 @@ pub fn write_marked(
         write_skipped(bits, &mut skips, keys, depth)?;
         return push_mark(marks, start, place, skips);
     }
-    let left = write_head(bits, keys, depth, groups)?;
+    let left = write_head(bits, keys, depth)?;
     let (lefts, rights) = keys.split_at(left);
-    let groups = groups.saturating_sub(1);
-    write_marked(bits, marks, lefts, place, depth + 1, groups, levels - 1)?;
-    write_marked(
-        bits,
-        marks,
-        rights,
-        place + left as u32,
-        depth + 1,
-        groups,
-        levels - 1,
-    )
+    write_marked(bits, marks, lefts, place, depth + 1, levels - 1)?;
+    let place = place + left as u32;
+    write_marked(bits, marks, rights, place, depth + 1, levels - 1)
 }
 
 /// Appends a mark, or changes nothing. If a `u32` cannot count its place in the code, that is out of memory too.
@@ -75,20 +65,15 @@ pub fn push_mark(
 
 /// Appends what comes before the codes of both sides, and returns the number of keys on the
 /// left.
-fn write_head(
-    bits: &mut BitWriter,
-    keys: &[Key],
-    depth: usize,
-    groups: usize,
-) -> Result<usize, AllocError>
+fn write_head(bits: &mut BitWriter, keys: &[Key], depth: usize) -> Result<usize, AllocError>
     requires within { depth < 160 }
     requires codable { IsCodable (bytes_of keys.now) depth }
     ensures left { IfOk result (λ left. left ≡ length (with_bit 0 depth (bytes_of keys.now))) }
-    ensures code { OnOk result (bits.new ≡ bits.old ++ head_code groups (bytes_of keys.now) depth) }
+    ensures code { OnOk result (bits.new ≡ bits.old ++ head_code 0 (bytes_of keys.now) depth) }
     ensures err { OnErr result (bits.new ≡ bits.old) }
 {
     let left = count_left(keys, depth);
-    if groups > 0 || keys.len() < 2 {
+    if keys.len() < 2 {
         return Ok(left);
     }
     bits.write_gamma(left as u32 + 1)?;

@@ -14,6 +14,7 @@ use silt_frame::{KEY_LEN, Key};
 use silt_gamma::BitWriter;
 use std::alloc::{AllocError, Global};
 use std::marker::Model;
+use std::ops::Range;
 
 /// The number of bits by which keys are grouped: the first byte.
 const GROUP_BITS: usize = 8;
@@ -105,8 +106,7 @@ impl MarkedTrieBuilder {
                 &self.group,
                 self.count,
                 self.levels,
-                first,
-                next,
+                first..next,
             )?;
             self.group.clear();
         }
@@ -125,7 +125,8 @@ impl MarkedTrieBuilder {
         ensures groups { IfOk result (λ made. made.groups ≡ 8) }
         ensures levels { IfOk result (λ made. made.levels ≡ self.now.levels) }
     {
-        let mut bits = self.bits.try_clone(alloc)?;
+        let room = self.group.len(); // the code of a group takes less than a byte a key if its keys are spread evenly
+        let mut bits = self.bits.try_clone_with_room(alloc, room)?;
         let mut marks = Vec::with_capacity(alloc, (1 << self.levels) + 1)?;
         marks.extend_from_slice(&self.marks)?;
         write_groups(
@@ -134,35 +135,33 @@ impl MarkedTrieBuilder {
             &self.group,
             self.count,
             self.levels,
-            group_under_way(self.last),
-            GROUPS,
+            group_under_way(self.last)..GROUPS,
         )?;
         MarkedTrie::complete(bits, marks, self.count, 0, GROUP_BITS, self.levels)
     }
 }
 
-/// Appends code and marks of the groups from `first` up to `next`. The first one has these keys, and
-/// the others are empty; `count` keys are all so far. After an error nothing has changed.
+/// Appends code and marks of these groups. The first one has these keys, and the others are empty;
+/// `count` keys are all so far. After an error nothing has changed.
 fn code_groups(
     bits: &mut BitWriter,
     marks: &mut Vec<Mark>,
     keys: &[Key],
     count: usize,
     levels: usize,
-    first: usize,
-    next: usize,
+    groups: Range<usize>,
 ) -> Result<(), AllocError>
-    requires some { (first < next) × (next ≤ 256) }
+    requires some { (groups.start < groups.end) × (groups.end ≤ 256) }
     requires levels { (8 ≤ levels) × (levels ≤ 24) }
     requires few { (length keys.now ≤ count) × (count < 2 ^ 32) }
     requires codable { IsCodable (bytes_of keys.now) 8 }
     ensures coded { OnOk result ((all : List (List ℕ)) (last : Option Key)
-        → HasGroups first all (record { code = bits.old; marks = marks.old.items; group = keys.now; count = count; last = last; levels = levels })
-        → HasGroups next all (record { code = bits.new; marks = marks.new.items; group = []; count = count; last = last; levels = levels })) }
+        → HasGroups groups.start all (record { code = bits.old; marks = marks.old.items; group = keys.now; count = count; last = last; levels = levels })
+        → HasGroups groups.end all (record { code = bits.new; marks = marks.new.items; group = []; count = count; last = last; levels = levels })) }
     ensures err { OnErr result ((bits.new ≡ bits.old) × (marks.new.items ≡ marks.old.items)) }
 {
     let (len, marked) = (bits.len(), marks.len());
-    match write_groups(bits, marks, keys, count, levels, first, next) {
+    match write_groups(bits, marks, keys, count, levels, groups) {
         Ok(()) => Ok(()),
         Err(fault) => {
             bits.truncate(len);
@@ -179,30 +178,23 @@ fn write_groups(
     keys: &[Key],
     count: usize,
     levels: usize,
-    first: usize,
-    next: usize,
+    groups: Range<usize>,
 ) -> Result<(), AllocError>
-    requires some { (first < next) × (next ≤ 256) }
+    requires some { (groups.start < groups.end) × (groups.end ≤ 256) }
     requires levels { (8 ≤ levels) × (levels ≤ 24) }
     requires few { (length keys.now ≤ count) × (count < 2 ^ 32) }
     requires codable { IsCodable (bytes_of keys.now) 8 }
     ensures coded { OnOk result ((all : List (List ℕ)) (last : Option Key)
-        → HasGroups first all (record { code = bits.old; marks = marks.old.items; group = keys.now; count = count; last = last; levels = levels })
-        → HasGroups next all (record { code = bits.new; marks = marks.new.items; group = []; count = count; last = last; levels = levels })) }
+        → HasGroups groups.start all (record { code = bits.old; marks = marks.old.items; group = keys.now; count = count; last = last; levels = levels })
+        → HasGroups groups.end all (record { code = bits.new; marks = marks.new.items; group = []; count = count; last = last; levels = levels })) }
     ensures err { OnErr result (Grows bits.old bits.new × Grows marks.old.items marks.new.items) }
 {
     let mut waiting = keys;
-    for _group in first..next {
+    let first = groups.start;
+    for _group in first..groups.end {
         let place = (count - waiting.len()) as u32;
-        write_marked(
-            bits,
-            marks,
-            waiting,
-            place,
-            GROUP_BITS,
-            0,
-            levels - GROUP_BITS,
-        )?;
+        let below = levels - GROUP_BITS;
+        write_marked(bits, marks, waiting, place, GROUP_BITS, below)?;
         waiting = &[];
     }
     Ok(())

@@ -6,6 +6,6 @@ use Rattle.silt_hash_store.proofs.lookup.find_in.Given as goal
 abbrev pub invariant-loop-slot : goal.invariant-loop-slot
 invariant-loop-slot g l = record {
   long : length l.front ≡ length l.initial.front;
-  lack : IsTrue (g.D.Disk.content l.disk).honest → (slot : ℕ) → 4 * l.bucket ≤ slot → slot < l.slot → slot_tag l.tags slot ≡ Some l.tag
-      → is_row_of l.key.0 (slot_row l.region.geometry l.region.number (g.D.Disk.content l.disk).shown slot) ≡ false;
+  lack : IsTrue (g.D.Disk.content l.disk).honest → (slot : ℕ) → 4 * l.bucket ≤ slot → slot < l.slot → slot_tag l.tags slot ≡ Some l.sought.tag
+      → is_row_of l.sought.key.0 (slot_row l.region.geometry l.region.number (g.D.Disk.content l.disk).shown slot) ≡ false;
 }

@@ -1,4 +1,4 @@
-use Rattle.std.proofs.Common.{◌≡◌, ◌+◌, ◌-◌, arith}
+use Rattle.std.proofs.Common.{◌≡◌, ◌+◌, refl, arith}
 use Rattle.std.proofs.lemmas.Result.{on_ok_weaker}
 use Rattle.silt_trie.specs.Code.{IsCodable}
 use Rattle.silt_trie.specs.Coded.{bytes_of}
@@ -16,31 +16,25 @@ split_at-requires t c =
 pub write_marked-requires : goal.write_marked-requires
 write_marked-requires t c =
     let part : IsCodable (bytes_of c.split_at.result.0.now) (c.args.depth + 1) = rw (bytes_lefts c.args.depth _ _ _ c.requires.codable c.in_ok-left.ensures.left c.split_at.ensures.front) (lefts_codable c.args.depth _ c.requires.codable) in
-    let next = c.saturating_sub-groups.ensures in
     let counted = c.requires.counted in
     let within = c.requires.within in
-    let grouped = c.requires.grouped in
     let front = c.split_at.ensures.front_len in
     let back = c.split_at.ensures.back_len in
-    (omega arith, (part, (omega arith, (omega arith, omega arith))))
+    (omega arith, (part, (omega arith, omega arith)))
 
 pub write_marked-requires-2 : goal.write_marked-requires-2
 write_marked-requires-2 t c =
     let part : IsCodable (bytes_of c.split_at.result.1.now) (c.args.depth + 1) = rw (bytes_rights c.args.depth _ _ _ c.requires.codable c.in_ok-left.ensures.left c.split_at.ensures.back) (rights_codable c.args.depth _ c.requires.codable) in
-    let next = c.saturating_sub-groups.ensures in
     let counted = c.requires.counted in
     let within = c.requires.within in
-    let grouped = c.requires.grouped in
     let front = c.split_at.ensures.front_len in
     let back = c.split_at.ensures.back_len in
-    (omega arith, (part, (omega arith, (omega arith, omega arith))))
+    (omega arith, (part, (omega arith, omega arith)))
 
 pub returns-clause-code : goal.returns-clause-code
 returns-clause-code t c =
-    let next : c.saturating_sub-groups.result ≡ c.args.groups - 1 = omega (arith, c.saturating_sub-groups.ensures) in
-    on_ok_weaker _ (code_marked c.args.groups _ c.args.depth _ _ _ _ c.args.bits.now _ _ _ c.requires.codable (omega arith) next c.in_ok-left.ensures.left c.split_at.ensures.front c.split_at.ensures.back c.in_ok-left.ensures.code c.in_ok-write_marked.ensures.code) c.write_marked-2.ensures.code
+    on_ok_weaker _ (code_marked 0 0 c.args.depth _ _ _ _ c.args.bits.now _ _ _ c.requires.codable (omega arith) refl c.in_ok-left.ensures.left c.split_at.ensures.front c.split_at.ensures.back c.in_ok-left.ensures.code c.in_ok-write_marked.ensures.code) c.write_marked-2.ensures.code
 
 pub returns-clause-marks : goal.returns-clause-marks
 returns-clause-marks t c =
-    let next : c.saturating_sub-groups.result ≡ c.args.groups - 1 = omega (arith, c.saturating_sub-groups.ensures) in
-    on_ok_weaker _ (marks_marked c.args.levels c.args.groups _ c.args.depth _ c.args.place _ _ _ c.args.bits.now _ _ _ _ _ c.requires.codable (omega arith) next c.in_ok-left.ensures.left c.split_at.ensures.front c.split_at.ensures.back c.in_ok-left.ensures.code c.in_ok-write_marked.ensures.code c.in_ok-write_marked.ensures.marks) c.write_marked-2.ensures.marks
+    on_ok_weaker _ (marks_marked c.args.levels 0 0 c.args.depth _ c.args.place _ _ _ c.args.bits.now _ _ _ _ _ c.requires.codable (omega arith) refl c.in_ok-left.ensures.left c.split_at.ensures.front c.split_at.ensures.back c.in_ok-left.ensures.code c.in_ok-write_marked.ensures.code c.in_ok-write_marked.ensures.marks) c.write_marked-2.ensures.marks

@@ -16,6 +16,6 @@ loop-group-preserved c =
 
 pub returns-clause-coded : goal.returns-clause-coded
 returns-clause-coded c = λ all last has.
-    let end : c.loop-group._group ≡ c.args.next = omega arith in
+    let end : c.loop-group._group ≡ c.args.groups.end = omega arith in
     let none : c.loop-group.waiting.now ≡ [] = c.loop-group.invariant.empty (omega arith) in
     rw (end, none) at (c.loop-group.invariant.coded all last has)

@@ -1,4 +1,5 @@
 use Rattle.std.proofs.Common.{ℕ, ◌*◌, IsTrue, sym, ap, ◌∙◌}
+use Rattle.silt_disk.specs.Layout.{row_len}
 use Rattle.silt_hash_store.specs.Rebuild.{IsFirstUnsound, IsGrown}
 use Rattle.silt_hash_store.specs.Slots.{HoldsSlots}
 use Rattle.silt_hash_store.proofs.Bytes.{ends_well, more_fed}
@@ -6,7 +7,9 @@ use Rattle.silt_hash_store.proofs.Chunks.{refused_read}
 use Rattle.silt_hash_store.proofs.rebuild.Rebuilt.add_read.Goals as goal
 
 pub add_slots-requires-clause-bytes : goal.add_slots-requires-clause-bytes
-add_slots-requires-clause-bytes g c = λ lifetimes outlive. c.read_slots.auto.out ∙ c.requires.buffer ∙ ap (λ (n : ℕ). c.args.count * n) (sym c.requires.len)
+add_slots-requires-clause-bytes g c = λ lifetimes outlive.
+    let len = c.row_len-len.ensures.value ∙ ap row_len c.geometry.ensures.value in
+    c.read_slots.auto.out ∙ c.requires.buffer ∙ ap (λ (n : ℕ). c.args.count * n) (sym len)
 
 pub returns-clause-ok : goal.returns-clause-ok
 returns-clause-ok g c = λ honest is. c.add_slots.ensures.ok honest (c.in_default.ensures.slots honest) is
