@@ -14,6 +14,8 @@ GEOMETRY = "64 64 224 8 8 40000"
 # The Python that has Debian's modules.
 PYTHON = "/usr/bin/python3"
 REQUESTS = 20_000 if PROVED else 2_000
+# How long redis-benchmark may take, in seconds: a MSET has ten keys, and the machine may be busy.
+LONG_LIMIT = 8 * TIME_LIMIT
 
 
 def has_redis_py():
@@ -30,9 +32,9 @@ class ClientCase(ServedCase):
         self.store(GEOMETRY)
         self.server = self.serve()
 
-    def ran(self, *words, text=""):
+    def ran(self, *words, text="", limit=TIME_LIMIT):
         """What a program prints that ends well."""
-        ran = subprocess.run(words, input=text, capture_output=True, text=True, timeout=TIME_LIMIT)
+        ran = subprocess.run(words, input=text, capture_output=True, text=True, timeout=limit)
         self.assertEqual((ran.returncode, ran.stderr), (0, ""), ran)
         return ran.stdout
 
@@ -106,6 +108,7 @@ class Benchmark(ClientCase):
             "1000",
             "--csv",
             *words,
+            limit=LONG_LIMIT,
         )
         names = [it.split(",")[0].strip('"') for it in said.splitlines()[1:]]
         self.assertEqual(names, ["PING_INLINE", "PING_MBULK", "SET", "GET", "MSET (10 keys)"], said)
@@ -140,6 +143,13 @@ for n in range(1000):
 pipe.get("p999")
 assert pipe.execute() == [True] * 1000 + [b"999"]
 assert r.delete("a", "b", "c") == 2
+info = r.info()
+assert (info["redis_version"], info["loading"], info["stores"], info["failed"]) == ("7.0.0", 0, 1, 0), info
+assert r.mset({"d": 1, "e": 2}) is True and r.set("d", 3, nx=True) is None
+assert r.info()["commands"] == info["commands"] + 2
+assert r.info("store").keys() == info.keys() - {"redis_version", "silt_version", "loading"}
+assert r.info("server") == {"redis_version": "7.0.0", "silt_version": "0.1.0", "loading": 0}
+assert r.info("clients") == {}
 for call, begin in [(lambda: r.expire("p1", 10), "unknown command"), (lambda: r.set("p1", 1, ex=10), "syntax error"),
                     (lambda: r.incr("p1"), "unknown command")]:
     try:

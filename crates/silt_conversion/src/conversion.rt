@@ -152,6 +152,13 @@ impl Conversion {
         self.next == self.region.slot_count()
     }
 
+    /// How many slots are written.
+    pub fn written(&self) -> u32
+        ensures { result ≡ self.now.next }
+    {
+        self.next
+    }
+
     /// The number of the region that the conversion writes.
     pub fn region(&self) -> u32
         ensures value { result ≡ self.now.region }

@@ -12,7 +12,7 @@ use crate::seat::{DeskId, Ledgers, MissingSeats, Seat};
 use crate::trace::{NotPrepared, Room, Trace};
 use crate::worker::Due;
 use silt_disk::{Disk, Geometry};
-use silt_event::{Progress, Refusal};
+use silt_event::{Facts, Progress, Refusal};
 use silt_frame::Key;
 use silt_store_set::{Core, LentBytes, Look};
 use std::alloc::Global;
@@ -118,6 +118,7 @@ impl<D: Disk, T: Trace, N: DeskId> Desk<D, T, N> {
     ghost use Rattle.silt_store_set.specs.CoreState.{Does, map_of, may_merge, wants_convert, wants_merge};
     ghost use Rattle.silt_store_set.specs.Replies.{change_reply, flush_reply, found_of, get_reply, progress_reply, swap_reply};
     ghost use Rattle.silt_event.specs.declared.event.Event.TheVariants.{Put, Delete, Swap, Get, Flush, Convert, Merge};
+    ghost use Rattle.silt_store_set.specs.Facts.{facts_of};
     ghost use Rattle.silt_desk.specs.DeskState.{Serves};
     ghost use Rattle.silt_desk.specs.Seeing.{seen};
 
@@ -160,6 +161,13 @@ impl<D: Disk, T: Trace, N: DeskId> Desk<D, T, N> {
         ensures { result ≡ self.now.core.shape }
     {
         self.core.geometry()
+    }
+
+    /// The numbers of the store at this moment.
+    pub fn facts(&self) -> Facts
+        ensures { result ≡ facts_of self.now.core }
+    {
+        self.core.facts()
     }
 
     /// States what is true of the store at every moment, and does nothing: the possible crash images of its device,

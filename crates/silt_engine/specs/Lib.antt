@@ -10,3 +10,4 @@ pub mod Costs
 pub mod Merge
 pub mod RowWrite
 pub mod Laws
+pub mod Numbers

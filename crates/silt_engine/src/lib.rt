@@ -37,6 +37,7 @@ mod laws;
 mod lookup;
 mod merge;
 mod next_log;
+mod numbers;
 mod row_write;
 
 pub use crate::engine::Engine;

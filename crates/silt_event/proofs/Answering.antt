@@ -1,10 +1,9 @@
 -- One event more has its reply.
 use Rattle.std.proofs.Common.{List, [], ◌∷◌, ◌++◌, subst, refl}
-use Rattle.silt_event.specs.declared.event.Event.{Event}
-use Rattle.silt_event.specs.Events.{AnswersEach, PlainReply}
+use Rattle.silt_event.specs.Events.{AnswersEach}
 
-module _ {A : Type 0} (answers : A → A → Event → PlainReply → Type 0) where
-  pub each_more : (old mid new : A) (events : List Event) (replies : List PlainReply) (event : Event) (reply : PlainReply)
+module _ {A E R : Type 0} (answers : A → A → E → R → Type 0) where
+  pub each_more : (old mid new : A) (events : List E) (replies : List R) (event : E) (reply : R)
       → AnswersEach answers old events replies mid → answers mid new event reply
       → AnswersEach answers old (events ++ event ∷ []) (replies ++ reply ∷ []) new
   each_more old mid new [] [] event reply each one = (new, subst (λ a. answers a new event reply) each one, refl)

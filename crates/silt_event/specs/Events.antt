@@ -87,9 +87,9 @@ Counts old (Accepted n) new = (n ≡ old + 1) × (new ≡ old + 1)
 Counts old (Acknowledged n) new = (n ≡ old) × (new ≡ old)
 Counts old reply new = new ≡ old
 
--- each event gets its reply, one after the other
-module _ {A : Type 0} (answers : A → A → Event → PlainReply → Type 0) where
-  abbrev pub AnswersEach : A → List Event → List PlainReply → A → Type 0
+-- each event gets its reply, one after the other; or each query its answer
+module _ {A E R : Type 0} (answers : A → A → E → R → Type 0) where
+  abbrev pub AnswersEach : A → List E → List R → A → Type 0
   AnswersEach old [] [] new = new ≡ old
   AnswersEach old (event ∷ events) (reply ∷ replies) new = (mid : A) × answers old mid event reply × AnswersEach mid events replies new
   AnswersEach old events replies new = ⊥

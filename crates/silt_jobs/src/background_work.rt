@@ -1,9 +1,9 @@
 // Background work without workers: between the lines of a session, or all at once.
 ghost use Rattle.std.specs.Prelude.{◌≡◌, ◌&&◌, not, IfErr, IfOk};
-ghost use Rattle.silt_jobs.specs.BackgroundWork.{StopsAt, TendsAll, TendsDue, TendsPlain, TendsThenDoes, begins, due_at_once, error_of, is_idle, is_paused, merges};
+ghost use Rattle.silt_jobs.specs.BackgroundWork.{GivesTended, StopsAt, TendsAll, TendsDue, TendsPlain, TendsThenDoes, begins, due_at_once, error_of, is_idle, is_paused, merges};
 
 use silt_disk::Disk;
-use silt_event::{Answerer, Event, Reply};
+use silt_event::{Answerer, Event, Facts, Reply};
 use silt_store_set::{Core, Progress, Refusal, Served};
 use std::alloc::Global;
 use std::marker::Model;
@@ -181,11 +181,17 @@ impl<D: Tended> Answerer for Tending<D> {
 
     ghost answers = { TendsThenDoes D.Disk };
 
+    ghost informs = { GivesTended };
+
     fn answer(&mut self, alloc: Global, event: Event) -> Reply<()> {
         if self.refusal.is_some() {
             return D::answer_on(&mut self.core, alloc, &event);
         }
         self.refusal = D::tend_on(&mut self.core, alloc, self.least);
         D::answer_on(&mut self.core, alloc, &event)
+    }
+
+    fn facts(&self) -> Option<Facts> {
+        Some(D::facts_on(&self.core))
     }
 }

@@ -9,7 +9,7 @@ use crate::progress::Progress;
 use crate::urgent::{Tells, Urgent};
 use silt_device::{DiskSource, DiskSources, FileDisk};
 use silt_disk::Disk;
-use silt_event::{Event, Reply};
+use silt_event::{Event, Facts, Reply};
 use silt_store_set::{Core, Refusal, Served};
 use std::alloc::Global;
 use std::io::Stderr;
@@ -153,6 +153,10 @@ impl Watched for WatchedFile<'_> {
 impl Served for WatchedFile<'_> {
     fn answer_on(core: &mut Core<Self>, alloc: Global, event: &Event) -> Reply<()> {
         core.answer(alloc, event).plain()
+    }
+
+    fn facts_on(core: &Core<Self>) -> Facts {
+        core.facts()
     }
 }
 

@@ -1,6 +1,7 @@
 // Commands of Redis clients, the replies to them and values of strings, letter for letter.
 
 mod batches;
+mod facts;
 mod sessions;
 
 use silt_event::{Refusal, Reply};

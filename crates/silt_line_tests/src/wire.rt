@@ -1,6 +1,7 @@
 // What no contract says: texts, letter for letter.
 
 pub(crate) mod batches;
+pub(crate) mod facts;
 mod sessions;
 mod swaps;
 

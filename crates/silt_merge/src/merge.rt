@@ -414,6 +414,16 @@ impl Merge {
         self.stores
     }
 
+    /// How many steps it has taken: one for each gathered slot, and one for each decided key.
+    pub fn steps(&self) -> u64
+        ensures { result ≡ steps_of self.now }
+    {
+        let slots = 4 * self.target.geometry.buckets() as u64;
+        let gathered = self.store as u64 * slots + self.slot as u64;
+        let most = gathered + self.passed as u64; // no more keys are decided
+        gathered + self.decided.min(most)
+    }
+
     /// Whether all slots are gathered and all keys are decided: after one step for each slot of each store and one for each key.
     pub fn is_done(&self, sorted: &SortedEntries) -> bool
         ensures value { result ≡ is_done self.now sorted.now }

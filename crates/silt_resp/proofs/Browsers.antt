@@ -3,8 +3,8 @@ use Rattle.std.proofs.Common.{◌≡◌, ◌==◌, ℕ, true, false, cond, List,
 use Rattle.std.specs.Prelude.{IfSome}
 use Rattle.std.specs.Io.KnownBytes.{Consumes}
 use Rattle.std.proofs.lemmas.Bool.{cases_lt}
-use Rattle.silt_event.specs.declared.event.Event.{Event}
-use Rattle.silt_event.specs.Events.{AnswersEach, PlainReply}
+use Rattle.silt_event.specs.Events.{AnswersEach}
+use Rattle.silt_event.specs.Queries.{Answer, Query}
 use Rattle.silt_wire.specs.Http.{Guards, IsHttp, ends_line}
 use Rattle.silt_wire.specs.Sessions.{IsBeginning}
 use Rattle.silt_resp.specs.declared.fault.ProtocolFault.{ProtocolFault}
@@ -14,7 +14,7 @@ use Rattle.silt_resp.specs.declared.session.RespEnd.{RespEnd}
 use Rattle.silt_resp.specs.declared.session.RespEnd.TheVariants.{End, Closed, ReadFault, WriteFault, NoMemory}
 use Rattle.silt_resp.specs.Buffers.{NoFeed}
 use Rattle.silt_resp.specs.Commands.{Asked, broken_text, says, visitor_at_first}
-use Rattle.silt_resp.specs.Sessions.{AnswersCommands, AnswersSomeCommands, EndsWith, RespEnds, WritesAtMostFault, all_events, asked_after, asked_each, new_client, asked_texts}
+use Rattle.silt_resp.specs.Sessions.{AnswersCommands, AnswersSomeCommands, EndsWith, RespEnds, WritesAtMostFault, all_queries, asked_after, asked_each, new_client, asked_texts}
 use Rattle.silt_resp.specs.Stream.{line_kind, line_limit, too_long}
 use Rattle.silt_resp.proofs.Doing.{begins-trans}
 use Rattle.silt_resp.proofs.Runs.{line_over, line_run}
@@ -38,36 +38,36 @@ read_no_feed given read None none took = absurd took
 read_no_feed given read (Some ys) none took = no_feed-front read ys (subst (λ xs. NoFeed xs) took (no_feed given none))
 
 -- they end at most one command, which is none
-at_most_fault : (s : Settings) (id : ℕ) (read : List ℕ) → NoFeed read
-    → (fault : ProtocolFault) × IsBeginning (asked_after s (new_client s id) read) (says (broken_text fault) ∷ [])
-at_most_fault s id read none =
+at_most_fault : (s : Settings) (read : List ℕ) → NoFeed read
+    → (fault : ProtocolFault) × IsBeginning (asked_after s (new_client s) read) (says (broken_text fault) ∷ [])
+at_most_fault s read none =
     let kind = line_kind 0 read in
     elim (cases_lt (line_limit kind) (length read)) [
       | inl over ↦ (
         too_long kind,
-        ([], append-nil (asked_after s (new_client s id) read) ∙ ap (asked_each s (visitor_at_first s id)) (line_over [] 0 [] read none (omega arith) over).commands_are),
+        ([], append-nil (asked_after s (new_client s) read) ∙ ap (asked_each s (visitor_at_first s)) (line_over [] 0 [] read none (omega arith) over).commands_are),
       )
       | inr within ↦ (
         BadCount,
-        (says (broken_text BadCount) ∷ [], ap (λ cs. asked_each s (visitor_at_first s id) cs ++ says (broken_text BadCount) ∷ []) (line_run [] 0 [] read none within).commands_are),
+        (says (broken_text BadCount) ∷ [], ap (λ cs. asked_each s (visitor_at_first s) cs ++ says (broken_text BadCount) ∷ []) (line_run [] 0 [] read none within).commands_are),
       )
     ]
 
 -- ---- nothing is done
 
-text_only : (asked : List Asked) (text : List ℕ) → IsBeginning asked (says text ∷ []) → (all_events asked ≡ []) × IsBeginning (asked_texts asked []) text
+text_only : (asked : List Asked) (text : List ℕ) → IsBeginning asked (says text ∷ []) → (all_queries asked ≡ []) × IsBeginning (asked_texts asked []) text
 text_only [] text h = (refl, (text, refl))
 text_only (x ∷ []) text h =
     let is : x ≡ says text = cc (h.1) in
-    (ap (λ a. all_events (a ∷ [])) is, subst (λ a. IsBeginning (asked_texts (a ∷ []) []) text) (sym is) ([], append-nil (text ++ []) ∙ append-nil text))
+    (ap (λ a. all_queries (a ∷ [])) is, subst (λ a. IsBeginning (asked_texts (a ∷ []) []) text) (sym is) ([], append-nil (text ++ []) ∙ append-nil text))
 text_only (x ∷ y ∷ asked) text h = absurd (cc (h.1))
 
-module _ {A : Type 0} (answers : A → A → Event → PlainReply → Type 0) where
-  none_each : (a b : A) (replies : List PlainReply) → AnswersEach answers a [] replies b → (b ≡ a) × (replies ≡ [])
+module _ {A : Type 0} (answers : A → A → Query → Answer → Type 0) where
+  none_each : (a b : A) (replies : List Answer) → AnswersEach answers a [] replies b → (b ≡ a) × (replies ≡ [])
   none_each a b [] each = (each, refl)
   none_each a b (r ∷ replies) each = absurd each
 
-  none_done : (asked : List Asked) (text : List ℕ) (a b : A) (replies : List PlainReply) → IsBeginning asked (says text ∷ []) → AnswersEach answers a (all_events asked) replies b
+  none_done : (asked : List Asked) (text : List ℕ) (a b : A) (replies : List Answer) → IsBeginning asked (says text ∷ []) → AnswersEach answers a (all_queries asked) replies b
       → (b ≡ a) × IsBeginning (asked_texts asked replies) text
   none_done asked text a b replies begins each =
       let only = text_only asked text begins in
@@ -86,19 +86,19 @@ module _ {A : Type 0} (answers : A → A → Event → PlainReply → Type 0) wh
       let done = none_done k.0 (broken_text fault) a b k.1 (begins-trans k.0 asked (says (broken_text fault) ∷ []) k.3 begins) k.4 in
       (done.0, (fault, k.2, begins-trans k.2 (asked_texts k.0 k.1) (broken_text fault) k.5 done.1, k.6))
 
-  told_ends : (end : RespEnd) (s : Settings) (id : ℕ) (read : List ℕ) (a b : A) (before after : Option (List ℕ)) → NoFeed read
-      → EndsWith answers end s (new_client s id) read a b before after → (b ≡ a) × WritesAtMostFault before after
-  told_ends End s id read a b before after none h = let m = at_most_fault s id read none in all_told _ m.0 a b before after m.1 h.0
-  told_ends ReadFault s id read a b before after none h = let m = at_most_fault s id read none in all_told _ m.0 a b before after m.1 h.0
-  told_ends Closed s id read a b before after none h = let m = at_most_fault s id read none in all_told _ m.0 a b before after m.1 h.0
-  told_ends WriteFault s id read a b before after none h = let m = at_most_fault s id read none in some_told _ m.0 a b before after m.1 h
-  told_ends NoMemory s id read a b before after none h = let m = at_most_fault s id read none in some_told _ m.0 a b before after m.1 h
+  told_ends : (end : RespEnd) (s : Settings) (read : List ℕ) (a b : A) (before after : Option (List ℕ)) → NoFeed read
+      → EndsWith answers end s (new_client s) read a b before after → (b ≡ a) × WritesAtMostFault before after
+  told_ends End s read a b before after none h = let m = at_most_fault s read none in all_told _ m.0 a b before after m.1 h.0
+  told_ends ReadFault s read a b before after none h = let m = at_most_fault s read none in all_told _ m.0 a b before after m.1 h.0
+  told_ends Closed s read a b before after none h = let m = at_most_fault s read none in all_told _ m.0 a b before after m.1 h.0
+  told_ends WriteFault s read a b before after none h = let m = at_most_fault s read none in some_told _ m.0 a b before after m.1 h
+  told_ends NoMemory s read a b before after none h = let m = at_most_fault s read none in some_told _ m.0 a b before after m.1 h
 
   -- an HTTP request does nothing, and has at most one error
-  pub http_nothing : (end : RespEnd) (s : Settings) (id : ℕ) (known given left before after : Option (List ℕ)) (a b : A) → Guards known given
-      → RespEnds answers end s (new_client s id) (record { answerer = a; remaining = given; contents = before }) (record { answerer = b; remaining = left; contents = after })
+  pub http_nothing : (end : RespEnd) (s : Settings) (known given left before after : Option (List ℕ)) (a b : A) → Guards known given
+      → RespEnds answers end s (new_client s) (record { answerer = a; remaining = given; contents = before }) (record { answerer = b; remaining = left; contents = after })
       → IfSome known (λ bytes. IsHttp bytes → (b ≡ a) × WritesAtMostFault before after)
-  http_nothing end s id None given left before after a b guards ends = tt
-  http_nothing end s id (Some bytes) None left before after a b guards ends = absurd guards
-  http_nothing end s id (Some bytes) (Some given) left before after a b guards ends = λ http.
-      told_ends end s id ends.0 a b before after (read_no_feed given ends.0 left (guards.0 http) ends.1) ends.3
+  http_nothing end s None given left before after a b guards ends = tt
+  http_nothing end s (Some bytes) None left before after a b guards ends = absurd guards
+  http_nothing end s (Some bytes) (Some given) left before after a b guards ends = λ http.
+      told_ends end s ends.0 a b before after (read_no_feed given ends.0 left (guards.0 http) ends.1) ends.3

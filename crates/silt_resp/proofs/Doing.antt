@@ -1,17 +1,19 @@
 -- Doing commands in two parts is doing them at once, and a beginning of a part is a beginning of the whole.
-use Rattle.std.proofs.Common.{◌≡◌, ◌+◌, ◌≤◌, ℕ, suc, Result, Ok, Err, List, [], ◌∷◌, ◌++◌, length, map, take, drop, take-append-drop, refl, sym, ap, subst, ◌∙◌, append_assoc, get_or, inl, inr, ◌<◌, Option, Some, arith, length-append, append-nil}
+use Rattle.std.proofs.Common.{◌≡◌, ◌+◌, ◌≤◌, ℕ, suc, Result, Ok, Err, List, [], ◌∷◌, ◌++◌, length, map, take, drop, take-append-drop, refl, sym, ap, subst, ◌∙◌, append_assoc, get_or, inl, inr, ◌<◌, Option, Some, arith, length-append, append-nil, None}
 use Rattle.std.specs.Prelude.{IfOk, OnErr, OnOk, min}
 use Rattle.std.proofs.Math.ListN.{drop_of_length-le}
 use Rattle.std.proofs.Math.Seq.{drop-cons}
 use Rattle.std.proofs.lemmas.Bool.{cases_lt}
 use Rattle.std.specs.Io.KnownBytes.{Appends}
 use Rattle.std.proofs.lemmas.Grind.{flat_map-append}
-use Rattle.std.proofs.lemmas.List.{drop-append-le, length-drop, take_all, take-append-le}
+use Rattle.std.proofs.lemmas.List.{drop-append-le, drop-map, length-drop, length-map, take_all, take-append-le, take-map}
 use Rattle.std.proofs.Math.Seq.{take-add}
 use Rattle.silt_event.specs.declared.event.Event.{Event}
+use Rattle.silt_event.specs.declared.facts.Facts.{Facts}
 use Rattle.silt_event.specs.Events.{AnswersEach, PlainReply}
+use Rattle.silt_event.specs.Queries.{Answer, AnswersQuery, Query, does, replies as replied}
 use Rattle.silt_wire.specs.Sessions.{IsBeginning}
-use Rattle.silt_wire.proofs.Answering.{IsBeginning-all}
+use Rattle.silt_wire.proofs.Answering.{IsBeginning-all, each-queries}
 use Rattle.silt_wire.proofs.Streams.{Appends-append, Appends-none}
 use Rattle.silt_resp.specs.declared.settings.Settings.{Settings}
 use Rattle.silt_resp.specs.declared.settings.Visitor.{Visitor}
@@ -19,9 +21,10 @@ use Rattle.silt_resp.specs.declared.session.RespEnd.{RespEnd}
 use Rattle.silt_resp.specs.declared.session.RespEnd.TheVariants.{End, Closed, ReadFault, WriteFault, NoMemory}
 use Rattle.silt_resp.specs.declared.batch.Batch.{Batch}
 use Rattle.silt_resp.specs.declared.batch.Due.{Due}
-use Rattle.silt_resp.specs.Batches.{HoldsAsked, due_seen, part_len, part_of, part_text, part_texts}
-use Rattle.silt_resp.specs.Commands.{Asked, asked_for, asks, asked_events, says, visitor_after}
-use Rattle.silt_resp.specs.Sessions.{AnswersCommands, AnswersSomeCommands, Client, EndsWith, IsCommandsEnd, IsLast, ServesCommands, ServesSomeCommands, all_events, asked_after, asked_each, client_after, asked_text, asked_texts, visitor_behind}
+use Rattle.silt_resp.specs.declared.asked.Sections.{Sections}
+use Rattle.silt_resp.specs.Batches.{HoldsAsked, Part, due_seen, part_len, part_of, part_text, part_texts, tail_answers, tail_parts, tail_queries}
+use Rattle.silt_resp.specs.Commands.{Asked, asked_for, asks, asks_info, says, visitor_after}
+use Rattle.silt_resp.specs.Sessions.{AnswersCommands, AnswersSomeCommands, Client, EndsWith, IsCommandsEnd, IsLast, ServesCommands, ServesSomeCommands, all_queries, asked_queries, replies_in, asked_after, asked_each, client_after, asked_text, asked_texts, visitor_behind}
 use Rattle.silt_resp.specs.Stream.{Command, closed, commands_after, stream_after}
 use Rattle.silt_resp.proofs.Runs.{closed_run}
 use Rattle.silt_resp.proofs.Streams.{commands_after-append, stream_after-append}
@@ -81,11 +84,11 @@ closed_asks s c ys e =
     let run = closed_run c.stream.words c.stream.left ys in
     (ap (λ st. asked_each s c.visitor (commands_after st ys)) is ∙ ap (asked_each s c.visitor) run.commands_are, ap (λ st. (stream_after st ys).place) is ∙ ap (λ st. st.place) run.stream)
 
-all_events-append : (xs ys : List Asked) → all_events (xs ++ ys) ≡ all_events xs ++ all_events ys
-all_events-append xs ys = flat_map-append asked_events xs ys
+all_queries-append : (xs ys : List Asked) → all_queries (xs ++ ys) ≡ all_queries xs ++ all_queries ys
+all_queries-append xs ys = flat_map-append asked_queries xs ys
 
-module _ {A : Type 0} (answers : A → A → Event → PlainReply → Type 0) where
-  each-append : (a b c : A) (es fs : List Event) (rs ss : List PlainReply) → AnswersEach answers a es rs b → AnswersEach answers b fs ss c
+module _ {A : Type 0} (answers : A → A → Query → Answer → Type 0) where
+  each-append : (a b c : A) (es fs : List Query) (rs ss : List Answer) → AnswersEach answers a es rs b → AnswersEach answers b fs ss c
       → AnswersEach answers a (es ++ fs) (rs ++ ss) c
   each-append a b c [] fs [] ss h k = subst (λ s. AnswersEach answers s fs ss c) h k
   each-append a b c [] fs (r ∷ rs) ss h k = absurd h
@@ -93,21 +96,21 @@ module _ {A : Type 0} (answers : A → A → Event → PlainReply → Type 0) wh
   each-append a b c (e ∷ es) fs (r ∷ rs) ss h k = (h.0, h.1, each-append h.0 b c es fs rs ss h.2 k)
 
   -- each event has one reply
-  each-length : (a b : A) (es : List Event) (rs : List PlainReply) → AnswersEach answers a es rs b → length rs ≡ length es
+  each-length : (a b : A) (es : List Query) (rs : List Answer) → AnswersEach answers a es rs b → length rs ≡ length es
   each-length a b [] [] h = refl
   each-length a b [] (r ∷ rs) h = absurd h
   each-length a b (e ∷ es) [] h = absurd h
   each-length a b (e ∷ es) (r ∷ rs) h = ap (λ n. suc n) (each-length h.0 b es rs h.2)
 
 -- the replies of the first commands and then the others
-asked_texts-append : (xs ys : List Asked) (rs ss : List PlainReply) → length rs ≡ length (all_events xs) → asked_texts (xs ++ ys) (rs ++ ss) ≡ asked_texts xs rs ++ asked_texts ys ss
+asked_texts-append : (xs ys : List Asked) (rs ss : List Answer) → length rs ≡ length (all_queries xs) → asked_texts (xs ++ ys) (rs ++ ss) ≡ asked_texts xs rs ++ asked_texts ys ss
 asked_texts-append [] ys [] ss e = refl
 asked_texts-append [] ys (r ∷ rs) ss e = absurd (omega arith)
 asked_texts-append (x ∷ xs) ys rs ss e =
-    let n = length (asked_events x) in
-    let sizes = length-append (asked_events x) (all_events xs) in
+    let n = length (asked_queries x) in
+    let sizes = length-append (asked_queries x) (all_queries xs) in
     let room : n ≤ length rs = omega arith in
-    let left : length (drop n rs) ≡ length (all_events xs) = omega (arith, length-drop n rs) in
+    let left : length (drop n rs) ≡ length (all_queries xs) = omega (arith, length-drop n rs) in
     let front = asked_text x (take n rs) in
     ap (λ l. asked_text x l ++ asked_texts (xs ++ ys) (drop n (rs ++ ss))) (take-append-le n rs ss room)
     ∙ ap (λ l. front ++ asked_texts (xs ++ ys) l) (drop-append-le n rs ss room)
@@ -115,12 +118,60 @@ asked_texts-append (x ∷ xs) ys rs ss e =
     ∙ sym (append_assoc front (asked_texts xs (drop n rs)) (asked_texts ys ss))
 
 -- the replies that are due are those of the commands
-part_texts-asked : (asked : List Asked) (rs : List PlainReply) → part_texts (map part_of asked) rs ≡ asked_texts asked rs
+part_texts-asked : (asked : List Asked) (rs : List Answer) → part_texts (map part_of asked) rs ≡ asked_texts asked rs
 part_texts-asked [] rs = refl
 part_texts-asked (says text ∷ asked) rs = ap (λ t. text ++ t) (part_texts-asked asked rs)
-part_texts-asked (asks events form ∷ asked) rs = ap (λ t. asked_text (asks events form) (take (length events) rs) ++ t) (part_texts-asked asked (drop (length events) rs))
+part_texts-asked (asks events form ∷ asked) rs =
+    let n = length events in
+    ap (λ t. asked_text (asks events form) (take n rs) ++ t) (part_texts-asked asked (drop n rs))
+    ∙ ap (λ k. asked_text (asks events form) (take k rs) ++ asked_texts asked (drop k rs)) (sym (length-map events does))
+part_texts-asked (asks_info sections ∷ asked) rs = ap (λ t. asked_text (asks_info sections) (take 1 rs) ++ t) (part_texts-asked asked (drop 1 rs))
 
-module _ {A : Type 0} (answers : A → A → Event → PlainReply → Type 0) where
+-- ---- how many answers are due
+
+abbrev parts_len : List Part → ℕ
+parts_len [] = 0
+parts_len (part ∷ parts) = part_len part + parts_len parts
+
+parts_len-append : (ps qs : List Part) → parts_len (ps ++ qs) ≡ parts_len ps + parts_len qs
+parts_len-append [] qs = omega arith
+parts_len-append (p ∷ ps) qs = let rest = parts_len-append ps qs in omega (arith, rest)
+
+-- as many as the commands ask for
+parts_len-asked : (asked : List Asked) → parts_len (map part_of asked) ≡ length (all_queries asked)
+parts_len-asked [] = refl
+parts_len-asked (says text ∷ asked) = let rest = parts_len-asked asked in omega (arith, rest)
+parts_len-asked (asks events form ∷ asked) =
+    let rest = parts_len-asked asked in
+    let sizes = length-append (map does events) (all_queries asked) in
+    let same = length-map events does in
+    omega (arith, rest, sizes, same)
+parts_len-asked (asks_info sections ∷ asked) = let rest = parts_len-asked asked in omega (arith, rest)
+
+tail_len : (tail : Option Sections) → parts_len (tail_parts tail) ≡ length (tail_queries tail)
+tail_len None = refl
+tail_len (Some sections) = refl
+
+-- the texts of two lists of parts
+part_texts-append : (ps qs : List Part) (rs ss : List Answer) → length rs ≡ parts_len ps → part_texts (ps ++ qs) (rs ++ ss) ≡ part_texts ps rs ++ part_texts qs ss
+part_texts-append [] qs [] ss e = refl
+part_texts-append [] qs (r ∷ rs) ss e = absurd (omega arith)
+part_texts-append (p ∷ ps) qs rs ss e =
+    let n = part_len p in
+    let room : n ≤ length rs = omega arith in
+    let left : length (drop n rs) ≡ parts_len ps = omega (arith, length-drop n rs) in
+    let front = part_text p (take n rs) in
+    ap (λ l. part_text p l ++ part_texts (ps ++ qs) (drop n (rs ++ ss))) (take-append-le n rs ss room)
+    ∙ ap (λ l. front ++ part_texts (ps ++ qs) l) (drop-append-le n rs ss room)
+    ∙ ap (λ l. front ++ l) (part_texts-append ps qs (drop n rs) ss left)
+    ∙ sym (append_assoc front (part_texts ps (drop n rs)) (part_texts qs ss))
+
+-- the replies in the answers that are replies
+pub replies_in-map : (rs : List PlainReply) → replies_in (map replied rs) ≡ rs
+replies_in-map [] = refl
+replies_in-map (r ∷ rs) = ap (λ l. r ∷ l) (replies_in-map rs)
+
+module _ {A : Type 0} (answers : A → A → Query → Answer → Type 0) where
   -- ---- one part after the other
 
   some-none : (asked : List Asked) (a : A) (w : Option (List ℕ)) → AnswersSomeCommands answers asked a a w w
@@ -133,21 +184,21 @@ module _ {A : Type 0} (answers : A → A → Event → PlainReply → Type 0) wh
       → AnswersCommands answers (xs ++ ys) a c w u
   all-append a b c xs ys w v u h k = (
     h.0 ++ k.0,
-    subst (λ es. AnswersEach answers a es (h.0 ++ k.0) c) (sym (all_events-append xs ys)) (each-append answers a b c (all_events xs) (all_events ys) h.0 k.0 h.1 k.1),
-    subst (λ t. Appends w u t) (sym (asked_texts-append xs ys h.0 k.0 (each-length answers a b (all_events xs) h.0 h.1))) (Appends-append w v u _ _ h.2 k.2),
+    subst (λ es. AnswersEach answers a es (h.0 ++ k.0) c) (sym (all_queries-append xs ys)) (each-append answers a b c (all_queries xs) (all_queries ys) h.0 k.0 h.1 k.1),
+    subst (λ t. Appends w u t) (sym (asked_texts-append xs ys h.0 k.0 (each-length answers a b (all_queries xs) h.0 h.1))) (Appends-append w v u _ _ h.2 k.2),
   )
 
   -- all of the first part, and a beginning of the second
   some-append : (a b c : A) (xs ys : List Asked) (w v u : Option (List ℕ)) → AnswersCommands answers xs a b w v → AnswersSomeCommands answers ys b c v u
       → AnswersSomeCommands answers (xs ++ ys) a c w u
   some-append a b c xs ys w v u h k =
-      let (some, replies, out, begins, each, beginning, appends) = k in (
+      let (some, given, out, begins, each, beginning, appends) = k in (
         xs ++ some,
-        h.0 ++ replies,
+        h.0 ++ given,
         asked_texts xs h.0 ++ out,
         begins-behind xs some ys begins,
-        subst (λ es. AnswersEach answers a es (h.0 ++ replies) c) (sym (all_events-append xs some)) (each-append answers a b c (all_events xs) (all_events some) h.0 replies h.1 each),
-        subst (λ t. IsBeginning (asked_texts xs h.0 ++ out) t) (sym (asked_texts-append xs some h.0 replies (each-length answers a b (all_events xs) h.0 h.1))) (begins-behind (asked_texts xs h.0) out (asked_texts some replies) beginning),
+        subst (λ es. AnswersEach answers a es (h.0 ++ given) c) (sym (all_queries-append xs some)) (each-append answers a b c (all_queries xs) (all_queries some) h.0 given h.1 each),
+        subst (λ t. IsBeginning (asked_texts xs h.0 ++ out) t) (sym (asked_texts-append xs some h.0 given (each-length answers a b (all_queries xs) h.0 h.1))) (begins-behind (asked_texts xs h.0) out (asked_texts some given) beginning),
         Appends-append w v u _ _ h.2 appends,
       )
 
@@ -223,33 +274,75 @@ module _ {A : Type 0} (answers : A → A → Event → PlainReply → Type 0) wh
   all-wrote asked a b before texts w v none h appends =
       let k = subst (λ t. AnswersCommands answers asked a b (Some t) (Some texts)) none h in (k.0, k.1, subst (λ t. Appends w v t) k.2 appends)
 
-  -- ---- a batch
-
-  pub all-batch : (batch : Batch) (asked : List Asked) (a b : A) (rs : List PlainReply) (text more : List ℕ) → HoldsAsked batch asked
-      → AnswersEach answers a batch.events.items rs b → more ≡ text ++ part_texts (map due_seen batch.dues.items) rs → AnswersCommands answers asked a b (Some text) (Some more)
-  all-batch batch asked a b rs text more h each e = (
-    rs,
-    subst (λ es. AnswersEach answers a es rs b) h.events each,
-    e ∙ ap (λ ps. text ++ part_texts ps rs) h.dues ∙ ap (λ t. text ++ t) (part_texts-asked asked rs),
-  )
-
-  -- the texts of the first replies are there
-  pub some-batch : (batch : Batch) (asked : List Asked) (a b : A) (rs : List PlainReply) (text more : List ℕ) → HoldsAsked batch asked
-      → AnswersEach answers a batch.events.items rs b
-      → (out : List ℕ) × IsBeginning out (part_texts (map due_seen batch.dues.items) rs) × (more ≡ text ++ out) → AnswersSomeCommands answers asked a b (Some text) (Some more)
-  some-batch batch asked a b rs text more h each cut = (
-    asked,
-    rs,
-    cut.0,
-    IsBeginning-all asked,
-    subst (λ es. AnswersEach answers a es rs b) h.events each,
-    subst (λ t. IsBeginning cut.0 t) (ap (λ ps. part_texts ps rs) h.dues ∙ part_texts-asked asked rs) cut.1,
-    cut.2,
-  )
-
   -- nothing was done
   pub none-batch : (asked : List Asked) (a : A) (w : Option (List ℕ)) → AnswersSomeCommands answers asked a a w w
   none-batch asked a w = some-none asked a w
+
+-- ---- a batch
+
+module _ {A : Type 0} (answers : A → A → Event → PlainReply → Type 0) (informs : A → Option Facts → Type 0) (batch : Batch) where
+  -- all answers to a batch: the replies to its events, and the facts if they are asked for
+  abbrev batch_answers : List PlainReply → Option Facts → List Answer
+  batch_answers rs facts = map replied rs ++ tail_answers batch.tail facts
+
+  -- what the events of a batch have as texts, and what its end has
+  abbrev event_texts : List PlainReply → List ℕ
+  event_texts rs = part_texts (map due_seen batch.dues.items) (map replied rs)
+
+  batch_each : (asked : List Asked) (a b : A) (rs : List PlainReply) (facts : Option Facts) → HoldsAsked batch asked → AnswersEach answers a batch.events.items rs b
+      → AnswersEach (AnswersQuery answers informs) b (tail_queries batch.tail) (tail_answers batch.tail facts) b
+      → AnswersEach (AnswersQuery answers informs) a (all_queries asked) (batch_answers rs facts) b
+  batch_each asked a b rs facts h each tail =
+      subst (λ qs. AnswersEach (AnswersQuery answers informs) a qs (batch_answers rs facts) b) h.queries
+      (each-append (AnswersQuery answers informs) a b b (map does batch.events.items) (tail_queries batch.tail) (map replied rs) (tail_answers batch.tail facts)
+      (each-queries answers informs a b batch.events.items rs each) tail)
+
+  -- each reply to an event is due
+  batch_len : (asked : List Asked) (a b : A) (rs : List PlainReply) → HoldsAsked batch asked → AnswersEach answers a batch.events.items rs b
+      → length (map replied rs) ≡ parts_len (map due_seen batch.dues.items)
+  batch_len asked a b rs h each =
+      let tail = tail_len batch.tail in
+      let sum = parts_len-append (map due_seen batch.dues.items) (tail_parts batch.tail) in
+      let all = ap parts_len h.parts ∙ parts_len-asked asked ∙ ap length (sym h.queries) in
+      let sizes = length-append (map does batch.events.items) (tail_queries batch.tail) in
+      let each_len = each-length (AnswersQuery answers informs) a b (map does batch.events.items) (map replied rs) (each-queries answers informs a b batch.events.items rs each) in
+      omega (arith, tail, sum, all, sizes, each_len)
+
+  batch_texts : (asked : List Asked) (a b : A) (rs : List PlainReply) (facts : Option Facts) → HoldsAsked batch asked → AnswersEach answers a batch.events.items rs b
+      → event_texts rs ++ part_texts (tail_parts batch.tail) (tail_answers batch.tail facts) ≡ asked_texts asked (batch_answers rs facts)
+  batch_texts asked a b rs facts h each =
+      sym (part_texts-append (map due_seen batch.dues.items) (tail_parts batch.tail) (map replied rs) (tail_answers batch.tail facts) (batch_len asked a b rs h each))
+      ∙ ap (λ ps. part_texts ps (batch_answers rs facts)) h.parts ∙ part_texts-asked asked (batch_answers rs facts)
+
+  pub all-batch : (asked : List Asked) (a b : A) (rs : List PlainReply) (facts : Option Facts) (text mid more : List ℕ) → HoldsAsked batch asked
+      → AnswersEach answers a batch.events.items rs b
+      → AnswersEach (AnswersQuery answers informs) b (tail_queries batch.tail) (tail_answers batch.tail facts) b
+      → mid ≡ text ++ part_texts (map due_seen batch.dues.items) (map replied rs)
+      → more ≡ mid ++ part_texts (tail_parts batch.tail) (tail_answers batch.tail facts)
+      → AnswersCommands (AnswersQuery answers informs) asked a b (Some text) (Some more)
+  all-batch asked a b rs facts text mid more h each tail e f =
+      let last = part_texts (tail_parts batch.tail) (tail_answers batch.tail facts) in (
+        batch_answers rs facts,
+        batch_each asked a b rs facts h each tail,
+        f ∙ ap (λ l. l ++ last) e ∙ append_assoc text (event_texts rs) last ∙ ap (λ l. text ++ l) (batch_texts asked a b rs facts h each),
+      )
+
+  -- the texts of the first replies are there
+  pub some-batch : (asked : List Asked) (a b : A) (rs : List PlainReply) (facts : Option Facts) (text more : List ℕ) → HoldsAsked batch asked
+      → AnswersEach answers a batch.events.items rs b
+      → AnswersEach (AnswersQuery answers informs) b (tail_queries batch.tail) (tail_answers batch.tail facts) b
+      → (out : List ℕ) × IsBeginning out (part_texts (map due_seen batch.dues.items) (map replied rs)) × (more ≡ text ++ out)
+      → AnswersSomeCommands (AnswersQuery answers informs) asked a b (Some text) (Some more)
+  some-batch asked a b rs facts text more h each tail cut =
+      let last = part_texts (tail_parts batch.tail) (tail_answers batch.tail facts) in (
+        asked,
+        batch_answers rs facts,
+        cut.0,
+        IsBeginning-all asked,
+        batch_each asked a b rs facts h each tail,
+        subst (λ t. IsBeginning cut.0 t) (batch_texts asked a b rs facts h each) (begins-more cut.0 (event_texts rs) last cut.1),
+        cut.2,
+      )
 
 -- ---- the texts of a batch
 
@@ -270,19 +363,19 @@ drop_within n xs = elim (cases_lt n (length xs)) [
 -- one due more
 pub due_more : (dues : List Due) (index : ℕ) (due : Due) (rest front back : List PlainReply) (out : List ℕ) (all : List ℕ) → index < length dues → due ≡ get_or dues index due
     → front ≡ take (min (part_len (due_seen due)) (length rest)) rest → back ≡ drop (min (part_len (due_seen due)) (length rest)) rest
-    → out ++ part_texts (map due_seen (drop index dues)) rest ≡ all
-    → (out ++ part_text (due_seen due) front) ++ part_texts (map due_seen (drop (index + 1) dues)) back ≡ all
+    → out ++ part_texts (map due_seen (drop index dues)) (map replied rest) ≡ all
+    → (out ++ part_text (due_seen due) (map replied front)) ++ part_texts (map due_seen (drop (index + 1) dues)) (map replied back) ≡ all
 due_more dues index due rest front back out all within is is_front is_back h =
     let n = part_len (due_seen due) in
     let next : suc index ≡ index + 1 = omega arith in
     let cut : drop index dues ≡ due ∷ drop (index + 1) dues =
     drop-cons dues index due within ∙ ap (λ d. d ∷ drop (suc index) dues) (sym is) ∙ ap (λ k. due ∷ drop k dues) next in
-    let fronts = is_front ∙ take_within n rest in
-    let backs = is_back ∙ drop_within n rest in
-    append_assoc out (part_text (due_seen due) front) (part_texts (map due_seen (drop (index + 1) dues)) back)
-    ∙ ap (λ f. out ++ (part_text (due_seen due) f ++ part_texts (map due_seen (drop (index + 1) dues)) back)) fronts
-    ∙ ap (λ b. out ++ (part_text (due_seen due) (take n rest) ++ part_texts (map due_seen (drop (index + 1) dues)) b)) backs
-    ∙ ap (λ ds. out ++ part_texts (map due_seen ds) rest) (sym cut) ∙ h
+    let fronts : map replied front ≡ take n (map replied rest) = ap (map replied) (is_front ∙ take_within n rest) ∙ sym (take-map replied n rest) in
+    let backs : map replied back ≡ drop n (map replied rest) = ap (map replied) (is_back ∙ drop_within n rest) ∙ sym (drop-map replied n rest) in
+    append_assoc out (part_text (due_seen due) (map replied front)) (part_texts (map due_seen (drop (index + 1) dues)) (map replied back))
+    ∙ ap (λ f. out ++ (part_text (due_seen due) f ++ part_texts (map due_seen (drop (index + 1) dues)) (map replied back))) fronts
+    ∙ ap (λ b. out ++ (part_text (due_seen due) (take n (map replied rest)) ++ part_texts (map due_seen (drop (index + 1) dues)) b)) backs
+    ∙ ap (λ ds. out ++ part_texts (map due_seen ds) (map replied rest)) (sym cut) ∙ h
 
 -- ---- ends
 

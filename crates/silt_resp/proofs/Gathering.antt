@@ -4,15 +4,16 @@ use Rattle.std.specs.Prelude.{MatchBool, if◌then◌else◌}
 use Rattle.std.proofs.lemmas.Grind.{flat_map-append}
 use Rattle.std.proofs.lemmas.List.{map-append}
 use Rattle.std.proofs.Math.Seq.{take-add}
+use Rattle.silt_event.specs.Queries.{does}
 use Rattle.silt_resp.specs.declared.settings.Settings.{Settings}
 use Rattle.silt_resp.specs.declared.session.Talk.{Talk}
 use Rattle.silt_resp.specs.declared.batch.Batch.{Batch}
-use Rattle.silt_resp.specs.Batches.{AsksFor, GainsAsked, GathersAsked, GathersSomeAsked, HoldsAsked, HoldsClient, IsBehind, KeepsAsked, part_of}
+use Rattle.silt_resp.specs.Batches.{AsksFor, GainsAsked, GathersAsked, GathersSomeAsked, HoldsAsked, HoldsClient, IsBehind, KeepsAsked, due_seen, part_of, tail_parts, tail_queries}
 use Rattle.silt_resp.specs.Buffers.{HoldsCommand, HoldsStream, HoldsStreamPlace, TakesInput}
 use Rattle.silt_resp.specs.declared.command_buffer.BufferPlace.{BufferPlace}
 use Rattle.silt_resp.specs.declared.command_buffer.BufferPlace.TheVariants.{Broken, Line, Word}
-use Rattle.silt_resp.specs.Commands.{Asked, asked_for, asked_events}
-use Rattle.silt_resp.specs.Sessions.{Client, all_events, asked_after, asked_each, client_after, visitor_behind}
+use Rattle.silt_resp.specs.Commands.{Asked, asked_for}
+use Rattle.silt_resp.specs.Sessions.{Client, all_queries, asked_after, asked_each, asked_queries, client_after, visitor_behind}
 use Rattle.silt_resp.specs.Stream.{Command, Stream, closed, closes, commands_after, line, next_stream, start, stream_after}
 use Rattle.silt_resp.proofs.Doing.{asked_after-append, client_after-append}
 
@@ -20,14 +21,17 @@ use Rattle.silt_resp.proofs.Doing.{asked_after-append, client_after-append}
 
 pub holds_push : (old new : Batch) (asked : List Asked) (a : Asked) → HoldsAsked old asked → GainsAsked old new a → HoldsAsked new (asked ++ a ∷ [])
 holds_push old new asked a h k = record {
-  events =
-      k.events ∙ ap (λ es. es ++ asked_events a) h.events ∙ ap (λ es. all_events asked ++ es) (sym (append-nil (asked_events a)))
-      ∙ sym (flat_map-append asked_events asked (a ∷ []));
-  dues = k.dues ∙ ap (λ ps. ps ++ part_of a ∷ []) h.dues ∙ sym (map-append part_of asked (a ∷ []));
+  queries =
+      k.queries ∙ ap (λ qs. qs ++ asked_queries a) h.queries ∙ ap (λ qs. all_queries asked ++ qs) (sym (append-nil (asked_queries a)))
+      ∙ sym (flat_map-append asked_queries asked (a ∷ []));
+  parts = k.parts ∙ ap (λ ps. ps ++ part_of a ∷ []) h.parts ∙ sym (map-append part_of asked (a ∷ []));
 }
 
 pub holds_keeps : (old new : Batch) (asked : List Asked) → HoldsAsked old asked → KeepsAsked old new → HoldsAsked new asked
-holds_keeps old new asked h k = record { events = k.events ∙ h.events; dues = ap (map _) k.dues ∙ h.dues }
+holds_keeps old new asked h k = record {
+  queries = ap (λ es. map does es ++ tail_queries new.tail) k.events ∙ ap (λ t. map does old.events.items ++ tail_queries t) k.tail ∙ h.queries;
+  parts = ap (λ ds. map due_seen ds ++ tail_parts new.tail) k.dues ∙ ap (λ t. map due_seen old.dues.items ++ tail_parts t) k.tail ∙ h.parts;
+}
 
 -- ---- what is held is not closed
 
@@ -79,16 +83,16 @@ visitor_of s c bytes command one = ap (visitor_behind s c.visitor) (sym one)
 pub ended_behind : (s : Settings) (c : Client) (bytes : List ℕ) (mid new : Talk) (before after : Batch) (ends : Bool) → mid.visitor ≡ c.visitor
     → TakesInput c.stream bytes true mid.buffer → ((command : Command) → HoldsCommand mid.buffer command → AsksFor s command ends mid new before after)
     → IsBehind s c bytes ends new
-ended_behind s c bytes mid new before after ends same took asks =
-    let told = asks took.0 took.1 in
+ended_behind s c bytes mid new before after ends same took asked_so =
+    let told = asked_so took.0 took.1 in
     behind_command s c bytes took.0 ends new took.2 took.3 (sym told.closes)
     (told.visitor ∙ ap (λ v. visitor_behind s v (took.0 ∷ [])) same ∙ visitor_of s c bytes took.0 took.2) told.buffer
 
 pub ended_gathers : (s : Settings) (c : Client) (bytes : List ℕ) (mid new : Talk) (before after : Batch) (ends : Bool) → mid.visitor ≡ c.visitor
     → TakesInput c.stream bytes true mid.buffer → ((command : Command) → HoldsCommand mid.buffer command → AsksFor s command ends mid new before after)
     → GathersAsked s c bytes before after
-ended_gathers s c bytes mid new before after ends same took asks = λ asked h.
-    let told = asks took.0 took.1 in
+ended_gathers s c bytes mid new before after ends same took asked_so = λ asked h.
+    let told = asked_so took.0 took.1 in
     let one : asked_after s c bytes ≡ asked_for s mid.visitor took.0 ∷ [] =
     ap (asked_each s c.visitor) took.2 ∙ ap (λ v. asked_for s v took.0 ∷ []) (sym same) in
     subst (λ (l : List Asked). HoldsAsked after (asked ++ l)) (sym one) (holds_push before after asked (asked_for s mid.visitor took.0) h told.asked)

@@ -4,6 +4,7 @@ pub mod Encoded
 pub mod Gathering
 pub mod Kept
 pub mod Named
+pub mod Sections
 pub mod Runs
 pub mod Streams
 pub mod Strings

@@ -15,7 +15,7 @@ use Rattle.silt_resp.specs.Arguments.{and_then, key_at, key_named, keys_named, p
 use Rattle.silt_resp.specs.Stream.{Word, long}
 
 -- a word that is there comes first of the rest
-drop_there : (args : List Word) (index : ℕ) (word : Word) → slice_get args index ≡ Some word → drop index args ≡ word ∷ drop (index + 1) args
+pub drop_there : (args : List Word) (index : ℕ) (word : Word) → slice_get args index ≡ Some word → drop index args ≡ word ∷ drop (index + 1) args
 drop_there args index word e =
     let next : suc index ≡ index + 1 = omega arith in
     let within : index < length args = slice_get_within args index word e in

@@ -1,7 +1,10 @@
 -- What was gathered of a client's bytes.
-use Rattle.std.specs.Prelude.{◌≡◌, ℕ, Bool, List, [], ◌∷◌, ◌++◌, All, MatchBool, length, map, take, drop}
-use Rattle.silt_event.specs.Events.{HasValueOf, PlainReply}
+use Rattle.std.specs.Prelude.{◌≡◌, ℕ, Bool, List, [], ◌∷◌, ◌++◌, All, MatchBool, Option, Some, None, length, map, take, drop}
+use Rattle.silt_event.specs.declared.facts.Facts.{Facts}
+use Rattle.silt_event.specs.Events.{HasValueOf}
+use Rattle.silt_event.specs.Queries.{Answer, Query, asks_facts, does, gives_facts}
 use Rattle.silt_wire.specs.Sessions.{IsBeginning}
+use Rattle.silt_resp.specs.declared.asked.Sections.{Sections}
 use Rattle.silt_resp.specs.declared.batch.Batch.{Batch}
 use Rattle.silt_resp.specs.declared.batch.Due.{Due}
 use Rattle.silt_resp.specs.declared.batch.Due.TheVariants.{Text, Replies}
@@ -9,8 +12,9 @@ use Rattle.silt_resp.specs.declared.session.Talk.{Talk}
 use Rattle.silt_resp.specs.declared.settings.Settings.{Settings}
 use Rattle.silt_resp.specs.declared.texts.Form.{Form}
 use Rattle.silt_resp.specs.Buffers.{HoldsStream}
-use Rattle.silt_resp.specs.Commands.{Asked, asked_for, asks, asked_events, says, visitor_after}
-use Rattle.silt_resp.specs.Sessions.{Client, all_events, asked_after, client_after}
+use Rattle.silt_resp.specs.Commands.{Asked, asked_for, asks, asks_info, says, visitor_after}
+use Rattle.silt_resp.specs.Info.{info_text}
+use Rattle.silt_resp.specs.Sessions.{Client, all_queries, asked_after, asked_queries, client_after, facts_in, replies_in}
 use Rattle.silt_resp.specs.Stream.{Command, closed, closes, start, stream_after}
 use Rattle.silt_resp.specs.Texts.{text_of}
 
@@ -20,10 +24,11 @@ HasLengths value_len batch = All (HasValueOf value_len) batch.events.items
 
 -- ---- replies that are due
 
--- a reply that is due: this text, or one of this form, made of so many replies to events
+-- a reply that is due: this text; one of this form, made of so many replies to events; or these sections of facts
 pub data Part : Type 0 where
   text : List ℕ → Part
   replies : Form → ℕ → Part
+  info : Sections → Part
 
 abbrev pub due_seen : Due → Part
 due_seen (Text bytes) = text bytes.items
@@ -32,33 +37,62 @@ due_seen (Replies form count) = replies form count
 abbrev pub part_of : Asked → Part
 part_of (says bytes) = text bytes
 part_of (asks events form) = replies form (length events)
+part_of (asks_info sections) = info sections
 
+-- how many answers it is made of
 abbrev pub part_len : Part → ℕ
 part_len (text bytes) = 0
 part_len (replies form count) = count
+part_len (info sections) = 1
 
-abbrev pub part_text : Part → List PlainReply → List ℕ
+abbrev pub part_text : Part → List Answer → List ℕ
 part_text (text bytes) given = bytes
-part_text (replies form count) given = text_of form given
+part_text (replies form count) given = text_of form (replies_in given)
+part_text (info sections) given = info_text sections (facts_in given)
 
-abbrev pub part_texts : List Part → List PlainReply → List ℕ
+abbrev pub part_texts : List Part → List Answer → List ℕ
 part_texts [] given = []
 part_texts (part ∷ parts) given = part_text part (take (part_len part) given) ++ part_texts parts (drop (part_len part) given)
 
--- a batch has the events of these commands, and the replies that are due to them
+-- ---- a batch
+
+-- An INFO ends a batch: its facts are those of the moment when the events before it are done.
+-- what it asks for, if there is one
+abbrev pub tail_queries : Option Sections → List Query
+tail_queries None = []
+tail_queries (Some sections) = asks_facts ∷ []
+
+-- what it is answered, if these are the facts
+abbrev pub tail_answers : Option Sections → Option Facts → List Answer
+tail_answers None facts = []
+tail_answers (Some sections) facts = gives_facts facts ∷ []
+
+-- the reply that is due to it
+abbrev pub tail_parts : Option Sections → List Part
+tail_parts None = []
+tail_parts (Some sections) = info sections ∷ []
+
+abbrev pub batch_queries : Batch → List Query
+batch_queries batch = map does batch.events.items ++ tail_queries batch.tail
+
+abbrev pub batch_parts : Batch → List Part
+batch_parts batch = map due_seen batch.dues.items ++ tail_parts batch.tail
+
+-- a batch has what these commands ask for, and the replies that are due to them
 pub record HoldsAsked (batch : Batch) (asked : List Asked) : Type 0 where
-  pub events : batch.events.items ≡ all_events asked
-  pub dues : map due_seen batch.dues.items ≡ map part_of asked
+  pub queries : batch_queries batch ≡ all_queries asked
+  pub parts : batch_parts batch ≡ map part_of asked
 
 -- the batch gained a command
 pub record GainsAsked (old new : Batch) (asked : Asked) : Type 0 where
-  pub events : new.events.items ≡ old.events.items ++ asked_events asked
-  pub dues : map due_seen new.dues.items ≡ map due_seen old.dues.items ++ part_of asked ∷ []
+  pub queries : batch_queries new ≡ batch_queries old ++ asked_queries asked
+  pub parts : batch_parts new ≡ batch_parts old ++ part_of asked ∷ []
 
 -- the batch has the commands that it had
 pub record KeepsAsked (old new : Batch) : Type 0 where
   pub events : new.events.items ≡ old.events.items
   pub dues : new.dues.items ≡ old.dues.items
+  pub tail : new.tail ≡ old.tail
 
 -- ---- clients
 

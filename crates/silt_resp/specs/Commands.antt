@@ -11,23 +11,27 @@ use Rattle.silt_resp.specs.declared.fault.CommandFault.TheVariants.{LongValue, M
 use Rattle.silt_resp.specs.declared.settings.Settings.{Settings}
 use Rattle.silt_resp.specs.declared.settings.Visitor.{Visitor}
 use Rattle.silt_resp.specs.declared.table.CommandName.{CommandName}
-use Rattle.silt_resp.specs.declared.table.CommandName.TheVariants.{Get, Strlen, Mget, Exists, Touch, Set, Setnx, Delifeq, Mset, Del, Unlink, Ping, Echo, Quit, Select, Auth, Hello, Client, Command as CommandList, Config, Cluster}
+use Rattle.silt_resp.specs.declared.table.CommandName.TheVariants.{Get, Strlen, Mget, Exists, Touch, Set, Setnx, Delifeq, Mset, Del, Unlink, Ping, Echo, Quit, Select, Auth, Hello, Client, Command as CommandList, Config, Cluster, Info}
+use Rattle.silt_resp.specs.declared.asked.Sections.{Sections}
 use Rattle.silt_resp.specs.declared.texts.Form.{Form}
 use Rattle.silt_resp.specs.declared.texts.Form.TheVariants.{Value, Len, Stored, Swapped, Changed, Values, Counted}
 use Rattle.silt_resp.specs.Arguments.{and_then, has_word, key_at, keys_named, puts_named, value_at}
 use Rattle.silt_resp.specs.Faults.{command_fault_text, protocol_text}
+use Rattle.silt_resp.specs.Info.{sections_named}
 use Rattle.silt_resp.specs.Stream.{Command, Word, broken, complete, long, longest_word, many_bytes, many_words, whole}
 use Rattle.silt_resp.specs.Table.{first_command, takes}
 use Rattle.silt_resp.specs.Texts.{error_text, marked_line, null_text, number_text, ok_text, string_text}
 
--- what a command asks for: a reply that needs no store, or events of which one reply of this form is made
+-- what a command asks for: a reply that needs no store; events of which one reply of this form is made; or these sections of facts
 pub data Asked : Type 0 where
   says : List ℕ → Asked
   asks : List Event → Form → Asked
+  asks_info : Sections → Asked
 
 abbrev pub asked_events : Asked → List Event
 asked_events (says text) = []
 asked_events (asks events form) = events
+asked_events (asks_info sections) = []
 
 -- each value of its events has the length of the store's values
 abbrev pub FitsValues : ℕ → Asked → Type 0
@@ -222,6 +226,7 @@ made settings visitor Client args = client_made visitor args
 made settings visitor CommandList args = command_made args
 made settings visitor Config args = config_made args
 made settings visitor Cluster args = Err NoCluster
+made settings visitor Info args = Ok (asks_info (sections_named args))
 
 -- whether a command is done for a visitor who is not let in
 abbrev pub is_free : CommandName → Bool
@@ -276,8 +281,8 @@ asked_for settings visitor (broken fault) = says (broken_text fault)
 -- ---- visitors
 
 -- a visitor who has given no command; with no password all are let in
-abbrev pub visitor_at_first : Settings → ℕ → Visitor
-visitor_at_first settings id = record { id = id; is_let_in = is_none settings.password }
+abbrev pub visitor_at_first : Settings → Visitor
+visitor_at_first settings = record { id = settings.id; is_let_in = is_none settings.password }
 
 -- whether a command with these words behind its name lets a visitor in
 abbrev pub lets_in : Settings → Visitor → Option CommandName → List Word → Bool

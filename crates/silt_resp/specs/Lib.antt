@@ -3,6 +3,7 @@ pub mod Batches
 pub mod Buffers
 pub mod Commands
 pub mod Faults
+pub mod Info
 pub mod Heads
 pub mod Seen
 pub mod Sessions

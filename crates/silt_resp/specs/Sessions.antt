@@ -1,16 +1,18 @@
 -- What a session with a client reads, does and writes.
-use Rattle.std.specs.Prelude.{◌≡◌, ◌≢◌, ℕ, List, [], ◌∷◌, ◌++◌, length, take, drop, Option}
+use Rattle.std.specs.Prelude.{◌≡◌, ◌≢◌, ℕ, List, [], ◌∷◌, ◌++◌, length, map, take, drop, Option, None}
 use Rattle.std.specs.Io.KnownBytes.{Appends, Consumes, IsAtEnd}
 use Rattle.std.specs.List.{flat_map}
-use Rattle.silt_event.specs.declared.event.Event.{Event}
+use Rattle.silt_event.specs.declared.facts.Facts.{Facts}
 use Rattle.silt_event.specs.Events.{AnswersEach, PlainReply}
+use Rattle.silt_event.specs.Queries.{Answer, Query, asks_facts, does, gives_facts, replies as replied}
 use Rattle.silt_wire.specs.Sessions.{IsBeginning, SessionState}
 use Rattle.silt_resp.specs.declared.fault.ProtocolFault.{ProtocolFault}
 use Rattle.silt_resp.specs.declared.settings.Settings.{Settings}
 use Rattle.silt_resp.specs.declared.settings.Visitor.{Visitor}
 use Rattle.silt_resp.specs.declared.session.RespEnd.{RespEnd}
 use Rattle.silt_resp.specs.declared.session.RespEnd.TheVariants.{End, Closed, ReadFault, WriteFault, NoMemory}
-use Rattle.silt_resp.specs.Commands.{Asked, asked_for, asks, broken_text, asked_events, says, visitor_after, visitor_at_first}
+use Rattle.silt_resp.specs.Commands.{Asked, asked_for, asks, asks_info, broken_text, says, visitor_after, visitor_at_first}
+use Rattle.silt_resp.specs.Info.{info_text}
 use Rattle.silt_resp.specs.Stream.{Command, Stream, closed, commands_after, start, stream_after}
 use Rattle.silt_resp.specs.Texts.{text_of}
 
@@ -22,8 +24,8 @@ pub record Client : Type 0 where
   pub visitor : Visitor
 
 -- a client that has sent nothing
-abbrev pub new_client : Settings → ℕ → Client
-new_client settings id = record { stream = start; visitor = visitor_at_first settings id }
+abbrev pub new_client : Settings → Client
+new_client settings = record { stream = start; visitor = visitor_at_first settings }
 
 -- what each command asks for
 abbrev pub asked_each : Settings → Visitor → List Command → List Asked
@@ -49,20 +51,38 @@ client_after settings client bytes = record {
 
 -- ---- replies
 
--- the events of all commands
-abbrev pub all_events : List Asked → List Event
-all_events asked = flat_map asked_events asked
+-- what a command asks of the answerer
+abbrev pub asked_queries : Asked → List Query
+asked_queries (says text) = []
+asked_queries (asks events form) = map does events
+asked_queries (asks_info sections) = asks_facts ∷ []
 
--- the reply to a command, of the replies to its events
-abbrev pub asked_text : Asked → List PlainReply → List ℕ
-asked_text (says text) replies = text
-asked_text (asks events form) replies = text_of form replies
+-- what all commands ask of it
+abbrev pub all_queries : List Asked → List Query
+all_queries asked = flat_map asked_queries asked
 
--- the replies to commands, of the replies to all their events: each takes as many as it has events
-abbrev pub asked_texts : List Asked → List PlainReply → List ℕ
-asked_texts [] replies = []
-asked_texts (asked ∷ more) replies =
-    asked_text asked (take (length (asked_events asked)) replies) ++ asked_texts more (drop (length (asked_events asked)) replies)
+-- the replies to events, among answers
+abbrev pub replies_in : List Answer → List PlainReply
+replies_in [] = []
+replies_in (replied reply ∷ answers) = reply ∷ replies_in answers
+replies_in (gives_facts facts ∷ answers) = replies_in answers
+
+-- the facts that the first answer gives
+abbrev pub facts_in : List Answer → Option Facts
+facts_in (gives_facts facts ∷ answers) = facts
+facts_in answers = None
+
+-- the reply to a command, of the answers to what it asks
+abbrev pub asked_text : Asked → List Answer → List ℕ
+asked_text (says text) given = text
+asked_text (asks events form) given = text_of form (replies_in given)
+asked_text (asks_info sections) given = info_text sections (facts_in given)
+
+-- the replies to commands, of the answers to all that they ask: each takes as many as it asks for
+abbrev pub asked_texts : List Asked → List Answer → List ℕ
+asked_texts [] given = []
+asked_texts (asked ∷ more) given =
+    asked_text asked (take (length (asked_queries asked)) given) ++ asked_texts more (drop (length (asked_queries asked)) given)
 
 -- ---- ends
 
@@ -84,17 +104,19 @@ WritesAtMostFault before after =
 
 -- ---- what an answerer does
 
-module _ {A : Type 0} (answers : A → A → Event → PlainReply → Type 0) where
+-- Below, `answers` says how an answerer answers queries: `AnswersQuery A.answers A.informs` of an `A: Answerer`.
+
+module _ {A : Type 0} (answers : A → A → Query → Answer → Type 0) where
   -- all commands were done, and exactly their replies were written
   abbrev pub AnswersCommands : List Asked → A → A → Option (List ℕ) → Option (List ℕ) → Type 0
   AnswersCommands asked old new before after =
-      (replies : List PlainReply) × AnswersEach answers old (all_events asked) replies new × Appends before after (asked_texts asked replies)
+      (given : List Answer) × AnswersEach answers old (all_queries asked) given new × Appends before after (asked_texts asked given)
 
   -- the first commands were done, some of them all, and a beginning of their replies was written
   abbrev pub AnswersSomeCommands : List Asked → A → A → Option (List ℕ) → Option (List ℕ) → Type 0
   AnswersSomeCommands asked old new before after =
-      (some : List Asked) × (replies : List PlainReply) × (out : List ℕ) × IsBeginning some asked × AnswersEach answers old (all_events some) replies new
-      × IsBeginning out (asked_texts some replies) × Appends before after out
+      (some : List Asked) × (given : List Answer) × (out : List ℕ) × IsBeginning some asked × AnswersEach answers old (all_queries some) given new
+      × IsBeginning out (asked_texts some given) × Appends before after out
 
   -- so it was with the commands that these bytes of a client end
   abbrev pub ServesCommands : Settings → Client → List ℕ → A → A → Option (List ℕ) → Option (List ℕ) → Type 0

@@ -18,6 +18,15 @@ pub enum Asked {
     Text(Vec<u8>),
     /// One reply of this form, made of the replies to these events.
     Events(Vec<Event>, Form),
+    /// These sections of facts.
+    Info(Sections),
+}
+
+/// The sections that INFO asks for.
+#[derive(Clone, Copy, Debug, PartialEq, Eq)]
+pub struct Sections {
+    pub server: bool,
+    pub store: bool,
 }
 
 /// One event.

@@ -15,6 +15,7 @@ use crate::connection_commands::{
     auth, auth_verdict, client, command, config, echo, hello, hello_verdict, ok, ping, select,
 };
 use crate::fault::{CommandFault, ProtocolFault};
+use crate::info::sections_named;
 use crate::key_commands::{delete, insert, look, look_all, remove, set, set_all};
 use crate::settings::{Settings, Visitor};
 use crate::table::CommandName;
@@ -65,6 +66,7 @@ fn made(
         CommandName::Command => command(alloc, args),
         CommandName::Config => config(alloc, args),
         CommandName::Cluster => Err(CommandFault::NoCluster),
+        CommandName::Info => Ok(Asked::Info(sections_named(args))),
     }
 }
 

@@ -1,15 +1,17 @@
 // Commands that are gathered first and done together.
-ghost use Rattle.std.specs.Prelude.{◌≡◌, ◌≤◌, ◌+◌, ◌++◌, ◌∷◌, [], ℕ, All, List, Some, OnErr, OnOk, length, map, vec_capacity, vec_len};
+ghost use Rattle.std.specs.Prelude.{◌≡◌, ◌≤◌, ◌+◌, ◌++◌, ◌∷◌, [], false, ℕ, All, List, None, Some, OnErr, OnOk, length, map, vec_capacity, vec_len};
 ghost use Rattle.silt_event.specs.Events.{AnswersEach, HasValueOf, PlainReply};
+ghost use Rattle.silt_event.specs.Queries.{AnswersQuery, replies as replied};
 ghost use Rattle.silt_wire.specs.Sessions.{IsBeginning};
-ghost use Rattle.silt_resp.specs.Batches.{GainsAsked, HoldsAsked, HasLengths, KeepsAsked, due_seen, part_len, part_text, part_texts};
+ghost use Rattle.silt_resp.specs.Batches.{GainsAsked, HoldsAsked, HasLengths, KeepsAsked, due_seen, part_len, part_text, part_texts, tail_answers, tail_parts, tail_queries};
 ghost use Rattle.silt_resp.specs.Commands.{Asked as AskedOf, FitsValues};
 ghost use Rattle.silt_resp.specs.Seen.{asked_seen};
 ghost use Rattle.silt_resp.specs.Sessions.{AnswersCommands, AnswersSomeCommands};
 
-use crate::asked::Asked;
+use crate::asked::{Asked, Sections};
+use crate::info::push_info;
 use crate::texts::{Form, push_text};
-use silt_event::{Answerer, Event, Reply};
+use silt_event::{Answerer, Event, Facts, Reply};
 use std::alloc::{AllocError, Global};
 
 /// How many bytes of possible replies are enough for a batch.
@@ -30,11 +32,13 @@ pub enum Due {
     Replies(Form, usize),
 }
 
-/// Commands in order: all their events, and the replies that are due to them.
+/// Commands in order: all their events, the replies that are due to them, and the INFO that ends them.
 #[derive(Drop)]
 pub struct Batch {
     pub events: Vec<Event>,
     pub dues: Vec<Due>,
+    /// What the last command asks for, if it is an INFO: facts of the moment when the events before it are done.
+    pub tail: Option<Sections>,
     /// How many bytes the replies may have.
     pub possible_text: usize,
 }
@@ -68,22 +72,28 @@ impl Batch {
     pub(crate) fn new(alloc: Global) -> Self
         ensures empty { HoldsAsked result [] }
         ensures ready { (value_len : ℕ) → HasLengths value_len result }
+        ensures unended { result.tail ≡ None }
     {
         Batch {
             events: Vec::new(alloc),
             dues: Vec::new(alloc),
+            tail: None,
             possible_text: 0,
         }
     }
 
-    /// Whether the possible replies are long enough, so that memory stays bounded.
-    pub(crate) fn is_full(&self) -> bool {
-        self.possible_text >= ENOUGH_TEXT
+    /// Whether it takes no more commands: it ends with an INFO, or the possible replies are long enough, so that memory stays
+    /// bounded.
+    pub(crate) fn is_full(&self) -> bool
+        ensures { result ≡ false → self.now.tail ≡ None }
+    {
+        self.tail.is_some() || self.possible_text >= ENOUGH_TEXT
     }
 
     /// Adds a command. On an error the commands stay.
     pub(crate) fn push(&mut self, asked: Asked, value_len: usize) -> Result<(), AllocError>
         requires ready { HasLengths value_len self.old }
+        requires unended { self.old.tail ≡ None }
         requires fits { FitsValues value_len (asked_seen asked) }
         ensures ready { HasLengths value_len self.new }
         ensures ok { OnOk result (GainsAsked self.old self.new (asked_seen asked)) }
@@ -92,12 +102,17 @@ impl Batch {
         match asked {
             Asked::Text(text) => self.push_due(Due::Text(text), value_len),
             Asked::Events(events, form) => self.push_events(events, form, value_len),
+            Asked::Info(sections) => {
+                self.tail = Some(sections);
+                Ok(())
+            }
         }
     }
 
     // Adds a reply that is due, and no events.
     fn push_due(&mut self, due: Due, value_len: usize) -> Result<(), AllocError>
         ensures events { self.new.events.items ≡ self.old.events.items }
+        ensures tail { self.new.tail ≡ self.old.tail }
         ensures ok { OnOk result (self.new.dues.items ≡ self.old.dues.items ++ due ∷ []) }
         ensures err { OnErr result (self.new.dues.items ≡ self.old.dues.items) }
     {
@@ -116,6 +131,7 @@ impl Batch {
         form: Form,
         value_len: usize,
     ) -> Result<(), AllocError>
+        ensures tail { self.new.tail ≡ self.old.tail }
         ensures ok { OnOk result ((self.new.events.items ≡ self.old.events.items ++ events.items)
             × (self.new.dues.items ≡ self.old.dues.items ++ Due.Replies form (length events.items) ∷ [])) }
         ensures err { OnErr result ((self.new.events.items ≡ self.old.events.items) × (self.new.dues.items ≡ self.old.dues.items)) }
@@ -143,18 +159,47 @@ impl Batch {
         requires { HasLengths (A.value_len answerer.old) self }
         ensures stays { A.value_len answerer.new ≡ A.value_len answerer.old }
         ensures all { OnOk result ((asked : List AskedOf) → HoldsAsked self asked
-            → AnswersCommands A.answers asked answerer.old answerer.new (Some texts.old.items) (Some texts.new.items)) }
+            → AnswersCommands (AnswersQuery A.answers A.informs) asked answerer.old answerer.new (Some texts.old.items) (Some texts.new.items)) }
         ensures some { OnErr result ((asked : List AskedOf) → HoldsAsked self asked
-            → AnswersSomeCommands A.answers asked answerer.old answerer.new (Some texts.old.items) (Some texts.new.items)) }
+            → AnswersSomeCommands (AnswersQuery A.answers A.informs) asked answerer.old answerer.new (Some texts.old.items) (Some texts.new.items)) }
     {
         let Batch {
             events,
             dues,
+            tail,
             possible_text: _,
         } = self;
         let mut replies = Vec::with_capacity(alloc, events.len())?;
         answer_events(alloc, events, &mut replies, answerer);
-        push_dues(alloc, &dues, &replies, texts)
+        let facts = asked_facts(tail, answerer);
+        push_dues(alloc, &dues, &replies, texts)?;
+        push_tail(alloc, tail, facts, texts)
+    }
+}
+
+// The facts, if they are asked for.
+fn asked_facts<A: Answerer>(tail: Option<Sections>, answerer: &A) -> Option<Facts>
+    ensures { AnswersEach (AnswersQuery A.answers A.informs) answerer.now (tail_queries tail) (tail_answers tail result) answerer.now }
+{
+    match tail {
+        Some(_) => answerer.facts(),
+        None => None,
+    }
+}
+
+// Appends the reply to an INFO, if there is one. On an error nothing changes.
+fn push_tail(
+    alloc: Global,
+    tail: Option<Sections>,
+    facts: Option<Facts>,
+    texts: &mut Vec<u8>,
+) -> Result<(), AllocError>
+    ensures ok { OnOk result (texts.new.items ≡ texts.old.items ++ part_texts (tail_parts tail) (tail_answers tail facts)) }
+    ensures err { OnErr result (texts.new.items ≡ texts.old.items) }
+{
+    match tail {
+        Some(sections) => push_info(alloc, sections, facts, texts),
+        None => Ok(()),
     }
 }
 
@@ -184,8 +229,8 @@ fn push_dues(
     replies: &[Reply<()>],
     texts: &mut Vec<u8>,
 ) -> Result<(), AllocError>
-    ensures ok { OnOk result (texts.new.items ≡ texts.old.items ++ part_texts (map due_seen dues.now) replies.now) }
-    ensures err { OnErr result ((out : List ℕ) × IsBeginning out (part_texts (map due_seen dues.now) replies.now)
+    ensures ok { OnOk result (texts.new.items ≡ texts.old.items ++ part_texts (map due_seen dues.now) (map replied replies.now)) }
+    ensures err { OnErr result ((out : List ℕ) × IsBeginning out (part_texts (map due_seen dues.now) (map replied replies.now))
         × (texts.new.items ≡ texts.old.items ++ out)) }
 {
     let mut rest = replies;
@@ -204,7 +249,7 @@ fn push_due(
     replies: &[Reply<()>],
     texts: &mut Vec<u8>,
 ) -> Result<(), AllocError>
-    ensures ok { OnOk result (texts.new.items ≡ texts.old.items ++ part_text (due_seen due.now) replies.now) }
+    ensures ok { OnOk result (texts.new.items ≡ texts.old.items ++ part_text (due_seen due.now) (map replied replies.now)) }
     ensures err { OnErr result (texts.new.items ≡ texts.old.items) }
 {
     match due {

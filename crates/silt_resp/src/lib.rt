@@ -6,7 +6,8 @@
 //! what a client encodes is read (`resp_law`). A command comes as an array of words with their lengths in front, or as a line of
 //! words between spaces. Words, commands and lines that are too long cost no memory.
 //!
-//! What a command asks for is `asked_for` of `specs/Commands`: events and the [`Form`] of their one reply, or a text. `specs/Table` has
+//! What a command asks for is `asked_for` of `specs/Commands`: events and the [`Form`] of their one reply, a text, or sections of
+//! the store's facts (`specs/Info`). `specs/Table` has
 //! the commands and how many words each takes. `push_text` appends the one reply, made of the store's replies to the events.
 //!
 //! `resp_session` reads commands from any reader, hands their events to a store, or another `Answerer`, and writes one reply for
@@ -25,6 +26,7 @@ mod command_buffer;
 mod connection_commands;
 mod fault;
 mod heads;
+mod info;
 mod key_commands;
 mod laws;
 mod session;

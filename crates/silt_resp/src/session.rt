@@ -1,6 +1,7 @@
 // Sessions: commands of a client from a reader, and an answerer's replies to a writer.
-ghost use Rattle.std.specs.Prelude.{◌≡◌, ◌≤◌, ◌<◌, ℕ, List, Option, Some, IfErr, IfOk, IfSome, OnErr, OnOk, length, take};
+ghost use Rattle.std.specs.Prelude.{◌≡◌, ◌≤◌, ◌<◌, ℕ, List, None, Option, Some, IfErr, IfOk, IfSome, OnErr, OnOk, length, take};
 ghost use Rattle.std.specs.Io.KnownBytes.{Appends};
+ghost use Rattle.silt_event.specs.Queries.{AnswersQuery};
 ghost use Rattle.silt_wire.specs.Http.{Guards, IsHttp};
 ghost use Rattle.silt_resp.specs.Batches.{HoldsClient, IsBehind};
 ghost use Rattle.silt_resp.specs.Sessions.{Client, EndsWith, IsCommandsEnd, RespEnds, ServesCommands, ServesSomeCommands, WritesAtMostFault, client_after, new_client};
@@ -59,12 +60,12 @@ impl Talk {
     ghost use Rattle.silt_resp.specs.Sessions.{Client, new_client};
     ghost use Rattle.silt_resp.specs.Stream.{Command as CommandOf, closes};
 
-    fn new(alloc: Global, settings: &Settings, id: u32) -> Self
-        ensures { HoldsClient result (new_client settings.now id) }
+    fn new(alloc: Global, settings: &Settings) -> Self
+        ensures { HoldsClient result (new_client settings.now) }
     {
         Talk {
             buffer: CommandBuffer::new(alloc),
-            visitor: Visitor::new(settings, id),
+            visitor: Visitor::new(settings),
         }
     }
 
@@ -78,6 +79,7 @@ impl Talk {
         batch: &mut Batch,
     ) -> Result<Gathered, AllocError>
         requires ready { HasLengths settings.now.value_len batch.old }
+        requires unended { batch.old.tail ≡ None }
         requires some { 0 < length bytes.now }
         ensures ready { HasLengths settings.now.value_len batch.new }
         ensures count { IfOk result (λ gathered. (0 < gathered.count) × (gathered.count ≤ length bytes.now)) }
@@ -114,6 +116,7 @@ impl Talk {
         batch: &mut Batch,
     ) -> Result<Gathered, AllocError>
         requires ready { HasLengths settings.now.value_len batch.old }
+        requires unended { batch.old.tail ≡ None }
         requires some { 0 < length bytes.now }
         ensures ready { HasLengths settings.now.value_len batch.new }
         ensures count { IfOk result (λ gathered. (0 < gathered.count) × (gathered.count ≤ length bytes.now)) }
@@ -144,7 +147,8 @@ impl Talk {
         settings: &Settings,
         batch: &mut Batch,
     ) -> Result<bool, AllocError>
-        requires { HasLengths settings.now.value_len batch.old }
+        requires ready { HasLengths settings.now.value_len batch.old }
+        requires unended { batch.old.tail ≡ None }
         ensures ready { HasLengths settings.now.value_len batch.new }
         ensures all { IfOk result (λ ends. (command : CommandOf) → HoldsCommand self.old.buffer command
             → AsksFor settings.now command ends self.old self.new batch.old batch.new) }
@@ -164,7 +168,8 @@ impl Talk {
         settings: &Settings,
         batch: &mut Batch,
     ) -> Result<bool, AllocError>
-        requires { HasLengths settings.now.value_len batch.old }
+        requires ready { HasLengths settings.now.value_len batch.old }
+        requires unended { batch.old.tail ≡ None }
         ensures ready { HasLengths settings.now.value_len batch.new }
         ensures asked { OnOk result ((command : CommandOf) → HoldsCommand self.old.buffer command
             → GainsAsked batch.old batch.new (asked_for settings.now self.old.visitor command)) }
@@ -203,9 +208,9 @@ fn take_part<A: Answerer>(
     ensures behind { IfOk result (λ gathered. (client : Client) → HoldsClient talk.old client
         → IsBehind settings.now client (take gathered.count bytes.now) gathered.closes talk.new) }
     ensures all { IfOk result (λ gathered. (client : Client) → HoldsClient talk.old client
-        → ServesCommands A.answers settings.now client (take gathered.count bytes.now)
+        → ServesCommands (AnswersQuery A.answers A.informs) settings.now client (take gathered.count bytes.now)
         answerer.old answerer.new (Some texts.old.items) (Some texts.new.items)) }
-    ensures some { OnErr result ((client : Client) → HoldsClient talk.old client → ServesSomeCommands A.answers settings.now client bytes.now
+    ensures some { OnErr result ((client : Client) → HoldsClient talk.old client → ServesSomeCommands (AnswersQuery A.answers A.informs) settings.now client bytes.now
         answerer.old answerer.new (Some texts.old.items) (Some texts.new.items)) }
 {
     let mut batch = Batch::new(alloc);
@@ -230,10 +235,10 @@ fn answer_part<A: Answerer, W: Write>(
     ensures holds { IfOk result (λ count. (client : Client) → HoldsClient talk.old client
         → HoldsClient talk.new (client_after settings.now client (take count bytes.now))) }
     ensures all { IfOk result (λ count. (client : Client) → HoldsClient talk.old client
-        → ServesCommands A.answers settings.now client (take count bytes.now)
+        → ServesCommands (AnswersQuery A.answers A.informs) settings.now client (take count bytes.now)
         answerer.old answerer.new (W.contents writer.old) (W.contents writer.new)) }
     ensures ends { IfErr result (λ end. (client : Client) → HoldsClient talk.old client
-        → EndsWith A.answers end settings.now client bytes.now
+        → EndsWith (AnswersQuery A.answers A.informs) end settings.now client bytes.now
         answerer.old answerer.new (W.contents writer.old) (W.contents writer.new)) }
     ensures cut { IfErr result IsCommandsEnd }
 {
@@ -266,10 +271,10 @@ fn answer_read<A: Answerer, W: Write>(
     ensures stays { A.value_len answerer.new ≡ settings.now.value_len }
     ensures holds { OnOk result ((client : Client) → HoldsClient talk.old client
         → HoldsClient talk.new (client_after settings.now client bytes.now)) }
-    ensures all { OnOk result ((client : Client) → HoldsClient talk.old client → ServesCommands A.answers settings.now client bytes.now
+    ensures all { OnOk result ((client : Client) → HoldsClient talk.old client → ServesCommands (AnswersQuery A.answers A.informs) settings.now client bytes.now
         answerer.old answerer.new (W.contents writer.old) (W.contents writer.new)) }
     ensures ends { IfErr result (λ end. (client : Client) → HoldsClient talk.old client
-        → EndsWith A.answers end settings.now client bytes.now
+        → EndsWith (AnswersQuery A.answers A.informs) end settings.now client bytes.now
         answerer.old answerer.new (W.contents writer.old) (W.contents writer.new)) }
     ensures cut { IfErr result IsCommandsEnd }
 {
@@ -285,7 +290,6 @@ fn answer_read<A: Answerer, W: Write>(
 fn session_over<A: Answerer, R: Read, W: Write>(
     alloc: Global,
     settings: &Settings,
-    id: u32,
     buffer: &mut [u8],
     reader: &mut R,
     writer: &mut W,
@@ -293,11 +297,11 @@ fn session_over<A: Answerer, R: Read, W: Write>(
 ) -> RespEnd
     requires len { A.value_len answerer.old ≡ settings.now.value_len }
     requires room { 0 < length buffer.old }
-    ensures { RespEnds A.answers result settings.now (new_client settings.now id)
+    ensures { RespEnds (AnswersQuery A.answers A.informs) result settings.now (new_client settings.now)
         (record { answerer = answerer.old; remaining = R.remaining reader.old; contents = W.contents writer.old })
         (record { answerer = answerer.new; remaining = R.remaining reader.new; contents = W.contents writer.new }) }
 {
-    let mut talk = Talk::new(alloc, settings, id);
+    let mut talk = Talk::new(alloc, settings);
     for _ in 0..MOST_READS {
         match reader.read(buffer) {
             Ok(0) => return RespEnd::End,
@@ -319,10 +323,10 @@ fn session_over<A: Answerer, R: Read, W: Write>(
     RespEnd::ReadFault
 }
 
-/// Does the commands of a client, whose number is `id`, until the reader has no more bytes or a command closes the session, and
+/// Does the commands of a client until the reader has no more bytes or a command closes the session, and
 /// writes one reply for each. It reads into this buffer. It hands over the events of all commands of one read in one call, and
-/// writes the replies before it reads again. It divides a read only when the replies may have 65,536 bytes. A command that has
-/// not ended is not done. An interrupted read or write is tried again.
+/// writes the replies before it reads again. It divides a read only behind an INFO, whose facts are those of its moment, and when
+/// the replies may have 65,536 bytes. A command that has not ended is not done. An interrupted read or write is tried again.
 ///
 /// It ends at the first line of an HTTP request, and does nothing.
 ///
@@ -330,7 +334,6 @@ fn session_over<A: Answerer, R: Read, W: Write>(
 pub fn resp_session<A: Answerer, R: Read + Drop, W: Write>(
     alloc: Global,
     settings: &Settings,
-    id: u32,
     buffer: &mut [u8],
     reader: R,
     writer: &mut W,
@@ -341,7 +344,7 @@ pub fn resp_session<A: Answerer, R: Read + Drop, W: Write>(
     // An empty buffer would look like the end of the reader.
     requires room { 0 < length buffer.old }
     ensures ends { (given : Option (List ℕ)) × (left : Option (List ℕ)) × Guards (R.remaining reader) given
-        × RespEnds A.answers result settings.now (new_client settings.now id)
+        × RespEnds (AnswersQuery A.answers A.informs) result settings.now (new_client settings.now)
         (record { answerer = answerer.old; remaining = given; contents = W.contents writer.old })
         (record { answerer = answerer.new; remaining = left; contents = W.contents writer.new }) }
 
@@ -350,5 +353,5 @@ pub fn resp_session<A: Answerer, R: Read + Drop, W: Write>(
         × WritesAtMostFault (W.contents writer.old) (W.contents writer.new)) }
 {
     let mut guard = HttpGuard::new(reader);
-    session_over(alloc, settings, id, buffer, &mut guard, writer, answerer)
+    session_over(alloc, settings, buffer, &mut guard, writer, answerer)
 }

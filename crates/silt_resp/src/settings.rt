@@ -1,13 +1,15 @@
 // What a session knows of its server and of its client.
 ghost use Rattle.std.specs.Prelude.{◌≡◌, ◌≤◌};
 
-/// What all sessions of a server have in common.
+/// What a session knows of its server, and which one it is.
 #[derive(Clone, Copy, Debug)]
 pub struct Settings {
     /// The length of the store's values, in bytes.
     pub value_len: usize,
     /// The SHA-1 digest of the password, if there is one.
     pub password: Option<[u8; 20]>,
+    /// The number of the session, as its client is told.
+    pub id: u32,
     // A value has its string's length in front.
     pub ghost room: { 2 ≤ value_len },
 }
@@ -36,11 +38,11 @@ impl Visitor {
     ghost use Rattle.silt_resp.specs.Commands.{visitor_at_first};
 
     /// A client that has given no command. Without a password all are let in.
-    pub fn new(settings: &Settings, id: u32) -> Self
-        ensures { result ≡ visitor_at_first settings.now id }
+    pub fn new(settings: &Settings) -> Self
+        ensures { result ≡ visitor_at_first settings.now }
     {
         Visitor {
-            id,
+            id: settings.id,
             is_let_in: settings.password.is_none(),
         }
     }

@@ -48,10 +48,11 @@ pub enum CommandName {
     Command,
     Config,
     Cluster,
+    Info,
 }
 
 /// All commands.
-const COMMANDS: [CommandName; 21] = [
+const COMMANDS: [CommandName; 22] = [
     CommandName::Get,
     CommandName::Strlen,
     CommandName::Mget,
@@ -73,6 +74,7 @@ const COMMANDS: [CommandName; 21] = [
     CommandName::Command,
     CommandName::Config,
     CommandName::Cluster,
+    CommandName::Info,
 ];
 
 impl CommandName {
@@ -108,6 +110,7 @@ impl CommandName {
             CommandName::Command => Row::new("command", 0, MANY),
             CommandName::Config => Row::new("config", 1, MANY),
             CommandName::Cluster => Row::new("cluster", 1, MANY),
+            CommandName::Info => Row::new("info", 0, MANY),
         }
     }
 

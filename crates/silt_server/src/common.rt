@@ -9,7 +9,7 @@ use crate::threads::{Ended, Parts, run_beside};
 use crate::workers::{Worker, Workers, WriterParts};
 use silt_desk::{DeskId, Gate, Seat, Shared, Trace, WorkerEnds, converter, merger};
 use silt_disk::Disk;
-use silt_event::{Event, Reply};
+use silt_event::{Event, Facts, Reply};
 use silt_inbox::{Inbox, InboxId, Taker};
 use silt_session::{
     AskBy, Job, JobLog, LogId, RoomGate, RoomWait, Session, SessionSlot, Unanswered, Workplace,
@@ -157,9 +157,11 @@ impl<D: Disk, T: Trace, N: DeskId + InboxId + LogId, G: Gate, R: Wait + Clock> S
             let all = |events: Vec<Event>| -> Result<Vec<Reply<()>>, Unanswered> {
                 session.answer_all(events)
             };
+            let facts = || -> Facts { session.facts() };
             let asking = AskBy {
                 one: &one,
                 all: &all,
+                facts: &facts,
             };
             answer_client(
                 self.alloc,

@@ -62,14 +62,7 @@ pub fn answer_client<A: Asking>(
     let settings = Settings {
         value_len,
         password: limits.password,
+        id: number,
     };
-    let _ = resp_session(
-        alloc,
-        &settings,
-        number,
-        buffer,
-        stream,
-        &mut outlet,
-        &mut client,
-    );
+    let _ = resp_session(alloc, &settings, buffer, stream, &mut outlet, &mut client);
 }

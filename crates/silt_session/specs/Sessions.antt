@@ -1,9 +1,10 @@
 -- The replies to the events of a session.
-use Rattle.std.specs.Prelude.{◌≡◌, ◌⊎◌, ℕ, ◌≤◌, Bool, true, IsTrue, List, Some, slice_get}
+use Rattle.std.specs.Prelude.{◌≡◌, ◌⊎◌, ℕ, ◌≤◌, Bool, true, false, IsTrue, List, None, Option, Some, slice_get}
 use Rattle.silt_disk.specs.declared.disk.Disk.{Ghosts}
 use Rattle.silt_frame.specs.declared.key.Key.{Key}
 use Rattle.silt_event.specs.Events.{PlainReply, Step, plain}
 use Rattle.silt_event.specs.declared.event.Event.{Event}
+use Rattle.silt_event.specs.declared.facts.Facts.{Facts}
 use Rattle.silt_event.specs.declared.event.Event.TheVariants.{Get, Convert, Merge}
 use Rattle.silt_event.specs.declared.refusal.Refusal.{Refusal}
 use Rattle.silt_event.specs.declared.refusal.Refusal.TheVariants.{NoMemory}
@@ -76,3 +77,8 @@ module _ {A : Type 0} where
   abbrev pub AnswersClient : (A → Event → PlainReply → Type 0) → ClientState A → ClientState A → Event → PlainReply → Type 0
   AnswersClient gives old new event reply =
       ((new.is_lost ≡ true) × (reply ≡ NotServed)) ⊎ ((reply ≡ Refused NoMemory) ⊎ gives old.asking event reply)
+
+  -- a client gives the facts that are given to it, and none if its session is lost
+  abbrev pub InformsClient : (A → Facts → Type 0) → ClientState A → Option Facts → Type 0
+  InformsClient informs client None = client.is_lost ≡ true
+  InformsClient informs client (Some facts) = (client.is_lost ≡ false) × informs client.asking facts

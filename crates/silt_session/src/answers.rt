@@ -7,6 +7,8 @@ ghost use Rattle.silt_session.specs.Pipelines.{AnswersSoFar, HasRoom, IsFree, Is
 ghost use Rattle.silt_session.specs.Requests.{IsNoRequest, requests_of};
 ghost use Rattle.silt_session.specs.Origins.{Origin};
 ghost use Rattle.silt_session.specs.Sessions.{IsAnswer};
+ghost use Rattle.silt_store_set.specs.CoreState.{CoreState};
+ghost use Rattle.silt_store_set.specs.Facts.{facts_of};
 
 use crate::job::Request;
 use crate::job_log::LogId;
@@ -17,7 +19,7 @@ use crate::task::Task;
 use crate::unanswered::Unanswered;
 use silt_desk::{Desk, DeskId, Look, Trace};
 use silt_disk::Disk;
-use silt_event::{Event, Refusal, Reply};
+use silt_event::{Event, Facts, Refusal, Reply};
 use silt_frame::{Key, Value};
 use silt_inbox::InboxId;
 use std::alloc::{AllocError, Global};
@@ -89,6 +91,13 @@ fn alone<D: Disk, T: Trace>(alloc: Global, request: Request) -> Result<Vec<Task<
 }
 
 impl<D: Disk, T: Trace, N: DeskId + InboxId + LogId, R: Wait> Session<'_, D, T, N, R> {
+    /// The facts of the desk's store at this moment.
+    pub fn facts(&self) -> Facts
+        ensures { (core : CoreState D) × (result ≡ facts_of core) }
+    {
+        self.desk.read(self.rt).facts()
+    }
+
     // Has one request done, and returns its reply.
     fn request(&self, request: Request) -> Result<Reply<()>, Unanswered>
         ensures { IfOk result (Origin D.Disk T.Trace request) }

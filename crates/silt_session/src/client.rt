@@ -1,11 +1,12 @@
 // The client side of one session: it gets the replies to the session's events.
-ghost use Rattle.std.specs.Prelude.{◌≡◌, ◌≤◌, ◌+◌, ◌++◌, List, IfOk, false, vec_capacity, vec_len};
+ghost use Rattle.std.specs.Prelude.{◌≡◌, ◌≤◌, ◌+◌, ◌++◌, List, IfOk, None, Option, Some, false, vec_capacity, vec_len};
 ghost use Rattle.std.specs.List.{AllZip};
 ghost use Rattle.silt_event.specs.declared.event.Event.{Event as EventOf};
+ghost use Rattle.silt_event.specs.declared.facts.Facts.{Facts as FactsOf};
 ghost use Rattle.silt_event.specs.Events.{PlainReply};
 
 use crate::unanswered::Unanswered;
-use silt_event::{Answerer, Event, Reply};
+use silt_event::{Answerer, Event, Facts, Reply};
 use std::alloc::Global;
 use std::marker::Model;
 use std::sync::atomic::{AtomicU64, Ordering};
@@ -17,6 +18,9 @@ pub trait Asking: Drop {
 
     /// An event and a reply that is given to it.
     ghost gives: { Self → EventOf → PlainReply → Type 0 };
+
+    /// The facts that it gives.
+    ghost informs: { Self → FactsOf → Type 0 };
 
     /// The reply to an event.
     ///
@@ -35,27 +39,36 @@ pub trait Asking: Drop {
     fn ask_all(&self, events: Vec<Event>) -> Result<Vec<Reply<()>>, Unanswered>
         requires { can_ask self.now }
         ensures { IfOk result (λ replies. AllZip (gives self.now) events.items replies.items) };
+
+    /// The facts of the store at this moment.
+    fn facts(&self) -> Facts
+        requires { can_ask self.now }
+        ensures { informs self.now result };
 }
 
-/// Asks one event by a closure, and several at once by another one. If that one gives another number of replies than it is
-/// asked for, these do not count.
+/// Asks one event by a closure, several at once by another one, and for facts by a third. If the second gives another number
+/// of replies than it is asked for, these do not count.
 #[derive(Drop)]
-pub struct AskBy<'a, F, G> {
+pub struct AskBy<'a, F, G, H> {
     pub one: &'a F,
     pub all: &'a G,
+    pub facts: &'a H,
 }
 
 impl<
     F: Fn(Event) -> Result<Reply<()>, Unanswered>,
     G: Fn(Vec<Event>) -> Result<Vec<Reply<()>>, Unanswered>,
-> Asking for AskBy<'_, F, G> {
+    H: Fn() -> Facts,
+> Asking for AskBy<'_, F, G, H> {
     ghost use Rattle.std.specs.Prelude.{◌⊎◌, Ok};
     ghost use Rattle.silt_session.specs.Sessions.{ArePaired};
 
-    ghost can_ask = { λ by. F.IsAlwaysCallable by.one.now × G.IsAlwaysCallable by.all.now };
+    ghost can_ask = { λ by. F.IsAlwaysCallable by.one.now × G.IsAlwaysCallable by.all.now × H.IsAlwaysCallable by.facts.now };
 
     ghost gives = { λ by event reply. F.post by.one.now event (Ok reply)
         ⊎ ((events : _) × (replies : _) × G.post by.all.now events (Ok replies) × ArePaired events.items replies.items event reply) };
+
+    ghost informs = { λ by facts. H.post by.facts.now facts };
 
     fn ask(&self, event: Event) -> Result<Reply<()>, Unanswered> {
         (self.one)(event)
@@ -68,6 +81,10 @@ impl<
             return Err(Unanswered::Lost);
         }
         Ok(replies)
+    }
+
+    fn facts(&self) -> Facts {
+        (self.facts)()
     }
 }
 
@@ -161,11 +178,13 @@ impl<'a, A: Asking> Client<'a, A> {
 }
 
 impl<A: Asking> Answerer for Client<'_, A> {
-    ghost use Rattle.silt_session.specs.Sessions.{AnswersClient};
+    ghost use Rattle.silt_session.specs.Sessions.{AnswersClient, InformsClient};
 
     ghost value_len = { λ client. client.value_len };
 
     ghost answers = { AnswersClient A.gives };
+
+    ghost informs = { InformsClient A.informs };
 
     fn answer(&mut self, _alloc: Global, event: Event) -> Reply<()> {
         if self.is_lost {
@@ -188,5 +207,12 @@ impl<A: Asking> Answerer for Client<'_, A> {
         for event in events {
             replies.push_reserved(self.answer(alloc, event));
         }
+    }
+
+    fn facts(&self) -> Option<Facts> {
+        if self.is_lost {
+            return None;
+        }
+        Some(self.asking.facts())
     }
 }

@@ -8,3 +8,4 @@ pub mod Projections
 pub mod SetMaps
 pub mod ShardLives
 pub mod WholeMaps
+pub mod Sums

@@ -2,10 +2,11 @@
 ghost use Rattle.std.specs.Prelude.{◌≡◌, ◌<◌, ◌++◌, ◌∷◌, [], List, length, vec_len};
 ghost use Rattle.silt_event.specs.Events.{HasValueOf, PlainReply};
 ghost use Rattle.silt_shards.specs.Routing.{IsShardCount};
+ghost use Rattle.silt_shards.specs.SetFacts.{SetInforms, no_facts, plus};
 ghost use Rattle.silt_shards.specs.Sets.{AreAlike, DoesAt, FlushesEach, IsSet, SetDoes, joined, value_len_of};
 
 use crate::shard_key::only_shard;
-use silt_event::{Answerer, Event, Reply};
+use silt_event::{Answerer, Event, Facts, Reply};
 use std::alloc::Global;
 use std::marker::Model;
 
@@ -56,6 +57,17 @@ impl<A: Answerer + Drop> StoreSet<A> {
         joined
     }
 
+    // The sums of the shards' facts, if all give some.
+    fn sum_facts(&self) -> Option<Facts>
+        ensures { SetInforms A.informs self.now result }
+    {
+        let mut sum = no_facts();
+        for shard in self.shards.iter() {
+            sum = plus(sum, shard.facts()?);
+        }
+        Some(sum)
+    }
+
     // This shard does the event, and the others stay as they are.
     fn answer_at(&mut self, alloc: Global, shard: usize, event: Event) -> Reply<()>
         requires within { shard < length self.old }
@@ -72,6 +84,8 @@ impl<A: Answerer + Drop> Answerer for StoreSet<A> {
 
     ghost answers = { SetDoes A.answers };
 
+    ghost informs = { SetInforms A.informs };
+
     fn answer(&mut self, alloc: Global, event: Event) -> Reply<()> {
         let count = self.shards.len() as u32;
         match only_shard(count, &event) {
@@ -81,6 +95,48 @@ impl<A: Answerer + Drop> Answerer for StoreSet<A> {
                 _ => Reply::NotServed,
             },
         }
+    }
+
+    fn facts(&self) -> Option<Facts> {
+        self.sum_facts()
+    }
+}
+
+// The facts of no store.
+fn no_facts() -> Facts
+    ensures { result ≡ no_facts }
+{
+    Facts {
+        stores: 0,
+        failed: 0,
+        commands: 0,
+        charge: 0,
+        capacity: 0,
+        generation: 0,
+        frozen_logs: 0,
+        hash_stores: 0,
+        sorted_entries: 0,
+        converted_slots: 0,
+        merge_steps: 0,
+    }
+}
+
+// The sums of two stores' facts.
+fn plus(a: Facts, b: Facts) -> Facts
+    ensures { result ≡ plus a b }
+{
+    Facts {
+        stores: a.stores.saturating_add(b.stores),
+        failed: a.failed.saturating_add(b.failed),
+        commands: a.commands.saturating_add(b.commands),
+        charge: a.charge.saturating_add(b.charge),
+        capacity: a.capacity.saturating_add(b.capacity),
+        generation: a.generation.saturating_add(b.generation),
+        frozen_logs: a.frozen_logs.saturating_add(b.frozen_logs),
+        hash_stores: a.hash_stores.saturating_add(b.hash_stores),
+        sorted_entries: a.sorted_entries.saturating_add(b.sorted_entries),
+        converted_slots: a.converted_slots.saturating_add(b.converted_slots),
+        merge_steps: a.merge_steps.saturating_add(b.merge_steps),
     }
 }
 

@@ -17,3 +17,4 @@ pub mod Swaps
 pub mod Rows
 pub mod Histories
 pub mod Livings
+pub mod Numbers

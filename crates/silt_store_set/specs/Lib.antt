@@ -2,6 +2,7 @@ pub mod Basis
 pub mod CoreInvariant
 pub mod CoreState
 pub mod Costs
+pub mod Facts
 pub mod FailedLaw
 pub mod Living
 pub mod Opening

@@ -1,24 +1,34 @@
 // Stores that reply to events.
+ghost use Rattle.std.specs.Prelude.{◌≡◌};
 ghost use Rattle.silt_event.specs.Events.{HasValueOf};
 ghost use Rattle.silt_store_set.specs.CoreState.{DoesPlain};
+ghost use Rattle.silt_store_set.specs.Facts.{GivesFacts, facts_of};
 
 use crate::Core;
 use silt_device::{FaultDisk, FileDisk, MemDisk};
 use silt_disk::Disk;
-use silt_event::{Answerer, Event, Reply};
+use silt_event::{Answerer, Event, Facts, Reply};
 use std::alloc::Global;
 
-/// A disk whose stores reply to events.
+/// A disk whose stores reply to events and give their facts.
 pub trait Served: Disk + Sized {
     /// The reply of a store on such a disk to an event, without its fault.
     fn answer_on(core: &mut Core<Self>, alloc: Global, event: &Event) -> Reply<()>
         requires { HasValueOf core.old.shape.value_len event.now }
         ensures { DoesPlain Self.Disk core.old core.new event.now result };
+
+    /// The facts of a store on such a disk.
+    fn facts_on(core: &Core<Self>) -> Facts
+        ensures { result ≡ facts_of core.now };
 }
 
 impl Served for MemDisk {
     fn answer_on(core: &mut Core<Self>, alloc: Global, event: &Event) -> Reply<()> {
         answer_plain(core, alloc, event)
+    }
+
+    fn facts_on(core: &Core<Self>) -> Facts {
+        core.facts()
     }
 }
 
@@ -26,11 +36,19 @@ impl Served for FaultDisk {
     fn answer_on(core: &mut Core<Self>, alloc: Global, event: &Event) -> Reply<()> {
         answer_plain(core, alloc, event)
     }
+
+    fn facts_on(core: &Core<Self>) -> Facts {
+        core.facts()
+    }
 }
 
 impl Served for FileDisk {
     fn answer_on(core: &mut Core<Self>, alloc: Global, event: &Event) -> Reply<()> {
         answer_plain(core, alloc, event)
+    }
+
+    fn facts_on(core: &Core<Self>) -> Facts {
+        core.facts()
     }
 }
 
@@ -39,8 +57,14 @@ impl<D: Served> Answerer for Core<D> {
 
     ghost answers = { DoesPlain D.Disk };
 
+    ghost informs = { GivesFacts };
+
     fn answer(&mut self, alloc: Global, event: Event) -> Reply<()> {
         D::answer_on(self, alloc, &event)
+    }
+
+    fn facts(&self) -> Option<Facts> {
+        Some(D::facts_on(self))
     }
 }
 

@@ -20,7 +20,7 @@
 //! digest: a step that finds another one is refused, before a manifest names the new store. A conversion and a merge may
 //! be in progress at the same time; neither touches the other's work. Background work in progress does not survive a
 //! crash: it begins anew. [`Core::wants_convert`] and [`Core::wants_merge`] return whether there is a step to do, and
-//! [`Core::may_merge`] whether there are enough hash stores to begin a merge.
+//! [`Core::may_merge`] whether there are enough hash stores to begin a merge. [`Core::facts`] returns the numbers of a store.
 #![tactic(auto)]
 
 mod answerer;
@@ -40,7 +40,7 @@ pub use life::lives;
 pub use replies::{accepted, progressed, swapped};
 pub use silt_device::{FileDisk, MemDisk};
 pub use silt_disk::{BadGeometry, Disk, Geometry};
-pub use silt_event::{Answerer, Event, LifeReply, Place, Progress, Refusal, Reply, Report};
+pub use silt_event::{Answerer, Event, Facts, LifeReply, Place, Progress, Refusal, Reply, Report};
 pub use silt_frame::{Key, Value};
 pub use silt_hasher::LentBytes;
 pub use silt_recovery::{FormatError, FormatFault, OpenError, check, format};

@@ -4,6 +4,7 @@ ghost use Rattle.silt_frame.specs.declared.key.Kind.TheVariants.{Delete};
 ghost use Rattle.silt_log.specs.Rows.{IsValueOf};
 ghost use Rattle.silt_engine.specs.Conversion.{is_work};
 ghost use Rattle.silt_store_set.specs.CoreState.{awaits_region};
+ghost use Rattle.silt_store_set.specs.Facts.{failed_count};
 ghost use Rattle.silt_store_set.specs.Replies.{change_reply, progress_reply, swap_reply};
 
 use crate::{Progress, Refusal, Reply};
@@ -19,6 +20,13 @@ pub fn zeros(len: u32) -> &'static [u8]
     ensures zeros { IsValueOf Delete result.now }
 {
     &ZEROS[..len as usize]
+}
+
+// How many stores have failed, of one.
+pub fn failed_count(failed: bool) -> u64
+    ensures { result ≡ failed_count failed }
+{
+    if failed { 1 } else { 0 }
 }
 
 // A value of these bytes.

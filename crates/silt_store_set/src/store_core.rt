@@ -5,8 +5,10 @@ ghost use Rattle.silt_event.specs.Events.{Legal};
 ghost use Rattle.silt_disk.specs.Disk.{LeavesOnly};
 
 use crate::basis::Basis;
-use crate::replies::{accepted, awaits_region, copied, is_work, progressed, swapped, zeros};
-use crate::{Event, Progress, Refusal, Reply};
+use crate::replies::{
+    accepted, awaits_region, copied, failed_count, is_work, progressed, swapped, zeros,
+};
+use crate::{Event, Facts, Progress, Refusal, Reply};
 use silt_disk::{Disk, Geometry};
 use silt_engine::{ConvertError, Engine, EntriesError, MergeError, WriteError};
 use silt_event::bytes_of;
@@ -98,6 +100,7 @@ impl<D: Disk> Core<D> {
     ghost use Rattle.silt_frame.specs.Rows.{key_cmp};
     ghost use Rattle.silt_store_set.specs.CoreState.{CoreState, Does, Runs, Opens, EntriesCause, IsRefusedRead, StandsKept, map_of, MayWrite, may_merge, row_event, wants_convert, wants_merge};
     ghost use Rattle.silt_store_set.specs.Costs.{RunMade};
+    ghost use Rattle.silt_store_set.specs.Facts.{facts_of};
     ghost use Rattle.silt_event.specs.Events.{HasValueOf, Step};
     ghost use Rattle.silt_store_set.specs.Opening.{OpeningCause, RefusalMakes};
     ghost use Rattle.silt_store_set.specs.Replies.{change_reply, flush_reply, found_of, get_reply, read_reply, progress_reply, swap_reply};
@@ -155,6 +158,26 @@ impl<D: Disk> Core<D> {
         ensures { result ≡ self.now.count }
     {
         self.count
+    }
+
+    /// Its numbers at this moment, also of a failed store. It asks nothing of the device.
+    pub fn facts(&self) -> Facts
+        ensures { result ≡ facts_of self.now }
+    {
+        let body = self.engine.body();
+        Facts {
+            stores: 1,
+            failed: failed_count(self.failed),
+            commands: self.count,
+            charge: self.engine.charge() as u64,
+            capacity: self.engine.geometry().sorted_capacity() as u64,
+            generation: body.generation,
+            frozen_logs: body.frozen.len() as u64,
+            hash_stores: body.hashed.len() as u64,
+            sorted_entries: body.sorted_count as u64,
+            converted_slots: self.engine.slots_converted() as u64,
+            merge_steps: self.engine.merge_steps(),
+        }
     }
 
     /// States what is true of the store at every moment, and does nothing. Each possible crash image of its device

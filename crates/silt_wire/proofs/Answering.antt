@@ -1,19 +1,22 @@
 -- Answering lines in two parts is answering them at once, and a beginning of a part is a beginning of the whole.
-use Rattle.std.proofs.Common.{IfOk, OnErr, ◌≡◌, ◌-◌, arith, ◌+◌, ◌≤◌, take, drop, take-append-drop, flat_map, inl, inr, ℕ, true, false, cond, Result, Ok, Err, List, [], ◌∷◌, ◌++◌, length, refl, sym, ap, ◌∙◌, append_assoc, Option, Some, None, is_some, subst}
+use Rattle.std.proofs.Common.{map, IfOk, OnErr, ◌≡◌, ◌-◌, arith, ◌+◌, ◌≤◌, take, drop, take-append-drop, flat_map, inl, inr, ℕ, true, false, cond, Result, Ok, Err, List, [], ◌∷◌, ◌++◌, length, refl, sym, ap, ◌∙◌, append_assoc, Option, Some, None, is_some, subst}
 use Rattle.std.proofs.lemmas.Grind.{flat_map-append}
 use Rattle.std.proofs.lemmas.List.{append-nil, length-drop, map-append, take_all}
 use Rattle.std.proofs.Math.Seq.{take-add}
 use Rattle.std.specs.Io.KnownBytes.{Appends, Consumes, Keeps}
 use Rattle.silt_event.specs.declared.event.Event.{Event}
+use Rattle.silt_event.specs.Queries.{Answer, AnswersQuery, Query, asks_facts, does, gives_facts, replies}
+use Rattle.silt_event.specs.declared.facts.Facts.{Facts}
+use Rattle.silt_wire.specs.declared.batch.Tail.{Tail}
 use Rattle.silt_wire.specs.declared.line.LineFault.{LineFault}
 use Rattle.silt_wire.specs.declared.sessions.SessionEnd.{SessionEnd}
 use Rattle.silt_wire.specs.declared.sessions.SessionEnd.TheVariants.{End, ReadFault, WriteFault, NoMemory}
-use Rattle.silt_wire.specs.Batches.{fault_after, valid}
+use Rattle.silt_wire.specs.Batches.{event_query, tail_after, tail_asked, valid}
 use Rattle.silt_wire.specs.LineBuffer.{HoldsBytes}
 use Rattle.silt_wire.specs.declared.line_buffer.LineBuffer.{LineBuffer}
-use Rattle.silt_wire.specs.Lines.{Parses, asked_by, is_blank}
+use Rattle.silt_wire.specs.Lines.{Parses, asked_by, is_blank, is_info, query_by, with_event}
 use Rattle.silt_wire.specs.Replies.{fault_line}
-use Rattle.silt_wire.specs.Sessions.{IsBeginning, asks, events_of, line_of, texts_of, AnswersAll, AnswersSome, Ends, IsCut, SessionState}
+use Rattle.silt_wire.specs.Sessions.{IsBeginning, answer_lines, asks, queries_of, line_of, texts_of, AnswersAll, AnswersSome, Ends, IsCut, SessionState}
 use Rattle.silt_event.specs.Events.{AnswersEach, PlainReply}
 use Rattle.silt_wire.specs.Sessions.{lines_after, rest_after}
 use Rattle.silt_wire.proofs.Streams.{rest_after-append, lines_after-append, Appends-append, Appends-keeps, Appends-none}
@@ -45,23 +48,23 @@ Consumes-none (Some xs) = refl
 asks-append : (v : ℕ) (xs ys : List (List ℕ)) → asks v (xs ++ ys) ≡ asks v xs ++ asks v ys
 asks-append v [] ys = refl
 asks-append v (x ∷ xs) ys =
-    elim (is_blank x) as (λ b. cond b (asks v (xs ++ ys)) (asked_by v x ∷ asks v (xs ++ ys)) ≡ cond b (asks v xs) (asked_by v x ∷ asks v xs) ++ asks v ys) [
+    elim (is_blank x) as (λ b. cond b (asks v (xs ++ ys)) (query_by v x ∷ asks v (xs ++ ys)) ≡ cond b (asks v xs) (query_by v x ∷ asks v xs) ++ asks v ys) [
       | true ↦ asks-append v xs ys
-      | false ↦ ap (λ l. asked_by v x ∷ l) (asks-append v xs ys)
+      | false ↦ ap (λ l. query_by v x ∷ l) (asks-append v xs ys)
     ]
 
-events_of-append : (xs ys : List (Result Event LineFault)) → events_of (xs ++ ys) ≡ events_of xs ++ events_of ys
-events_of-append [] ys = refl
-events_of-append (Ok event ∷ xs) ys = ap (λ l. event ∷ l) (events_of-append xs ys)
-events_of-append (Err fault ∷ xs) ys = events_of-append xs ys
+queries_of-append : (xs ys : List (Result Query LineFault)) → queries_of (xs ++ ys) ≡ queries_of xs ++ queries_of ys
+queries_of-append [] ys = refl
+queries_of-append (Ok query ∷ xs) ys = ap (λ l. query ∷ l) (queries_of-append xs ys)
+queries_of-append (Err fault ∷ xs) ys = queries_of-append xs ys
 
 -- the requests of two parts of the bytes
 pub asks_after-append : (v : ℕ) (p xs ys : List ℕ) → asks v (lines_after p (xs ++ ys)) ≡ asks v (lines_after p xs) ++ asks v (lines_after (rest_after p xs) ys)
 asks_after-append v p xs ys = ap (asks v) (lines_after-append p xs ys) ∙ asks-append v (lines_after p xs) (lines_after (rest_after p xs) ys)
 
-events_of-valid : (es : List Event) → events_of (valid es) ≡ es
-events_of-valid [] = refl
-events_of-valid (e ∷ es) = ap (λ l. e ∷ l) (events_of-valid es)
+queries_of-valid : (es : List Event) → queries_of (valid es) ≡ map does es
+queries_of-valid [] = refl
+queries_of-valid (e ∷ es) = ap (λ l. does e ∷ l) (queries_of-valid es)
 
 -- the lines of the first replies
 pub lines-take : (rs : List PlainReply) (n : ℕ) → IsBeginning (flat_map line_of (take n rs)) (flat_map line_of rs)
@@ -69,21 +72,21 @@ lines-take rs n = (flat_map line_of (drop n rs), sym (flat_map-append line_of (t
 
 -- ---- what is gathered
 
-pub asks-live : (v : ℕ) (line : List ℕ) (asked : Result Event LineFault) → is_blank line ≡ false → asked ≡ asked_by v line → asks v (line ∷ []) ≡ asked ∷ []
-asks-live v line asked e is = ap (λ b. cond b [] (asked_by v line ∷ [])) e ∙ ap (λ q. q ∷ []) (sym is)
+pub asks-live : (v : ℕ) (line : List ℕ) (asked : Result Query LineFault) → is_blank line ≡ false → asked ≡ query_by v line → asks v (line ∷ []) ≡ asked ∷ []
+asks-live v line asked e is = ap (λ b. cond b [] (query_by v line ∷ [])) e ∙ ap (λ q. q ∷ []) (sym is)
 
 -- the batch gained the event that was asked for
-pub gathers-event : (old new : List Event) (event : Event) (asked : List (Result Event LineFault)) → asked ≡ Ok event ∷ [] → new ≡ old ++ event ∷ []
+pub gathers-event : (old new : List Event) (event : Event) (asked : List (Result Query LineFault)) → asked ≡ Ok (does event) ∷ [] → new ≡ old ++ event ∷ []
     → valid old ++ asked ≡ valid new ++ []
 gathers-event old new event asked is e =
-    ap (λ l. valid old ++ l) is ∙ sym (map-append (λ x. Ok x) old (event ∷ [])) ∙ ap valid (sym e) ∙ sym (append-nil (valid new))
+    ap (λ l. valid old ++ l) is ∙ sym (map-append event_query old (event ∷ [])) ∙ ap valid (sym e) ∙ sym (append-nil (valid new))
 
-pub fault_after-none : (fault : Option LineFault) (events : List (Result Event LineFault)) → is_some fault ≡ false → events ++ fault_after fault ≡ events
-fault_after-none None events e = append-nil events
-fault_after-none (Some fault) events e = absurd (cc)
+pub tail_after-none : (tail : Option Tail) (events : List (Result Query LineFault)) → is_some tail ≡ false → events ++ tail_after tail ≡ events
+tail_after-none None events e = append-nil events
+tail_after-none (Some tail) events e = absurd (cc)
 
 -- one part more of the bytes
-pub gathers-part : (v : ℕ) (p bytes rest : List ℕ) (done count : ℕ) (start before after : List (Result Event LineFault)) → rest ≡ drop done bytes
+pub gathers-part : (v : ℕ) (p bytes rest : List ℕ) (done count : ℕ) (start before after : List (Result Query LineFault)) → rest ≡ drop done bytes
     → start ++ asks v (lines_after p (take done bytes)) ≡ before
     → before ++ asks v (lines_after (rest_after p (take done bytes)) (take count rest)) ≡ after
     → start ++ asks v (lines_after p (take (done + count) bytes)) ≡ after
@@ -98,7 +101,7 @@ gathers-part v p bytes rest done count start before after is h k =
     ∙ k
 
 -- what was gathered of a part is a beginning of what the whole asks for
-pub gathers-begins : (v : ℕ) (p bytes : List ℕ) (count : ℕ) (start after more : List (Result Event LineFault))
+pub gathers-begins : (v : ℕ) (p bytes : List ℕ) (count : ℕ) (start after more : List (Result Query LineFault))
     → start ++ asks v (lines_after p (take count bytes)) ≡ after ++ more → IsBeginning after (start ++ asks v (lines_after p bytes))
 gathers-begins v p bytes count start after more h =
     let front = take count bytes in
@@ -112,21 +115,21 @@ gathers-begins v p bytes count start after more h =
     )
 
 -- if nothing was gathered before
-pub gathered-only : (before : List Event) (asked after : List (Result Event LineFault)) → before ≡ [] → valid before ++ asked ≡ after → asked ≡ after
+pub gathered-only : (before : List Event) (asked after : List (Result Query LineFault)) → before ≡ [] → valid before ++ asked ≡ after → asked ≡ after
 gathered-only before asked after none h = ap (λ l. valid l ++ asked) (sym none) ∙ h
 
-pub begins-only : (before : List Event) (first asked : List (Result Event LineFault)) → before ≡ [] → IsBeginning first (valid before ++ asked) → IsBeginning first asked
+pub begins-only : (before : List Event) (first asked : List (Result Query LineFault)) → before ≡ [] → IsBeginning first (valid before ++ asked) → IsBeginning first asked
 begins-only before first asked none h = (h.0, h.1 ∙ ap (λ l. valid l ++ asked) none)
 
 -- what is written for some lines is the first part of what is written for more
-texts_of-more : (xs ys : List (Result Event LineFault)) (rs : List PlainReply) → IsBeginning (texts_of xs rs) (texts_of (xs ++ ys) rs)
+texts_of-more : (xs ys : List (Result Query LineFault)) (rs : List Answer) → IsBeginning (texts_of xs rs) (texts_of (xs ++ ys) rs)
 texts_of-more [] ys rs = IsBeginning-none (texts_of ys rs)
 texts_of-more (Err fault ∷ xs) ys rs = IsBeginning-behind (fault_line fault) _ _ (texts_of-more xs ys rs)
 texts_of-more (Ok event ∷ xs) ys [] = IsBeginning-none []
-texts_of-more (Ok event ∷ xs) ys (r ∷ rs) = IsBeginning-behind (line_of r) _ _ (texts_of-more xs ys rs)
+texts_of-more (Ok event ∷ xs) ys (r ∷ rs) = IsBeginning-behind (answer_lines r) _ _ (texts_of-more xs ys rs)
 
-module _ {A : Type 0} (answers : A → A → Event → PlainReply → Type 0) where
-  AnswersEach-append : (a b c : A) (es fs : List Event) (rs ss : List PlainReply) → AnswersEach answers a es rs b → AnswersEach answers b fs ss c
+module _ {A : Type 0} (answers : A → A → Query → Answer → Type 0) where
+  AnswersEach-append : (a b c : A) (es fs : List Query) (rs ss : List Answer) → AnswersEach answers a es rs b → AnswersEach answers b fs ss c
       → AnswersEach answers a (es ++ fs) (rs ++ ss) c
   AnswersEach-append a b c [] fs [] ss h k = subst (λ s. AnswersEach answers s fs ss c) h k
   AnswersEach-append a b c [] fs (r ∷ rs) ss h k = absurd h
@@ -134,7 +137,7 @@ module _ {A : Type 0} (answers : A → A → Event → PlainReply → Type 0) wh
   AnswersEach-append a b c (e ∷ es) fs (r ∷ rs) ss h k = (h.0, h.1, AnswersEach-append h.0 b c es fs rs ss h.2 k)
 
   -- if each event of the first part has its reply, the texts of two parts come one after the other
-  texts_of-append : (a b : A) (xs ys : List (Result Event LineFault)) (rs ss : List PlainReply) → AnswersEach answers a (events_of xs) rs b
+  texts_of-append : (a b : A) (xs ys : List (Result Query LineFault)) (rs ss : List Answer) → AnswersEach answers a (queries_of xs) rs b
       → texts_of (xs ++ ys) (rs ++ ss) ≡ texts_of xs rs ++ texts_of ys ss
   texts_of-append a b [] ys [] ss h = refl
   texts_of-append a b [] ys (r ∷ rs) ss h = absurd h
@@ -143,50 +146,50 @@ module _ {A : Type 0} (answers : A → A → Event → PlainReply → Type 0) wh
       ap (λ l. text ++ l) (texts_of-append a b xs ys rs ss h) ∙ sym (append_assoc text (texts_of xs rs) (texts_of ys ss))
   texts_of-append a b (Ok event ∷ xs) ys [] ss h = absurd h
   texts_of-append a b (Ok event ∷ xs) ys (r ∷ rs) ss h =
-      ap (λ l. line_of r ++ l) (texts_of-append h.0 b xs ys rs ss h.2) ∙ sym (append_assoc (line_of r) (texts_of xs rs) (texts_of ys ss))
+      ap (λ l. answer_lines r ++ l) (texts_of-append h.0 b xs ys rs ss h.2) ∙ sym (append_assoc (answer_lines r) (texts_of xs rs) (texts_of ys ss))
 
   -- ---- one part after the other
 
   -- no text at all is a first part of any text
-  some-none : (asked : List (Result Event LineFault)) (a : A) (w : Option (List ℕ)) → AnswersSome answers asked a a w w
-  some-none asked a w = ([], [], [], IsBeginning-none (events_of asked), refl, IsBeginning-none (texts_of asked []), Appends-none w)
+  some-none : (asked : List (Result Query LineFault)) (a : A) (w : Option (List ℕ)) → AnswersSome answers asked a a w w
+  some-none asked a w = ([], [], [], IsBeginning-none (queries_of asked), refl, IsBeginning-none (texts_of asked []), Appends-none w)
 
-  pub some-from_all : (asked : List (Result Event LineFault)) (a b : A) (w v : Option (List ℕ)) → AnswersAll answers asked a b w v → AnswersSome answers asked a b w v
+  pub some-from_all : (asked : List (Result Query LineFault)) (a b : A) (w v : Option (List ℕ)) → AnswersAll answers asked a b w v → AnswersSome answers asked a b w v
   some-from_all asked a b w v h =
-      (events_of asked, h.0, texts_of asked h.0, IsBeginning-all (events_of asked), h.1, IsBeginning-all (texts_of asked h.0), h.2)
+      (queries_of asked, h.0, texts_of asked h.0, IsBeginning-all (queries_of asked), h.1, IsBeginning-all (texts_of asked h.0), h.2)
 
-  all-append : (a b c : A) (xs ys : List (Result Event LineFault)) (w v u : Option (List ℕ)) → AnswersAll answers xs a b w v → AnswersAll answers ys b c v u
+  all-append : (a b c : A) (xs ys : List (Result Query LineFault)) (w v u : Option (List ℕ)) → AnswersAll answers xs a b w v → AnswersAll answers ys b c v u
       → AnswersAll answers (xs ++ ys) a c w u
   all-append a b c xs ys w v u h k = (
     h.0 ++ k.0,
-    subst (λ es. AnswersEach answers a es (h.0 ++ k.0) c) (sym (events_of-append xs ys)) (AnswersEach-append a b c (events_of xs) (events_of ys) h.0 k.0 h.1 k.1),
+    subst (λ es. AnswersEach answers a es (h.0 ++ k.0) c) (sym (queries_of-append xs ys)) (AnswersEach-append a b c (queries_of xs) (queries_of ys) h.0 k.0 h.1 k.1),
     subst (λ t. Appends w u t) (sym (texts_of-append a b xs ys h.0 k.0 h.1)) (Appends-append w v u _ _ h.2 k.2),
   )
 
   -- all of the first part, and a beginning of the second
-  some-append : (a b c : A) (xs ys : List (Result Event LineFault)) (w v u : Option (List ℕ)) → AnswersAll answers xs a b w v → AnswersSome answers ys b c v u
+  some-append : (a b c : A) (xs ys : List (Result Query LineFault)) (w v u : Option (List ℕ)) → AnswersAll answers xs a b w v → AnswersSome answers ys b c v u
       → AnswersSome answers (xs ++ ys) a c w u
   some-append a b c xs ys w v u h k =
-      let (events, replies, out, begins, each, beginning, appends) = k in (
-        events_of xs ++ events,
-        h.0 ++ replies,
+      let (queries, given, out, begins, each, beginning, appends) = k in (
+        queries_of xs ++ queries,
+        h.0 ++ given,
         texts_of xs h.0 ++ out,
-        subst (λ es. IsBeginning (events_of xs ++ events) es) (sym (events_of-append xs ys)) (IsBeginning-behind (events_of xs) events (events_of ys) begins),
-        AnswersEach-append a b c (events_of xs) events h.0 replies h.1 each,
-        subst (λ t. IsBeginning (texts_of xs h.0 ++ out) t) (sym (texts_of-append a b xs ys h.0 replies h.1)) (IsBeginning-behind (texts_of xs h.0) out (texts_of ys replies) beginning),
+        subst (λ es. IsBeginning (queries_of xs ++ queries) es) (sym (queries_of-append xs ys)) (IsBeginning-behind (queries_of xs) queries (queries_of ys) begins),
+        AnswersEach-append a b c (queries_of xs) queries h.0 given h.1 each,
+        subst (λ t. IsBeginning (texts_of xs h.0 ++ out) t) (sym (texts_of-append a b xs ys h.0 given h.1)) (IsBeginning-behind (texts_of xs h.0) out (texts_of ys given) beginning),
         Appends-append w v u _ _ h.2 appends,
       )
 
   -- a beginning of the first part is one of both
-  some-more : (a b : A) (xs ys : List (Result Event LineFault)) (w v : Option (List ℕ)) → AnswersSome answers xs a b w v → AnswersSome answers (xs ++ ys) a b w v
+  some-more : (a b : A) (xs ys : List (Result Query LineFault)) (w v : Option (List ℕ)) → AnswersSome answers xs a b w v → AnswersSome answers (xs ++ ys) a b w v
   some-more a b xs ys w v k =
-      let (events, replies, out, begins, each, beginning, appends) = k in (
-        events,
-        replies,
+      let (queries, given, out, begins, each, beginning, appends) = k in (
+        queries,
+        given,
         out,
-        subst (λ es. IsBeginning events es) (sym (events_of-append xs ys)) (IsBeginning-more events (events_of xs) (events_of ys) begins),
+        subst (λ es. IsBeginning queries es) (sym (queries_of-append xs ys)) (IsBeginning-more queries (queries_of xs) (queries_of ys) begins),
         each,
-        IsBeginning-trans out (texts_of xs replies) (texts_of (xs ++ ys) replies) beginning (texts_of-more xs ys replies),
+        IsBeginning-trans out (texts_of xs given) (texts_of (xs ++ ys) given) beginning (texts_of-more xs ys given),
         appends,
       )
 
@@ -224,48 +227,24 @@ module _ {A : Type 0} (answers : A → A → Event → PlainReply → Type 0) wh
       subst (λ xs. AnswersSome answers (asks n (lines_after p xs)) a b w v) (take-append-drop count bytes)
       (some-front n p (take count bytes) (drop count bytes) a b w v (some-from_all (asks n (lines_after p (take count bytes))) a b w v h))
 
-  -- ---- a batch of events
-
-  -- if each event has its reply, the texts are the replies as lines
-  texts_of-valid : (a b : A) (es : List Event) (rs : List PlainReply) → AnswersEach answers a es rs b → texts_of (valid es) rs ≡ flat_map line_of rs
-  texts_of-valid a b [] [] h = refl
-  texts_of-valid a b [] (r ∷ rs) h = absurd h
-  texts_of-valid a b (e ∷ es) [] h = absurd h
-  texts_of-valid a b (e ∷ es) (r ∷ rs) h = ap (λ l. line_of r ++ l) (texts_of-valid h.0 b es rs h.2)
-
-  pub all-events : (a b : A) (es : List Event) (rs : List PlainReply) (text more : List ℕ) → AnswersEach answers a es rs b
-      → more ≡ text ++ flat_map line_of rs → AnswersAll answers (valid es) a b (Some text) (Some more)
-  all-events a b es rs text more h e =
-      (rs, subst (λ l. AnswersEach answers a l rs b) (sym (events_of-valid es)) h, e ∙ ap (λ l. text ++ l) (sym (texts_of-valid a b es rs h)))
-
-  -- the texts of the first replies are there
-  pub some-events : (a b : A) (es : List Event) (rs : List PlainReply) (text more : List ℕ) → AnswersEach answers a es rs b
-      → (out : List ℕ) × IsBeginning out (flat_map line_of rs) × (more ≡ text ++ out) → AnswersSome answers (valid es) a b (Some text) (Some more)
-  some-events a b es rs text more h cut = (
-    es,
-    rs,
-    cut.0,
-    subst (λ l. IsBeginning es l) (sym (events_of-valid es)) (IsBeginning-all es),
-    h,
-    subst (λ l. IsBeginning cut.0 l) (sym (texts_of-valid a b es rs h)) cut.1,
-    cut.2,
-  )
+  -- ---- a batch and what comes after it
 
   -- what was done of the first requests is done of all
-  pub some-begun : (first asked : List (Result Event LineFault)) (a b : A) (w v : Option (List ℕ)) → IsBeginning first asked
+  pub some-begun : (first asked : List (Result Query LineFault)) (a b : A) (w v : Option (List ℕ)) → IsBeginning first asked
       → AnswersSome answers first a b w v → AnswersSome answers asked a b w v
   some-begun first asked a b w v begins h = subst (λ q. AnswersSome answers q a b w v) begins.1 (some-more a b first begins.0 w v h)
 
-  -- after the events comes the refusal of the last line
-  pub all-fault : (asked events : List (Result Event LineFault)) (fault : LineFault) (a b : A) (text mid more : List ℕ) → asked ≡ events ++ Err fault ∷ []
-      → AnswersAll answers events a b (Some text) (Some mid) → more ≡ mid ++ fault_line fault → AnswersAll answers asked a b (Some text) (Some more)
-  all-fault asked events fault a b text mid more is h e =
+  -- after the events comes the line that asks for none
+  pub all-tail : (asked events : List (Result Query LineFault)) (tail : Tail) (a b : A) (text mid more : List ℕ) → asked ≡ events ++ tail_asked tail ∷ []
+      → AnswersAll answers events a b (Some text) (Some mid) → AnswersAll answers (tail_asked tail ∷ []) b b (Some mid) (Some more)
+      → AnswersAll answers asked a b (Some text) (Some more)
+  all-tail asked events tail a b text mid more is h k =
       subst (λ q. AnswersAll answers q a b (Some text) (Some more)) (sym is)
-      (all-append a b b events (Err fault ∷ []) (Some text) (Some mid) (Some more) h ([], refl, e ∙ ap (λ l. mid ++ l) (sym (append-nil (fault_line fault)))))
+      (all-append a b b events (tail_asked tail ∷ []) (Some text) (Some mid) (Some more) h k)
 
   -- ---- what was gathered is written
 
-  pub some-written : (asked : List (Result Event LineFault)) (a b : A) (start texts out : List ℕ) (w v : Option (List ℕ)) → start ≡ []
+  pub some-written : (asked : List (Result Query LineFault)) (a b : A) (start texts out : List ℕ) (w v : Option (List ℕ)) → start ≡ []
       → AnswersSome answers asked a b (Some start) (Some texts) → IsBeginning out texts → Appends w v out → AnswersSome answers asked a b w v
   some-written asked a b start texts out w v e h begins appends =
       let k = subst (λ s. AnswersSome answers asked a b (Some s) (Some texts)) e h in
@@ -283,10 +262,58 @@ module _ {A : Type 0} (answers : A → A → Event → PlainReply → Type 0) wh
   pub Ends-unbegun : (n : ℕ) (state : SessionState A) → Ends answers NoMemory n state state
   Ends-unbegun n state = ([], Consumes-none state.remaining, some-none [] state.answerer state.contents)
 
+-- ---- a batch of events
+
+module _ {A : Type 0} (answers : A → A → Event → PlainReply → Type 0) (informs : A → Option Facts → Type 0) where
+  -- replies to events are answers to queries
+  pub each-queries : (a b : A) (es : List Event) (rs : List PlainReply) → AnswersEach answers a es rs b
+      → AnswersEach (AnswersQuery answers informs) a (map does es) (map replies rs) b
+  each-queries a b [] [] h = h
+  each-queries a b [] (r ∷ rs) h = absurd h
+  each-queries a b (e ∷ es) [] h = absurd h
+  each-queries a b (e ∷ es) (r ∷ rs) h = (h.0, h.1, each-queries h.0 b es rs h.2)
+
+  -- if each event has its reply, the texts are the replies as lines
+  texts_of-valid : (a b : A) (es : List Event) (rs : List PlainReply) → AnswersEach answers a es rs b → texts_of (valid es) (map replies rs) ≡ flat_map line_of rs
+  texts_of-valid a b [] [] h = refl
+  texts_of-valid a b [] (r ∷ rs) h = absurd h
+  texts_of-valid a b (e ∷ es) [] h = absurd h
+  texts_of-valid a b (e ∷ es) (r ∷ rs) h = ap (λ l. line_of r ++ l) (texts_of-valid h.0 b es rs h.2)
+
+  pub all-events : (a b : A) (es : List Event) (rs : List PlainReply) (text more : List ℕ) → AnswersEach answers a es rs b
+      → more ≡ text ++ flat_map line_of rs → AnswersAll (AnswersQuery answers informs) (valid es) a b (Some text) (Some more)
+  all-events a b es rs text more h e = (
+    map replies rs,
+    subst (λ l. AnswersEach (AnswersQuery answers informs) a l (map replies rs) b) (sym (queries_of-valid es)) (each-queries a b es rs h),
+    e ∙ ap (λ l. text ++ l) (sym (texts_of-valid a b es rs h)),
+  )
+
+  -- the texts of the first replies are there
+  pub some-events : (a b : A) (es : List Event) (rs : List PlainReply) (text more : List ℕ) → AnswersEach answers a es rs b
+      → (out : List ℕ) × IsBeginning out (flat_map line_of rs) × (more ≡ text ++ out) → AnswersSome (AnswersQuery answers informs) (valid es) a b (Some text) (Some more)
+  some-events a b es rs text more h cut = (
+    map does es,
+    map replies rs,
+    cut.0,
+    subst (λ l. IsBeginning (map does es) l) (sym (queries_of-valid es)) (IsBeginning-all (map does es)),
+    each-queries a b es rs h,
+    subst (λ l. IsBeginning cut.0 l) (sym (texts_of-valid a b es rs h)) cut.1,
+    cut.2,
+  )
+
+  -- the facts of this moment are given, and nothing changes
+  pub all-facts : (a : A) (facts : Option Facts) (text more : List ℕ) → informs a facts → more ≡ text ++ answer_lines (gives_facts facts)
+      → AnswersAll (AnswersQuery answers informs) (Ok asks_facts ∷ []) a a (Some text) (Some more)
+  all-facts a facts text more h e = (gives_facts facts ∷ [], (a, (h, refl), refl), e ∙ ap (λ l. text ++ l) (sym (append-nil (answer_lines (gives_facts facts)))))
+
 -- if memory did not run out, a line was parsed as what it asks for
-pub asked-event : (asked : Result Event LineFault) (event : Event) → Parses asked (Ok event) → Ok event ≡ asked
-asked-event asked event (inl h) = h
+pub asked-event : (asked : Result Event LineFault) (event : Event) → Parses asked (Ok event) → Ok (does event) ≡ with_event asked
+asked-event asked event (inl h) = ap with_event h
 asked-event asked event (inr h) = absurd (cc)
+
+-- a line that asks for no facts asks for its event
+pub query-event : (v : ℕ) (line : List ℕ) (query : Result Query LineFault) → is_info line ≡ false → query ≡ with_event (asked_by v line) → query ≡ query_by v line
+query-event v line query none is = is ∙ ap (λ b. cond b (Ok asks_facts) (with_event (asked_by v line))) (sym none)
 
 -- ---- results
 

@@ -4,8 +4,8 @@ use Rattle.std.specs.Prelude.{IfSome, nat_lt}
 use Rattle.std.proofs.lemmas.Grind.{common_steps}
 use Rattle.std.proofs.lemmas.List.{append-nil, drop_more, length-take-le, take_all, take_more, take-take}
 use Rattle.std.specs.Io.KnownBytes.{Appends, Consumes, IsAtEnd}
-use Rattle.silt_event.specs.Events.{AnswersEach, PlainReply}
-use Rattle.silt_event.specs.declared.event.Event.{Event}
+use Rattle.silt_event.specs.Events.{AnswersEach}
+use Rattle.silt_event.specs.Queries.{Answer, Query}
 use Rattle.silt_wire.specs.Http.{Guards, IsHttp, ends_line, handed_on, http_mark, is_passed, is_turned_away, line_after, open_after}
 use Rattle.silt_wire.specs.Sessions.{AnswersAll, AnswersSome, Ends, IsBeginning, ServesAll, ServesSome, asks, lines_after}
 use Rattle.silt_wire.specs.declared.http_guard.FirstLine.{FirstLine}
@@ -230,8 +230,8 @@ begins_none : {X : Type 0} (xs : List X) → IsBeginning xs [] → xs ≡ []
 begins_none [] begins = refl
 begins_none (x ∷ xs) begins = absurd (cc (begins.1))
 
-module _ {A : Type 0} (answers : A → A → Event → PlainReply → Type 0) where
-  each_none : (a b : A) (replies : List PlainReply) → AnswersEach answers a [] replies b → (b ≡ a) × (replies ≡ [])
+module _ {A : Type 0} (answers : A → A → Query → Answer → Type 0) where
+  each_none : (a b : A) (replies : List Answer) → AnswersEach answers a [] replies b → (b ≡ a) × (replies ≡ [])
   each_none a b [] each = (each, refl)
   each_none a b (r ∷ replies) each = absurd each
 

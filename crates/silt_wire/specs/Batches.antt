@@ -2,7 +2,10 @@
 use Rattle.std.specs.Prelude.{◌≡◌, ◌≤◌, ◌+◌, ℕ, List, [], ◌∷◌, All, map, Option, Some, None, Result, Ok, Err, vec_capacity, vec_len}
 use Rattle.silt_event.specs.declared.event.Event.{Event}
 use Rattle.silt_event.specs.Events.{HasValueOf}
+use Rattle.silt_event.specs.Queries.{Query, asks_facts, does}
 use Rattle.silt_wire.specs.declared.batch.Batch.{Batch}
+use Rattle.silt_wire.specs.declared.batch.Tail.{Tail}
+use Rattle.silt_wire.specs.declared.batch.Tail.TheVariants.{Facts, Fault}
 use Rattle.silt_wire.specs.declared.line.LineFault.{LineFault}
 
 -- the values of the events have this length, and there is room for a reply to each event
@@ -11,14 +14,23 @@ pub record IsAnswerable (value_len : ℕ) (batch : Batch) : Type 0 where
   pub none : batch.replies.items ≡ []
   pub room : vec_len batch.replies + vec_len batch.events ≤ vec_capacity batch.replies
 
--- events as requests of lines
-abbrev pub valid : List Event → List (Result Event LineFault)
-valid events = map (λ event. Ok event) events
+-- an event as what a line asks for
+abbrev pub event_query : Event → Result Query LineFault
+event_query event = Ok (does event)
 
-abbrev pub requests : Batch → List (Result Event LineFault)
+-- events as what lines ask for
+abbrev pub valid : List Event → List (Result Query LineFault)
+valid events = map event_query events
+
+abbrev pub requests : Batch → List (Result Query LineFault)
 requests batch = valid batch.events.items
 
--- the fault after the events, if there is one
-abbrev pub fault_after : Option LineFault → List (Result Event LineFault)
-fault_after None = []
-fault_after (Some fault) = Err fault ∷ []
+-- what a line that ends a batch asks for
+abbrev pub tail_asked : Tail → Result Query LineFault
+tail_asked (Fault fault) = Err fault
+tail_asked Facts = Ok asks_facts
+
+-- the line after the events, if there is one
+abbrev pub tail_after : Option Tail → List (Result Query LineFault)
+tail_after None = []
+tail_after (Some tail) = tail_asked tail ∷ []

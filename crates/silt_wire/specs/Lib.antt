@@ -1,4 +1,5 @@
 pub mod Batches
+pub mod Facts
 pub mod Http
 pub mod Lines
 pub mod Numbers

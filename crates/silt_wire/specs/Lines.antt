@@ -10,6 +10,7 @@ use Rattle.sha1.specs.Sha1.{sha1}
 use Rattle.silt_frame.specs.declared.key.Key.{Key}
 use Rattle.silt_event.specs.declared.event.Event.{Event}
 use Rattle.silt_event.specs.declared.event.Event.TheVariants.{Put, Delete, Swap, Flush, Get, Convert, Merge}
+use Rattle.silt_event.specs.Queries.{Query, asks_facts, does}
 use Rattle.silt_wire.specs.declared.line.LineFault.{LineFault}
 use Rattle.silt_wire.specs.declared.line.LineFault.TheVariants.{BadLine, BadKey, BadValue, LineTooLong, NoMemory}
 use Rattle.silt_frame.specs.Frame.{key_len}
@@ -108,6 +109,19 @@ asked_by value_len line =
 -- whether a line is empty without its carriage return; such a line gets no reply
 abbrev pub is_blank : List ℕ → Bool
 is_blank line = length (strip_carriage_return line) == 0
+
+-- whether a line asks for the facts of the store; a session has such lines, a script has none
+abbrev pub is_info : List ℕ → Bool
+is_info line = nat_le (length line) longest_line && bytes_eq (strip_carriage_return line) (codes "info")
+
+-- what a line of a session asks for, if it is no question for the facts
+abbrev pub with_event : Result Event LineFault → Result Query LineFault
+with_event (Ok event) = Ok (does event)
+with_event (Err fault) = Err fault
+
+-- what a line of a session asks for, or why it asks for nothing
+abbrev pub query_by : ℕ → List ℕ → Result Query LineFault
+query_by value_len line = if is_info line then Ok asks_facts else with_event (asked_by value_len line)
 
 -- only a put and a swap need memory, for their values
 abbrev pub WantsMemory : Result Event LineFault → Type 0

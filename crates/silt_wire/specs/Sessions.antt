@@ -1,12 +1,14 @@
 -- The replies of a session, and what it writes.
-use Rattle.std.specs.Prelude.{◌≡◌, ◌==◌, ℕ, List, [], ◌∷◌, ◌++◌, Option, Result, Ok, Err, if◌then◌else◌}
+use Rattle.std.specs.Prelude.{◌≡◌, ◌==◌, ℕ, List, [], ◌∷◌, ◌++◌, Option, Some, None, Result, Ok, Err, if◌then◌else◌}
 use Rattle.std.specs.Io.KnownBytes.{Appends, Consumes, IsAtEnd}
-use Rattle.silt_event.specs.declared.event.Event.{Event}
+use Rattle.silt_event.specs.declared.reply.Reply.TheVariants.{NotServed}
 use Rattle.silt_event.specs.Events.{AnswersEach, PlainReply}
+use Rattle.silt_event.specs.Queries.{Answer, Query, gives_facts, replies}
 use Rattle.silt_wire.specs.declared.line.LineFault.{LineFault}
 use Rattle.silt_wire.specs.declared.sessions.SessionEnd.{SessionEnd}
 use Rattle.silt_wire.specs.declared.sessions.SessionEnd.TheVariants.{End, ReadFault, WriteFault, NoMemory}
-use Rattle.silt_wire.specs.Lines.{asked_by, is_blank}
+use Rattle.silt_wire.specs.Facts.{facts_text}
+use Rattle.silt_wire.specs.Lines.{is_blank, query_by}
 use Rattle.silt_wire.specs.Replies.{fault_line, reply_text}
 
 -- these are the first of all
@@ -25,29 +27,35 @@ abbrev pub rest_after : List ℕ → List ℕ → List ℕ
 rest_after pending [] = pending
 rest_after pending (b ∷ bytes) = if b == 10 then rest_after [] bytes else rest_after (pending ++ b ∷ []) bytes
 
--- ---- the requests of lines, and the replies
+-- ---- what lines ask for, and the answers
 
--- the request of each line, or why it has none; blank lines are skipped
-abbrev pub asks : ℕ → List (List ℕ) → List (Result Event LineFault)
+-- what each line asks for, or why it asks for nothing; blank lines are skipped
+abbrev pub asks : ℕ → List (List ℕ) → List (Result Query LineFault)
 asks value_len [] = []
-asks value_len (line ∷ lines) = if is_blank line then asks value_len lines else asked_by value_len line ∷ asks value_len lines
+asks value_len (line ∷ lines) = if is_blank line then asks value_len lines else query_by value_len line ∷ asks value_len lines
 
--- the events of the valid requests
-abbrev pub events_of : List (Result Event LineFault) → List Event
-events_of [] = []
-events_of (Ok event ∷ more) = event ∷ events_of more
-events_of (Err fault ∷ more) = events_of more
+-- the queries of the valid lines
+abbrev pub queries_of : List (Result Query LineFault) → List Query
+queries_of [] = []
+queries_of (Ok query ∷ more) = query ∷ queries_of more
+queries_of (Err fault ∷ more) = queries_of more
 
 -- a reply as a line
 abbrev pub line_of : PlainReply → List ℕ
 line_of reply = reply_text reply ++ 10 ∷ []
 
--- what is written for requests: a refusal for each invalid one, and else the next reply, as long as there is one
-abbrev pub texts_of : List (Result Event LineFault) → List PlainReply → List ℕ
-texts_of [] replies = []
-texts_of (Err fault ∷ more) replies = fault_line fault ++ texts_of more replies
-texts_of (Ok event ∷ more) [] = []
-texts_of (Ok event ∷ more) (reply ∷ replies) = line_of reply ++ texts_of more replies
+-- an answer as lines; facts that the answerer does not have have the line of an event that is not served
+abbrev pub answer_lines : Answer → List ℕ
+answer_lines (replies reply) = line_of reply
+answer_lines (gives_facts (Some facts)) = facts_text facts
+answer_lines (gives_facts None) = line_of NotServed
+
+-- what is written for lines: a refusal for each invalid one, and else the next answer, as long as there is one
+abbrev pub texts_of : List (Result Query LineFault) → List Answer → List ℕ
+texts_of [] answers = []
+texts_of (Err fault ∷ more) answers = fault_line fault ++ texts_of more answers
+texts_of (Ok query ∷ more) [] = []
+texts_of (Ok query ∷ more) (answer ∷ answers) = answer_lines answer ++ texts_of more answers
 
 -- a session between two reads: its answerer, what its reader has left, and what its writer has
 pub record SessionState (A : Type 0) : Type 0 where
@@ -57,17 +65,19 @@ pub record SessionState (A : Type 0) : Type 0 where
 
 -- ---- what an answerer does
 
-module _ {A : Type 0} (answers : A → A → Event → PlainReply → Type 0) where
-  -- the answerer replied to all requests, and exactly their texts were written
-  abbrev pub AnswersAll : List (Result Event LineFault) → A → A → Option (List ℕ) → Option (List ℕ) → Type 0
-  AnswersAll asked old new before after =
-      (replies : List PlainReply) × AnswersEach answers old (events_of asked) replies new × Appends before after (texts_of asked replies)
+-- Below, `answers` says how an answerer answers queries: `AnswersQuery A.answers A.informs` of an `A: Answerer`.
 
-  -- the answerer replied to a first part of the events, and a first part of their texts was written
-  abbrev pub AnswersSome : List (Result Event LineFault) → A → A → Option (List ℕ) → Option (List ℕ) → Type 0
+module _ {A : Type 0} (answers : A → A → Query → Answer → Type 0) where
+  -- the answerer answered all queries, and exactly their texts were written
+  abbrev pub AnswersAll : List (Result Query LineFault) → A → A → Option (List ℕ) → Option (List ℕ) → Type 0
+  AnswersAll asked old new before after =
+      (given : List Answer) × AnswersEach answers old (queries_of asked) given new × Appends before after (texts_of asked given)
+
+  -- the answerer answered a first part of the queries, and a first part of their texts was written
+  abbrev pub AnswersSome : List (Result Query LineFault) → A → A → Option (List ℕ) → Option (List ℕ) → Type 0
   AnswersSome asked old new before after =
-      (events : List Event) × (replies : List PlainReply) × (out : List ℕ) × IsBeginning events (events_of asked) × AnswersEach answers old events replies new
-      × IsBeginning out (texts_of asked replies) × Appends before after out
+      (queries : List Query) × (given : List Answer) × (out : List ℕ) × IsBeginning queries (queries_of asked) × AnswersEach answers old queries given new
+      × IsBeginning out (texts_of asked given) × Appends before after out
 
   -- the answerer replied to all lines that these bytes end, after those of a line in progress, and exactly the replies were written
   abbrev pub ServesAll : ℕ → List ℕ → List ℕ → A → A → Option (List ℕ) → Option (List ℕ) → Type 0

@@ -1,11 +1,15 @@
 // Events that are gathered first and answered together.
 ghost use Rattle.std.specs.Prelude.{◌≡◌, ◌++◌, ◌∷◌, [], ℕ, List, Some, OnErr, OnOk, flat_map, string_bytes};
 ghost use Rattle.silt_event.specs.Events.{HasValueOf};
-ghost use Rattle.silt_wire.specs.Batches.{IsAnswerable, requests};
-ghost use Rattle.silt_wire.specs.Sessions.{AnswersAll, AnswersSome, IsBeginning, line_of};
+ghost use Rattle.silt_event.specs.Queries.{AnswersQuery, gives_facts};
+ghost use Rattle.silt_wire.specs.Batches.{IsAnswerable, requests, tail_asked};
+ghost use Rattle.silt_wire.specs.Replies.{fault_line};
+ghost use Rattle.silt_wire.specs.Sessions.{AnswersAll, AnswersSome, IsBeginning, answer_lines, line_of};
 
-use crate::reply::print_reply;
-use silt_event::{Answerer, Event, Reply};
+use crate::facts::print_facts;
+use crate::line::LineFault;
+use crate::reply::{print_fault, print_reply};
+use silt_event::{Answerer, Event, Facts, Reply};
 use std::alloc::{AllocError, Global};
 
 /// How many bytes of possible replies are enough for a batch.
@@ -21,6 +25,15 @@ pub(crate) struct Batch {
     replies: Vec<Reply<()>>,
     /// How many bytes the replies may have.
     possible_text: usize,
+}
+
+/// A line that ends a batch: it is answered alone, when the events before it are done.
+#[derive(Clone, Copy, Debug, PartialEq, Eq)]
+pub enum Tail {
+    /// It has no valid request.
+    Fault(LineFault),
+    /// It asks for the facts of the store.
+    Facts,
 }
 
 // How many bytes the reply to an event may have. Only the reply to a get has a value, in two digits for each byte.
@@ -76,9 +89,9 @@ impl Batch {
     ) -> Result<(), AllocError>
         requires { IsAnswerable (A.value_len answerer.old) self }
         ensures stays { A.value_len answerer.new ≡ A.value_len answerer.old }
-        ensures all { OnOk result (AnswersAll A.answers (requests self)
+        ensures all { OnOk result (AnswersAll (AnswersQuery A.answers A.informs) (requests self)
             answerer.old answerer.new (Some (string_bytes texts.old)) (Some (string_bytes texts.new))) }
-        ensures some { OnErr result (AnswersSome A.answers (requests self)
+        ensures some { OnErr result (AnswersSome (AnswersQuery A.answers A.informs) (requests self)
             answerer.old answerer.new (Some (string_bytes texts.old)) (Some (string_bytes texts.new))) }
     {
         if self.events.is_empty() {
@@ -114,4 +127,45 @@ fn push_reply(alloc: Global, reply: &Reply<()>, texts: &mut String) -> Result<()
     let mut line = print_reply(alloc, reply)?;
     line.push('\n')?;
     texts.push_str(&line)
+}
+
+/// Appends the lines of one that ended a batch. On an error nothing changes.
+pub(crate) fn push_tail<A: Answerer>(
+    alloc: Global,
+    tail: Tail,
+    texts: &mut String,
+    answerer: &A,
+) -> Result<(), AllocError>
+    ensures ok { OnOk result (AnswersAll (AnswersQuery A.answers A.informs) (tail_asked tail ∷ [])
+        answerer.now answerer.now (Some (string_bytes texts.old)) (Some (string_bytes texts.new))) }
+    ensures err { OnErr result (string_bytes texts.new ≡ string_bytes texts.old) }
+{
+    match tail {
+        Tail::Fault(fault) => push_fault(alloc, fault, texts),
+        Tail::Facts => push_facts(alloc, answerer.facts(), texts),
+    }
+}
+
+// Appends the reply to a line without a valid request, and a line feed, to the texts. On an error nothing changes.
+fn push_fault(alloc: Global, fault: LineFault, texts: &mut String) -> Result<(), AllocError>
+    ensures ok { OnOk result (string_bytes texts.new ≡ string_bytes texts.old ++ fault_line fault) }
+    ensures err { OnErr result (string_bytes texts.new ≡ string_bytes texts.old) }
+{
+    let mut line = print_fault(alloc, fault)?;
+    line.push('\n')?;
+    texts.push_str(&line)
+}
+
+// Appends facts as lines, or that they are not served. On an error nothing changes.
+fn push_facts(alloc: Global, facts: Option<Facts>, texts: &mut String) -> Result<(), AllocError>
+    ensures ok { OnOk result (string_bytes texts.new ≡ string_bytes texts.old ++ answer_lines (gives_facts facts)) }
+    ensures err { OnErr result (string_bytes texts.new ≡ string_bytes texts.old) }
+{
+    match facts {
+        Some(facts) => {
+            let text = print_facts(alloc, &facts)?;
+            texts.push_str(&text)
+        }
+        None => push_reply(alloc, &Reply::NotServed, texts),
+    }
 }

@@ -3,6 +3,7 @@
 ghost use Rattle.std.specs.Prelude.{◌≡◌, true, ◌≤◌, ◌<◌, ◌++◌, ℕ, List, Option, [], IfSome, length, take};
 ghost use Rattle.std.specs.Io.KnownBytes.{Appends};
 ghost use Rattle.silt_wire.specs.Http.{Guards, IsHttp, guard_remaining, handed_on, is_passed, is_turned_away, line_after, open_after};
+ghost use Rattle.silt_event.specs.Queries.{AnswersQuery};
 ghost use Rattle.silt_wire.specs.Sessions.{Ends};
 
 use crate::sessions::{SessionEnd, session_over};
@@ -139,7 +140,7 @@ pub fn client_session<A: Answerer, R: Read + Drop, W: Write>(
     requires len { A.value_len answerer.old ≡ value_len }
     requires room { 0 < length buffer.old }
     ensures ends { (given : Option (List ℕ)) × (left : Option (List ℕ)) × Guards (R.remaining reader) given
-        × Ends A.answers result value_len
+        × Ends (AnswersQuery A.answers A.informs) result value_len
         (record { answerer = answerer.old; remaining = given; contents = W.contents writer.old })
         (record { answerer = answerer.new; remaining = left; contents = W.contents writer.new }) }
     ensures http { IfSome (R.remaining reader) (λ bytes. IsHttp bytes → (answerer.new ≡ answerer.old) × Appends (W.contents writer.old) (W.contents writer.new) []) }

@@ -1,8 +1,8 @@
 // Lines to events.
-ghost use Rattle.std.specs.Prelude.{◌≡◌, ◌⊎◌, ◌==◌, ◌∷◌, [], length, position, IfSome, IfNone, IfOk, IfErr};
+ghost use Rattle.std.specs.Prelude.{◌≡◌, ◌⊎◌, ◌==◌, ◌≤◌, ◌∷◌, [], length, position, IfSome, IfNone, IfOk, IfErr};
 ghost use Rattle.std.specs.Str.Lines.{strip_carriage_return};
 ghost use Rattle.silt_event.specs.Events.{HasValueOf};
-ghost use Rattle.silt_wire.specs.Lines.{Parses, words_of, value_of, value_or_none_of, bare_event, key_event, value_event, swap_event, event_of, asked_by, is_blank};
+ghost use Rattle.silt_wire.specs.Lines.{Parses, words_of, value_of, value_or_none_of, bare_event, key_event, value_event, swap_event, event_of, asked_by, is_blank, is_info, longest_line};
 
 use crate::keys::key_of;
 use silt_event::Event;
@@ -229,6 +229,13 @@ pub fn parse_line(alloc: Global, line: &[u8], value_len: usize) -> Result<Event,
         return Err(LineFault::LineTooLong);
     }
     parse_words(alloc, without_carriage_return(line), value_len)
+}
+
+/// Whether a line asks for the facts of the store: it is `info`, but for a carriage return at its end.
+pub fn is_info(line: &[u8]) -> bool
+    ensures { length line.now ≤ longest_line → result ≡ is_info line.now }
+{
+    without_carriage_return(line) == b"info".as_slice()
 }
 
 /// Whether a line is empty but for a carriage return at its end.

@@ -1,10 +1,10 @@
 // The bytes of a line in progress.
 ghost use Rattle.std.specs.Prelude.{◌≡◌, ◌==◌, ◌++◌, ◌<◌, ◌≤◌, [], ℕ, List, length, position, OnOk, IfOk};
 ghost use Rattle.silt_event.specs.Events.{HasValueOf};
-ghost use Rattle.silt_wire.specs.Lines.{Parses, asked_by, is_blank};
+ghost use Rattle.silt_wire.specs.Lines.{Parses, asked_by, is_blank, is_info};
 ghost use Rattle.silt_wire.specs.LineBuffer.{HoldsBytes, TakesPiece};
 
-use crate::line::{LONGEST_LINE, LineFault, is_blank, parse_line};
+use crate::line::{LONGEST_LINE, LineFault, is_blank, is_info, parse_line};
 use silt_event::Event;
 use std::alloc::{AllocError, Global};
 
@@ -94,7 +94,14 @@ impl LineBuffer {
         !self.is_long && is_blank(&self.line)
     }
 
-    /// What the line asks for.
+    /// Whether the line asks for the facts of the store.
+    pub fn is_info(&self) -> bool
+        ensures { (line : List ℕ) → HoldsBytes self.now line → result ≡ is_info line }
+    {
+        !self.is_long && is_info(&self.line)
+    }
+
+    /// The event that the line asks for.
     pub fn parse(&self, alloc: Global, value_len: usize) -> Result<Event, LineFault>
         ensures asked { (line : List ℕ) → HoldsBytes self.now line → Parses (asked_by value_len line) result }
         ensures fits { IfOk result (HasValueOf value_len) }

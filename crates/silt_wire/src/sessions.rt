@@ -2,14 +2,13 @@
 ghost use Rattle.std.specs.Prelude.{◌≡◌, ◌≤◌, ◌<◌, ◌++◌, ◌∷◌, [], ℕ, List, Some, true, IfOk, OnOk, OnErr, IfErr, length, string_bytes, take};
 ghost use Rattle.std.specs.Io.KnownBytes.{Appends};
 ghost use Rattle.silt_wire.specs.LineBuffer.{HoldsBytes};
-ghost use Rattle.silt_wire.specs.Replies.{fault_line};
-ghost use Rattle.silt_wire.specs.Batches.{IsAnswerable, fault_after, requests};
+ghost use Rattle.silt_event.specs.Queries.{AnswersQuery};
+ghost use Rattle.silt_wire.specs.Batches.{IsAnswerable, requests, tail_after};
 ghost use Rattle.silt_wire.specs.Sessions.{Ends, IsBeginning, IsCut, ServesAll, ServesSome, asks, lines_after, rest_after};
 
-use crate::batch::Batch;
+use crate::batch::{Batch, Tail, push_tail};
 use crate::line::LineFault;
 use crate::line_buffer::LineBuffer;
-use crate::reply::print_fault;
 use silt_event::Answerer;
 use std::alloc::{AllocError, Global};
 use std::io::{ErrorKind, Read, Write};
@@ -40,7 +39,7 @@ pub enum SessionEnd {
 
 /// Replies to the lines of a reader, whose values have `value_len` bytes, until the reader has no more bytes. It hands
 /// over the events of all lines of one read in one call, and writes the replies before it reads again. It divides a read
-/// after a line without a valid request, and when the replies may be long. Bytes after the last line feed are no line.
+/// after a line that asks for no event, and when the replies may be long. Bytes after the last line feed are no line.
 /// An interrupted read or write is tried again.
 ///
 /// If out of memory for a line or for the text of a reply, the session ends. It still writes the replies before that.
@@ -52,7 +51,7 @@ pub fn session<A: Answerer, R: Read, W: Write>(
     answerer: &mut A,
 ) -> SessionEnd
     requires { A.value_len answerer.old ≡ value_len }
-    ensures ends { Ends A.answers result value_len
+    ensures ends { Ends (AnswersQuery A.answers A.informs) result value_len
         (record { answerer = answerer.old; remaining = R.remaining reader.old; contents = W.contents writer.old })
         (record { answerer = answerer.new; remaining = R.remaining reader.new; contents = W.contents writer.new }) }
     ensures stays { A.value_len answerer.new ≡ value_len }
@@ -75,7 +74,7 @@ pub fn session_over<A: Answerer, R: Read, W: Write>(
 
     // An empty buffer would look like the end of the reader.
     requires room { 0 < length buffer.old }
-    ensures ends { Ends A.answers result value_len
+    ensures ends { Ends (AnswersQuery A.answers A.informs) result value_len
         (record { answerer = answerer.old; remaining = R.remaining reader.old; contents = W.contents writer.old })
         (record { answerer = answerer.new; remaining = R.remaining reader.new; contents = W.contents writer.new }) }
     ensures stays { A.value_len answerer.new ≡ value_len }
@@ -83,7 +82,6 @@ pub fn session_over<A: Answerer, R: Read, W: Write>(
     let Ok(mut pending) = LineBuffer::new(alloc) else {
         return SessionEnd::NoMemory;
     };
-    let mut texts = String::new(alloc);
     for _ in 0..MOST_READS {
         match reader.read(buffer) {
             Ok(0) => return SessionEnd::End,
@@ -92,7 +90,6 @@ pub fn session_over<A: Answerer, R: Read, W: Write>(
                 value_len,
                 &buffer[..count],
                 &mut pending,
-                &mut texts,
                 writer,
                 answerer,
             ) {
@@ -112,23 +109,22 @@ fn answer_read<A: Answerer, W: Write>(
     value_len: usize,
     bytes: &[u8],
     pending: &mut LineBuffer,
-    texts: &mut String,
     writer: &mut W,
     answerer: &mut A,
 ) -> Result<(), SessionEnd>
     requires { A.value_len answerer.old ≡ value_len }
     ensures stays { A.value_len answerer.new ≡ value_len }
     ensures holds { OnOk result ((p : List ℕ) → HoldsBytes pending.old p → HoldsBytes pending.new (rest_after p bytes.now)) }
-    ensures all { OnOk result ((p : List ℕ) → HoldsBytes pending.old p → ServesAll A.answers value_len p bytes.now
+    ensures all { OnOk result ((p : List ℕ) → HoldsBytes pending.old p → ServesAll (AnswersQuery A.answers A.informs) value_len p bytes.now
         answerer.old answerer.new (W.contents writer.old) (W.contents writer.new)) }
-    ensures some { OnErr result ((p : List ℕ) → HoldsBytes pending.old p → ServesSome A.answers value_len p bytes.now
+    ensures some { OnErr result ((p : List ℕ) → HoldsBytes pending.old p → ServesSome (AnswersQuery A.answers A.informs) value_len p bytes.now
         answerer.old answerer.new (W.contents writer.old) (W.contents writer.new)) }
     ensures cut { IfErr result IsCut }
 {
     let mut done = 0;
     while done < bytes.len() {
         let (_, rest) = bytes.split_at(done);
-        done += answer_part(alloc, value_len, rest, pending, texts, writer, answerer)?;
+        done += answer_part(alloc, value_len, rest, pending, writer, answerer)?;
     }
     Ok(())
 }
@@ -140,7 +136,6 @@ fn answer_part<A: Answerer, W: Write>(
     value_len: usize,
     bytes: &[u8],
     pending: &mut LineBuffer,
-    texts: &mut String,
     writer: &mut W,
     answerer: &mut A,
 ) -> Result<usize, SessionEnd>
@@ -149,14 +144,14 @@ fn answer_part<A: Answerer, W: Write>(
     ensures stays { A.value_len answerer.new ≡ value_len }
     ensures count { IfOk result (λ count. (0 < count) × (count ≤ length bytes.now)) }
     ensures holds { IfOk result (λ count. (p : List ℕ) → HoldsBytes pending.old p → HoldsBytes pending.new (rest_after p (take count bytes.now))) }
-    ensures all { IfOk result (λ count. (p : List ℕ) → HoldsBytes pending.old p → ServesAll A.answers value_len p (take count bytes.now)
+    ensures all { IfOk result (λ count. (p : List ℕ) → HoldsBytes pending.old p → ServesAll (AnswersQuery A.answers A.informs) value_len p (take count bytes.now)
         answerer.old answerer.new (W.contents writer.old) (W.contents writer.new)) }
-    ensures some { OnErr result ((p : List ℕ) → HoldsBytes pending.old p → ServesSome A.answers value_len p bytes.now
+    ensures some { OnErr result ((p : List ℕ) → HoldsBytes pending.old p → ServesSome (AnswersQuery A.answers A.informs) value_len p bytes.now
         answerer.old answerer.new (W.contents writer.old) (W.contents writer.new)) }
     ensures cut { IfErr result IsCut }
 {
-    texts.clear();
-    let taken = take_part(alloc, value_len, bytes, pending, texts, answerer);
+    let mut texts = String::new(alloc);
+    let taken = take_part(alloc, value_len, bytes, pending, &mut texts, answerer);
     if !write_texts(writer, texts.as_bytes()) {
         return Err(SessionEnd::WriteFault);
     }
@@ -217,29 +212,29 @@ fn take_part<A: Answerer>(
     ensures stays { A.value_len answerer.new ≡ value_len }
     ensures count { IfOk result (λ count. (0 < count) × (count ≤ length bytes.now)) }
     ensures holds { IfOk result (λ count. (p : List ℕ) → HoldsBytes pending.old p → HoldsBytes pending.new (rest_after p (take count bytes.now))) }
-    ensures all { IfOk result (λ count. (p : List ℕ) → HoldsBytes pending.old p → ServesAll A.answers value_len p (take count bytes.now)
+    ensures all { IfOk result (λ count. (p : List ℕ) → HoldsBytes pending.old p → ServesAll (AnswersQuery A.answers A.informs) value_len p (take count bytes.now)
         answerer.old answerer.new (Some (string_bytes texts.old)) (Some (string_bytes texts.new))) }
-    ensures some { OnErr result ((p : List ℕ) → HoldsBytes pending.old p → ServesSome A.answers value_len p bytes.now
+    ensures some { OnErr result ((p : List ℕ) → HoldsBytes pending.old p → ServesSome (AnswersQuery A.answers A.informs) value_len p bytes.now
         answerer.old answerer.new (Some (string_bytes texts.old)) (Some (string_bytes texts.new))) }
 {
     let mut batch = Batch::new(alloc);
     let gathered = gather(alloc, value_len, bytes, pending, &mut batch);
     batch.answer(alloc, texts, answerer)?;
     let gathered = gathered?;
-    if let Some(fault) = gathered.fault {
-        push_fault(alloc, fault, texts)?;
+    if let Some(tail) = gathered.tail {
+        push_tail(alloc, tail, texts, answerer)?;
     }
     Ok(gathered.count)
 }
 
-// What was gathered of some bytes: how many were taken, and the fault of the last line, if it has no valid request.
+// What was gathered of some bytes: how many were taken, and the last line, if it asks for no event.
 #[derive(Clone, Copy)]
 struct Gathered {
     count: usize,
-    fault: Option<LineFault>,
+    tail: Option<Tail>,
 }
 
-// Takes bytes, and adds the events of the lines that they end to the batch, until a line has no valid request or the
+// Takes bytes, and adds the events of the lines that they end to the batch, until a line asks for no event or the
 // batch is full. If out of memory, the batch has the events before.
 fn gather(
     alloc: Global,
@@ -254,7 +249,7 @@ fn gather(
     ensures count { IfOk result (λ gathered. (0 < gathered.count) × (gathered.count ≤ length bytes.now)) }
     ensures holds { IfOk result (λ gathered. (p : List ℕ) → HoldsBytes pending.old p → HoldsBytes pending.new (rest_after p (take gathered.count bytes.now))) }
     ensures all { IfOk result (λ gathered. (p : List ℕ) → HoldsBytes pending.old p
-        → requests batch.old ++ asks value_len (lines_after p (take gathered.count bytes.now)) ≡ requests batch.new ++ fault_after gathered.fault) }
+        → requests batch.old ++ asks value_len (lines_after p (take gathered.count bytes.now)) ≡ requests batch.new ++ tail_after gathered.tail) }
     ensures some { (p : List ℕ) → HoldsBytes pending.old p
         → IsBeginning (requests batch.new) (requests batch.old ++ asks value_len (lines_after p bytes.now)) }
 {
@@ -263,14 +258,14 @@ fn gather(
         let (_, rest) = bytes.split_at(count);
         let line = gather_line(alloc, value_len, rest, pending, batch)?;
         count += line.count;
-        if line.fault.is_some() || batch.is_full() {
+        if line.tail.is_some() || batch.is_full() {
             return Ok(Gathered {
                 count,
-                fault: line.fault,
+                tail: line.tail,
             });
         }
     }
-    Ok(Gathered { count, fault: None })
+    Ok(Gathered { count, tail: None })
 }
 
 // Takes bytes to the end of a line, and adds the event of the line to the batch; or takes all, if they end no line.
@@ -287,40 +282,43 @@ fn gather_line(
     ensures count { IfOk result (λ gathered. (0 < gathered.count) × (gathered.count ≤ length bytes.now)) }
     ensures holds { IfOk result (λ gathered. (p : List ℕ) → HoldsBytes pending.old p → HoldsBytes pending.new (rest_after p (take gathered.count bytes.now))) }
     ensures all { IfOk result (λ gathered. (p : List ℕ) → HoldsBytes pending.old p
-        → requests batch.old ++ asks value_len (lines_after p (take gathered.count bytes.now)) ≡ requests batch.new ++ fault_after gathered.fault) }
+        → requests batch.old ++ asks value_len (lines_after p (take gathered.count bytes.now)) ≡ requests batch.new ++ tail_after gathered.tail) }
     ensures err { OnErr result (requests batch.new ≡ requests batch.old) }
 {
     let taken = pending.take(bytes)?;
     if !taken.ends_line {
         return Ok(Gathered {
             count: taken.count,
-            fault: None,
+            tail: None,
         });
     }
-    let fault = gather_event(alloc, value_len, pending, batch)?;
+    let tail = gather_event(alloc, value_len, pending, batch)?;
     pending.clear();
     Ok(Gathered {
         count: taken.count,
-        fault,
+        tail,
     })
 }
 
-// Adds the event of the line that has ended to the batch, if the line is not blank. Returns the line's fault, if it has
-// no valid request.
+// Adds the event of the line that has ended to the batch, if the line is not blank. If it asks for no event, returns what
+// it asks for.
 fn gather_event(
     alloc: Global,
     value_len: usize,
     pending: &LineBuffer,
     batch: &mut Batch,
-) -> Result<Option<LineFault>, AllocError>
+) -> Result<Option<Tail>, AllocError>
     requires { IsAnswerable value_len batch.old }
     ensures ready { IsAnswerable value_len batch.new }
-    ensures all { IfOk result (λ fault. (line : List ℕ) → HoldsBytes pending.now line
-        → requests batch.old ++ asks value_len (line ∷ []) ≡ requests batch.new ++ fault_after fault) }
+    ensures all { IfOk result (λ tail. (line : List ℕ) → HoldsBytes pending.now line
+        → requests batch.old ++ asks value_len (line ∷ []) ≡ requests batch.new ++ tail_after tail) }
     ensures err { OnErr result (requests batch.new ≡ requests batch.old) }
 {
     if pending.is_blank() {
         return Ok(None);
+    }
+    if pending.is_info() {
+        return Ok(Some(Tail::Facts));
     }
     match pending.parse(alloc, value_len) {
         Ok(event) => {
@@ -328,16 +326,6 @@ fn gather_event(
             Ok(None)
         }
         Err(LineFault::NoMemory) => Err(AllocError),
-        Err(fault) => Ok(Some(fault)),
+        Err(fault) => Ok(Some(Tail::Fault(fault))),
     }
-}
-
-// Appends the reply to a line without a valid request, and a line feed, to the texts. On an error nothing changes.
-fn push_fault(alloc: Global, fault: LineFault, texts: &mut String) -> Result<(), AllocError>
-    ensures ok { OnOk result (string_bytes texts.new ≡ string_bytes texts.old ++ fault_line fault) }
-    ensures err { OnErr result (string_bytes texts.new ≡ string_bytes texts.old) }
-{
-    let mut line = print_fault(alloc, fault)?;
-    line.push('\n')?;
-    texts.push_str(&line)
 }

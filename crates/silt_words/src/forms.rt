@@ -175,6 +175,10 @@ get KEY           prints the value of a key
 flush             makes all accepted commands safe from crashes
 ";
 
+/// The line that asks for the facts of a store.
+const FACTS: &str = "info              prints the numbers of the store, a line each
+";
+
 /// The lines for background work.
 const STEPS: &str = "convert, merge    does one step of background work
 ";
@@ -197,7 +201,7 @@ const FORMS: [Form; 8] = [
         line: "silt run FILE [OPTION]...                     replies to the lines of the standard input",
         values: &["FILE"],
         options: &[TEND, STRICT, RUN_MERGE_AT, RUN_SHARDS],
-        input: &[EVENTS, STEPS],
+        input: &[EVENTS, FACTS, STEPS],
     },
     Form {
         job: "tend",
@@ -250,7 +254,7 @@ const FORMS: [Form; 8] = [
             PASSWORD_FILE,
             CLIENTS,
         ],
-        input: &[EVENTS],
+        input: &[EVENTS, FACTS],
     },
 ];
 

@@ -16,13 +16,14 @@ fn counted(alloc: Global, value_len: usize, buffer: &mut [u8], bytes: &[u8]) -> 
     let settings = Settings {
         value_len,
         password: None,
+        id: 1,
     };
     let mut calls = Calls {
         inner: InCall { value_len, call: 0 },
     };
     let reader = Cursor::new(bytes);
     let mut out = Vec::new(alloc);
-    let _ = resp_session(alloc, &settings, 1, buffer, reader, &mut out, &mut calls);
+    let _ = resp_session(alloc, &settings, buffer, reader, &mut out, &mut calls);
     (calls.inner.call, out)
 }
 

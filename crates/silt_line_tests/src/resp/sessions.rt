@@ -3,7 +3,7 @@ ghost use Rattle.std.specs.Prelude.{◌≡◌, ◌<◌, ℕ, length};
 ghost use Rattle.silt_event.specs.declared.event.Event.{Event as EventOf};
 ghost use Rattle.silt_event.specs.Events.{PlainReply};
 
-use silt_event::{Answerer, Event, Refusal, Reply, bytes_of};
+use silt_event::{Answerer, Event, Facts, Refusal, Reply, bytes_of};
 use silt_frame::{Key, Value};
 use silt_resp::{RespEnd, Settings, resp_session};
 use std::alloc::{AllocError, Global};
@@ -23,11 +23,17 @@ impl Answerer for Store {
 
     ghost answers = { λ old new event reply. Unit {0} };
 
+    ghost informs = { λ answerer facts. Unit {0} };
+
     fn answer(&mut self, alloc: Global, event: Event) -> Reply<()> {
         match answered(alloc, &mut self.entries, event) {
             Ok(reply) => reply,
             Err(_) => Reply::Refused(Refusal::NoMemory),
         }
+    }
+
+    fn facts(&self) -> Option<Facts> {
+        None
     }
 }
 
@@ -108,6 +114,7 @@ fn served(
     let settings = Settings {
         value_len: 8,
         password,
+        id: 7,
     };
     let mut store = Store {
         value_len: 8,
@@ -115,7 +122,7 @@ fn served(
     };
     let reader = Cursor::new(bytes);
     let mut out = Vec::new(alloc);
-    let end = resp_session(alloc, &settings, 7, buffer, reader, &mut out, &mut store);
+    let end = resp_session(alloc, &settings, buffer, reader, &mut out, &mut store);
     (end, out)
 }
 

@@ -4,7 +4,7 @@ ghost use Rattle.std.specs.Prelude.{◌≡◌, ◌<◌, ℕ, length};
 ghost use Rattle.silt_event.specs.declared.event.Event.{Event as EventOf};
 ghost use Rattle.silt_event.specs.Events.{PlainReply};
 
-use silt_event::{Answerer, Event, Reply};
+use silt_event::{Answerer, Event, Facts, Reply};
 use silt_wire::{SessionEnd, session_over};
 use std::alloc::Global;
 use std::io::Cursor;
@@ -23,11 +23,17 @@ impl Answerer for InCall {
 
     ghost answers = { λ old new event reply. Unit {0} };
 
+    ghost informs = { λ answerer facts. Unit {0} };
+
     fn answer(&mut self, _alloc: Global, event: Event) -> Reply<()> {
         match event {
             Event::Get(_) => Reply::Acknowledged(self.call),
             _ => Reply::Accepted(self.call),
         }
+    }
+
+    fn facts(&self) -> Option<Facts> {
+        None
     }
 }
 
@@ -42,6 +48,8 @@ impl Answerer for Calls {
 
     ghost answers = { λ old new event reply. Unit {0} };
 
+    ghost informs = { λ answerer facts. Unit {0} };
+
     fn answer(&mut self, alloc: Global, event: Event) -> Reply<()> {
         self.inner.call = self.inner.call.wrapping_add(1);
         self.inner.answer(alloc, event)
@@ -53,6 +61,10 @@ impl Answerer for Calls {
         }
         self.inner.call = self.inner.call.wrapping_add(1);
         self.inner.answer_all(alloc, events, replies);
+    }
+
+    fn facts(&self) -> Option<Facts> {
+        None
     }
 }
 

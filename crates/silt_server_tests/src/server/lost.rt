@@ -1,7 +1,7 @@
 // A session that gets no reply to a command ends, and its client is sent nothing more: the command
 // may have been done.
 
-use silt_event::{Event, Reply};
+use silt_event::{Event, Facts, Reply};
 use silt_session::{AskBy, Asking, Client, Outlet, Unanswered};
 use silt_wire::{SessionEnd, session};
 use std::alloc::Global;
@@ -17,6 +17,21 @@ enum Back {
     Absent(usize),
     Nothing(Unanswered),
 }
+
+/// What comes back if facts are asked for.
+const FACTS: Facts = Facts {
+    stores: 1,
+    failed: 0,
+    commands: 3,
+    charge: 2,
+    capacity: 8,
+    generation: 0,
+    frozen_logs: 0,
+    hash_stores: 0,
+    sorted_entries: 0,
+    converted_slots: 0,
+    merge_steps: 0,
+};
 
 // What comes back for one event.
 fn reply_of(back: Back) -> Result<Reply<()>, Unanswered> {
@@ -85,9 +100,11 @@ fn end_with(
     let all = |_events: Vec<Event>| -> Result<Vec<Reply<()>>, Unanswered> {
         replies_of(alloc, back)
     };
+    let facts = || -> Facts { FACTS };
     let asking = AskBy {
         one: &one,
         all: &all,
+        facts: &facts,
     };
     end_of(alloc, &stream, asking, pipelines, lines)
 }
@@ -135,7 +152,7 @@ fn sends_nothing_once_a_reply_did_not_come(rt: HostRuntime) -> Result<(), Fail> 
                 rt.alloc(),
                 back,
                 pipelines,
-                b"put =a 0102\nget =a\n",
+                b"put =a 0102\nget =a\ninfo\n",
                 due
             )?
         );

@@ -1,4 +1,5 @@
 use Rattle.std.proofs.Common.{◌≡◌, ◌++◌, ℕ, List, drop, map}
+use Rattle.silt_event.specs.Queries.{replies as replied}
 use Rattle.silt_resp.specs.Batches.{due_seen, part_texts}
 use Rattle.silt_resp.proofs.batch.push_dues.Given as goal
 
@@ -6,4 +7,4 @@ use Rattle.silt_resp.proofs.batch.push_dues.Given as goal
 abbrev pub invariant-loop-due : goal.invariant-loop-due
 invariant-loop-due l =
     (out : List ℕ) × (l.texts.items ≡ l.initial.texts.items ++ out)
-    × (out ++ part_texts (map due_seen (drop l.due-index l.dues)) l.rest ≡ part_texts (map due_seen l.dues) l.replies)
+    × (out ++ part_texts (map due_seen (drop l.due-index l.dues)) (map replied l.rest) ≡ part_texts (map due_seen l.dues) (map replied l.replies))

@@ -1,6 +1,7 @@
 use Rattle.std.proofs.Common.{Bool, List, Some, rules, subst, take, ℕ}
 use Rattle.silt_wire.specs.Sessions.{IsBeginning}
 use Rattle.std.specs.Io.KnownBytes.{Appends}
+use Rattle.silt_event.specs.Queries.{AnswersQuery}
 use Rattle.silt_wire.proofs.Answering.{if-either}
 use Rattle.silt_resp.specs.Batches.{IsBehind}
 use Rattle.silt_resp.specs.Sessions.{ServesCommands, asked_after}
@@ -9,7 +10,7 @@ use Rattle.silt_resp.proofs.session.answer_part.Goals as goal
 
 pub returns-then-not-write_texts-clause-ends : goal.returns-then-not-write_texts-clause-ends
 returns-then-not-write_texts-clause-ends g c =
-    let answers = g.A.Answerer.answers in
+    let answers = (AnswersQuery g.A.Answerer.answers g.A.Answerer.informs) in
     let s = c.args.settings.now in
     let gathered = if-either c.take_part-taken.result
     (λ part all client h. some-taken answers s client c.args.bytes.now part.count _ _ (Some c.new-texts.result.items) (Some c.take_part-taken.new.texts.items) (all client h))
@@ -20,7 +21,7 @@ returns-then-not-write_texts-clause-ends g c =
 
 pub returns-then-gathered-clause-ends : goal.returns-then-gathered-clause-ends
 returns-then-gathered-clause-ends g c = λ client h.
-    let answers = g.A.Answerer.answers in
+    let answers = (AnswersQuery g.A.Answerer.answers g.A.Answerer.informs) in
     let s = c.args.settings.now in
     let count = c.in-Ok.gathered.count in
     let front = take count c.args.bytes.now in

@@ -1,4 +1,5 @@
 use Rattle.std.proofs.Common.{◌≡◌, ◌≤◌, ◌-◌, length, take}
+use Rattle.silt_event.specs.Queries.{AnswersQuery}
 use Rattle.silt_resp.specs.Batches.{HoldsClient}
 use Rattle.silt_resp.specs.Sessions.{Client, ServesCommands, client_after}
 use Rattle.silt_resp.proofs.session.answer_read.Given as goal
@@ -10,7 +11,7 @@ invariant-loop-done g l =
       stays : g.A.Answerer.value_len l.answerer ≡ l.settings.value_len;
       told : (client : Client) → HoldsClient l.initial.talk client → record {
         holds : HoldsClient l.talk (client_after l.settings client (take l.done l.bytes));
-        all : ServesCommands g.A.Answerer.answers l.settings client (take l.done l.bytes) l.initial.answerer l.answerer (g.W.Write.contents l.initial.writer) (g.W.Write.contents l.writer);
+        all : ServesCommands (AnswersQuery g.A.Answerer.answers g.A.Answerer.informs) l.settings client (take l.done l.bytes) l.initial.answerer l.answerer (g.W.Write.contents l.initial.writer) (g.W.Write.contents l.writer);
       };
     }
 

@@ -1,5 +1,6 @@
 use Rattle.std.proofs.Common.{◌≡◌, ℕ, List}
 use Rattle.std.specs.Io.KnownBytes.{Consumes}
+use Rattle.silt_event.specs.Queries.{AnswersQuery}
 use Rattle.silt_resp.specs.Batches.{HoldsClient}
 use Rattle.silt_resp.specs.Sessions.{ServesCommands, client_after, new_client}
 use Rattle.silt_resp.proofs.session.session_over.Given as goal
@@ -8,5 +9,5 @@ abbrev pub invariant-loop : goal.invariant-loop
 invariant-loop g l =
     (g.A.Answerer.value_len l.answerer ≡ l.settings.value_len)
     × (read : List ℕ) × Consumes (g.R.Read.remaining l.initial.reader) (g.R.Read.remaining l.reader) read
-    × HoldsClient l.talk (client_after l.settings (new_client l.settings l.id) read)
-    × ServesCommands g.A.Answerer.answers l.settings (new_client l.settings l.id) read l.initial.answerer l.answerer (g.W.Write.contents l.initial.writer) (g.W.Write.contents l.writer)
+    × HoldsClient l.talk (client_after l.settings (new_client l.settings) read)
+    × ServesCommands (AnswersQuery g.A.Answerer.answers g.A.Answerer.informs) l.settings (new_client l.settings) read l.initial.answerer l.answerer (g.W.Write.contents l.initial.writer) (g.W.Write.contents l.writer)

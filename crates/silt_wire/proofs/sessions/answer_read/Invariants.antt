@@ -1,4 +1,5 @@
 use Rattle.std.proofs.Common.{◌≡◌, ◌≤◌, ◌-◌, ℕ, List, length, take}
+use Rattle.silt_event.specs.Queries.{AnswersQuery}
 use Rattle.silt_wire.specs.LineBuffer.{HoldsBytes}
 use Rattle.silt_wire.specs.Sessions.{ServesAll, rest_after}
 use Rattle.silt_wire.proofs.sessions.answer_read.Given as goal
@@ -10,7 +11,7 @@ invariant-loop-done g l =
       stays : g.A.Answerer.value_len l.answerer ≡ l.value_len;
       told : (p : List ℕ) → HoldsBytes l.initial.pending p → record {
         holds : HoldsBytes l.pending (rest_after p (take l.done l.bytes));
-        all : ServesAll g.A.Answerer.answers l.value_len p (take l.done l.bytes) l.initial.answerer l.answerer (g.W.Write.contents l.initial.writer) (g.W.Write.contents l.writer);
+        all : ServesAll (AnswersQuery g.A.Answerer.answers g.A.Answerer.informs) l.value_len p (take l.done l.bytes) l.initial.answerer l.answerer (g.W.Write.contents l.initial.writer) (g.W.Write.contents l.writer);
       };
     }
 

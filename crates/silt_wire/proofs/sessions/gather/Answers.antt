@@ -1,7 +1,7 @@
 use Rattle.std.proofs.Common.{[], ◌+◌, sym, ◌∙◌, arith}
 use Rattle.std.proofs.lemmas.List.{append-nil}
-use Rattle.silt_wire.specs.Batches.{fault_after, requests}
-use Rattle.silt_wire.proofs.Answering.{fault_after-none, gathers-begins, gathers-part, holds-part}
+use Rattle.silt_wire.specs.Batches.{tail_after, requests}
+use Rattle.silt_wire.proofs.Answering.{tail_after-none, gathers-begins, gathers-part, holds-part}
 use Rattle.silt_wire.proofs.sessions.gather.Goals as goal
 
 pub returns-in_err-line-clause-some : goal.returns-in_err-line-clause-some
@@ -24,7 +24,7 @@ pub returns-then-is_some-clause-some : goal.returns-then-is_some-clause-some
 returns-then-is_some-clause-some c = λ p h.
     let before = c.loop-count.invariant.told p h in
     gathers-begins c.args.value_len p c.args.bytes.now (c.loop-count.count + c.in_ok-line.line.count) (requests c.args.batch.now) (requests c.gather_line.new.batch)
-    (fault_after c.in_ok-line.line.fault)
+    (tail_after c.in_ok-line.line.tail)
     (gathers-part c.args.value_len p c.args.bytes.now _ c.loop-count.count c.in_ok-line.line.count (requests c.args.batch.now) (requests c.loop-count.batch) _
     c.split_at.ensures.back before.all (c.in_ok-line.ensures.all _ before.holds))
 
@@ -41,6 +41,6 @@ loop-count-preserved c =
             holds = holds-part c.gather_line.new.pending p c.args.bytes.now _ c.loop-count.count c.in_ok-line.line.count c.split_at.ensures.back (c.in_ok-line.ensures.holds _ before.holds);
             all = gathers-part c.args.value_len p c.args.bytes.now _ c.loop-count.count c.in_ok-line.line.count (requests c.args.batch.now) (requests c.loop-count.batch) _
                 c.split_at.ensures.back before.all (c.in_ok-line.ensures.all _ before.holds)
-                ∙ fault_after-none c.in_ok-line.line.fault (requests c.gather_line.new.batch) (sym c.is_some.ensures ∙ c.if-is_some.false);
+                ∙ tail_after-none c.in_ok-line.line.tail (requests c.gather_line.new.batch) (sym c.is_some.ensures ∙ c.if-is_some.false);
           };
     }

@@ -13,7 +13,7 @@ returns-clause-holds c = λ p h.
 pub returns-clause-all : goal.returns-clause-all
 returns-clause-all c = λ p h.
     let line = piece-line p c.args.bytes.now c.in_ok-taken.taken c.take.new.self (not-false _ c.if-not-taken.false) (c.in_ok-taken.ensures.takes p h) in
-    ap (λ lines. requests c.args.batch.now ++ asks c.args.value_len lines) line.2 ∙ c.in_ok-fault.ensures.all line.0 line.1
+    ap (λ lines. requests c.args.batch.now ++ asks c.args.value_len lines) line.2 ∙ c.in_ok-tail.ensures.all line.0 line.1
 
 pub returns-then-not-taken-clause-holds : goal.returns-then-not-taken-clause-holds
 returns-then-not-taken-clause-holds c = λ p h. (piece-open p c.args.bytes.now c.in_ok-taken.taken c.take.new.self (not-true _ c.if-not-taken.true) (c.in_ok-taken.ensures.takes p h)).0

@@ -1,29 +1,50 @@
 use Rattle.std.proofs.Common.{◌≡◌, ◌++◌, ◌∙◌, List, Some, ap, map}
 use Rattle.std.proofs.lemmas.Result.{on_err_weaker, on_ok_weaker}
+use Rattle.silt_event.specs.Queries.{AnswersQuery, replies as replied}
 use Rattle.silt_event.specs.Events.{PlainReply}
+use Rattle.silt_wire.proofs.Answering.{IsBeginning-all}
 use Rattle.silt_resp.specs.Batches.{due_seen, part_texts}
 use Rattle.silt_resp.proofs.Doing.{all-batch, none-batch, on-err, some-batch}
 use Rattle.silt_resp.proofs.batch.Batch.answer.Goals as goal
 
 pub returns-in_err-replies-clause-some : goal.returns-in_err-replies-clause-some
 returns-in_err-replies-clause-some g c =
-    on-err c.from_residual.result (λ asked h. none-batch g.A.Answerer.answers asked c.args.answerer.now (Some c.args.texts.now.items))
+    on-err c.from_residual.result (λ asked h. none-batch (AnswersQuery g.A.Answerer.answers g.A.Answerer.informs) asked c.args.answerer.now (Some c.args.texts.now.items))
+
+pub returns-in_err-push_dues-clause-some : goal.returns-in_err-push_dues-clause-some
+returns-in_err-push_dues-clause-some g c =
+    let answered = c.answer_events.ensures.answers in
+    let given : c.deref-2.result.now ≡ answered.0 = c.deref-2.ensures.value ∙ answered.1 ∙ ap (λ (l : List PlainReply). l ++ answered.0) c.in_ok-replies.ensures.items in
+    let dues = c.args.self.dues.items in
+    let all : part_texts (map due_seen c.deref.result.now) (map replied c.deref-2.result.now) ≡ part_texts (map due_seen dues) (map replied answered.0) =
+    ap (λ ds. part_texts (map due_seen ds) (map replied c.deref-2.result.now)) c.deref.ensures.value ∙ ap (λ rs. part_texts (map due_seen dues) (map replied rs)) given in
+    let text = c.args.texts.now.items in
+    let told = c.in_err-push_dues.ensures.err in
+    on-err c.from_residual-in_err-push_dues.result (λ asked h.
+    some-batch g.A.Answerer.answers g.A.Answerer.informs c.args.self asked _ _ answered.0 c.asked_facts-facts.result text c.push_dues.new.texts.items h answered.2
+    c.asked_facts-facts.ensures (told.0, (told.1.0, told.1.1 ∙ all), told.2))
 
 pub returns-clause-all : goal.returns-clause-all
 returns-clause-all g c =
     let answered = c.answer_events.ensures.answers in
     let given : c.deref-2.result.now ≡ answered.0 = c.deref-2.ensures.value ∙ answered.1 ∙ ap (λ (l : List PlainReply). l ++ answered.0) c.in_ok-replies.ensures.items in
+    let dues = c.args.self.dues.items in
+    let all : part_texts (map due_seen c.deref.result.now) (map replied c.deref-2.result.now) ≡ part_texts (map due_seen dues) (map replied answered.0) =
+    ap (λ ds. part_texts (map due_seen ds) (map replied c.deref-2.result.now)) c.deref.ensures.value ∙ ap (λ rs. part_texts (map due_seen dues) (map replied rs)) given in
     let text = c.args.texts.now.items in
-    on_ok_weaker c.push_dues.result (λ told asked h.
-    all-batch g.A.Answerer.answers c.args.self asked _ _ answered.0 text c.push_dues.new.texts.items h answered.2
-    (told ∙ ap (λ ds. text ++ part_texts (map due_seen ds) c.deref-2.result.now) c.deref.ensures.value
-    ∙ ap (λ rs. text ++ part_texts (map due_seen c.args.self.dues.items) rs) given)) c.push_dues.ensures.ok
+    on_ok_weaker c.push_tail.result (λ last asked h.
+    all-batch g.A.Answerer.answers g.A.Answerer.informs c.args.self asked _ _ answered.0 c.asked_facts-facts.result text c.push_dues.new.texts.items c.push_tail.new.texts.items
+    h answered.2 c.asked_facts-facts.ensures (c.in_ok-push_dues.ensures.ok ∙ ap (λ t. text ++ t) all) last) c.push_tail.ensures.ok
 
 pub returns-clause-some : goal.returns-clause-some
 returns-clause-some g c =
     let answered = c.answer_events.ensures.answers in
     let given : c.deref-2.result.now ≡ answered.0 = c.deref-2.ensures.value ∙ answered.1 ∙ ap (λ (l : List PlainReply). l ++ answered.0) c.in_ok-replies.ensures.items in
-    let all = ap (λ ds. part_texts (map due_seen ds) c.deref-2.result.now) c.deref.ensures.value ∙ ap (λ rs. part_texts (map due_seen c.args.self.dues.items) rs) given in
-    on_err_weaker c.push_dues.result (λ told asked h.
-    some-batch g.A.Answerer.answers c.args.self asked _ _ answered.0 c.args.texts.now.items c.push_dues.new.texts.items h answered.2
-    (told.0, (told.1.0, told.1.1 ∙ all), told.2)) c.push_dues.ensures.err
+    let dues = c.args.self.dues.items in
+    let all : part_texts (map due_seen c.deref.result.now) (map replied c.deref-2.result.now) ≡ part_texts (map due_seen dues) (map replied answered.0) =
+    ap (λ ds. part_texts (map due_seen ds) (map replied c.deref-2.result.now)) c.deref.ensures.value ∙ ap (λ rs. part_texts (map due_seen dues) (map replied rs)) given in
+    let text = c.args.texts.now.items in
+    let texts = part_texts (map due_seen dues) (map replied answered.0) in
+    on_err_weaker c.push_tail.result (λ same asked h.
+    some-batch g.A.Answerer.answers g.A.Answerer.informs c.args.self asked _ _ answered.0 c.asked_facts-facts.result text c.push_tail.new.texts.items h answered.2
+    c.asked_facts-facts.ensures (texts, IsBeginning-all texts, same ∙ c.in_ok-push_dues.ensures.ok ∙ ap (λ t. text ++ t) all)) c.push_tail.ensures.err

@@ -1,4 +1,4 @@
-use Rattle.std.proofs.Common.{◌+◌, Bool, arith, subst, take}
+use Rattle.std.proofs.Common.{◌+◌, Bool, arith, rules, subst, take}
 use Rattle.silt_resp.specs.Batches.{IsBehind}
 use Rattle.silt_resp.specs.Sessions.{client_after}
 use Rattle.silt_resp.proofs.Gathering.{behind_part, client_part, gathers_keeps, gathers_part, gathers_some}
@@ -42,6 +42,7 @@ loop-count-preserved c =
     record {
       within = omega arith;
       ready = c.gather_command.ensures.ready;
+      unended = search rules;
       told = λ client h.
           let before = c.loop-count.invariant.told client h in
           let Behind = λ (b : Bool). IsBehind s (client_after s client (take done bytes)) (take count c.split_at.result.1.now) b c.gather_command.new.self in

@@ -1,4 +1,4 @@
-use Rattle.std.proofs.Common.{◌≤◌, ◌-◌, length, take}
+use Rattle.std.proofs.Common.{◌≡◌, ◌≤◌, ◌-◌, None, length, take}
 use Rattle.silt_resp.specs.Batches.{GathersAsked, HoldsClient, HasLengths}
 use Rattle.silt_resp.specs.Sessions.{Client, client_after}
 use Rattle.silt_resp.proofs.session.Talk.gather.Given as goal
@@ -8,6 +8,7 @@ invariant-loop-count l =
     record {
       within : l.count ≤ length l.bytes;
       ready : HasLengths l.settings.value_len l.batch;
+      unended : l.batch.tail ≡ None;
       told : (client : Client) → HoldsClient l.initial.self client → record {
         holds : HoldsClient l.self (client_after l.settings client (take l.count l.bytes));
         all : GathersAsked l.settings client (take l.count l.bytes) l.initial.batch l.batch;

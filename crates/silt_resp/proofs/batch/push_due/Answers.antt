@@ -1,0 +1,13 @@
+use Rattle.std.proofs.Common.{◌≡◌, ◌++◌, ◌∙◌, OnOk, ap, map, rules, subst, sym}
+use Rattle.silt_event.specs.Queries.{replies as replied}
+use Rattle.silt_resp.specs.Batches.{due_seen, part_text}
+use Rattle.silt_resp.specs.Texts.{text_of}
+use Rattle.silt_resp.proofs.Doing.{replies_in-map}
+use Rattle.silt_resp.proofs.batch.push_due.Goals as goal
+
+pub returns-in_ok-push_text-in-Replies-clause-ok : goal.returns-in_ok-push_text-in-Replies-clause-ok
+returns-in_ok-push_text-in-Replies-clause-ok c =
+    let given = c.args.replies.now in
+    let told : part_text (due_seen c.args.due.now) (map replied given) ≡ text_of c.in-Replies.form given =
+    ap (λ due. part_text (due_seen due) (map replied given)) c.in-Replies.is ∙ ap (text_of c.in-Replies.form) (replies_in-map given) in
+    subst (λ t. OnOk c.extend_from_slice-in-Replies.result (c.extend_from_slice-in-Replies.new.self.items ≡ c.args.texts.now.items ++ t)) (sym told) (search rules)

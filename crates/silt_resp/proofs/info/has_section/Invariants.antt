@@ -1,0 +1,7 @@
+use Rattle.std.proofs.Common.{◌≡◌, drop}
+use Rattle.std.specs.List.{list_any}
+use Rattle.silt_resp.specs.Info.{is_section}
+use Rattle.silt_resp.proofs.info.has_section.Given as goal
+
+abbrev pub invariant-loop-index : goal.invariant-loop-index
+invariant-loop-index l = list_any (is_section l.name) l.args ≡ list_any (is_section l.name) (drop l.index l.args)
