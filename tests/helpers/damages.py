@@ -376,14 +376,20 @@ def slot_of_no_kind(image, store, random):
     return f"refused 3 Damaged hash {one.region} slot {slot}"
 
 
+def other_slots(store, one, source, inside):
+    """The other slots in the buckets of a row's key, or those outside them."""
+    own = store.geometry.buckets(one.slots[source][1])
+    slots = range(store.geometry.slots)
+    return [it for it in slots if (it // 4 in own) == inside and it != source]
+
+
 @damage("hashes")
 def row_outside_its_buckets(image, store, random):
     picked = pick_row(store, random)
     if not picked:
         return None
     one, source = picked
-    own = store.geometry.buckets(one.slots[source][1])
-    others = [i for i in range(store.geometry.slots) if i // 4 not in own]
+    others = other_slots(store, one, source, inside=False)
     if not others:
         return None
     target = random.choice(others)
@@ -397,10 +403,7 @@ def key_in_two_slots(image, store, random):
     if not picked:
         return None
     one, source = picked
-    own = store.geometry.buckets(one.slots[source][1])
-    target = random.choice(
-        [i for i in range(store.geometry.slots) if i // 4 in own and i != source]
-    )
+    target = random.choice(other_slots(store, one, source, inside=True))
     copy_slot(image, store, one, source, target)
     return f"refused 3 Damaged hash {one.region} slot {max(source, target)}"
 
@@ -533,24 +536,30 @@ def entry_place(store, entry):
     return store.geometry.sorted_at(store.sorted.region) + entry * store.geometry.entry_length
 
 
-@damage("sorted")
-def equal_entries(image, store, random):
+def pick_neighbours(store, random):
+    """The number of an entry, and the places of the one before it and of itself, or None."""
     if len(store.sorted.entries) < 2:
         return None
     entry = random.randrange(1, len(store.sorted.entries))
-    at = entry_place(store, entry - 1)
-    to = entry_place(store, entry)
+    return entry, entry_place(store, entry - 1), entry_place(store, entry)
+
+
+@damage("sorted")
+def equal_entries(image, store, random):
+    picked = pick_neighbours(store, random)
+    if not picked:
+        return None
+    entry, at, to = picked
     image[to : to + KEY_LEN] = image[at : at + KEY_LEN]
     return f"refused 3 Damaged sorted {entry}"
 
 
 @damage("sorted")
 def falling_entries(image, store, random):
-    if len(store.sorted.entries) < 2:
+    picked = pick_neighbours(store, random)
+    if not picked:
         return None
-    entry = random.randrange(1, len(store.sorted.entries))
-    at = entry_place(store, entry - 1)
-    to = entry_place(store, entry)
+    entry, at, to = picked
     lower = image[at : at + KEY_LEN]
     upper = image[to : to + KEY_LEN]
     image[at : at + KEY_LEN] = upper

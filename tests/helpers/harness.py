@@ -11,7 +11,7 @@ import shutil
 import subprocess
 import tempfile
 import unittest
-from dataclasses import dataclass
+from dataclasses import dataclass, field
 
 from layout import as_version_1
 
@@ -61,13 +61,26 @@ def mounting(case):
     return words
 
 
-# What a terminal shows first of some file systems (`tests/run file_systems`).
-FILE_SYSTEM = re.compile(r"\Asilt: \S+: it lies (in memory|on ext4 without|on another machine).*\n")
+# What is known against some file systems (`tests/run file_systems`).
+IN_MEMORY = "it lies in memory, and is gone when the machine stops"
+REMOTE = "it lies on another machine, which may lose what was acknowledged if it stops"
+NO_JOURNAL = (
+    "it lies on ext4 without a journal, which may lose it, or what was acknowledged, in a power cut"
+)
+# The first line on standard error of a job that writes to a store there. The machine that runs the
+# tests may have such a file system.
+NOTE = re.compile(rf"(?m)^silt: [^\n]+: (?:{IN_MEMORY}|{REMOTE}|{NO_JOURNAL})\n")
 
 
-def without_note(shown):
-    """What a terminal shows, without what is known against the file system of the tests."""
-    return FILE_SYSTEM.sub("", shown)
+def without_note(said):
+    """Standard error of a job without what is known against the file system of the tests."""
+    note = NOTE.match(said)
+    return said[note.end() :] if note else said
+
+
+def without_notes(said):
+    """The same of several jobs, whose outputs may be there too."""
+    return NOTE.sub("", said)
 
 
 def closing(*numbers):
@@ -83,11 +96,17 @@ def closing(*numbers):
 @dataclass
 class Ended:
     """How a run of the program ended: its status (a negative number is a signal), its output and
-    its error output."""
+    its error output. What it says there first of the file system is in `note`."""
 
     status: int
     out: str
     err: str
+    note: str = field(init=False, compare=False)
+
+    def __post_init__(self):
+        said = self.err
+        self.err = without_note(said)
+        self.note = said.removesuffix(self.err)
 
     @property
     def lines(self):

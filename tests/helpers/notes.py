@@ -2,20 +2,9 @@
 lacks its end."""
 import re
 
+from model import NAMES
 from watch import IN
 
-NAMES = {
-    5: "Device",
-    6: "NoMemory",
-    7: "StoreFull",
-    8: "NoRoom",
-    9: "Failed",
-    10: "Spent",
-    20: "BadLine",
-    21: "BadKey",
-    22: "BadValue",
-    23: "LineTooLong",
-}
 HELP = {
     7: (
         "merging drops what was overwritten or deleted (run with --tend, or silt tend), and more "

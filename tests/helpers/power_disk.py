@@ -94,14 +94,20 @@ class Flushed:
     covers: int
 
 
+def listener_at(path):
+    """A socket that waits for one connection at a path."""
+    listener = socket.socket(socket.AF_UNIX)
+    listener.bind(str(path))
+    listener.listen(1)
+    return listener
+
+
 class Disk:
     """An NBD export. It has one client at a time, and its image may be exchanged while no guest has
     mounted it."""
 
     def __init__(self, path):
-        self.listener = socket.socket(socket.AF_UNIX)
-        self.listener.bind(str(path))
-        self.listener.listen(1)
+        self.listener = listener_at(path)
         self.link = None
         self.received = bytearray()
         self.insert(Image(BLOCK))

@@ -14,7 +14,7 @@ import subprocess
 import time
 
 from harness import HELPERS, TOP
-from power_disk import Disk
+from power_disk import Disk, listener_at
 
 PROGRAMS = ["setpriv", "qemu-system-x86_64", "mkfs.ext4", "mkfs.xfs", "mkfs.btrfs", "mkfs.f2fs"]
 BUSYBOX = pathlib.Path("/bin/busybox")
@@ -23,7 +23,8 @@ KERNELS = pathlib.Path(os.environ.get("SILT_POWER_KERNEL", TOP / "tests/out/kern
 MODULES = "crc32c_generic crc32_generic virtio_pci virtio_blk virtio_console".split()
 # The port of the first process, and those of a load.
 FIRST_PORT, PORTS = 1, 4
-BOOT_LIMIT, LINE_LIMIT = 240, 120
+BOOT_LIMIT, LINE_LIMIT = 240, 300
+# Megabytes.
 MEMORY = 320
 # The last line of what a guest says.
 ENDED = re.compile(rb"--- (\d+)\n")
@@ -96,18 +97,26 @@ def archive(files):
     return bytes(made)
 
 
-def make_root(file_system, program, others=()):
-    """The bytes of a guest's first file system, with the program and other files for /lib."""
-    files = {"init": (HELPERS / "power_init").read_bytes(), "bin/busybox": BUSYBOX.read_bytes()}
-    files["bin/silt"] = program.read_bytes()
-    for library in {*libraries(program), *libraries(BUSYBOX)}:
-        files[str(library).lstrip("/")] = library.read_bytes()
-    for other in others:
-        files[f"lib/{other.name}"] = other.read_bytes()
+def first_files(init, file_system):
+    """What each guest's first file system has: its first process, a shell and modules."""
+    files = {"init": (HELPERS / init).read_bytes(), "bin/busybox": BUSYBOX.read_bytes()}
+    files |= {str(it).lstrip("/"): it.read_bytes() for it in libraries(BUSYBOX)}
     modules = module_files(file_system)
     files["modules/order"] = "\n".join(it.name for it in modules).encode()
-    files |= {f"modules/{it.name}": it.read_bytes() for it in modules}
-    return archive(files)
+    return files | {f"modules/{it.name}": it.read_bytes() for it in modules}
+
+
+def make_root(file_system, program, others=()):
+    """The bytes of a guest's first file system, with the program and other files for /lib."""
+    files = first_files("power_init", file_system)
+    files["bin/silt"] = program.read_bytes()
+    files |= {str(it).lstrip("/"): it.read_bytes() for it in libraries(program)}
+    return archive(files | {f"lib/{it.name}": it.read_bytes() for it in others})
+
+
+def make_system_root():
+    """The bytes of the first file system of a guest whose disk has a whole system on ext4."""
+    return archive(first_files("system_init", "ext4"))
 
 
 class Port:
@@ -116,9 +125,7 @@ class Port:
 
     def __init__(self, path):
         self.path = path
-        self.listener = socket.socket(socket.AF_UNIX)
-        self.listener.bind(str(path))
-        self.listener.listen(1)
+        self.listener = listener_at(path)
         self.link = None
         self.received = bytearray()
         self.waiting = bytearray()
@@ -155,8 +162,9 @@ class Guest:
     All that happens on the host happens in `turn`: so the order of the disk's log and of the bytes
     at the ports is known."""
 
-    def __init__(self, folder, root, image, through=False):
+    def __init__(self, folder, root, image, through=False, memory=MEMORY):
         self.folder = folder
+        self.memory = memory
         self.disk = Disk(folder / "disk.socket")
         self.disk.insert(image)
         self.ports = [Port(folder / f"port{it}.socket") for it in range(1 + PORTS)]
@@ -178,7 +186,7 @@ class Guest:
         words = "setpriv --pdeathsig KILL qemu-system-x86_64".split()
         words += "-nodefaults -no-user-config -display none -no-reboot".split()
         words += ["-accel", "tcg,thread=single,tb-size=128", "-cpu", "max"]
-        words += ["-smp", "1", "-m", str(MEMORY)]
+        words += ["-smp", "1", "-m", str(self.memory)]
         words += ["-kernel", str(find_kernel()), "-initrd", str(root)]
         words += ["-append", "console=ttyS0 quiet loglevel=3 panic=-1 mitigations=off"]
         words += ["-serial", f"file:{self.folder / 'console'}"]

@@ -12,9 +12,20 @@ import subprocess
 import tempfile
 from dataclasses import dataclass, field
 
+from harness import NO_JOURNAL
 from power_disk import BLOCK, SECTOR, Flushed, Image, Written, cut
 from power_guest import Guest, GuestDied, libraries, make_root
-from power_loads import GEOMETRIES, LOADS, STORE, judge
+from power_loads import (
+    GEOMETRIES,
+    LOADS,
+    SET_LOADS,
+    SHARDS,
+    STORE,
+    Load,
+    judge,
+    shard_of,
+    words_of_set,
+)
 
 SIZE = 320 << 20
 # Statuses of repairs that found no fault, or left none.
@@ -41,6 +52,11 @@ class FileSystem:
     format: str = "--sparse"
     obeys: bool = True
     repairs: tuple = ()
+
+    @property
+    def has_note(self):
+        """Whether a job that writes there says what is known against it."""
+        return "^has_journal" in self.mkfs
 
     def repaired(self, image, path):
         """The image as the first repair leaves it that does not give up. None if all do."""
@@ -157,36 +173,59 @@ def mounted(fs):
     return f"mount -t {fs.kind} -o {fs.options} /dev/vda /mnt"
 
 
-def find(guest, fs):
+def files_of(shards):
+    """The files of a store in so many shards."""
+    return [f"{STORE}.{it}" for it in range(shards)] if shards > 1 else [STORE]
+
+
+def find(guest, fs, shards=1):
     """Mounts the disk and reads the store: a map of digits, or what is wrong in a word. A map comes
-    back only if `check` finds the store whole. Behind it is what was said."""
+    back only if `check` finds each of its files whole, and if a set can be opened. Behind it is
+    what was said."""
+    files = " ".join(files_of(shards))
     line = (
-        f"{mounted(fs)} || {{ dmesg | tail -n 8; exit 3; }}; silt check {STORE} || exit 4; "
-        f"silt dump {STORE} 2>&1 || exit 5"
+        f"{mounted(fs)} || {{ dmesg | tail -n 8; exit 3; }}; "
+        f"for file in {files}; do silt check $file || exit 4; silt dump $file 2>&1 || exit 5; done"
     )
+    if shards > 1:
+        line += f"; silt run {STORE} {words_of_set(shards)} 2>&1 || exit 6"
     status, said = guest.run(f"({line}); status=$?; umount /mnt; (exit $status)")
     if status:
-        return {3: "unmounted", 4: "refused", 5: "refused"}.get(status, "unclear"), said
-    return rows_of(said), said
+        words = {3: "unmounted", 4: "refused", 5: "refused", 6: "refused"}
+        return words.get(status, "unclear"), said
+    return rows_of_files(said, shards), said
 
 
-def find_anew(rig, fs, image):
+def find_anew(rig, fs, image, shards=1):
     """What a guest finds that never saw the disk before, as `find`."""
     with tempfile.TemporaryDirectory(prefix="silt-power-") as folder:
         guest = Guest(pathlib.Path(folder), rig.root(fs.kind), image.copy(), fs.disk == "through")
         with contextlib.closing(guest):
-            return find(guest, fs)
+            return find(guest, fs, shards)
 
 
 def rows_of(dump):
     return dict(re.findall(r"(?m)^put ([0-9a-f]{40}) ([0-9a-f]+)$", dump))
 
 
-class Chain:
-    """Some lives in a row on one file system, in one guest."""
+def rows_of_files(said, shards):
+    """The rows of the files of a set, one behind the other. `misplaced` if a key lies in another
+    file than its own. A check begins with the file's generation."""
+    whole = {}
+    for number, part in enumerate(re.split(r"(?m)^generation ", said)[1:]):
+        rows = rows_of(part)
+        if any(shard_of(key, shards) != number for key in rows):
+            return "misplaced"
+        whole |= rows
+    return whole
 
-    def __init__(self, fs, rig, random, folder, prefix=""):
+
+class Chain:
+    """Some lives in a row on one file system, in one guest, of a store in so many shards."""
+
+    def __init__(self, fs, shards, rig, random, folder, prefix=""):
         self.fs = fs
+        self.shards = shards
         self.rig = rig
         self.random = random
         self.folder = folder
@@ -194,6 +233,7 @@ class Chain:
         self.geometry = random.choice(GEOMETRIES)
         self.counts = Counts()
         self.failures = []
+        self.has_died = False
 
     def run(self, lives, cuts, lies=False):
         """Lives and cuts of each. Returns the counts."""
@@ -217,10 +257,10 @@ class Chain:
         self.hurry()
         guest.must(mounted(self.fs))
         formatted = self.format() if is_first else 0
-        base = {} if is_first else rows_of(guest.must(f"silt dump {STORE}"))
+        base = {} if is_first else self.rows()
         if before and (wrong := before(base)):
             raise RuntimeError(f"{self.fs.name}: a second mount of one disk finds what {wrong}")
-        load = self.load = self.random.choice(self.rig.loads)(
+        load = self.load = self.random.choice(self.rig.loads[self.shards])(
             guest, self.random, self.geometry, self.prefix
         )
         log = self.loaded(load)
@@ -238,9 +278,16 @@ class Chain:
         for name in ("writeback", "expire"):
             self.guest.must(f"echo {centis} >/proc/sys/vm/dirty_{name}_centisecs")
 
+    def rows(self):
+        """The rows of the store as it lies there."""
+        return rows_of("".join(self.guest.must(f"silt dump {it}") for it in files_of(self.shards)))
+
     def format(self):
         """Makes a store. Returns where the disk's log was then."""
-        self.guest.must(f"silt format {STORE} {self.geometry.numbers} {self.fs.format}")
+        words = f"{self.geometry.numbers} {self.fs.format} {words_of_set(self.shards)}"
+        said = self.guest.must(f"silt format {STORE} {words}")
+        if (NO_JOURNAL in said) != self.fs.has_note:
+            raise RuntimeError(f"{self.fs.name}: a format says {said}")
         return len(self.guest.disk.log)
 
     def loaded(self, load):
@@ -256,12 +303,19 @@ class Chain:
 
     def find(self, image):
         """What a mount of this image finds, as `find`: in a guest of its own, or in that of the
-        life, whose disk is exchanged."""
+        life, whose disk is exchanged. If that dies, as on a busy machine, another one looks."""
         try:
             if self.rig.fresh:
-                return find_anew(self.rig, self.fs, image)
+                return find_anew(self.rig, self.fs, image, self.shards)
             self.guest.disk.insert(image.copy())
-            return find(self.guest, self.fs)
+            return find(self.guest, self.fs, self.shards)
+        except GuestDied:
+            self.has_died = True
+            return self.find_again(image)
+
+    def find_again(self, image):
+        try:
+            return find_anew(self.rig, self.fs, image, self.shards)
         except GuestDied as died:
             return "died", str(died)
 
@@ -293,9 +347,9 @@ class Chain:
         self.counts.due += life.due(place)
         if wrong:
             self.counts.bad[f"{wrong}/{piece}"] += 1
-            self.failures.append(Failure(self.fs, image, life, place, wrong, said, self.load.name))
-        if found == "died":
-            raise GuestDied(said)
+            self.failures.append(Failure(self.fs, image, life, place, wrong, said, self.load))
+        if self.has_died:
+            raise GuestDied("a guest died while it looked at a cut")
         follows = isinstance(found, dict) and place >= life.opened and not wrong
         return (image, lambda its: life.judge(place, its)) if follows else None
 
@@ -310,7 +364,7 @@ class Failure:
     place: int
     wrong: str
     said: str
-    load: str
+    load: Load
 
     def keep(self, folder):
         folder.mkdir(parents=True)
@@ -326,7 +380,8 @@ class Failure:
         ]
         story = {
             "file system": self.fs.name,
-            "load": self.load,
+            "load": self.load.name,
+            "shards": self.load.shards,
             "wrong": self.wrong,
             "place": self.place,
             "formatted": life.formatted,
@@ -339,6 +394,12 @@ class Failure:
         (folder / "said").write_text(self.said)
 
 
+def serves_sets(program):
+    """Whether a server can have a set of shards."""
+    said = subprocess.run([program, "serve", "--help"], capture_output=True, text=True).stderr
+    return "--shards" in said
+
+
 class Rig:
     """What all guests share: the program, their first file systems, the loads, the most commands of
     a life, and whether each cut has a guest of its own."""
@@ -347,7 +408,8 @@ class Rig:
         self.program = program
         self.folder = folder
         self.others = [*others, *(it for other in others for it in libraries(other))]
-        self.loads = LOADS
+        # By the number of shards.
+        self.loads = {1: LOADS, SHARDS: SET_LOADS if serves_sets(program) else SET_LOADS[:1]}
         self.commands = commands
         self.fresh = fresh
         self.roots = {}

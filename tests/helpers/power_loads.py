@@ -14,6 +14,8 @@ from resp import command as resp_command
 
 STORE = "/mnt/store"
 TCP_PORT = 7070
+# Replies to commands that were not done.
+NOT_DONE = ("differs", "refused 7 StoreFull", "refused 8 NoRoom")
 # How long a load may take for all its replies, in seconds.
 LOAD_LIMIT = 120
 
@@ -99,6 +101,11 @@ def digest(name):
     return hashlib.sha1(name.encode()).hexdigest()
 
 
+def shard_of(key, shards):
+    """The shard of a key in digits: its second four bytes, modulo the number of shards."""
+    return int(key[8:16], 16) % shards
+
+
 class Writer:
     """One connection of lines or of Redis commands, and what it waits for."""
 
@@ -158,10 +165,17 @@ class Writer:
         self.port.send(data)
 
 
+def words_of_set(shards):
+    """The words of a job on a set of so many shards. None if it is one file."""
+    return f"--shards {shards}" if shards > 1 else ""
+
+
 class Load:
     """A program that runs in a guest over a store, and writers that keep it busy."""
 
     name = None
+    # Whether the store is a set of so many files, and not one file.
+    shards = 1
     writers_count = 1
     # The most lines of one write, and how many replies may be due when the next one is sent.
     burst, ahead = 1, 0
@@ -183,6 +197,14 @@ class Load:
     def place(self):
         return len(self.guest.disk.log)
 
+    @property
+    def set_words(self):
+        return words_of_set(self.shards)
+
+    def shard_of(self, command):
+        """The shard of a command's key."""
+        return shard_of(command[0], self.shards)
+
     def names(self, number, count):
         return [f"n{it}" for it in range(count)]
 
@@ -198,10 +220,16 @@ class Load:
                     count -= sent
             self.guest.turn(1)
             for writer in self.writers:
-                self.take(writer)
+                self.take_all(writer)
             if time.monotonic() > by:
                 raise GuestDied(f"a load has no replies: {self.guest.run('cat /tmp/served')}")
         self.end()
+
+    def take_all(self, writer):
+        """Takes in the replies that came to a writer."""
+        for line in writer.port.lines():
+            self.replies += 1
+            self.take(writer, line.rstrip("\r"), writer.pending.pop(0))
 
     def end(self):
         self.guest.run("killall -9 silt nc; sleep 0.1")
@@ -218,12 +246,12 @@ class Tending(Load):
 
     def __init__(self, *words):
         super().__init__(*words)
-        self.stream = Stream()
+        self.by_shard = [Stream() for _ in range(self.shards)]
 
     def start(self):
         port = f"/dev/vport0p{FIRST_PORT + 1}"
-        line = f"{self.prefix} silt run {STORE} --tend --merge-at 1 <>{port} >&0 2>/tmp/served &"
-        self.guest.must(line)
+        run = f"silt run {STORE} {self.set_words} --tend --merge-at 1"
+        self.guest.must(f"{self.prefix} {run} <>{port} >&0 2>/tmp/served &")
         by = time.monotonic() + LOAD_LIMIT
         while b"opened\n" not in self.writers[0].port.received:
             self.guest.turn(1)
@@ -235,21 +263,25 @@ class Tending(Load):
     def send(self, writer, count):
         writer.send_lines(count, self.place, flushes=True)
 
-    def take(self, writer):
-        for line in writer.port.lines():
-            self.replies += 1
-            command = writer.pending.pop(0)
-            word, *rest = line.split()
-            if word == "accepted" and command:
-                self.stream.commands.append(command)
-                assert int(rest[0]) == len(self.stream.commands)
-            elif word == "acknowledged":
-                self.stream.acknowledged.append((self.place, int(rest[0])))
-            elif line not in ("differs", "refused 7 StoreFull", "refused 8 NoRoom"):
-                self.wrong.append(line)
+    def take(self, writer, line, command):
+        word, *rest = line.split()
+        if word == "accepted" and command:
+            stream = self.by_shard[self.shard_of(command)]
+            stream.commands.append(command)
+            assert int(rest[0]) == len(stream.commands)
+        elif word == "acknowledged":
+            self.acknowledge(int(rest[0]))
+        elif line not in NOT_DONE:
+            self.wrong.append(line)
+
+    def acknowledge(self, count):
+        """A flush settles all that was accepted before it, in each shard."""
+        assert count == sum(len(it.commands) for it in self.by_shard)
+        for it in self.by_shard:
+            it.acknowledged.append((self.place, len(it.commands)))
 
     def streams(self):
-        return [self.stream]
+        return self.by_shard
 
 
 class Serving(Load):
@@ -262,11 +294,12 @@ class Serving(Load):
 
     def __init__(self, *words):
         super().__init__(*words)
-        self.accepted = {}
-        self.acknowledged = []
+        self.accepted = [{} for _ in range(self.shards)]
+        self.acknowledged = [[] for _ in range(self.shards)]
 
     def start(self):
-        serve = f"silt serve {STORE} {TCP_PORT} {self.options} --merge-at 1 >/tmp/served 2>&1 &"
+        words = f"{self.options} {self.set_words} --merge-at 1"
+        serve = f"silt serve {STORE} {TCP_PORT} {words} >/tmp/served 2>&1 &"
         wait = "until grep -q listening /tmp/served; do sleep 0.05; done"
         self.guest.must(f"{self.prefix} {serve} {wait}")
         self.opened = self.place
@@ -274,22 +307,23 @@ class Serving(Load):
             port = f"/dev/vport0p{FIRST_PORT + 1 + number}"
             self.guest.must(f"nc 127.0.0.1 {TCP_PORT} <>{port} >&0 2>&1 &")
 
-    def take(self, writer):
-        for line in writer.port.lines():
-            self.replies += 1
-            command = writer.pending.pop(0)
-            word, *rest = line.split()
-            if word == "accepted":
-                self.accepted[int(rest[0])] = command
-                self.acknowledged.append((self.place, int(rest[0])))
-            elif line not in ("differs", "refused 7 StoreFull", "refused 8 NoRoom"):
-                self.wrong.append(line)
+    def take(self, writer, line, command):
+        word, *rest = line.split()
+        if word == "accepted":
+            shard = self.shard_of(command)
+            self.accepted[shard][int(rest[0])] = command
+            self.acknowledged[shard].append((self.place, int(rest[0])))
+        elif line not in NOT_DONE:
+            self.wrong.append(line)
 
     def streams(self):
-        numbers = sorted(self.accepted)
-        if numbers != list(range(1, len(numbers) + 1)):
-            self.wrong.append(f"accepted {numbers}")
-        return [Stream([self.accepted[it] for it in numbers], self.acknowledged)]
+        made = []
+        for accepted, acknowledged in zip(self.accepted, self.acknowledged, strict=True):
+            numbers = sorted(accepted)
+            if numbers != list(range(1, len(numbers) + 1)):
+                self.wrong.append(f"accepted {numbers}")
+            made.append(Stream([accepted[it] for it in numbers], acknowledged))
+        return made
 
 
 class Pipelining(Serving):
@@ -310,7 +344,7 @@ class RedisClients(Serving):
 
     def __init__(self, *words):
         super().__init__(*words)
-        self.by_writer = {id(it): Stream() for it in self.writers}
+        self.by_writer = {id(it): [Stream() for _ in range(self.shards)] for it in self.writers}
 
     def names(self, number, count):
         return [f"c{number}/n{it}" for it in range(count // 2)]
@@ -318,20 +352,26 @@ class RedisClients(Serving):
     def send(self, writer, count):
         writer.send_strings(count, self.place)
 
-    def take(self, writer):
-        stream = self.by_writer[id(writer)]
-        for line in writer.port.lines():
-            self.replies += 1
-            command = writer.pending.pop(0)
-            if line.rstrip() in ("+OK", ":1"):
-                stream.commands.append(command)
-                stream.acknowledged.append((self.place, len(stream.commands)))
-            elif line.rstrip() != ":0" and "StoreFull" not in line and "NoRoom" not in line:
-                self.wrong.append(line)
+    def take(self, writer, line, command):
+        if line in ("+OK", ":1"):
+            stream = self.by_writer[id(writer)][self.shard_of(command)]
+            stream.commands.append(command)
+            stream.acknowledged.append((self.place, len(stream.commands)))
+        elif line != ":0" and "StoreFull" not in line and "NoRoom" not in line:
+            self.wrong.append(line)
 
     def streams(self):
-        return list(self.by_writer.values())
+        return [it for its in self.by_writer.values() for it in its]
 
 
+def over_a_set(load):
+    """The same load over a set of shards."""
+    words = words_of_set(SHARDS)
+    return type(f"{load.__name__}Set", (load,), {"shards": SHARDS, "name": f"{load.name} {words}"})
+
+
+# How many shards a set has.
+SHARDS = 4
 LOADS = [Tending, Serving, Pipelining, RedisClients]
+SET_LOADS = [over_a_set(it) for it in LOADS]
 assert all(it.writers_count <= PORTS for it in LOADS)

@@ -13,7 +13,7 @@ import subprocess
 import threading
 import time
 
-from harness import TIME_LIMIT, Ended
+from harness import TIME_LIMIT, Ended, without_note
 from watch import WatchedCase
 
 # Logs of four rows: the fifth put freezes one, and background work begins.
@@ -171,7 +171,7 @@ class Server:
         return self
 
     def errors(self):
-        return self.error_file.read_text(errors="replace")
+        return without_note(self.error_file.read_text(errors="replace"))
 
     def is_running(self):
         return self.process.poll() is None

@@ -15,6 +15,10 @@
 //     SILT_WATCH_HOLD=CALL:N:FILE  that call begins when there is such a file; of `thread` the thread that it starts does
 //     SILT_WATCH_DROP=CALL[:N]     those calls are not made and report success; no record has them
 //     SILT_WATCH_COUNTS=FILE       at the end, one line `CALL NUMBER` for each name
+//     SILT_WATCH_LISTS=1           watches the system's lists of file systems too
+//
+// Files in which the system lists file systems, as /proc/self/mountinfo, are left alone without that: their calls are not
+// counted and not recorded.
 //
 // `open` is open and openat. `accept` is accept and accept4. `thread` is pthread_create. `memory`
 // is malloc, calloc, realloc, aligned_alloc, memalign and posix_memalign, also if the C library
@@ -79,7 +83,9 @@ struct record {
 };
 
 static struct plan plans[64];
-static int plan_count, log_fd = -1, is_started;
+static int plan_count, log_fd = -1, is_started, watches_lists;
+// Which descriptors are those of lists of file systems that are left alone.
+static atomic_char is_list[1024];
 static atomic_long counts[CALLS], threads;
 // The number of this thread, from 1 in the order of their starts, and how many calls it made. They need no memory.
 static __thread long own_number __attribute__((tls_model("initial-exec"))), own_counts[CALLS] __attribute__((tls_model("initial-exec")));
@@ -191,6 +197,7 @@ __attribute__((constructor)) static void start(void) {
     read_plans(DROP, "SILT_WATCH_DROP");
     read_plans(SLOW, "SILT_WATCH_SLOW");
     read_plans(HOLD, "SILT_WATCH_HOLD");
+    watches_lists = getenv("SILT_WATCH_LISTS") != NULL;
     open_log();
     is_started = 1;
 }
@@ -257,8 +264,15 @@ static int failure(const struct plan *plan) {
 
 static size_t moved(const struct plan *plan, size_t len) { return is(plan, SHORT) && len > 1 ? 1 : len; }
 
+static int names_list(const char *path) {
+    return !watches_lists && (!strcmp(path, "/proc/self/mountinfo") || !strncmp(path, "/sys/fs/ext4/", 13));
+}
+
+static int is_left_alone(int fd) { return fd >= 0 && fd < (int)sizeof is_list && is_list[fd]; }
+
 ssize_t read(int fd, void *buf, size_t len) {
     need_calls();
+    if (is_left_alone(fd)) return real_read(fd, buf, len);
     const struct plan *plan = count(READ);
     if (is(plan, DROP)) return 0;
     ssize_t got = is(plan, FAIL) ? failure(plan) : real_read(fd, buf, moved(plan, len));
@@ -351,6 +365,11 @@ int ftruncate64(int fd, off64_t len) { return ftruncate(fd, len); }
 
 static int open_file(int folder, const char *path, int flags, mode_t mode) {
     need_calls();
+    if (names_list(path)) {
+        int list = real_openat(folder, path, flags, mode);
+        if (list >= 0 && list < (int)sizeof is_list) is_list[list] = 1;
+        return list;
+    }
     const struct plan *plan = count(OPEN);
     pthread_mutex_lock(&lock);
     int fd = is(plan, FAIL) ? failure(plan) : real_openat(folder, path, flags, mode);
@@ -391,6 +410,10 @@ int openat64(int folder, const char *path, int flags, ...) {
 
 int close(int fd) {
     need_calls();
+    if (is_left_alone(fd)) {
+        is_list[fd] = 0;
+        return real_close(fd);
+    }
     count(CLOSE);
     pthread_mutex_lock(&lock);
     int got = real_close(fd);

@@ -49,10 +49,12 @@ class Call:
         return self.data[:max(self.result, 0)]
 
 
-def watching(case, log=None, counts=None, **plans):
+def watching(case, log=None, counts=None, lists=False, **plans):
     """The environment of a watched run. The plans are fail, short, drop, slow and hold: a word or a
-    list."""
+    list. Calls on the system's lists of file systems are watched if that is asked for."""
     env = {"LD_PRELOAD": str(watch_library())}
+    if lists:
+        env["SILT_WATCH_LISTS"] = "1"
     for name, path in (("LOG", log), ("COUNTS", counts)):
         if path:
             env[f"SILT_WATCH_{name}"] = str(case.path(path))

@@ -11,7 +11,7 @@ import threading
 
 from commands import Commands, answer, differs, done, is_command, maps_after, names
 from crashes import cuts, fills, image
-from harness import PROVED, scaled
+from harness import PROVED, scaled, without_note
 from layout import Layout, as_version_1, key_bytes
 from notes import notes_of_lines
 from watch import WatchedCase, read_record, watching
@@ -494,7 +494,7 @@ class Servers(CutCase):
             for thread in threads:
                 thread.start()
             out, err = run.communicate(timeout=60)
-        self.assertEqual((run.returncode, err), (0, b""), out)
+        self.assertEqual((run.returncode, without_note(err.decode())), (0, ""), out)
         return Served(read_record(self.path("record")))
 
     def try_server(self, geometry, count, **plans):
@@ -524,7 +524,8 @@ class Servers(CutCase):
 
 
 class Formats(CutCase):
-    """A crash while a file is formatted leaves what was there, no store, or an empty one."""
+    """A crash while a file is formatted leaves what was there, no store, or an empty one. While the
+    file is being filled, each byte is written anew, and a crash may leave anything there."""
 
     def report(self, content):
         self.path("cut").write_bytes(content)
@@ -541,12 +542,14 @@ class Formats(CutCase):
         self.assertEqual(ended.status, 0, ended)
         made = self.path("store").read_bytes()
         empty = self.report(made)
+        filled = max(n for n, it in enumerate(calls) if (it.name, it.file) == ("fsync", "store"))
         for cut in cuts(before or bytes(len(made)), calls, "store"):
             for _ in range(max(1, OF_FORMATS // 40)):
                 report = self.report(image(self.random, cut))
                 is_done = cut.number == len(calls)
                 allowed = [empty] if is_done else [old, "refused 1 NotFormatted\n", empty]
-                self.assertIn(report, allowed, f"a crash at call {cut.number}")
+                if not old or cut.number > filled:
+                    self.assertIn(report, allowed, f"a crash at call {cut.number}")
                 self.assertEqual(self.silt("format", "cut", *words, "--force").status, 0)
                 self.assertEqual(self.report(self.path("cut").read_bytes()), empty)
         self.path("store").unlink()

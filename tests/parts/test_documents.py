@@ -25,7 +25,7 @@ import sys
 import unittest
 from dataclasses import dataclass, field
 
-from harness import PROGRAM, TIME_LIMIT, TOP, Case
+from harness import PROGRAM, TIME_LIMIT, TOP, Case, without_notes
 from served import free_port
 
 SHELLS = ("sh", "bash", "shell")
@@ -39,7 +39,7 @@ LEFT_OUT = {
     r"_tests_tests\b": "needs the test programs of crates",
     r"--bind 10\.": "needs an address of a network",
     r"^git\b": "works on the repository",
-    r"^tests/power\b": "runs virtual machines",
+    r"^tests/(power|unit)\b": "runs virtual machines",
     r"^apt-get\b": "installs packages",
 }
 if not shutil.which("redis-cli"):
@@ -249,7 +249,7 @@ class Documents(Shell):
         commands = self.with_free_ports(commands)
         self.shell(self.script_of(commands))
         for number, command in enumerate(commands):
-            printed = self.path(f"out.{number}").read_text(errors="replace")
+            printed = without_notes(self.path(f"out.{number}").read_text(errors="replace"))
             what = f"{command.place}: {command.text}"
             if not re.fullmatch(self.due(command), printed):
                 self.assertEqual(printed.splitlines(), command.shown, what)

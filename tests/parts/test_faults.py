@@ -170,7 +170,7 @@ class Runs(FaultCase):
     def judge_note(self, whole, ended):
         """A note that cannot be written is left out, and nothing else changes."""
         self.assertEqual((ended.status, ended.out), (whole.status, whole.out))
-        self.assertLess(len(ended.err), len(whole.err))
+        self.assertLess(len(ended.note + ended.err), len(whole.note + whole.err))
 
     def judge_notes(self, fault, ended, calls, at, is_open):
         """Why the session broke off comes first, then what is said of its lines, then the call that
@@ -282,6 +282,39 @@ class Runs(FaultCase):
             self.judge_run(job, Fault("fdatasync", "EIO"), whole, hidden, calls)
 
 
+# A list of file systems.
+LIST = re.compile(r"/proc/self/mountinfo|/sys/fs/ext4/.*")
+
+
+class Lists(FaultCase):
+    """The look at the system's lists of file systems. If a call of it fails, nothing is said of the
+    store's file system, and all else is as it was."""
+
+    def runs_with(self, job, fault):
+        """A run with this fault at each call on a list in turn."""
+        self.put_back(job.before)
+        _, calls = self.recorded(*job.words, text=job.text, lists=True)
+        same = [it for it in calls if it.name == fault.call]
+        for number, call in enumerate(same, 1):
+            if LIST.fullmatch(call.file):
+                self.put_back(job.before)
+                yield self.recorded(*job.words, text=job.text, lists=True, **fault.plan(number))[0]
+
+    def test_each_call_on_a_list(self):
+        job = Job(["run", "store"], LINES, self.store(GEOMETRY).read_bytes())
+        whole = self.plain(job)
+        at_end = self.left()
+        names = [Fault(it, error) for it in ("open", "read") for error in ("EACCES", "EIO", "EINTR")]
+        for fault in [*names, Fault("read")]:
+            tried = 0
+            for ended in self.runs_with(job, fault):
+                with self.subTest(call=fault.call, error=fault.error):
+                    note = whole.note if fault.is_none else ""
+                    self.assertEqual((ended, ended.note, self.left()), (whole, note, at_end))
+                tried += 1
+            self.assertGreater(tried, 0)
+
+
 class Pieces(WatchedCase):
     """Standard input in pieces, each read interrupted first, and streams that fail in the middle,
     letter for letter."""
@@ -342,12 +375,13 @@ class Pieces(WatchedCase):
     def check_writer(self, words, text, out, rooms):
         """The writer takes so many bytes, and then fails. If the pipe is closed, nothing is
         said."""
+        note = len(self.silt(*words.split(), text=text).note)
         for room in rooms:
             for error, said in (
                 ("EPIPE", ""),
                 ("ENOSPC", "silt: No space left on device (os error 28)\n"),
             ):
-                env = watching(self, short="write:1+", fail=f"write:{room + 1}:{error}")
+                env = watching(self, short="write:1+", fail=f"write:{note + room + 1}:{error}")
                 self.assertEqual(
                     self.silt(*words.split(), text=text, env=env),
                     Ended(1, out[:room], said),

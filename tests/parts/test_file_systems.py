@@ -1,20 +1,14 @@
-"""What people are told on a terminal of the file system in which a store lies: nothing, or one line.
+"""What is said on standard error of the file system in which a store lies: nothing, or one line.
 
 The system's own lists are hidden behind ones that are written here, in a mount namespace.
 """
-import concurrent.futures
 import os
-import pty
-import tty
 
-from harness import Case, mounting
+from harness import IN_MEMORY, NO_JOURNAL, REMOTE, Case, mounting
+from terminal import on_terminal
+from watch import WatchedCase
 
 SMALL = "2 2 4 2 2 8"
-IN_MEMORY = "it lies in memory, and is gone when the machine stops"
-REMOTE = "it lies on another machine, which may lose what was acknowledged if it stops"
-NO_JOURNAL = (
-    "it lies on ext4 without a journal, which may lose it, or what was acknowledged, in a power cut"
-)
 # Lists of mounted file systems, in which DEV is the store's device, and what is told.
 LISTS = {
     b"": None,
@@ -47,6 +41,7 @@ LISTS = {
     b"36 35 DEV / /mnt rw - \n": None,
     b"36\t35\tDEV\t/\t/mnt\trw\t-\tnfs\thost:/a\trw\n": None,
 }
+REMOTE_LIST = b"36 35 DEV / /mnt rw - nfs host:/a rw\n"
 EXT4 = b"27 1 DEV / / rw,relatime - ext4 /dev/root rw\n"
 # What the system says of the journal of an ext4.
 TASKS = {b"<none>\n": NO_JOURNAL, b"123\n": None, b"": None, b"<none>": None, None: None}
@@ -60,17 +55,6 @@ class FileSystems(Case):
         self.device = os.stat(self.folder).st_dev
         self.numbers = f"{os.major(self.device)}:{os.minor(self.device)}"
         self.store(SMALL)
-
-    def on_terminal(self, *words, text="get =a\n"):
-        """The output of a job, and what its terminal shows."""
-        terminal, inner = pty.openpty()
-        tty.setraw(inner)
-        with concurrent.futures.ThreadPoolExecutor(1) as pool, open(terminal, "rb", 0) as screen:
-            with self.start(*words, stderr=inner) as running:
-                os.close(inner)
-                shown = pool.submit(read_all, screen)
-                out = self.finish(running, text).out
-            return out, shown.result()
 
     def list(self, mounts, task=None):
         """Hides the system's lists behind these. The device has another name than its mount."""
@@ -88,9 +72,13 @@ class FileSystems(Case):
         if task is not None:
             journal.write_bytes(task)
 
+    def note(self, due, file="store"):
+        return f"silt: {file}: {due}\n" if due else ""
+
     def check(self, due, words="run store", out="opened\nabsent\n"):
-        note = f"silt: {words.split()[1]}: {due}\n" if due else ""
-        self.assertEqual(self.on_terminal(*words.split()), (out, note))
+        ended = self.silt(*words.split(), text="get =a\n")
+        note = self.note(due, words.split()[1])
+        self.assertEqual((ended.out, ended.note, ended.err), (out, note, ""))
 
     def test_each_list(self):
         for mounts, due in LISTS.items():
@@ -111,23 +99,58 @@ class FileSystems(Case):
 
     def test_each_job(self):
         """Jobs that write tell it, also of a file that is not there yet. A job that reads does
-        not, and nothing is told if the standard error is no terminal."""
-        self.list(b"36 35 DEV / /mnt rw - nfs host:/a rw\n")
+        not."""
+        self.list(REMOTE_LIST)
         self.check(REMOTE, "tend store", "opened\nconverted 0 steps, merged 0 steps\n")
         self.check(REMOTE, f"format new {SMALL}", "formatted 45056\n")
-        out, shown = self.on_terminal("run", "none/none")
-        self.assertEqual(out, "refused 5 Device\n")
-        self.assertNotIn(REMOTE, shown)
-        for words in ("check store", "dump store", f"script {SMALL}", "plan 1000 2"):
-            self.assertNotIn(REMOTE, self.on_terminal(*words.split(), text="")[1])
-        self.assertEqual(self.silt("run", "store", text="get =a\n").err, "")
+        self.check(REMOTE, f"format set {SMALL} --shards 2", "formatted 45056\n" * 2)
+        self.check(REMOTE, "run set --shards 2")
+        for words in ("check store", "dump store", f"script {SMALL}", "plan 1000 2", "run", "--help"):
+            ended = self.silt(*words.split())
+            self.assertEqual((ended.note, REMOTE in ended.err), ("", False), words)
+
+    def test_a_server(self):
+        """It is there before the server listens."""
+        self.list(REMOTE_LIST)
+        with self.start("serve", "store", 0) as running:
+            self.assertEqual(running.stdout.readline(), b"opened\n")
+            self.assertEqual(running.stderr.readline().decode(), self.note(REMOTE))
+            running.kill()
+
+    def test_a_file_that_is_not_there(self):
+        """Nothing is known of a folder that is not there."""
+        self.list(REMOTE_LIST)
+        ended = self.silt("run", "none/none")
+        self.assertEqual((ended.status, ended.out, ended.note), (1, "refused 5 Device\n", ""))
+        missing = self.silt("run", "none")
+        self.assertEqual((missing.status, missing.note), (1, self.note(REMOTE, "none")))
+
+    def test_a_terminal(self):
+        self.list(REMOTE_LIST)
+        status, out, shown = on_terminal(self, "run", "store", text="get =a\n")
+        self.assertEqual((status, out, shown), (0, "opened\nabsent\n", self.note(REMOTE)))
+
+    def test_no_standard_error(self):
+        """A note that cannot be written changes nothing."""
+        self.list(REMOTE_LIST)
+        with open("/dev/full", "wb") as full:
+            ended = self.finish(self.start("run", "store", stderr=full), "get =a\n")
+        self.assertEqual((ended.status, ended.out), (0, "opened\nabsent\n"))
+        self.starter = [*self.starter, "sh", "-c", 'exec "$@" 2>&-', "sh"]
+        ended = self.silt("run", "store", text="get =a\n")
+        self.assertEqual((ended.status, ended.out, ended.note), (0, "opened\nabsent\n", ""))
 
 
-def read_all(screen):
-    shown = b""
-    try:
-        while part := screen.read(4096):
-            shown += part
-    except OSError:
-        pass
-    return shown.decode()
+class Streams(WatchedCase):
+    """A store that is a standard stream. Its folder lies in memory, as the system's own lists say."""
+
+    def test_nothing_is_said_of_it(self):
+        """It could go into the store."""
+        before = self.store(SMALL).read_bytes()
+        if self.silt("run", "store").note != f"silt: store: {IN_MEMORY}\n":
+            self.skipTest("there is no place in memory here")
+        for stream in ("stdin", "stdout", "stderr"):
+            with open(self.path("store"), "r+b") as file:
+                ended = self.finish(self.start("run", "store", **{stream: file}))
+            self.assertEqual((ended.status, ended.note), (1, ""), stream)
+            self.assertEqual(self.path("store").read_bytes(), before, stream)

@@ -6,7 +6,7 @@ import subprocess
 import unittest
 
 from commands import answer, done, value_of
-from harness import PROGRAM, Case, Ended, mounting, scaled
+from harness import PROGRAM, Case, Ended, mounting, scaled, without_note, without_notes
 from served import ServedCase
 from watch import WatchedCase, watching
 
@@ -80,7 +80,7 @@ class Files(Case):
             capture_output=True,
             text=True,
         )
-        return ran.stdout, ran.stderr
+        return ran.stdout, without_notes(ran.stderr)
 
     def test_a_new_file_on_a_full_disk(self):
         """It is refused at once, and removed."""
@@ -163,8 +163,8 @@ class Formats(WatchedCase):
         self.check_formatted(ended)
         self.assertEqual(ended.err, OVERWRITTEN.format(held))
         changed = next(n for n, it in enumerate(calls) if it.name in ("pwrite", "ftruncate"))
-        notes = "".join(it.moved.decode() for it in calls[:changed] if it.file == "standard error")
-        self.assertEqual(notes, ended.err)
+        said = "".join(it.moved.decode() for it in calls[:changed] if it.file == "standard error")
+        self.assertEqual(without_note(said), ended.err)
 
     def test_a_store_with_keys_stays(self):
         """Whatever the new numbers are."""

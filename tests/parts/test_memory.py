@@ -12,7 +12,7 @@ import unittest
 
 from commands import answer, differs, is_command, tried
 from failing import DEVICE, GEOMETRY, KEYS, LINES, LIVES, NO_STORE, Job, JobCase
-from harness import PROVED, TIME_LIMIT, TOP, Ended
+from harness import PROVED, TIME_LIMIT, TOP, Ended, without_note
 from watch import read_counts, watching
 
 NO_MEMORY = "refused 6 NoMemory\n"
@@ -276,7 +276,8 @@ class Servers(MemoryCase):
             except subprocess.TimeoutExpired:
                 running.send_signal(signal.SIGTERM)
                 rest, err = running.communicate(timeout=TIME_LIMIT)
-        return running.returncode, first + second + rest.decode(), err.decode(), replies
+        out = first + second + rest.decode()
+        return running.returncode, out, without_note(err.decode()), replies
 
     def judge_session(self, replies):
         """Judges the replies to the lines, and returns the maps that the file may be."""

@@ -3,14 +3,16 @@
 Guests need packages of Debian and a kernel (`tests/power prepare`). Without them the run is left
 out.
 """
+import contextlib
 import random
 import socket
 import struct
 import subprocess
 import sys
 import unittest
+from unittest import mock
 
-from harness import PROGRAM, SEED, TESTS, TIME_LIMIT, Case
+from harness import PROGRAM, SEED, TESTS, TIME_LIMIT, Case, setting, without_note
 from power_disk import (
     BLOCK,
     FLUSH,
@@ -27,19 +29,42 @@ from power_disk import (
     Written,
     cut,
 )
-from power_guest import missing
+from power_guest import Guest, GuestDied, missing
+from power_lives import FILE_SYSTEMS, STORE, Chain, Rig, mounted
 from power_loads import Stream, judge
 
 # The minutes of a run, and the seconds that it may take: the last chain of lives goes on to its end.
-MINUTES = 2
-LIMIT = 720
+MINUTES = float(setting("POWER", "2"))
+LIMIT = 60 * MINUTES + 600
 OLD, NEW, NEWEST = b"\1" * BLOCK, b"\2" * BLOCK, b"\3" * BLOCK
 
 
 class Guests(Case):
-    def test_real_file_systems(self):
+    def setUp(self):
+        super().setUp()
         if lacks := missing():
             self.skipTest(f"no guest can run here without {', '.join(lacks)}")
+
+    def test_what_is_said_of_a_file_system(self):
+        """A real kernel's lists: something is said of an ext4 without a journal, and of no other."""
+        ext4 = [it for it in FILE_SYSTEMS if it.kind == "ext4" and it.options == "defaults"]
+        try:
+            root = Rig(PROGRAM.resolve(), self.folder).root("ext4")
+            with contextlib.closing(Guest(self.folder, root, ext4[0].made())) as guest:
+                said = {it.name: self.says_something(guest, it) for it in ext4}
+        except (GuestDied, ConnectionError) as died:
+            self.skipTest(f"a guest ended early: {died}")
+        self.assertEqual(said, {it.name: it.has_note for it in ext4})
+
+    def says_something(self, guest, fs):
+        """Whether a format on this file system says something against it."""
+        guest.disk.insert(fs.made())
+        guest.must(mounted(fs))
+        said = guest.must(f"silt format {STORE} 2 2 4 2 2 8")
+        guest.must("umount /mnt")
+        return without_note(said) != said
+
+    def test_real_file_systems(self):
         words = [sys.executable, TESTS / "power", "--minutes", str(MINUTES), "--seed", str(SEED)]
         words += ["--program", PROGRAM, "--keep", self.path("kept")]
         words += ["--lives", "2", "--commands", "200"]
@@ -153,6 +178,26 @@ class Export(Case):
         self.assertEqual(self.disk.log, [])
         self.served(write[2000:])
         self.assertEqual(self.disk.image.read(0, BLOCK), NEW)
+
+
+class Deaths(unittest.TestCase):
+    """A guest that gives no answer while it looks at a cut."""
+
+    def found(self, **another):
+        """What is found by a chain whose guest dies, if another guest finds this."""
+        died = mock.Mock(side_effect=GuestDied("no answer"))
+        chain = Chain(FILE_SYSTEMS[0], 1, mock.Mock(fresh=False), random.Random(SEED), None)
+        chain.guest = mock.Mock(run=died)
+        with mock.patch("power_lives.find_anew", **another):
+            found = chain.find(Image(BLOCK))
+        self.assertTrue(chain.has_died)
+        return found
+
+    def test_another_guest_looks(self):
+        self.assertEqual(self.found(return_value=({"a": "1"}, "said")), ({"a": "1"}, "said"))
+
+    def test_both_die(self):
+        self.assertEqual(self.found(side_effect=GuestDied("again")), ("died", "again"))
 
 
 class Judge(unittest.TestCase):

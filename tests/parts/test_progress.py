@@ -3,14 +3,11 @@
 It is written again after reads of 16 MiB, or of 65,536 heads of rows. It ends before any other note
 or reply, and after that there is none.
 """
-import concurrent.futures
-import os
-import pty
-import tty
 import unittest
 
 from harness import PROVED, without_note
 from layout import COUNT, KEY_LEN, OPEN, SLOTS, Layout, as_version_1
+from terminal import on_terminal
 from watch import WatchedCase, read_record, watching
 
 # A read counts with its bytes, but with so many at least.
@@ -51,21 +48,11 @@ class Progress(WatchedCase):
             image[at:at + KEY_LEN] = number.to_bytes(KEY_LEN, "big")
         self.path("store").write_bytes(image)
 
-    def on_terminal(self, *words, text="", replies=None):
-        """Runs the program with its standard error on a terminal, to its end or until it has
-        printed so many replies. Its status, its output, and what the terminal shows."""
-        terminal, inner = pty.openpty()
-        tty.setraw(inner)
-        with concurrent.futures.ThreadPoolExecutor(1) as pool, open(terminal, "rb", 0) as screen:
-            with self.start(*words, stderr=inner, env=watching(self, log="record")) as running:
-                os.close(inner)
-                shown = pool.submit(read_all, screen)
-                if replies is None:
-                    out = self.finish(running, text).out
-                else:
-                    out = "".join(running.stdout.readline().decode() for _ in range(replies))
-                    running.kill()
-            return running.returncode, out, without_note(shown.result())
+    def on_terminal(self, *words, **how):
+        """A watched run on a terminal: its status, its output, and what the terminal shows."""
+        env = watching(self, log="record")
+        status, out, shown = on_terminal(self, *words, env=env, **how)
+        return status, out, without_note(shown)
 
     def check_times(self):
         """The line was written right behind each read that made it due, and before the next one.
@@ -180,14 +167,3 @@ class Progress(WatchedCase):
         self.assertEqual((status, out, shown), (0, "opened\n", "".join(lines) + END))
         cost, _ = self.check_times()
         self.assertEqual(cost // STEP, 2)
-
-
-def read_all(terminal):
-    """What a terminal shows, to the end. The system reports that as an error."""
-    shown = b""
-    try:
-        while part := terminal.read(4096):
-            shown += part
-    except OSError:
-        pass
-    return shown.decode()

@@ -60,68 +60,45 @@ class Replies(ServedCase):
             self.found(*map(digits, range(1, 6))), [f"value {it:04}" for it in range(1, 6)]
         )
 
+    def ended_after(self, *lines, end="\n"):
+        """Each line, one behind the other, has the reply beside it. How the server ends."""
+        replies, ended = self.answers("".join(line + end for line, _ in lines))
+        self.assertEqual(replies, [reply for _, reply in lines])
+        return ended
+
     def test_swaps(self):
-        lines = [
-            "swap =abc 0102 0304",
-            "put =abc 0102",
-            "swap =abc 0102 0304",
-            "swap =abc 0102 0506",
-            "get =abc",
-            "delete =abc",
-            "swap =abc 0304 0506",
-            "flush",
-        ]
-        replies, ended = self.answers("".join(line + "\n" for line in lines))
-        self.assertEqual(
-            replies,
-            [
-                "differs",
-                "accepted 1",
-                "accepted 2",
-                "differs",
-                "value 0304",
-                "accepted 3",
-                "differs",
-                "acknowledged 3",
-            ],
+        ended = self.ended_after(
+            ("swap =abc 0102 0304", "differs"),
+            ("put =abc 0102", "accepted 1"),
+            ("swap =abc 0102 0304", "accepted 2"),
+            ("swap =abc 0102 0506", "differs"),
+            ("get =abc", "value 0304"),
+            ("delete =abc", "accepted 3"),
+            ("swap =abc 0304 0506", "differs"),
+            ("flush", "acknowledged 3"),
         )
         # 6 commands, those that differ too, a flush behind each, and the flush.
         self.check_calls(ended, 13)
         self.assertEqual(self.found("=abc"), ["absent"])
 
     def test_swaps_from_and_to_no_value(self):
-        lines = [
-            "swap =abc 0102 -",
-            "swap =abc - 0102",
-            "swap =abc - 0304",
-            "get =abc",
-            "swap =abc - -",
-            "swap =abc 0102 -",
-            "get =abc",
-            "swap =abc - 0506",
-            "flush",
-        ]
-        replies, ended = self.answers("".join(line + "\n" for line in lines))
-        self.assertEqual(
-            replies,
-            [
-                "differs",
-                "accepted 1",
-                "differs",
-                "value 0102",
-                "refused 22 BadValue",
-                "accepted 2",
-                "absent",
-                "accepted 3",
-                "acknowledged 3",
-            ],
+        ended = self.ended_after(
+            ("swap =abc 0102 -", "differs"),
+            ("swap =abc - 0102", "accepted 1"),
+            ("swap =abc - 0304", "differs"),
+            ("get =abc", "value 0102"),
+            ("swap =abc - -", "refused 22 BadValue"),
+            ("swap =abc 0102 -", "accepted 2"),
+            ("get =abc", "absent"),
+            ("swap =abc - 0506", "accepted 3"),
+            ("flush", "acknowledged 3"),
         )
         # 5 commands, those that differ too, a flush behind each, and the flush.
         self.check_calls(ended, 11)
         self.assertEqual(self.found("=abc"), ["value 0506"])
 
     def test_other_lines(self):
-        lines = [
+        self.ended_after(
             ("flush", "acknowledged 0"),
             ("get =pear", "absent"),
             ("put =pear 0A0b", "accepted 1"),
@@ -156,9 +133,8 @@ class Replies(ServedCase):
             ("get =pear", "value 0c0d"),
             ("swap =pear 0c0D -", "accepted 5"),
             ("get =pear", "absent"),
-        ]
-        replies, _ = self.answers("".join(line + "\r\n\n\r\n" for line, _ in lines))
-        self.assertEqual(replies, [reply for _, reply in lines])
+            end="\r\n\n\r\n",
+        )
 
     def test_store_full(self):
         server = self.serve("--sessions", 1)

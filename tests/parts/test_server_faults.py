@@ -5,7 +5,7 @@ import signal
 import subprocess
 import unittest
 
-from harness import TIME_LIMIT
+from harness import TIME_LIMIT, without_note
 from served import CONVERTER, DESCRIPTORS, MERGER, MOST_SESSIONS, ROOMY, SMALL, ServedCase, digits
 from watch import read_record, watching
 
@@ -160,7 +160,7 @@ class Limits(ServedCase):
         """How a server ends whose output goes where it cannot be written."""
         running = self.start("serve", "store", 0, stdin=subprocess.DEVNULL, stdout=stdout)
         _, errors = running.communicate(timeout=TIME_LIMIT)
-        return running.returncode, errors.decode()
+        return running.returncode, without_note(errors.decode())
 
     def test_output_that_cannot_be_written(self):
         with open("/dev/full", "wb") as full:

@@ -63,9 +63,14 @@ swap KEY OLD NEW  sets the value of a key to NEW if it is OLD; - is no value
 get KEY           prints the value of a key
 flush             makes all accepted commands safe from crashes
 """
+FACTS = "info              prints the numbers of the store, a line each\n"
 STEPS = "convert, merge    does one step of background work\n"
 STOPS = "stop K FILL       crashes the life before it at its K-th write or sync\n"
-HELP_OF_LINES = {"run": LINES + STEPS, "script": LINES + STEPS + STOPS, "serve": LINES}
+HELP_OF_LINES = {
+    "run": LINES + FACTS + STEPS,
+    "script": LINES + STEPS + STOPS,
+    "serve": LINES + FACTS,
+}
 MORE = """KEY is 40 hexadecimal digits, or = and a name. VALUE, OLD and NEW have two hexadecimal digits a byte.
 docs/program.md has these lines, and the replies to them.
 """

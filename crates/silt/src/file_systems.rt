@@ -1,7 +1,8 @@
 // What people are told of the file system in which a job's store lies.
 
+use crate::clash::clash_of;
 use crate::mounts::{Mount, Weakness, mount_of, weakness_of};
-use silt_jobs::print_of;
+use crate::standard_streams::StandardStreams;
 use silt_words::Job;
 use std::alloc::Global;
 use std::fs::{self, File, Metadata};
@@ -13,9 +14,10 @@ use std::rt::Files;
 /// The lines of the mounted file systems.
 const MOUNTS: &str = "/proc/self/mountinfo";
 
-/// Tells why the file system of a job's file may not keep what it has synced, if that is known. A check and a dump write
-/// nothing that could be lost. Of a system that does not say what it has mounted nothing is told.
-pub fn tell_weakness<R: Files<File = File>, W: Write>(
+/// Tells why the file system of a job's file may not keep what it has synced, if that is known, by one write. A check and a
+/// dump write nothing that could be lost. Of a system that does not say what it has mounted nothing is told, and neither is
+/// anything of a file that is a standard stream: it could go into that file.
+pub fn tell_weakness<R: Files<File = File> + StandardStreams, W: Write>(
     alloc: Global,
     system: &R,
     job: &Job<'_>,
@@ -26,9 +28,11 @@ pub fn tell_weakness<R: Files<File = File>, W: Write>(
         _ => job.file(),
     };
     if let Some(file) = file
+        && clash_of(system, job).is_none()
         && let Ok(Some(weakness)) = weakness_at(alloc, system, file)
+        && let Ok(note) = format!(in alloc; "silt: {file}: {weakness}\n")
     {
-        print_of(file, &weakness, out);
+        let _ = out.write_all(note.as_bytes());
     }
 }
 

@@ -71,8 +71,8 @@ fn main(rt: HostRuntime) -> ExitCode {
 }
 
 // Does the job that the process's own words name, prints how it ended to `errors`, and returns the exit status. What cannot
-// wait for that goes there too, but the first failed write or sync of a served store, and the progress of an opening, if it is
-// a terminal, go to `at_once`.
+// wait for that goes there too, but what is known against the file system, the first failed write or sync of a served store,
+// and the progress of an opening, if it is a terminal, go to `at_once`.
 fn done<
     S: Runtime
         + AllocGlobal
@@ -96,9 +96,8 @@ fn done<
         }
     };
     let words = words.as_slice();
-    if let Some(mut people) = terminal(at_once)
-        && let Ok(job) = read_words(rt.alloc(), words)
-    {
+    if let Ok(job) = read_words(rt.alloc(), words) {
+        let mut people = at_once;
         tell_weakness(rt.alloc(), rt, &job, &mut people);
     }
     let files = WatchedFiles::new(FileDisks::new(rt, &progress), at_once, &progress);
