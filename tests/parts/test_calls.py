@@ -30,6 +30,8 @@ from watch import WatchedCase
 # How many buffers a disk in a file has, and how many bytes fit one.
 BUFFERS = 3
 ROOM = 65536
+# The mark of a shard: a run and a server read it before they open a store, and a format before it formats.
+MARK = (2048, 37)
 # What each opening and each check reads first: the header and the two manifest slots.
 HEAD = [(0, HEADER_LEN), (SLOTS[0], SLOT_LEN), (SLOTS[1], SLOT_LEN)]
 G = "2 2 4 2 2 8"
@@ -538,8 +540,8 @@ class Jobs(CallCase):
         self.store(G, [f"put {A} 0001", "flush"])
         calls = self.opened(self.calls_of([])[0], 0o2, 6)
         self.assertEqual(changes(calls), [("fsync", "store"), SYNC])
-        self.assertEqual(reads(calls), [*HEAD, (12288, 4), (16384, ROW_HEAD)])
-        self.assertEqual([it.name for it in calls[:3]], ["fsync", "fdatasync", "pread"])
+        self.assertEqual(reads(calls), [MARK, *HEAD, (12288, 4), (16384, ROW_HEAD)])
+        self.assertEqual([it.name for it in calls[:4]], ["fsync", "pread", "fdatasync", "pread"])
 
     def test_an_opening_that_seals(self):
         """Gates after the first closed one are open: those after it are closed, and it is not
@@ -585,8 +587,7 @@ class Jobs(CallCase):
         at = names.index("ftruncate")
         self.assertLess(names.index("fsync"), at)
         self.assertEqual(reads(calls[:at]), looks, "what is lost")
-        mark = (2048, 37)
-        self.assertEqual(reads(calls[at:]), [(0, 45056), mark] if filled else [mark])
+        self.assertEqual(reads(calls[at:]), [(0, 45056), MARK] if filled else [MARK])
 
     def test_a_format(self):
         # Of a store it reads the header, what a check reads, and the header again for its numbers.
@@ -904,11 +905,11 @@ class Reads(CallCase):
         calls = self.calls_of([])[0]
         active = [(self.layout.gates(0), 8), self.row(0, ROW_HEAD)]
         frozen = [(self.layout.gates(1), 8)] + [self.row(n, ROW_HEAD, log=1) for n in range(8)]
-        self.assertEqual(reads(calls), HEAD + active + frozen + [self.entry(0, 8 * 22)])
+        self.assertEqual(reads(calls), [MARK] + HEAD + active + frozen + [self.entry(0, 8 * 22)])
         self.silt("run", "store", text="convert\n" * 257)
         slots = [(self.layout.hash_region(0), 256 * 23)]
         self.assertEqual(
-            reads(self.calls_of([])[0]), HEAD + active + slots + [self.entry(0, 8 * 22)]
+            reads(self.calls_of([])[0]), [MARK] + HEAD + active + slots + [self.entry(0, 8 * 22)]
         )
 
     def test_long_values(self):

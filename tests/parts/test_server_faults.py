@@ -104,8 +104,8 @@ class Flushes(ServedCase):
         self.assertEqual({flush for _, flush in replies}, {"refused 9 Failed"})
 
     def test_a_read_that_fails(self):
-        # The opening makes four reads, and the put of the first key none.
-        server = self.serve(env=watching(self, fail="pread:5:EIO"))
+        # The opening makes five reads, one of the mark of a shard, and the put of the first key none.
+        server = self.serve(env=watching(self, fail="pread:6:EIO"))
         client = self.client(server)
         self.assertEqual(client.ask("put =abc 0102"), ["accepted 1"])
         replies = client.ask(*["get =abc"] * 8)

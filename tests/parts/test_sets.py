@@ -1,5 +1,6 @@
 """Sets of files, each a shard of one store: what `format --shards` makes, `run --shards` opens, and
-what it refuses."""
+what they and jobs on one file of a set refuse."""
+import fcntl
 import hashlib
 import os
 import shutil
@@ -265,14 +266,68 @@ class Refusals(SetCase):
         self.assertTrue(ran.err.startswith("silt: store.3: "), ran)
 
     def test_a_file_in_use(self):
-        with self.start("run", "store.2") as running:
-            running.stdin.write(b"get =a\n")
-            running.stdin.flush()
-            running.stdout.readline()
+        with self.path("store.2").open("r+b") as file:
+            fcntl.flock(file, fcntl.LOCK_EX)
             ran = self.silt("run", "store", "--shards", 4)
             self.assertEqual((ran.status, ran.out), (1, "refused 5 Device\n"))
             self.assertTrue(ran.err.startswith("silt: store.2: "), ran)
-            self.finish(running)
+
+
+class Alone(SetCase):
+    """One file of a set is no store of its own for jobs that may put keys of other shards there."""
+
+    def setUp(self):
+        super().setUp()
+        self.format(4)
+        self.silt("run", "store", "--shards", 4, text="put =a 01020304\nflush\n")
+
+    def assert_alone_refused(self, name, note):
+        """A run and a server of the file are refused so, and it does not change."""
+        before = self.path(name).read_bytes()
+        for job in (("run", name), ("run", name, "--tend"), ("serve", name, 0), ("serve", name, 0, "--resp")):
+            ended = self.silt(*job, text="put =b 01020304\nflush\n")
+            self.assertEqual(ended, Ended(1, GEOMETRY, f"silt: {name}: {note}\n"), job)
+            self.assertEqual(self.path(name).read_bytes(), before, job)
+
+    def test_a_shard(self):
+        for shard in range(4):
+            self.assert_alone_refused(
+                f"store.{shard}", f"it is shard {shard} of 4; use run --shards 4"
+            )
+        ran = self.silt("run", "store", "--shards", 4, text="get =a\n")
+        self.assertEqual(ran, Ended(0, "opened\nvalue 01020304\n", ""))
+
+    def test_a_mark_of_another_version(self):
+        with self.path("store.2").open("r+b") as file:
+            file.seek(MARK + 12)
+            file.write(b"\x02")
+        self.assert_alone_refused(
+            "store.2", "its mark of a shard is of another version, or damaged"
+        )
+
+    def test_a_damaged_shard(self):
+        """The mark is read before the store."""
+        with self.path("store.3").open("r+b") as file:
+            file.write(b"\0")
+        self.assert_alone_refused("store.3", "it is shard 3 of 4; use run --shards 4")
+
+    def test_jobs_that_take_a_shard(self):
+        for shard in range(4):
+            self.assert_checked(self.silt("check", f"store.{shard}"), f"store.{shard}")
+            self.assertEqual(self.silt("dump", f"store.{shard}").status, 0)
+            tended = self.silt("tend", f"store.{shard}")
+            self.assertEqual((tended.status, tended.err), (0, ""))
+
+    def test_a_formatted_shard_is_a_store(self):
+        self.store(SMALL, name="store.1")
+        self.assert_ends("run store.1", "opened\nabsent\n", text="get =a\n")
+
+    def test_a_file_that_ends_in_the_mark(self):
+        """A file that is too short for a mark is no store, and has none."""
+        os.truncate(self.path("store.0"), MARK + 36)
+        ran = self.silt("run", "store.0")
+        self.assertEqual((ran.status, ran.out), (1, "refused 3 Damaged length\n"))
+        self.assertNotIn("shard", ran.err)
 
 
 class Words(SetCase):

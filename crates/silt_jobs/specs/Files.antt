@@ -15,7 +15,7 @@ use Rattle.silt_jobs.specs.Ended.{Refuses}
 use Rattle.silt_jobs.specs.HeldData.{Looks, TellsStore, overwritten}
 use Rattle.silt_jobs.specs.Jobs.{Checks, Formats, RunsOpened, TendsOpened}
 use Rattle.silt_jobs.specs.Numbers.{shape_asked}
-use Rattle.silt_jobs.specs.Openings.{RefusesNoDisk, RefusesOpening}
+use Rattle.silt_jobs.specs.Openings.{OnDisk, RefusesDisk, RefusesNoDisk, RefusesUnopened}
 use Rattle.silt_jobs.specs.declared.ended.Ended.{Ended}
 use Rattle.silt_jobs.specs.declared.ended.Why.TheVariants.{OutOfLimits, Refused}
 use Rattle.silt_jobs.specs.declared.failures.Failures.{Failures}
@@ -25,23 +25,33 @@ use Rattle.silt_jobs.specs.declared.tally.Tally.{Tally}
 use Rattle.silt_jobs.specs.declared.urgent.Urgent.{Urgent}
 
 module _ {D F : Type 0} (facts : Ghosts D F) where
-  -- the store on the disk that the source opened was opened, this was done with it, and the disk is returned
-  abbrev pub Opened : (D → Type 0) → (CoreState D → D → Type 0) → Option D → Type 0
-  Opened Given Done given = (old : D) × Given old × ((core : CoreState D) × Opens facts (facts.content old) core × IsSomeAnd given (λ new. Done core new))
+  -- the store on a disk was opened, this was done with it, and the disk is returned
+  abbrev pub Opened : D → (CoreState D → D → Type 0) → Option D → Type 0
+  Opened old Done given = (core : CoreState D) × Opens facts (facts.content old) core × IsSomeAnd given (λ new. Done core new)
 
 module _ {D E F W : Type 0} (facts : Ghosts D F) (Failed : D → Failures → Type 0) (contents : W → Option (List ℕ)) (kept_error : W → Option StreamError) (kept_tally : W → Tally)
     (options : RunOptions) where
-  -- one life of the store on the disk that the source opened, or it was not opened
+  -- one life of the store on a disk, or it was not opened: a disk with a mark is not
+  abbrev pub RunsDisk : Option StreamError → D → Option D → Ended E F → Option (List ℕ) → Option (List ℕ) → W → W → Type 0
+  RunsDisk reading disk given ended remaining left before after =
+      RefusesDisk facts disk given ended (contents before) (contents after)
+      ⊎ (Says facts disk Unmarked × Opened facts disk (λ core new. RunsOpened facts Failed contents kept_error kept_tally options reading core new ended remaining left before after) given)
+
+  -- one life of the store on the disk that the source opened, or it opened none
   abbrev pub RunsFile : (D → Type 0) → (E → Type 0) → Option StreamError → Option D → Ended E F → Option (List ℕ) → Option (List ℕ) → W → W → Type 0
   RunsFile Given NotGiven reading given ended remaining left before after =
-      RefusesOpening facts Given NotGiven given ended (contents before) (contents after)
-      ⊎ Opened facts Given (λ core new. RunsOpened facts Failed contents kept_error kept_tally options reading core new ended remaining left before after) given
+      OnDisk Given NotGiven (λ disk. RunsDisk reading disk given ended remaining left before after) given ended (contents before) (contents after)
 
 module _ {D E F : Type 0} (facts : Ghosts D F) where
-  -- the background work of the store on the disk that the source opened, or it was not opened
+  -- the background work of the store on a disk, or it was not opened
+  abbrev pub TendsDisk : (D → Failures → Type 0) → Option ℕ → D → Option D → Ended E F → Option (List ℕ) → Option (List ℕ) → Type 0
+  TendsDisk Failed merge_at disk given ended before after =
+      RefusesUnopened facts disk given ended before after ⊎ Opened facts disk (λ core new. TendsOpened facts Failed merge_at core new ended before after) given
+
+  -- the background work of the store on the disk that the source opened, or it opened none
   abbrev pub TendsFile : (D → Failures → Type 0) → Option ℕ → (D → Type 0) → (E → Type 0) → Option D → Ended E F → Option (List ℕ) → Option (List ℕ) → Type 0
   TendsFile Failed merge_at Given NotGiven given ended before after =
-      RefusesOpening facts Given NotGiven given ended before after ⊎ Opened facts Given (λ core new. TendsOpened facts Failed merge_at core new ended before after) given
+      OnDisk Given NotGiven (λ disk. TendsDisk Failed merge_at disk given ended before after) given ended before after
 
   -- a check of the disk that the source opened, which is returned, or it opened none
   abbrev pub ChecksFile : (D → Type 0) → (E → Type 0) → Option D → Ended E F → Option (List ℕ) → Option (List ℕ) → Type 0

@@ -18,7 +18,6 @@ use Rattle.silt_shards.specs.Opening.{AreOfOneShape, AreShards, IsRefusedSet}
 use Rattle.silt_shards.specs.Routing.{IsShardCount}
 use Rattle.silt_shards.specs.Sets.{SetDoes, value_len_of}
 use Rattle.silt_shards.specs.declared.fault.SetCause.{SetCause}
-use Rattle.silt_shards.specs.declared.fault.SetCause.TheVariants.{NotDue as IsNotDue, Refused as IsRefusedSo}
 use Rattle.silt_shards.specs.declared.mark.Marking.TheVariants.{Marked}
 use Rattle.silt_event.specs.Queries.{AnswersQuery}
 use Rattle.silt_event.specs.declared.facts.Facts.{Facts}
@@ -34,11 +33,12 @@ use Rattle.silt_jobs.specs.BackgroundWork.{GivesTended, PlainRefusal, TendedStat
 use Rattle.silt_jobs.specs.Ended.{Refuses, none_failed}
 use Rattle.silt_jobs.specs.Files.{FormatsFile, sized_by}
 use Rattle.silt_jobs.specs.Jobs.{PrintsUntended, run_status, session_error}
+use Rattle.silt_jobs.specs.Openings.{IsWhy}
 use Rattle.silt_jobs.specs.declared.ended.Ended.{Ended}
 use Rattle.silt_jobs.specs.declared.ended.Found.{Found}
 use Rattle.silt_jobs.specs.declared.ended.Found.TheVariants.{Session as Ran, Shard}
 use Rattle.silt_jobs.specs.declared.ended.Why.{Why}
-use Rattle.silt_jobs.specs.declared.ended.Why.TheVariants.{FewRegions, NoDisk, NoJob, NotDue, Refused}
+use Rattle.silt_jobs.specs.declared.ended.Why.TheVariants.{FewRegions, NoDisk, NoJob, Refused}
 use Rattle.silt_jobs.specs.declared.sets.SetSession.{SetSession}
 use Rattle.silt_jobs.specs.declared.streams.StreamError.{StreamError}
 use Rattle.silt_jobs.specs.declared.tally.Tally.{Tally}
@@ -153,11 +153,6 @@ abbrev pub OpensSession : {A W : Type 0} → (A → A → Event → PlainReply �
 OpensSession answers informs contents end value_len old new remaining left before after =
     (opened : Option (List ℕ)) × Appends (contents before) opened (codes "opened\n") × Ends (AnswersQuery (SetDoes answers) (SetInforms informs)) end value_len
     (record { answerer = old; remaining = remaining; contents = opened }) (record { answerer = new; remaining = left; contents = contents after })
-
--- why a job on a set is refused, by what is wrong with a shard
-abbrev pub IsWhy : {E F : Type 0} → SetCause F → Why E F → Type 0
-IsWhy (IsNotDue fault) why = why ≡ NotDue fault
-IsWhy (IsRefusedSo refusal) why = (at : Option ℕ) × (why ≡ Refused refusal at)
 
 -- the shards have fewer hash regions than the hash stores of which a merge is to begin
 abbrev pub HasFewRegions : {D : Type 0} → Option ℕ → List (CoreState D) → ℕ → Type 0

@@ -42,7 +42,7 @@ pub enum Why<E, F> {
     NotListening(SocketAddr, StreamError),
     /// The system gave no random bytes to name a set.
     NoRandom(StreamError),
-    /// The file is not the shard of a set that is due.
+    /// The file is not what is due: a shard of a set, or a store of its own.
     NotDue(MarkFault),
     /// The words name no job.
     NoJob,

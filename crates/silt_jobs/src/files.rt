@@ -4,7 +4,7 @@ ghost use Rattle.silt_disk.specs.Disk.{GaveAny, size};
 ghost use Rattle.silt_disk.specs.Layout.{device_size};
 ghost use Rattle.silt_shards.specs.Marks.{mark_at, mark_len};
 ghost use Rattle.silt_jobs.specs.Ended.{HasFailed};
-ghost use Rattle.silt_jobs.specs.Files.{ChecksFile, FormatsFile, FormatsFound, FormatsSized, FormatsUnmarked, RunsFile, TendsFile, Unmarks, sized_by};
+ghost use Rattle.silt_jobs.specs.Files.{ChecksFile, FormatsFile, FormatsFound, FormatsSized, FormatsUnmarked, RunsFile, TendsDisk, TendsFile, Unmarks, sized_by};
 ghost use Rattle.silt_jobs.specs.HeldData.{TellsStore};
 
 use crate::background_work::Tended;
@@ -13,7 +13,7 @@ use crate::failure::Watched;
 use crate::geometry::geometry_of;
 use crate::held_data::{HeldStore, may_overwrite};
 use crate::jobs::{check_on, format_on, run_opened, tend_opened};
-use crate::not_opened::open_store;
+use crate::not_opened::{given_disk, open_on, open_store};
 use crate::streams::{KeepsError, KeepsLines, KeepsTally};
 use crate::urgent::{Tells, Urgent};
 use silt_device::DiskSource;
@@ -166,8 +166,8 @@ fn unmark<D: Disk>(disk: &mut D) -> Result<(), D::Fault>
     }
 }
 
-/// One life of the store on the disk of a path, from the reader's lines. Returns the disk, and how the job ended. The status
-/// is 1 if the disk or the store is not opened, and else that of [`run_opened`].
+/// One life of the store on the disk of a path, from the reader's lines. A shard of a set is refused. Returns the disk, and
+/// how the job ended. The status is 1 if the disk or the store is not opened, and else that of [`run_opened`].
 pub fn run_file<
     S: DiskSource,
     R: Read + KeepsError + KeepsLines,
@@ -210,7 +210,22 @@ where
     ensures { TendsFile S.Disk.Disk (HasFailed S.Disk.Watched.kept_read S.Disk.Watched.last_failure) merge_at
         (S.opened source path.now) (S.not_opened source path.now) result.0 result.1 (W.contents writer.old) (W.contents writer.new) }
 {
-    match open_store(alloc, source.open(path)) {
+    match given_disk(source.open(path)) {
+        Ok(disk) => tend_on(alloc, disk, merge_at, writer),
+        Err(unopened) => unopened.refuse(alloc, writer),
+    }
+}
+
+// Does all background work of the store on a disk, as `tend_file` does. It may be a shard of a set.
+fn tend_on<E: Drop, D: Watched, W: Write>(
+    alloc: Global,
+    disk: D,
+    merge_at: Option<u32>,
+    writer: &mut W,
+) -> (Option<D>, Ended<E, D::Fault>)
+    ensures { TendsDisk D.Disk (HasFailed D.kept_read D.last_failure) merge_at disk result.0 result.1 (W.contents writer.old) (W.contents writer.new) }
+{
+    match open_on(alloc, disk) {
         Ok(core) => {
             let (disk, ended) = tend_opened(alloc, core, merge_at, writer);
             (Some(disk), ended)

@@ -1,12 +1,17 @@
 // A store that is opened, or not.
-ghost use Rattle.std.specs.Prelude.{◌≡◌, IfErr, IfOk, IsOkAnd};
+ghost use Rattle.std.specs.Prelude.{◌≡◌, IfErr, IfOk, IsErrAnd, IsOkAnd, None, Ok};
+ghost use Rattle.std.specs.Option.{IsSomeAnd};
+ghost use Rattle.silt_shards.specs.Opening.{Says};
+ghost use Rattle.silt_shards.specs.declared.mark.Marking.TheVariants.{Unmarked};
 ghost use Rattle.silt_store_set.specs.CoreState.{Opens};
 ghost use Rattle.silt_jobs.specs.Ended.{Refuses};
-ghost use Rattle.silt_jobs.specs.Openings.{IsNotOpened};
+ghost use Rattle.silt_jobs.specs.Openings.{IsNotOpened, IsRefused, IsUnopened, IsWhy};
+ghost use Rattle.silt_jobs.specs.declared.ended.Why.TheVariants.{NoDisk};
 
 use crate::damage::damage_at;
 use crate::ended::{Ended, Why};
 use silt_disk::Disk;
+use silt_shards::{SetCause, check_unmarked};
 use silt_store_set::Core;
 use std::alloc::Global;
 use std::io::Write;
@@ -29,16 +34,13 @@ impl<E: Drop, D: Disk> NotOpened<E, D> {
     }
 }
 
-/// Opens the store on the disk that a source gave, if it gave one.
-pub fn open_store<E: Drop, D: Disk>(
-    alloc: Global,
-    given: Result<D, E>,
-) -> Result<Core<D>, NotOpened<E, D>>
-    ensures opened { IfOk result (λ core. IsOkAnd given (λ disk. Opens D.Disk (D.content disk) core)) }
-    ensures refused { IfErr result (λ unopened. IsNotOpened D.Disk given unopened.disk unopened.why) }
+/// The disk that a source gave, if it gave one.
+pub fn given_disk<E: Drop, D: Disk>(given: Result<D, E>) -> Result<D, NotOpened<E, D>>
+    ensures disk { IfOk result (λ disk. given ≡ Ok disk) }
+    ensures none { IfErr result (λ unopened. (unopened.disk ≡ None) × IsErrAnd given (λ error. unopened.why ≡ NoDisk error)) }
 {
     match given {
-        Ok(disk) => open_on(alloc, disk),
+        Ok(disk) => Ok(disk),
         Err(error) => Err(NotOpened {
             disk: None,
             why: Why::NoDisk(error),
@@ -46,10 +48,43 @@ pub fn open_store<E: Drop, D: Disk>(
     }
 }
 
-// Opens the store on a disk.
-fn open_on<E: Drop, D: Disk>(alloc: Global, disk: D) -> Result<Core<D>, NotOpened<E, D>>
+/// Opens the store of its own on the disk that a source gave, if it gave one. A shard of a set is refused.
+pub fn open_store<E: Drop, D: Disk>(
+    alloc: Global,
+    given: Result<D, E>,
+) -> Result<Core<D>, NotOpened<E, D>>
+    ensures opened { IfOk result (λ core. IsOkAnd given (λ disk. Opens D.Disk (D.content disk) core)) }
+    ensures alone { IfOk result (λ core. IsOkAnd given (λ disk. Says D.Disk disk Unmarked)) }
+    ensures refused { IfErr result (λ unopened. IsNotOpened D.Disk given unopened.disk unopened.why) }
+{
+    match given_disk(given) {
+        Ok(disk) => open_alone(alloc, disk),
+        Err(unopened) => Err(unopened),
+    }
+}
+
+// Opens the store on a disk, unless it is a shard of a set.
+fn open_alone<E: Drop, D: Disk>(alloc: Global, disk: D) -> Result<Core<D>, NotOpened<E, D>>
     ensures opened { IfOk result (Opens D.Disk (D.content disk)) }
-    ensures refused { IfErr result (λ unopened. IsNotOpened D.Disk (Ok disk) unopened.disk unopened.why) }
+    ensures alone { IfOk result (λ core. Says D.Disk disk Unmarked) }
+    ensures refused { IfErr result (λ unopened. IsSomeAnd unopened.disk (λ new. IsRefused D.Disk (D.content disk) new unopened.why)) }
+{
+    match check_unmarked(&disk) {
+        Ok(()) => open_on(alloc, disk),
+        Err(cause) => {
+            let why = why_of(&disk, cause);
+            Err(NotOpened {
+                disk: Some(disk),
+                why,
+            })
+        }
+    }
+}
+
+/// Opens the store on a disk, which may be a shard of a set.
+pub fn open_on<E: Drop, D: Disk>(alloc: Global, disk: D) -> Result<Core<D>, NotOpened<E, D>>
+    ensures opened { IfOk result (Opens D.Disk (D.content disk)) }
+    ensures refused { IfErr result (λ unopened. IsSomeAnd unopened.disk (λ new. IsUnopened D.Disk (D.content disk) new unopened.why)) }
 {
     match Core::open(alloc, disk) {
         Ok(core) => Ok(core),
@@ -59,6 +94,19 @@ fn open_on<E: Drop, D: Disk>(alloc: Global, disk: D) -> Result<Core<D>, NotOpene
                 disk: Some(fault.disk),
                 why: Why::Refused(fault.refusal, at),
             })
+        }
+    }
+}
+
+/// Why a job is refused, by what is wrong with a file, and its disk.
+pub fn why_of<E, D: Disk>(disk: &D, cause: SetCause<D::Fault>) -> Why<E, D::Fault>
+    ensures { IsWhy cause result }
+{
+    match cause {
+        SetCause::NotDue(fault) => Why::NotDue(fault),
+        SetCause::Refused(refusal) => {
+            let at = damage_at(disk, &refusal);
+            Why::Refused(refusal, at)
         }
     }
 }

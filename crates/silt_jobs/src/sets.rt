@@ -6,26 +6,24 @@ ghost use Rattle.silt_shards.specs.Routing.{IsShardCount, is_shard_count};
 ghost use Rattle.silt_shards.specs.Sets.{AreAlike, SetDoes, value_len_of};
 ghost use Rattle.silt_wire.specs.Sessions.{Ends};
 ghost use Rattle.silt_jobs.specs.SetFiles.{AnswersCores, AnswersTended, EndsAtShard, EndsSession, EndsUnformatted, FormatsSet};
-ghost use Rattle.silt_jobs.specs.SetFiles.{HasFewRegions, HasFormatted, IsWhy, MakesShard, OpensFiles, OpensNot, OpensSession, RefusesAt};
+ghost use Rattle.silt_jobs.specs.SetFiles.{HasFewRegions, HasFormatted, MakesShard, OpensFiles, OpensNot, OpensSession, RefusesAt};
 ghost use Rattle.silt_jobs.specs.SetFiles.{RunsCores, RunsDisks, RunsSet, at_shard, first_refusal, is_done_so, set_value_len, shard_file, tending_each};
 
 use crate::background_work::{Tended, Tending};
-use crate::damage::damage_at;
 use crate::ended::{Ended, Found, Session, Why};
 use crate::failure::Watched;
 use crate::failures::Failures;
 use crate::files::{NewStore, format_file};
 use crate::jobs::{run_status, session_error, write_untended};
 use crate::merge_at::has_few_regions;
+use crate::not_opened::why_of;
 use crate::output::write_out;
 use crate::streams::{KeepsError, KeepsLines, KeepsTally};
 use crate::urgent::Tells;
 use silt_device::DiskSources;
 use silt_disk::{Disk, Geometry};
 use silt_event::Answerer;
-use silt_shards::{
-    LEAST_SHARDS, MOST_SHARDS, Mark, SetCause, SetFault, StoreSet, open_shards, write_mark,
-};
+use silt_shards::{LEAST_SHARDS, MOST_SHARDS, Mark, SetFault, StoreSet, open_shards, write_mark};
 use silt_store_set::{Core, Refusal};
 use silt_wire::{SessionEnd, session};
 use silt_words::RunOptions;
@@ -284,19 +282,6 @@ fn run_disks<
         Err(SetFault { shard, disk, cause }) => {
             let why = why_of(&disk, cause);
             refuse_at(alloc, shard, why, writer)
-        }
-    }
-}
-
-// Why a job is refused, by what is wrong with a shard, and its disk.
-fn why_of<E, D: Disk>(disk: &D, cause: SetCause<D::Fault>) -> Why<E, D::Fault>
-    ensures { IsWhy cause result }
-{
-    match cause {
-        SetCause::NotDue(fault) => Why::NotDue(fault),
-        SetCause::Refused(refusal) => {
-            let at = damage_at(disk, &refusal);
-            Why::Refused(refusal, at)
         }
     }
 }

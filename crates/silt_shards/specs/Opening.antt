@@ -1,8 +1,10 @@
 -- Whether files are the shards of one set, and what an opening of all of them gives.
 use Rattle.std.specs.Prelude.{◌≡◌, ◌≢◌, ℕ, IsTrue, All, IfSome, List, length, slice_get, Some}
+use Rattle.silt_disk.specs.Disk.{Content, GaveAny}
 use Rattle.silt_disk.specs.Header.{shape_of}
 use Rattle.silt_disk.specs.Layout.{Shape}
 use Rattle.silt_disk.specs.declared.disk.Disk.{Ghosts}
+use Rattle.silt_event.specs.declared.refusal.Refusal.TheVariants.{Device}
 use Rattle.silt_store_set.specs.CoreState.{CoreState}
 use Rattle.silt_store_set.specs.Opening.{OpeningCause}
 use Rattle.silt_shards.specs.Marks.{marking_of}
@@ -10,7 +12,7 @@ use Rattle.silt_shards.specs.declared.mark.Mark.{Mark}
 use Rattle.silt_shards.specs.declared.mark.Marking.{Marking}
 use Rattle.silt_shards.specs.declared.mark.Marking.TheVariants as marking
 use Rattle.silt_shards.specs.declared.fault.MarkFault.{MarkFault}
-use Rattle.silt_shards.specs.declared.fault.MarkFault.TheVariants.{Unmarked, Unknown, OtherCount, OtherShard, OtherSet, OtherGeometry}
+use Rattle.silt_shards.specs.declared.fault.MarkFault.TheVariants.{Unmarked, Unknown, InSet, OtherCount, OtherShard, OtherSet, OtherGeometry}
 use Rattle.silt_shards.specs.declared.fault.SetCause.{SetCause}
 use Rattle.silt_shards.specs.declared.fault.SetCause.TheVariants.{NotDue, Refused}
 
@@ -28,10 +30,26 @@ HasOtherNumbers count shard mark (OtherCount found asked) = (found ≡ mark.coun
 HasOtherNumbers count shard mark (OtherShard found of due) = (found ≡ mark.shard) × (of ≡ mark.count) × (due ≡ shard) × (mark.count ≡ count) × (mark.shard ≢ shard)
 HasOtherNumbers count shard mark fault = ⊥
 
+-- a device says this of its place in a set, if it is honest (obeys the crash model)
+abbrev pub SaysSo : Content → Marking → Type 0
+SaysSo content said = IsTrue content.honest → marking_of content.shown ≡ said
+
+-- the mark of a device is of another version, or it makes the device this shard of a set
+abbrev pub IsOfSet : Content → MarkFault → Type 0
+IsOfSet content Unknown = SaysSo content marking.Unknown
+IsOfSet content (InSet shard of) = (set : List ℕ) × SaysSo content (marking.Marked (record { count = of; shard = shard; set = set }))
+IsOfSet content fault = ⊥
+
 module _ {D F : Type 0} (facts : Ghosts D F) where
-  -- the disk says this of its place in a set, if it is honest (obeys the crash model)
+  -- the disk says this of its place in a set
   abbrev pub Says : D → Marking → Type 0
-  Says disk said = IsTrue (facts.content disk).honest → marking_of (facts.content disk).shown ≡ said
+  Says disk said = SaysSo (facts.content disk) said
+
+  -- why a disk of this content is no store of its own: it has a mark, or that could not be read
+  abbrev pub IsMarked : Content → D → SetCause F → Type 0
+  IsMarked content disk (NotDue fault) = IsOfSet content fault
+  IsMarked content disk (Refused (Device fault)) = GaveAny facts.gave disk fault
+  IsMarked content disk (Refused refusal) = ⊥
 
   -- these disks are, in their order, all shards of one set
   pub record AreShards (disks : List D) : Type 0 where
@@ -42,6 +60,7 @@ module _ {D F : Type 0} (facts : Ghosts D F) where
   abbrev pub IsNotDue : ℕ → ℕ → D → D → MarkFault → Type 0
   IsNotDue count shard first disk Unmarked = Says disk marking.Unmarked
   IsNotDue count shard first disk Unknown = Says disk marking.Unknown
+  IsNotDue count shard first disk (InSet found of) = ⊥
   IsNotDue count shard first disk (OtherCount found asked) = (mark : Mark) × Says disk (marking.Marked mark) × HasOtherNumbers count shard mark (OtherCount found asked)
   IsNotDue count shard first disk (OtherShard found of due) = (mark : Mark) × Says disk (marking.Marked mark) × HasOtherNumbers count shard mark (OtherShard found of due)
   IsNotDue count shard first disk OtherSet =

@@ -4,7 +4,7 @@ use silt_disk::Disk;
 use silt_event::Refusal;
 use thiserror::Error;
 
-/// Why a file is not the shard that is due.
+/// Why a file is not what is due: a shard of a set, or a store of its own.
 #[derive(Clone, Copy, Debug, PartialEq, Eq, Error)]
 pub enum MarkFault {
     /// It has no mark: it is a store of its own, or none.
@@ -13,6 +13,9 @@ pub enum MarkFault {
     /// Its mark is of another version, or has the numbers of no shard.
     #[error("its mark of a shard is of another version, or damaged")]
     Unknown,
+    /// It is shard `shard` of a set of `of` shards, and a store of its own is due.
+    #[error("it is shard {shard} of {of}; use run --shards {of}")]
+    InSet { shard: u32, of: u32 },
     /// It is a shard of a set of `found` shards, and `asked` are asked for.
     #[error("it is one of {found} shards, and {asked} are asked for")]
     OtherCount { found: u32, asked: u32 },
@@ -27,12 +30,12 @@ pub enum MarkFault {
     OtherGeometry,
 }
 
-/// Why a shard is refused.
+/// Why a file is refused.
 #[derive(Debug, Drop)]
 pub enum SetCause<F> {
-    /// The file is not the shard that is due.
+    /// It is not the shard that is due, or no store of its own.
     NotDue(MarkFault),
-    /// No store was opened on it.
+    /// It could not be read, or no store was opened on it.
     Refused(Refusal<F>),
 }
 

@@ -2,10 +2,10 @@
 ghost use Rattle.std.specs.Prelude.{◌≡◌, ◌<◌, ◌↔◌, ℕ, Some, IsTrue, OnOk, IfOk, IfErr, IfNone, IfSome, length, slice_get, vec_len};
 ghost use Rattle.std.specs.List.{AllZip};
 ghost use Rattle.silt_store_set.specs.CoreState.{Opens};
-ghost use Rattle.silt_shards.specs.Opening.{AreOfOneShape, AreShards, CausedAt, HasOtherNumbers, IsLike, IsRefusedSet, IsRefusedUnopened, Says};
+ghost use Rattle.silt_shards.specs.Opening.{AreOfOneShape, AreShards, CausedAt, HasOtherNumbers, IsLike, IsMarked, IsRefusedSet, IsRefusedUnopened, Says};
 ghost use Rattle.silt_shards.specs.Routing.{IsShardCount};
 ghost use Rattle.silt_shards.specs.Sets.{AreAlike};
-ghost use Rattle.silt_shards.specs.declared.mark.Marking.TheVariants.{Marked};
+ghost use Rattle.silt_shards.specs.declared.mark.Marking.TheVariants.{Marked, Unmarked};
 
 use crate::fault::{MarkFault, SetCause, SetFault};
 use crate::mark::{Mark, Marking, read_mark};
@@ -49,6 +49,26 @@ fn refused<D: Disk>(disks: Vec<D>, shard: u32, cause: SetCause<D::Fault>) -> Set
         shard,
         disk: disks.swap_remove(shard as usize),
         cause,
+    }
+}
+
+/// Makes sure that a disk is a store of its own, and no shard of a set. That takes at most one read.
+///
+/// # Errors
+///
+/// Why it is none: it has a mark, or the read failed.
+pub fn check_unmarked<D: Disk>(disk: &D) -> Result<(), SetCause<D::Fault>>
+    ensures unmarked { OnOk result (Says D.Disk disk.now Unmarked) }
+    ensures cause { IfErr result (IsMarked D.Disk (D.content disk.now) disk.now) }
+{
+    match read_mark(disk) {
+        Ok(Marking::Unmarked) => Ok(()),
+        Ok(Marking::Unknown) => Err(SetCause::NotDue(MarkFault::Unknown)),
+        Ok(Marking::Marked(mark)) => Err(SetCause::NotDue(MarkFault::InSet {
+            shard: mark.shard,
+            of: mark.count,
+        })),
+        Err(fault) => Err(SetCause::Refused(Refusal::Device(fault))),
     }
 }
 
