@@ -7,6 +7,8 @@ use Rattle.silt_disk.specs.declared.disk.Disk.{Ghosts}
 use Rattle.silt_server.specs.Serving.{IsServed, ServesKept, PrintsNotServed}
 use Rattle.silt_server.specs.declared.limits.Protocol.{Protocol}
 use Rattle.silt_server.specs.declared.limits.Protocol.TheVariants.{Lines, PipelinedLines, Resp}
+use Rattle.silt_shards.specs.Opening.{Says}
+use Rattle.silt_shards.specs.declared.mark.Marking.TheVariants.{Unmarked}
 use Rattle.silt_store_set.specs.CoreInvariant.{LeavesBegun}
 use Rattle.silt_store_set.specs.CoreState.{CoreState, Opens}
 use Rattle.silt_words.specs.Jobs.{NamedAccess, named_access}
@@ -90,8 +92,8 @@ module _ {D E F : Type 0} (facts : Ghosts D F) (Failed : D → Failures → Type
   ServesDisk Told Quiet old given ended before after =
       (bound : Bool) × TellsEntrance Told Quiet service bound
       × (RefusesDisk facts old given ended before after
-      ⊎ ((core : CoreState D) × Opens facts (facts.content old) core
-      × IsSomeAnd given (λ new. ServesOpened bound core new ended before after × ((shape : Shape) × LeavesBegun (facts.content new) shape))))
+      ⊎ (Says facts old Unmarked × ((core : CoreState D) × Opens facts (facts.content old) core
+      × IsSomeAnd given (λ new. ServesOpened bound core new ended before after × ((shape : Shape) × LeavesBegun (facts.content new) shape)))))
 
   -- the disk that the source opened was served, or it opened none
   abbrev pub ServesFile : (D → Type 0) → (E → Type 0) → (List ℕ → Urgent → Type 0) → Type 0 → Option D → Ended E F → Option (List ℕ) → Option (List ℕ) → Type 0
