@@ -104,8 +104,8 @@ class Runs(DamageCase):
     """Lines of a run, one step each."""
 
     def check_refused(self, opened, steps, refusal):
-        """So many steps are done, and each further one is refused. The rest of the store goes
-        on."""
+        """So many steps are done: the last of them reads the last slot, and finds the damage. Each
+        further one is refused. The rest of the store goes on."""
         self.assertEqual(opened.ask(*["merge"] * (steps + 3)), [*["moved"] * steps, *[refusal] * 3])
         self.assertEqual(
             opened.ask("get =key/0", "put =key/0 ffff", "flush", "get =key/0", "merge"),
@@ -122,14 +122,14 @@ class Runs(DamageCase):
                 self.path("store").write_bytes(whole)
                 opened = Opened(self)
                 self.flip(place)
-                self.check_refused(opened, SLOTS - 1, HASH.format(0))
+                self.check_refused(opened, SLOTS, HASH.format(0))
                 checked = self.check_report()
                 self.assertEqual(checked.status, 1, checked)
                 self.assertRegex(checked.out, r"\Arefused 3 Damaged hash 0 (digest|slot \d)\n\Z")
 
     def test_each_of_two_hash_stores(self):
         """A merge reads the newest one first."""
-        for region, steps in ((1, SLOTS - 1), (0, 2 * SLOTS - 1)):
+        for region, steps in ((1, SLOTS), (0, 2 * SLOTS)):
             with self.subTest(region=region):
                 self.with_stores(2)
                 opened = Opened(self)
@@ -156,7 +156,7 @@ class Runs(DamageCase):
         self.with_stores(1)
         opened = Opened(self)
         flipped = self.flip(self.hash_places(0)[0])
-        self.assertEqual(opened.ask(*["merge"] * (SLOTS + 1))[-2:], [HASH.format(0)] * 2)
+        self.assertEqual(opened.ask(*["merge"] * (SLOTS + 2))[-2:], [HASH.format(0)] * 2)
         self.put_back(flipped)
         self.assertEqual(opened.end().status, 0)
         ended = self.silt("run", "store", text="merge\n" * (SLOTS + 9))
@@ -184,7 +184,7 @@ class Runs(DamageCase):
         self.with_stores(1)
         opened = Opened(self)
         self.flip(self.hash_places(0)[2])
-        self.check_refused(opened, SLOTS - 1, HASH.format(0))
+        self.check_refused(opened, SLOTS, HASH.format(0))
 
 
 class Tends(DamageCase):

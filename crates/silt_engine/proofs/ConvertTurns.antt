@@ -208,6 +208,7 @@ module _ (old : Content) (s : EngineState) (body : Body) (digests : Digests) (st
               let same = sym (oldest_stores_law (store_of ends.conversion digest ∷ []) s.hashes merge.stores way.most) in (
                 subst (λ (l : List HashState). HasMerged new l s.sorted merge) same merged.0,
                 subst (λ (l : List HashState). HasCompared l s.sorted s.digest merge) same merged.1,
+                merged.2,
               )
 
       fits : AreWhole (oldest_replaced s m ends.conversion digest) → Fits new after converted_stores

@@ -297,4 +297,5 @@ merged_all_elsewhere old new s at count (Some merge) stands changes outside behi
         merged = λ h. (stays (subst IsTrue changes.honest h)).merged h;
       },
       is.1,
+      λ h. is.2 (subst IsTrue changes.honest h),
     )

@@ -180,27 +180,27 @@ module _ (content : Content) (s : EngineState) (merge : MergeState) (stands : St
       omega (arith, is, taken, written, fewer, moved, behind, before, counted, taken_puts)
 
   -- what it read of each of its stores has the digest of that store
-  pub all_compared : AreCompared s merge.stores
-  all_compared =
+  pub all_compared : merge.damaged ≡ None → AreCompared s merge.stores
+  all_compared sound =
       let parts = and_parts _ _ done in
       let taken : merge.store ≡ merge.stores = eqb-true merge.store merge.stores (and_parts _ _ parts.0).0 in
       let stores : List HashState = oldest_stores merge.stores s.hashes in
       record {
         hashes = λ k d inside. subst (λ (sh : Shape). HasBytes (slots_len sh) (get_or stores k d).digest) way.has_shape
-            (gathered.1.hashes k (get_or stores k d) (omega (arith, taken, way.most, length-drop (length s.hashes - merge.stores) s.hashes)) (slice_get-get_or stores k d inside));
+            (gathered.1.hashes sound k (get_or stores k d) (omega (arith, taken, way.most, length-drop (length s.hashes - merge.stores) s.hashes)) (slice_get-get_or stores k d inside));
         entries = λ some. subst (λ (sh : Shape). HasBytes (s.sorted.count * entry_len sh) s.digest) way.has_shape
-            (gathered.1.entries some (leb-true s.sorted.count merge.passed parts.1));
+            (gathered.1.entries sound some (leb-true s.sorted.count merge.passed parts.1));
       }
 
 -- ---- its end
 
 -- a merge that is done may end with a sorted store of its entries and their index
-pub may_end : (s : EngineState) (body : Body) (digests : Digests) (merge : MergeState) (store : IndexedState) → s.merging ≡ Some merge → is_done merge s.sorted ≡ true → s.manifest.current.generation < 2 ^ 63 - 1
+pub may_end : (s : EngineState) (body : Body) (digests : Digests) (merge : MergeState) (store : IndexedState) → s.merging ≡ Some merge → is_done merge s.sorted ≡ true → merge.damaged ≡ None → s.manifest.current.generation < 2 ^ 63 - 1
     → store.sorted ≡ record { shape = merge.shape; region = merge.region; count = merge.written } → body ≡ merged_body s.manifest.current merge.stores merge.region merge.written → digests ≡ merged_digests s merge.stores store
     → ((content : Content) (stores : List HashState) (sorted : SortedState) → is_done merge sorted ≡ true → HasMerged content stores sorted merge → IsTrue content.honest → AreSound content.shown stores sorted
     → IsIndexOf (entries_of content store.sorted) store.index)
     → ((content : Content) (stores : List HashState) (sorted : SortedState) → HasMerged content stores sorted merge → HasDigest content store.sorted store.digest) → EndsMerge s body digests store
-may_end s body digests merge store was done unspent entries is digests_are indexed digested = record {
+may_end s body digests merge store was done sound unspent entries is digests_are indexed digested = record {
   merge = merge;
   was = was;
   done = done;
@@ -211,4 +211,5 @@ may_end s body digests merge store was done unspent entries is digests_are index
   digested = λ content stands. digested content (oldest_stores merge.stores s.hashes) s.sorted (gathered content s merge stands was done).0;
   is = is;
   digests_are = digests_are;
+  sound = sound;
 }

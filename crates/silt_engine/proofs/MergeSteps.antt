@@ -1,5 +1,5 @@
 -- The steps of a merge.
-use Rattle.std.proofs.Common.{◌≡◌, ◌≢◌, ◌≤◌, ◌<◌, ℕ, ◌+◌, ◌-◌, ◌*◌, ◌==◌, ◌&&◌, nat_le, nat_lt, Bool, true, false, if◌then◌else◌, IsTrue, List, [], get_or, length, drop, Option, Some, None, Result, inl, refl, ap, sym, ◌∙◌, subst, arith}
+use Rattle.std.proofs.Common.{◌≡◌, ◌≢◌, ◌≤◌, ◌<◌, ℕ, ◌+◌, ◌-◌, ◌*◌, ◌==◌, ◌&&◌, nat_le, nat_lt, Bool, true, false, if◌then◌else◌, IsTrue, List, [], get_or, length, drop, Option, Some, None, Result, ◌⊎◌, inl, inr, refl, ap, sym, ◌∙◌, subst, arith}
 use Rattle.std.specs.Prelude.{All, IfSome}
 use Rattle.std.specs.Option.{option_map}
 use Rattle.std.proofs.lemmas.Bool.{eq-eqb, eqb-false, lt-ltb, ne_eqb}
@@ -7,13 +7,14 @@ use Rattle.std.proofs.lemmas.List.Elements.{All-drop}
 use Rattle.silt_disk.specs.Disk.{ChangesWithin, Content, MakesAtMost}
 use Rattle.silt_disk.specs.declared.disk.Disk.{Ghosts}
 use Rattle.silt_disk.specs.Layout.{Shape, sorted_at, sorted_size}
+use Rattle.silt_event.specs.declared.place.Place.{Place}
 use Rattle.silt_event.specs.declared.place.Place.TheVariants.{HashDigest, SortedDigest}
 use Rattle.silt_hash_store.specs.State.{HashState, IsHashStore}
 use Rattle.silt_merge.specs.Comparing.{HasCompared, MatchesDigests}
 use Rattle.silt_merge.specs.Merging.{HasMerged, IsSameMerge}
 use Rattle.silt_merge.specs.Rows.{regions_of}
 use Rattle.silt_merge.specs.State.{IsHeldMerge, MergeState, is_done, oldest_stores, steps_of}
-use Rattle.silt_merge.specs.Steps.{FailsMerge, GoesOn, TakesMemory, TakesStep, damaged_place}
+use Rattle.silt_merge.specs.Steps.{FailsMerge, Finds, GoesOn, TakesMemory, TakesStep, damaged_place}
 use Rattle.silt_merge.specs.declared.merge.StepError.{StepError}
 use Rattle.silt_merge.specs.declared.merge.StepError.TheVariants as step_error
 use Rattle.silt_sorted_store.specs.State.{SortedState}
@@ -24,7 +25,8 @@ use Rattle.silt_standing.specs.Standing.{HasGathered, SameDisk, Stands}
 use Rattle.silt_engine.specs.Calls.{Advances, Breaks, Remaps}
 use Rattle.silt_engine.specs.Conversion.{is_work}
 use Rattle.silt_engine.specs.Costs.{StepMakes, step_syncs, step_writes, written_by_merge}
-use Rattle.silt_engine.specs.Merge.{IsNextMerge, MayLackMemory, MergeErrorCause, Merges, merge_progress, merge_turn, place_read, refusal_of_step}
+use Rattle.silt_engine.specs.declared.merge.MergeError.TheVariants.{Damaged}
+use Rattle.silt_engine.specs.Merge.{IsNextMerge, MayLackMemory, MergeErrorCause, Merges, damaged_in, merge_progress, merge_turn, place_read, refusal_of_step}
 use Rattle.silt_engine.proofs.MergeDone.{taken_sound}
 use Rattle.silt_engine.proofs.MergeEntries.{entry_advances, entry_breaks, entry_failed_map}
 
@@ -140,6 +142,10 @@ module _ {D F T : Type 0} (facts : Ghosts D F) (old new : D) (s : EngineState) (
     gathered_after gathered = (
       subst (λ (n : ℕ). HasMerged (facts.content new) (oldest_stores n s.hashes) s.sorted after) (sym step.same.stores) (goes.merged gathered.0),
       subst (λ (n : ℕ). HasCompared (oldest_stores n s.hashes) s.sorted s.digest after) (sym step.same.stores) (goes.compared gathered.1),
+      λ h. elim goes.finds [
+        | inl none ↦ none
+        | inr found ↦ absurd (found.1 (matches gathered (subst IsTrue step.region.honest h)))
+      ],
     )
 
     pub step_advances : HasGathered (facts.content old) s before → Advances [] (facts.content old) (facts.content new) s (record s { merging = Some after })
@@ -153,13 +159,13 @@ module _ {D F T : Type 0} (facts : Ghosts D F) (old new : D) (s : EngineState) (
 
   module _ (finished : EngineState) (turn : merge_turn s ≡ Moved) (gathered : HasGathered (facts.content old) s before) (same : after ≡ before → finished ≡ s)
       (lacks : TakesMemory (facts.content old) (oldest_stores before.stores s.hashes) s.sorted before → MayLackMemory (facts.content old) s)
-      (reads : damaged_place (oldest_stores before.stores s.hashes) before ≡ place_read s.hashes s.merging)
+      (found : (place : Place) → before.damaged ≡ Some place → damaged_in s.merging ≡ Some place)
       (remaps : Remaps [] (facts.content old) (facts.content new) s finished) where
     -- the cause in place of that of the step
-    pub step_cause : (error : StepError F) → FailsMerge facts (oldest_stores before.stores s.hashes) s.sorted s.digest old new before after error → MergeErrorCause facts old new s finished (refusal_of_step error)
-    step_cause step_error.NoMemory fails = (same fails.0, fails.1, inl (turn, lacks fails.2))
+    pub step_cause : (error : StepError F) → FailsMerge facts (oldest_stores before.stores s.hashes) s.sorted old new before after error → MergeErrorCause facts old new s finished (refusal_of_step error)
+    step_cause step_error.NoMemory fails = (same fails.0, fails.1, inl (turn, lacks (fails.2 gathered.0 (λ h. taken_sound (facts.content old) s stands h before.stores))))
     step_cause (step_error.Read fault) fails = (same fails.0, fails.1, turn, fails.2)
-    step_cause (step_error.Damaged place) fails = (same fails.0, fails.1, turn, fails.2 ∙ reads, λ h. fails.3 (matches gathered h))
+    step_cause (step_error.Damaged place) fails = (same fails.0, fails.1, found place fails.2, ap is_work turn, λ h. let no : None ≡ Some place = sym (gathered.2 h) ∙ fails.2 in cc)
     step_cause (step_error.Write fault) fails = (ap is_work turn, record { counted = fails; breaks = failed_breaks; map = remaps })
 
   -- it makes no more than one write
@@ -173,7 +179,10 @@ pub some_stores : (stores : List HashState) (len : ℕ) (empty : Bool) → empty
 some_stores stores len empty is none same = let differ = eqb-false len 0 (sym is ∙ none) in omega (arith, differ, same)
 
 module _ (s : EngineState) (region : ℕ) (read : List HashState) (none : s.merging ≡ None) (some : 0 < length s.hashes) (whole : AreWhole s) (other : region ≡ 1 - s.sorted.region) (read_is : read ≡ s.hashes)
-    (sorted : SortedState) (sorted_is : sorted ≡ s.sorted) (started : MergeState) (is : started ≡ record { shape = sorted.shape; region = region; stores = length read; store = 0; slot = 0; waiting = []; passed = 0; written = 0; index = started.index; decided = 0; last = None; slots = []; ahead = []; input = started.input; hasher = started.hasher }) (held : IsHeldMerge started) where
+    (sorted : SortedState) (sorted_is : sorted ≡ s.sorted) (started : MergeState) (is : started ≡ record { shape = sorted.shape; region = region; stores = length read; store = 0; slot = 0; waiting = []; passed = 0; written = 0; index = started.index; decided = 0; last = None; slots = []; ahead = []; input = started.input; hasher = started.hasher; damaged = None }) (held : IsHeldMerge started) where
+  pub started_sound : started.damaged ≡ None
+  started_sound = ap (λ (v : MergeState). v.damaged) is
+
   started_stores : started.stores ≡ length s.hashes
   started_stores = ap (λ (v : MergeState). v.stores) is ∙ ap length read_is
 
@@ -200,6 +209,7 @@ module _ (s : EngineState) (region : ℕ) (read : List HashState) (none : s.merg
   begun content has compared = (
     subst (λ (l : List HashState). HasMerged content l s.sorted started) (read_is ∙ sym all_taken) (subst (λ (t : SortedState). HasMerged content read t started) sorted_is has),
     subst (λ (l : List HashState). HasCompared l s.sorted s.digest started) (read_is ∙ sym all_taken) (subst (λ (t : SortedState). HasCompared read t s.digest started) sorted_is compared),
+    λ h. started_sound,
   )
 
   -- it reads the newest of them, and it has written nothing
@@ -215,8 +225,9 @@ module _ (s : EngineState) (region : ℕ) (read : List HashState) (none : s.merg
   pub started_written : written_by_merge s.merging ≡ started.written
   started_written = ap written_by_merge none ∙ sym (ap (λ (v : MergeState). v.written) is)
 
-  pub begin_merges : (after : MergeState) → IsSameMerge started after → steps_of after ≡ steps_of started + 1 → Merges Moved s (record s { merging = Some after })
-  begin_merges after same step =
+  pub begin_merges : (after : MergeState) → IsSameMerge started after → steps_of after ≡ steps_of started + 1
+      → (after.damaged ≡ None) ⊎ (after.damaged ≡ Some (damaged_place (oldest_stores started.stores s.hashes) started)) → Merges Moved s (record s { merging = Some after })
+  begin_merges after same step found =
       let slots : started.store * (4 * started.shape.buckets) ≡ 0 * (4 * started.shape.buckets) = ap (λ (v : MergeState). v.store * (4 * started.shape.buckets)) is in
       let slot : started.slot ≡ 0 = ap (λ (v : MergeState). v.slot) is in
       let decided : started.decided ≡ 0 = ap (λ (v : MergeState). v.decided) is in
@@ -226,20 +237,53 @@ module _ (s : EngineState) (region : ℕ) (read : List HashState) (none : s.merg
           merge = after;
           is = refl;
           step = subst (λ (o : Option MergeState). IsNextMerge s o after) (sym none) (same.stores ∙ started_stores, omega (arith, step, slots, slot, decided));
+          found = elim found [
+            | inl nothing ↦ inl nothing
+            | inr damaged ↦ inr (damaged ∙ ap Some started_reads)
+          ];
         };
       }
 
 -- the next step of a merge in progress
-pub next_merges : (s : EngineState) (before after : MergeState) → s.merging ≡ Some before → merge_turn s ≡ Moved → IsSameMerge before after → steps_of after ≡ steps_of before + 1 → Merges Moved s (record s { merging = Some after })
-next_merges s before after was turn same step = record {
+pub next_merges : (s : EngineState) (before after : MergeState) → s.merging ≡ Some before → merge_turn s ≡ Moved → IsSameMerge before after → steps_of after ≡ steps_of before + 1
+    → (after.damaged ≡ None) ⊎ (after.damaged ≡ Some (damaged_place (oldest_stores before.stores s.hashes) before)) → Merges Moved s (record s { merging = Some after })
+next_merges s before after was turn same step found = record {
   due = sym turn;
   done = record {
     merge = after;
     is = refl;
     step = subst (λ (o : Option MergeState). IsNextMerge s o after) (sym was) (same, step);
+    found = elim found [
+      | inl nothing ↦ inl nothing
+      | inr damaged ↦ inr (damaged ∙ ap Some (ap (place_read s.hashes) (sym was)))
+    ];
   };
 }
 
 -- if no merge is in progress, any step may be out of memory
 pub first_lacks : (content : Content) (s : EngineState) → s.merging ≡ None → MayLackMemory content s
 first_lacks content s none = subst (λ (o : Option MergeState). IfSome o (λ merge. TakesMemory content (oldest_stores merge.stores s.hashes) s.sorted merge)) (sym none) tt
+
+-- what a step finds, without why
+pub found_by : (content : Content) (stores : List HashState) (sorted : SortedState) (digest : List ℕ) (before after : MergeState) → Finds content stores sorted digest before after
+    → (after.damaged ≡ None) ⊎ (after.damaged ≡ Some (damaged_place stores before))
+found_by content stores sorted digest before after finds = elim finds [
+  | inl none ↦ inl none
+  | inr found ↦ inr found.0
+]
+
+-- a merge that has found a store damaged is refused
+pub refused_merge : {D F : Type 0} (facts : Ghosts D F) (disk : D) (s : EngineState) (place : Place) → Stands (facts.content disk) s → damaged_in s.merging ≡ Some place → MergeErrorCause facts disk disk s s (Damaged place)
+refused_merge facts disk s place stands found = (refl, refl, found, in_progress s.merging found, λ h. never s.merging stands.merged found h)
+  where
+    in_progress : (o : Option MergeState) → damaged_in o ≡ Some place → is_work (due s o) ≡ true
+    in_progress None found = let no : None ≡ Some place = found in absurd (cc)
+    in_progress (Some merge) found = works (is_done merge s.sorted)
+      where
+        works : (done : Bool) → is_work (if done then Finished else Moved) ≡ true
+        works true = refl
+        works false = refl
+
+    never : (o : Option MergeState) → IfSome o (HasGathered (facts.content disk) s) → damaged_in o ≡ Some place → IsTrue (facts.content disk).honest → ⊥
+    never None gathered found h = let no : None ≡ Some place = found in absurd (cc)
+    never (Some merge) gathered found h = let sound : merge.damaged ≡ None = gathered.2 h in let no : None ≡ Some place = sym sound ∙ found in absurd (cc)

@@ -201,7 +201,7 @@ module _ (old : Content) (s : EngineState) (body : Body) (digests : Digests) (st
       active = refl;
       frozen = refl;
       converting = refl;
-      compared = all_compared old s ends.merge stands ends.was ends.done;
+      compared = all_compared old s ends.merge stands ends.was ends.done ends.sound;
     })
 
     -- its entries are the newest rows that are puts, of what it took on a disk that shows the same stores

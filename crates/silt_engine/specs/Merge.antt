@@ -52,11 +52,18 @@ abbrev pub IsNextMerge : EngineState → Option MergeState → MergeState → Ty
 IsNextMerge s (Some before) after = IsSameMerge before after × (steps_of after ≡ steps_of before + 1)
 IsNextMerge s None after = (after.stores ≡ length s.hashes) × (steps_of after ≡ 1)
 
+-- what the next step of merging reads: a hash store, from the newest on, and behind all that it takes the sorted store
+abbrev pub place_read : List HashState → Option MergeState → Place
+place_read hashes None = HashDigest (get_or (regions_of hashes) 0 0)
+place_read hashes (Some merge) = damaged_place (oldest_stores merge.stores hashes) merge
+
 -- a merge went one step on, and nothing else is changed
 pub record MergesOn (before after : EngineState) : Type 0 where
   pub merge : MergeState
   pub is : after ≡ record before { merging = Some merge }
   pub step : IsNextMerge before before.merging merge
+  -- it has found nothing, or that the store that it read is damaged
+  pub found : (merge.damaged ≡ None) ⊎ (merge.damaged ≡ Some (place_read before.hashes before.merging))
 
 -- what was read of each of this many of the oldest hash stores has its digest, and so has what was read of the entries, if there are any
 pub record AreCompared (s : EngineState) (count : ℕ) : Type 0 where
@@ -111,10 +118,10 @@ IsDoneBySteps content s merge =
 abbrev pub MayLackMemory : Content → EngineState → Type 0
 MayLackMemory content s = IfSome s.merging (λ merge. TakesMemory content (oldest_stores merge.stores s.hashes) s.sorted merge)
 
--- what the next step of merging reads: a hash store, from the newest on, and behind all that it takes the sorted store
-abbrev pub place_read : List HashState → Option MergeState → Place
-place_read hashes None = HashDigest (get_or (regions_of hashes) 0 0)
-place_read hashes (Some merge) = damaged_place (oldest_stores merge.stores hashes) merge
+-- the store that the merge in progress has found damaged, if there is one
+abbrev pub damaged_in : Option MergeState → Option Place
+damaged_in None = None
+damaged_in (Some merge) = merge.damaged
 
 -- the error that says why a step of a merge was not done
 abbrev pub refusal_of_step : {F : Type 0} → StepError F → MergeError F
@@ -129,8 +136,8 @@ module _ {D F : Type 0} (facts : Ghosts D F) (old new : D) (before after : Engin
   MergeErrorCause Spent = (after ≡ before) × (new ≡ old) × (merge_turn before ≡ Finished) × IsLastGeneration before
   MergeErrorCause NoMemory = (after ≡ before) × (new ≡ old)
       × (((merge_turn before ≡ Moved) × MayLackMemory (facts.content old) before) ⊎ ((merge_turn before ≡ Finished) × (IsLastGeneration before → ⊥)))
-  MergeErrorCause (Damaged place) = (after ≡ before) × (new ≡ old) × (merge_turn before ≡ Moved)
-      × (place ≡ place_read before.hashes before.merging) × (IsTrue (facts.content old).honest → ⊥)
+  MergeErrorCause (Damaged place) = (after ≡ before) × (new ≡ old) × (damaged_in before.merging ≡ Some place)
+      × (is_work (merge_turn before) ≡ true) × (IsTrue (facts.content old).honest → ⊥)
   MergeErrorCause (Read fault) = (after ≡ before) × (new ≡ old) × (merge_turn before ≡ Moved) × GaveAny facts.gave old fault
   MergeErrorCause (Write fault) = (is_work (merge_turn before) ≡ true) × BreaksOff facts old new before after fault
 
@@ -148,6 +155,8 @@ pub record EndsMerge (s : EngineState) (body : Body) (digests : Digests) (store 
   pub digested : (content : Content) → Stands content s → HasDigest content store.sorted store.digest
   pub is : body ≡ merged_body s.manifest.current merge.stores merge.region merge.written
   pub digests_are : digests ≡ merged_digests s merge.stores store
+  -- it has found no store damaged
+  pub sound : merge.damaged ≡ None
 
 -- how many of the rows of hash stores are puts
 abbrev pub puts_in : List HashState → ℕ

@@ -1,13 +1,15 @@
 // The merge of the hash stores and the sorted store into a new sorted store, one slot or one key a step.
-ghost use Rattle.std.specs.Prelude.{◌≡◌, ◌<◌, ◌≤◌, ◌-◌, ◌^◌, [], length, false, true, None, IsSome, IsTrue, IfOk, IfErr, IfSome, IsSomeAnd, OnOk, MatchResult};
+ghost use Rattle.std.specs.Prelude.{◌≡◌, ◌<◌, ◌≤◌, ◌-◌, ◌^◌, [], length, false, true, None, Some, Err, IsSome, IsTrue, IfOk, IfErr, IfSome, IsSomeAnd, OnOk, MatchResult};
 ghost use Rattle.silt_disk.specs.Disk.{Costs, MakesAtMost};
 ghost use Rattle.silt_hasher.specs.Taking.{taken_after};
 ghost use Rattle.silt_event.specs.declared.progress.Progress.TheVariants.{Finished, Moved};
 ghost use Rattle.silt_engine.specs.Calls.{BreaksOff, Works};
+ghost use Rattle.silt_engine.specs.declared.merge.MergeError.TheVariants.{Damaged};
+ghost use Rattle.silt_event.specs.declared.place.Place.{Place};
 ghost use Rattle.silt_engine.specs.Conversion.{is_work};
 ghost use Rattle.silt_engine.specs.Costs.{StepMakes, step_syncs, step_writes};
 ghost use Rattle.silt_engine.specs.Digests.{merged_digests};
-ghost use Rattle.silt_engine.specs.Merge.{EndsMerge, EndsMerged, HasMergedEntries, MayStandFor, MergeErrorCause, Merges, merge_turn, merged_body, puts_in, sorted_replaced};
+ghost use Rattle.silt_engine.specs.Merge.{EndsMerge, EndsMerged, HasMergedEntries, MayStandFor, MergeErrorCause, Merges, damaged_in, merge_turn, merged_body, puts_in, sorted_replaced};
 ghost use Rattle.silt_standing.specs.State.{AreWhole};
 ghost use Rattle.silt_standing.specs.Standing.{Stands};
 
@@ -30,8 +32,7 @@ pub enum MergeError<F> {
     /// Out of memory for a row that waits for its key, for a key of the new sorted store, or for what the merge or that
     /// store keeps. Nothing was changed.
     NoMemory,
-    /// What was read of this store does not have the store's digest, or two reads of one slot differ. Nothing was
-    /// changed.
+    /// The merge has found this store damaged: what was read of it does not have the store's digest. Nothing was changed.
     Damaged(Place),
     /// A read failed. Nothing was changed.
     Read(F),
@@ -235,6 +236,7 @@ impl Engine {
     ) -> Result<Progress, MergeError<D::Fault>>
         requires stands { Stands (D.content disk.old) self.old }
         requires turn { merge_turn self.old ≡ Finished }
+        requires sound { damaged_in self.old.merging ≡ None }
         ensures works { Works D.Disk [] disk.old disk.new self.old self.new result }
         ensures merges { IfOk result (λ progress. Merges progress self.old self.new) }
         ensures entries { OnOk result (IsTrue (D.content disk.old).honest → HasMergedEntries (D.content disk.old) (D.content disk.new) self.old self.new) }
@@ -261,23 +263,24 @@ impl Engine {
         }
     }
 
-    /// One step of merging. If none is in progress, and there are hash stores, the merge of all of them and of the
-    /// sorted store into the other sorted region begins. A step gathers one slot of a hash store, or decides one key.
-    /// The step after the last key syncs the entries and writes the next manifest record. It names the new sorted
-    /// store, and the merged hash stores no longer. A hash store that came meanwhile stays in front. With the last slot of
-    /// a hash store and with the last old entry, what was read must have the digest that the store has.
-    ///
-    /// # Errors
-    ///
-    /// `Spent` before anything else, if the manifest must be written; `Read`, `Damaged` if a store's digest is not that
-    /// of what was read of it, and `NoMemory`, and then nothing was changed; `Write` with the fault of a write or of a
-    /// sync. On a disk that obeys the crash model `Damaged` cannot come.
-    pub fn merge<D: Disk>(
+    // The store that the merge in progress has found damaged, if there is one.
+    fn found_damaged(&self) -> Option<Place>
+        ensures { result ≡ damaged_in self.now.merging }
+    {
+        let Some(merge) = &self.merging else {
+            return None;
+        };
+        merge.damaged()
+    }
+
+    // One step of merging, if the merge in progress has found no store damaged.
+    fn merge_on<D: Disk>(
         &mut self,
         alloc: Global,
         disk: &mut D,
     ) -> Result<Progress, MergeError<D::Fault>>
         requires stands { Stands (D.content disk.old) self.old }
+        requires sound { damaged_in self.old.merging ≡ None }
         ensures works { Works D.Disk [] disk.old disk.new self.old self.new result }
         ensures merges { IfOk result (λ progress. Merges progress self.old self.new) }
         ensures entries { IfOk result (λ progress. progress ≡ Finished → IsTrue (D.content disk.old).honest → HasMergedEntries (D.content disk.old) (D.content disk.new) self.old self.new) }
@@ -293,5 +296,37 @@ impl Engine {
             return self.finish_merge(alloc, disk);
         }
         self.step_merge(disk)
+    }
+    /// One step of merging. If none is in progress, and there are hash stores, the merge of all of them and of the
+    /// sorted store into the other sorted region begins. A step gathers one slot of a hash store, or decides one key.
+    /// The step after the last key syncs the entries and writes the next manifest record. It names the new sorted
+    /// store, and the merged hash stores no longer. A hash store that came meanwhile stays in front. With the last slot of
+    /// a hash store and with the last old entry, what was read must have the digest that the store has. If it has another one,
+    /// the merge remembers that the store is damaged, and each later step is refused.
+    ///
+    /// # Errors
+    ///
+    /// `Damaged` before anything else, if the merge in progress has found a store damaged; `Spent`, if the manifest must be
+    /// written; `Read` and `NoMemory`: nothing was changed. `Write` with the fault of a write or of a sync. On a disk that
+    /// obeys the crash model `Damaged` cannot come.
+    pub fn merge<D: Disk>(
+        &mut self,
+        alloc: Global,
+        disk: &mut D,
+    ) -> Result<Progress, MergeError<D::Fault>>
+        requires stands { Stands (D.content disk.old) self.old }
+        ensures works { Works D.Disk [] disk.old disk.new self.old self.new result }
+        ensures merges { IfOk result (λ progress. Merges progress self.old self.new) }
+        ensures entries { IfOk result (λ progress. progress ≡ Finished → IsTrue (D.content disk.old).honest → HasMergedEntries (D.content disk.old) (D.content disk.new) self.old self.new) }
+        ensures quiet { IfOk result (λ progress. is_work progress ≡ false → disk.new ≡ disk.old) }
+        ensures made { MatchResult result (StepMakes D.Disk disk.old disk.new self.old self.new)
+            (λ _. MakesAtMost D.writes D.syncs (step_writes (merge_turn self.old)) (step_syncs (merge_turn self.old)) disk.old disk.new) }
+        ensures err { IfErr result (MergeErrorCause D.Disk disk.old disk.new self.old self.new) }
+        ensures stuck { (place : Place) → damaged_in self.old.merging ≡ Some place → result ≡ Err (Damaged place) }
+    {
+        match self.found_damaged() {
+            Some(place) => Err(MergeError::Damaged(place)),
+            None => self.merge_on(alloc, disk),
+        }
     }
 }

@@ -1,5 +1,5 @@
 -- The bytes that a merge hashes of what it reads, and what they say of the digests of the stores.
-use Rattle.std.proofs.Common.{◌≡◌, ℕ, ◌+◌, ◌*◌, ◌<◌, ◌≤◌, eqb, nat_lt, Bool, true, false, if◌then◌else◌, List, [], ◌∷◌, ◌++◌, length, get_or, take, Option, inl, inr, refl, sym, subst, ap, ◌∙◌, arith, length-append}
+use Rattle.std.proofs.Common.{◌≡◌, ℕ, ◌+◌, ◌*◌, ◌<◌, ◌≤◌, eqb, nat_lt, Bool, true, false, if◌then◌else◌, List, [], ◌∷◌, ◌++◌, length, get_or, take, Option, inl, inr, refl, sym, subst, ap, ◌∙◌, arith, length-append, Some, None}
 use Rattle.std.specs.List.{All}
 use Rattle.std.proofs.lemmas.Bool.{and_parts, cases_eq, cases_lt, cond-true, cond-false, eq-eqb, eqb-true, le-ltb, lt-ltb}
 use Rattle.std.proofs.Math.Nat.{add-mul}
@@ -22,7 +22,8 @@ use Rattle.silt_trie.specs.Building.{Building}
 use Rattle.silt_merge.specs.Comparing.{HasCompared, MatchesDigests, MayTake}
 use Rattle.silt_merge.specs.Pieces.{AreEntries, AreSlots}
 use Rattle.silt_merge.specs.Rows.{entries_in, regions_of}
-use Rattle.silt_merge.specs.State.{IsHeldMerge, MergeState, ends_entries, ends_store, hashed_after, input_after, passed_after, slot_after}
+use Rattle.silt_event.specs.declared.place.Place.{Place}
+use Rattle.silt_merge.specs.State.{IsHeldMerge, MergeState, ends_entries, finding, ends_store, hashed_after, input_after, passed_after, slot_after}
 use Rattle.silt_merge.specs.declared.source.Source.{Source}
 use Rattle.silt_merge.proofs.Pieces.{first_entry, first_slot}
 use Rattle.silt_merge.proofs.Reading.{store_at}
@@ -94,11 +95,16 @@ module _ (content : Content) (stores : List HashState) (sorted : SortedState) (d
 more_parts : (n next len front part : ℕ) → n + 1 ≡ next → front ≡ n * len → part ≡ len → front + part ≡ next * len
 more_parts n next len front part one front_is part_is = omega (arith, add-mul n 1 len, ap (λ (k : ℕ). k * len) one, front_is, part_is)
 
+-- if nothing is found, the store fits its digest
+fits_of : (fits : Bool) (place : Place) → finding fits place ≡ None → fits ≡ true
+fits_of true place none = refl
+fits_of false place none = let no : Some place ≡ None = none in absurd (cc)
+
 -- nothing is compared at the start
 pub none_compared : (stores : List HashState) (sorted : SortedState) (digest : List ℕ) (merge : MergeState) → merge.store ≡ 0 → merge.slot ≡ 0 → merge.passed ≡ 0 → HasTaken merge.input [] → HasCompared stores sorted digest merge
 none_compared stores sorted digest merge store slot passed fresh = record {
-  hashes = λ place its below. absurd (omega (arith, below, store));
-  entries = λ some past. absurd (omega (arith, some, past, passed));
+  hashes = λ none place its below. absurd (omega (arith, below, store));
+  entries = λ none some past. absurd (omega (arith, some, past, passed));
   input = ([], nothing (nat_lt merge.store merge.stores), fresh);
 }
   where
@@ -112,11 +118,11 @@ module _ (stores : List HashState) (sorted : SortedState) (digest : List ℕ) (m
   compared_with slots ahead is = record { hashes = is.hashes; entries = is.entries; input = is.input }
 
   -- a slot more
-  pub compared_slot : (store : HashState) (next : ℕ × ℕ) (waiting : List (Key × Source)) (slots : List (List ℕ)) (input : Taken) → IsHeldMerge merge → merge.store < merge.stores → length (get_or merge.slots 0 []) ≡ row_len merge.shape
-      → store ≡ get_or stores merge.store store → ((bytes : List ℕ) → HasTaken merge.input bytes → MayTake (ends_store merge) (bytes ++ get_or merge.slots 0 []) store.digest true)
+  pub compared_slot : (fits : Bool) (place : Place) → merge.damaged ≡ None → (store : HashState) (next : ℕ × ℕ) (waiting : List (Key × Source)) (slots : List (List ℕ)) (input : Taken) → IsHeldMerge merge → merge.store < merge.stores → length (get_or merge.slots 0 []) ≡ row_len merge.shape
+      → store ≡ get_or stores merge.store store → ((bytes : List ℕ) → HasTaken merge.input bytes → MayTake (ends_store merge) (bytes ++ get_or merge.slots 0 []) store.digest fits)
       → ((bytes : List ℕ) → HasTaken merge.input bytes → HasTaken input (input_after (ends_store merge) bytes (get_or merge.slots 0 []))) → next ≡ slot_after merge.store merge.slot (4 * merge.shape.buckets)
-      → HasCompared stores sorted digest merge → HasCompared stores sorted digest (record merge { store = next.0; slot = next.1; waiting = waiting; slots = slots; input = input })
-  compared_slot store next waiting slots input held below long here may hashed next_is is = go (ends_store merge) refl
+      → HasCompared stores sorted digest merge → HasCompared stores sorted digest (record merge { store = next.0; slot = next.1; waiting = waiting; slots = slots; input = input; damaged = finding fits place })
+  compared_slot fits found sound store next waiting slots input held below long here may hashed next_is is = go (ends_store merge) refl
     where
       part : List ℕ
       part = get_or merge.slots 0 []
@@ -134,21 +140,21 @@ module _ (stores : List HashState) (sorted : SortedState) (digest : List ℕ) (m
       len_after true = omega arith
       len_after false = omega (arith, ap (λ n. n * entry_len merge.shape) (held.unpassed below))
 
-      go : (ends : Bool) → ends_store merge ≡ ends → HasCompared stores sorted digest (record merge { store = next.0; slot = next.1; waiting = waiting; slots = slots; input = input })
+      go : (ends : Bool) → ends_store merge ≡ ends → HasCompared stores sorted digest (record merge { store = next.0; slot = next.1; waiting = waiting; slots = slots; input = input; damaged = finding fits found })
       go true last =
           let next_store : next.0 ≡ merge.store + 1 = ap (λ (p : ℕ × ℕ). p.0) (next_is ∙ cond-true _ _ _ last) in
           let next_slot : next.1 ≡ 0 = ap (λ (p : ℕ × ℕ). p.1) (next_is ∙ cond-true _ _ _ last) in
           let slots_are : merge.slot + 1 ≡ 4 * merge.shape.buckets = eqb-true (merge.slot + 1) (4 * merge.shape.buckets) last in
           let all_len : length (bytes ++ part) ≡ slots_len merge.shape = length-append bytes part ∙ more_parts merge.slot (4 * merge.shape.buckets) (row_len merge.shape) (length bytes) (length part) slots_are hashed_len long in
-          let agrees : store.digest ≡ sha1 (bytes ++ part) = (may bytes is.input.2).0 refl last in
+          let agrees : finding fits found ≡ None → store.digest ≡ sha1 (bytes ++ part) = λ none. (may bytes is.input.2).0 (fits_of fits found none) last in
           record {
-            hashes = λ place its under there. elim (cases_eq place merge.store) [
+            hashes = λ none place its under there. elim (cases_eq place merge.store) [
               | inl same ↦
                   let own : its ≡ store = sym (get_or_from_slice_get stores place its store there) ∙ ap (λ n. get_or stores n store) same ∙ sym here in
-                  (bytes ++ part, all_len, ap (λ (t : HashState). t.digest) own ∙ agrees)
-              | inr other ↦ is.hashes place its (omega (arith, under, next_store, other)) there
+                  (bytes ++ part, all_len, ap (λ (t : HashState). t.digest) own ∙ agrees none)
+              | inr other ↦ is.hashes sound place its (omega (arith, under, next_store, other)) there
             ];
-            entries = λ some past. absurd (none_passed some past);
+            entries = λ none some past. absurd (none_passed some past);
             input = (
               [],
               len_after (nat_lt next.0 merge.stores) ∙ ap (λ n. if nat_lt next.0 merge.stores then n * row_len merge.shape else merge.passed * entry_len merge.shape) (sym next_slot),
@@ -159,8 +165,8 @@ module _ (stores : List HashState) (sorted : SortedState) (digest : List ℕ) (m
           let next_store : next.0 ≡ merge.store = ap (λ (p : ℕ × ℕ). p.0) (next_is ∙ cond-false _ _ _ other) in
           let next_slot : next.1 ≡ merge.slot + 1 = ap (λ (p : ℕ × ℕ). p.1) (next_is ∙ cond-false _ _ _ other) in
           record {
-            hashes = λ place its under there. is.hashes place its (omega (arith, under, next_store)) there;
-            entries = λ some past. absurd (none_passed some past);
+            hashes = λ none place its under there. is.hashes sound place its (omega (arith, under, next_store)) there;
+            entries = λ none some past. absurd (none_passed some past);
             input = (
               bytes ++ part,
               length-append bytes part
@@ -172,12 +178,12 @@ module _ (stores : List HashState) (sorted : SortedState) (digest : List ℕ) (m
           }
 
   -- a key more, with the next entry or without it
-  pub compared_key : (passes : Bool) (waiting : List (Key × Source)) (written : ℕ) (index : Building) (decided : ℕ) (last : Option Key) (ahead : List (List ℕ)) (input : Taken) (hasher : Sha1) → IsHeldMerge merge → merge.store ≡ merge.stores
+  pub compared_key : (fits : Bool) (place : Place) → merge.damaged ≡ None → (passes : Bool) (waiting : List (Key × Source)) (written : ℕ) (index : Building) (decided : ℕ) (last : Option Key) (ahead : List (List ℕ)) (input : Taken) (hasher : Sha1) → IsHeldMerge merge → merge.store ≡ merge.stores
       → (passes ≡ true → length (get_or merge.ahead 0 []) ≡ entry_len merge.shape)
-      → ((bytes : List ℕ) → HasTaken merge.input bytes → MayTake (ends_entries passes merge.passed sorted.count) (bytes ++ get_or merge.ahead 0 []) digest true)
+      → ((bytes : List ℕ) → HasTaken merge.input bytes → MayTake (ends_entries passes merge.passed sorted.count) (bytes ++ get_or merge.ahead 0 []) digest fits)
       → ((bytes : List ℕ) → HasTaken merge.input bytes → HasTaken input (hashed_after passes bytes (get_or merge.ahead 0 []))) → HasCompared stores sorted digest merge
-      → HasCompared stores sorted digest (record merge { waiting = waiting; passed = passed_after passes merge.passed; written = written; index = index; decided = decided; last = last; ahead = ahead; input = input; hasher = hasher })
-  compared_key passes waiting written index decided last ahead input hasher held all long may hashed is = go passes refl
+      → HasCompared stores sorted digest (record merge { waiting = waiting; passed = passed_after passes merge.passed; written = written; index = index; decided = decided; last = last; ahead = ahead; input = input; hasher = hasher; damaged = finding fits place })
+  compared_key fits found sound passes waiting written index decided last ahead input hasher held all long may hashed is = go passes refl
     where
       part : List ℕ
       part = get_or merge.ahead 0 []
@@ -191,12 +197,12 @@ module _ (stores : List HashState) (sorted : SortedState) (digest : List ℕ) (m
       hashed_len : length bytes ≡ merge.passed * entry_len merge.shape
       hashed_len = is.input.1 ∙ cond-false _ _ _ past_all
 
-      go : (b : Bool) → passes ≡ b → HasCompared stores sorted digest (record merge { waiting = waiting; passed = passed_after passes merge.passed; written = written; index = index; decided = decided; last = last; ahead = ahead; input = input; hasher = hasher })
+      go : (b : Bool) → passes ≡ b → HasCompared stores sorted digest (record merge { waiting = waiting; passed = passed_after passes merge.passed; written = written; index = index; decided = decided; last = last; ahead = ahead; input = input; hasher = hasher; damaged = finding fits found })
       go false stays =
           let as_before : passed_after passes merge.passed ≡ merge.passed = ap (λ b. passed_after b merge.passed) stays in
           record {
-            hashes = is.hashes;
-            entries = λ some past. is.entries some (omega (arith, past, as_before));
+            hashes = λ none. is.hashes sound;
+            entries = λ none some past. is.entries sound some (omega (arith, past, as_before));
             input = (
               bytes,
               hashed_len ∙ ap (λ n. n * entry_len merge.shape) (sym as_before) ∙ sym (cond-false _ _ _ past_all),
@@ -206,15 +212,15 @@ module _ (stores : List HashState) (sorted : SortedState) (digest : List ℕ) (m
       go true skips =
           let one_more : passed_after passes merge.passed ≡ merge.passed + 1 = ap (λ b. passed_after b merge.passed) skips in
           record {
-            hashes = is.hashes;
-            entries = λ some past. elim (cases_lt merge.passed sorted.count) [
-              | inr before ↦ is.entries some before
+            hashes = λ none. is.hashes sound;
+            entries = λ none some past. elim (cases_lt merge.passed sorted.count) [
+              | inr before ↦ is.entries sound some before
               | inl last_one ↦
                   let count : merge.passed + 1 ≡ sorted.count = omega (arith, past, one_more, last_one) in
                   let ends : ends_entries passes merge.passed sorted.count ≡ true = ap (λ b. ends_entries b merge.passed sorted.count) skips ∙ eq-eqb (merge.passed + 1) sorted.count count in (
                     bytes ++ part,
                     length-append bytes part ∙ more_parts merge.passed sorted.count (entry_len merge.shape) (length bytes) (length part) count hashed_len (long skips),
-                    (may bytes is.input.2).0 refl ends,
+                    (may bytes is.input.2).0 (fits_of fits found none) ends,
                   )
             ];
             input = (

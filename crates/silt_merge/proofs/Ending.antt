@@ -10,6 +10,7 @@ use Rattle.silt_disk.specs.Disk.{ChangesWithin, Content, Torn, size}
 use Rattle.silt_disk.specs.Layout.{Shape, device_size, entry_len, sorted_at}
 use Rattle.silt_disk.proofs.Regions.{next_region}
 use Rattle.silt_frame.specs.Frame.{is_put, kind_byte}
+use Rattle.silt_event.specs.declared.place.Place.{Place}
 use Rattle.silt_frame.specs.declared.key.Key.{Key}
 use Rattle.silt_frame.specs.declared.key.Kind.{Kind}
 use Rattle.silt_frame.specs.declared.key.Kind.TheVariants.{Put, Delete}
@@ -411,6 +412,31 @@ held_with merge slots ahead index hasher most held = record {
   room = held.room;
   few = held.few;
   index = most;
+}
+
+-- what is found damaged does not matter for what is merged
+pub merged_noted : (content : Content) (stores : List HashState) (sorted : SortedState) (merge : MergeState) (damaged : Option Place) → HasMerged content stores sorted merge → HasMerged content stores sorted (record merge { damaged = damaged })
+merged_noted content stores sorted merge damaged is = record {
+  shape = is.shape;
+  counted = is.counted;
+  apart = is.apart;
+  hashed = is.hashed;
+  merged = λ honest sound.
+      let so_far = is.merged honest sound in
+      record {
+        gathered = record {
+          most = so_far.gathered.most;
+          waits = so_far.gathered.waits;
+          last = so_far.gathered.last;
+          slots = so_far.gathered.slots;
+          ahead = so_far.gathered.ahead;
+          passes = so_far.gathered.passes;
+          slots_hashed = so_far.gathered.slots_hashed;
+          entries_hashed = so_far.gathered.entries_hashed;
+        };
+        writes = so_far.writes;
+        index = so_far.index;
+      };
 }
 
 -- a merge with one key more, whose entry is written or not

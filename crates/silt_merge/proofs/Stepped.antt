@@ -1,5 +1,5 @@
 -- What a step does, at its exits.
-use Rattle.std.proofs.Common.{◌≡◌, ℕ, ◌+◌, ◌*◌, ◌-◌, ◌<◌, Bool, List, length, get_or, Ok, Err, inl, inr, refl, sym, subst, ap, ◌∙◌, arith}
+use Rattle.std.proofs.Common.{◌≡◌, Some, None, ℕ, ◌+◌, ◌*◌, ◌-◌, ◌<◌, Bool, List, length, get_or, Ok, Err, inl, inr, refl, sym, subst, ap, ◌∙◌, arith}
 use Rattle.std.proofs.lemmas.Bool.{cond-false, cond-true, le-ltb, lt-ltb}
 use Rattle.silt_disk.specs.Disk.{ChangesWithin, CountsFault, Makes, MakesAtMost, size}
 use Rattle.silt_disk.specs.Layout.{entry_len, sorted_at, sorted_size}
@@ -7,13 +7,15 @@ use Rattle.silt_disk.specs.declared.disk.Disk.{Ghosts}
 use Rattle.silt_disk.proofs.Costs.{most_none}
 use Rattle.silt_disk.proofs.Images.{within_refl, within_wider}
 use Rattle.silt_disk.proofs.Regions.{up_least}
+use Rattle.std.specs.Prelude.{Result}
+use Rattle.silt_event.specs.declared.place.Place.{Place}
 use Rattle.silt_event.specs.declared.place.Place.TheVariants.{HashDigest, SortedDigest}
 use Rattle.silt_hash_store.specs.State.{HashState}
 use Rattle.silt_sorted_store.specs.State.{SortedState, sorted_entry_at}
 use Rattle.silt_merge.specs.Comparing.{HasCompared, MatchesDigests}
 use Rattle.silt_merge.specs.Merging.{HasMerged, IsSameMerge}
 use Rattle.silt_merge.specs.State.{IsHeldMerge, LastRises, MergeState, steps_of, written_after}
-use Rattle.silt_merge.specs.Steps.{FailsMerge, TakesMemory, TakesStep, damaged_place}
+use Rattle.silt_merge.specs.Steps.{FailsMerge, Finds, TakesMemory, TakesStep, damaged_place}
 use Rattle.silt_merge.specs.declared.merge.StepError.{StepError}
 use Rattle.silt_merge.specs.declared.merge.StepError.TheVariants.{Read, Write, NoMemory, Damaged}
 use Rattle.silt_merge.proofs.Comparing.{compared_with}
@@ -30,17 +32,22 @@ gathering_place stores merge store region below counted here is =
 pub deciding_place : (stores : List HashState) (merge : MergeState) → merge.store ≡ merge.stores → SortedDigest ≡ damaged_place stores merge
 deciding_place stores merge all = sym (cond-false _ _ _ (le-ltb merge.store merge.stores (omega (arith, all))))
 
+-- a merge that has found nothing is not stuck
+none_stuck : {A : Type 0} (before : MergeState) → before.damaged ≡ None → (place : Place) → before.damaged ≡ Some place → A
+none_stuck before sound place found = let no : None ≡ Some place = sym sound ∙ found in absurd (cc)
+
 -- a merge is the same if nothing of it changed but this
 pub same_merge : (merge : MergeState) → IsSameMerge merge merge
 same_merge merge = record { shape = refl; region = refl; stores = refl }
 
 module _ {D F : Type 0} (facts : Ghosts D F) (stores : List HashState) (sorted : SortedState) (digest : List ℕ) where
   -- a step that was refused before it wrote
-  pub refused : {T : Type 0} (disk : D) (before after : MergeState) (error : StepError F) → after ≡ before → IsHeldMerge before → FailsMerge facts stores sorted digest disk disk before before error
+  pub refused : {T : Type 0} (disk : D) (before after : MergeState) (error : StepError F) → after ≡ before → IsHeldMerge before → before.damaged ≡ None → FailsMerge facts stores sorted disk disk before before error
       → TakesStep {T = T} facts stores sorted digest disk disk before after (Err error)
-  refused {T} disk before after error same held fails =
+  refused {T} disk before after error same held sound fails =
       let at_most : MakesAtMost facts.writes facts.syncs 1 0 disk disk = most_none in
       subst (λ (m : MergeState). TakesStep {T = T} facts stores sorted digest disk disk before m (Err error)) (sym same) (record {
+        stuck = λ place found. none_stuck before sound place found;
         size = refl;
         changes = within_refl _ _ (facts.content disk);
         region = within_refl _ _ (facts.content disk);
@@ -55,12 +62,13 @@ module _ {D F : Type 0} (facts : Ghosts D F) (stores : List HashState) (sorted :
       })
 
   -- a step that wrote nothing
-  pub went_on : {T : Type 0} (disk : D) (before after : MergeState) (x : T) → IsSameMerge before after → IsHeldMerge after → after.last ≡ before.last → after.written ≡ before.written → steps_of after ≡ steps_of before + 1
+  pub went_on : {T : Type 0} (disk : D) (before after : MergeState) (x : T) → IsSameMerge before after → IsHeldMerge after → after.last ≡ before.last → after.written ≡ before.written → steps_of after ≡ steps_of before + 1 → before.damaged ≡ None
       → (HasMerged (facts.content disk) stores sorted before → HasMerged (facts.content disk) stores sorted after) → (HasCompared stores sorted digest before → HasCompared stores sorted digest after)
-      → TakesStep facts stores sorted digest disk disk before after (Ok x)
-  went_on disk before after x same held last written steps merged compared =
+      → Finds (facts.content disk) stores sorted digest before after → TakesStep facts stores sorted digest disk disk before after (Ok x)
+  went_on disk before after x same held last written steps sound merged compared finds =
       let none : Makes facts.writes facts.syncs (after.written - before.written) 0 disk disk = made_none before.written after.written written in
       record {
+        stuck = λ place found. none_stuck before sound place found;
         size = refl;
         changes = within_refl _ _ (facts.content disk);
         region = within_refl _ _ (facts.content disk);
@@ -69,12 +77,12 @@ module _ {D F : Type 0} (facts : Ghosts D F) (stores : List HashState) (sorted :
         rises = inl (last, written);
         gathers = λ below. written;
         grew = stayed before.written after.written written;
-        goes = record { steps = steps; made = none; failures = refl; merged = merged; compared = compared };
+        goes = record { steps = steps; made = none; failures = refl; merged = merged; compared = compared; finds = finds };
         most = tt;
         fails = tt;
       }
 
-  module _ (old new : D) (before after : MergeState) (sizes : size (facts.content new) ≡ size (facts.content old)) (all : before.store ≡ before.stores) (same : IsSameMerge before after) (held : IsHeldMerge after)
+  module _ (old new : D) (before after : MergeState) (sound : before.damaged ≡ None) (sizes : size (facts.content new) ≡ size (facts.content old)) (all : before.store ≡ before.stores) (same : IsSameMerge before after) (held : IsHeldMerge after)
       (entry : ChangesWithin (sorted_entry_at before.shape before.region before.written) (entry_len before.shape) (facts.content old) (facts.content new))
       (within : ChangesWithin (sorted_at before.shape before.region) (before.shape.sorted_capacity * entry_len before.shape) (facts.content old) (facts.content new)) where
     in_region : ChangesWithin (sorted_at before.shape before.region) (sorted_size before.shape) (facts.content old) (facts.content new)
@@ -85,8 +93,9 @@ module _ {D F : Type 0} (facts : Ghosts D F) (stores : List HashState) (sorted :
     -- a step that decided a key, whose entry is written or not
     pub decided_on : {T : Type 0} (is_written : Bool) (x : T) → LastRises before after → after.written ≡ written_after is_written before.written → Makes facts.writes facts.syncs (after.written - before.written) 0 old new
         → facts.failures new ≡ facts.failures old → steps_of after ≡ steps_of before + 1 → (HasMerged (facts.content old) stores sorted before → HasMerged (facts.content new) stores sorted after)
-        → (HasCompared stores sorted digest before → HasCompared stores sorted digest after) → TakesStep facts stores sorted digest old new before after (Ok x)
-    decided_on is_written x rises written made failures steps merged compared = record {
+        → (HasCompared stores sorted digest before → HasCompared stores sorted digest after) → Finds (facts.content old) stores sorted digest before after → TakesStep facts stores sorted digest old new before after (Ok x)
+    decided_on is_written x rises written made failures steps merged compared finds = record {
+      stuck = λ place found. none_stuck before sound place found;
       size = sizes;
       changes = entry;
       region = in_region;
@@ -95,7 +104,7 @@ module _ {D F : Type 0} (facts : Ghosts D F) (stores : List HashState) (sorted :
       rises = rises;
       gathers = λ below. absurd (omega (arith, below, all));
       grew = grown is_written before.written after.written written;
-      goes = record { steps = steps; made = made; failures = failures; merged = merged; compared = compared };
+      goes = record { steps = steps; made = made; failures = failures; merged = merged; compared = compared; finds = finds };
       most = tt;
       fails = tt;
     }
@@ -104,6 +113,7 @@ module _ {D F : Type 0} (facts : Ghosts D F) (stores : List HashState) (sorted :
     pub broke : {T : Type 0} (fault : F) → after.last ≡ before.last → after.written ≡ before.written → MakesAtMost facts.writes facts.syncs 1 0 old new → CountsFault facts.failures facts.gave old new fault
         → TakesStep {T = T} facts stores sorted digest old new before after (Err (Write fault))
     broke fault last written most counts = record {
+      stuck = λ place found. none_stuck before sound place found;
       size = sizes;
       changes = entry;
       region = in_region;
@@ -123,9 +133,14 @@ module _ {D F : Type 0} (facts : Ghosts D F) (stores : List HashState) (sorted :
     abbrev read : MergeState
     read = record before { slots = slots; ahead = ahead }
 
+    -- the digests are the stores' if they were before
+    matches_after : MatchesDigests (facts.content old) stores sorted digest before → MatchesDigests (facts.content old) stores sorted digest read
+    matches_after matches = record { honest = matches.honest; merged = reads matches.merged; sound = matches.sound; hashes = matches.hashes; entries = matches.entries }
+
     -- a step that goes on with it
     pub read_and_went : {T : Type 0} (after : MergeState) (x : T) → TakesStep facts stores sorted digest old new read after (Ok x) → TakesStep facts stores sorted digest old new before after (Ok x)
     read_and_went after x is = record {
+      stuck = is.stuck;
       size = is.size;
       changes = is.changes;
       region = is.region;
@@ -140,6 +155,10 @@ module _ {D F : Type 0} (facts : Ghosts D F) (stores : List HashState) (sorted :
         failures = is.goes.failures;
         merged = λ merged. is.goes.merged (reads merged);
         compared = λ compared. is.goes.compared (compared_with stores sorted digest before slots ahead compared);
+        finds = elim is.goes.finds [
+          | inl none ↦ inl none
+          | inr found ↦ inr (found.0, λ matches. found.1 (matches_after matches))
+        ];
       };
       most = tt;
       fails = tt;
@@ -150,16 +169,12 @@ module _ {D F : Type 0} (facts : Ghosts D F) (stores : List HashState) (sorted :
     takes_before (inl row) = inl (record { gathers = row.gathers; known = row.known; new_key = row.new_key })
     takes_before (inr key) = inr (record { gathered = key.gathered; room = key.room; puts = λ honest merged sound. key.puts honest (reads merged) sound })
 
-    -- and the digests are the stores' if they were before
-    matches_after : MatchesDigests (facts.content old) stores sorted digest before → MatchesDigests (facts.content old) stores sorted digest read
-    matches_after matches = record { honest = matches.honest; merged = reads matches.merged; sound = matches.sound; hashes = matches.hashes; entries = matches.entries }
-
     -- the cause of an error is that of the step without it
-    fails_before : (mid after : MergeState) (error : StepError F) → (mid ≡ read → after ≡ before) → FailsMerge facts stores sorted digest old new read mid error → FailsMerge facts stores sorted digest old new before after error
+    fails_before : (mid after : MergeState) (error : StepError F) → (mid ≡ read → after ≡ before) → FailsMerge facts stores sorted old new read mid error → FailsMerge facts stores sorted old new before after error
     fails_before mid after (Read fault) back fails = (back fails.0, fails.1, fails.2)
     fails_before mid after (Write fault) back fails = fails
-    fails_before mid after NoMemory back fails = (back fails.0, fails.1, takes_before fails.2)
-    fails_before mid after (Damaged place) back fails = (back fails.0, fails.1, fails.2, λ matches. fails.3 (matches_after matches))
+    fails_before mid after NoMemory back fails = (back fails.0, fails.1, λ merged sound. takes_before (fails.2 (reads merged) sound))
+    fails_before mid after (Damaged place) back fails = (back fails.0, fails.1, fails.2)
 
     -- a step that forgets it again after an error
     pub read_and_failed : {T : Type 0} (mid after : MergeState) (slots_after ahead_after : List (List ℕ)) (error : StepError F) → after ≡ record mid { slots = slots_after; ahead = ahead_after } → (mid ≡ read → after ≡ before) → IsHeldMerge after
@@ -168,6 +183,7 @@ module _ {D F : Type 0} (facts : Ghosts D F) (stores : List HashState) (sorted :
         let written : after.written ≡ mid.written = ap (λ (m : MergeState). m.written) is_after in
         let last : after.last ≡ mid.last = ap (λ (m : MergeState). m.last) is_after in
         record {
+          stuck = is.stuck;
           size = is.size;
           changes = is.changes;
           region = is.region;
@@ -187,3 +203,23 @@ module _ {D F : Type 0} (facts : Ghosts D F) (stores : List HashState) (sorted :
           most = is.most;
           fails = fails_before mid after error back is.fails;
         }
+
+  -- ---- a merge that has found a store damaged
+
+  pub refused_at_once : {T : Type 0} (disk : D) (before : MergeState) (place : Place) → before.damaged ≡ Some place → IsHeldMerge before → TakesStep {T = T} facts stores sorted digest disk disk before before (Err (Damaged place))
+  refused_at_once {T} disk before place found held =
+      let at_most : MakesAtMost facts.writes facts.syncs 1 0 disk disk = most_none in
+      record {
+        stuck = λ other is. let same : Some place ≡ Some other = sym found ∙ is in let own : place ≡ other = cc in ap (λ p. let r : Result T (StepError F) = Err (Damaged p) in r) own;
+        size = refl;
+        changes = within_refl _ _ (facts.content disk);
+        region = within_refl _ _ (facts.content disk);
+        same = same_merge before;
+        held = held;
+        rises = inl (refl, refl);
+        gathers = λ below. refl;
+        grew = stayed before.written before.written refl;
+        goes = tt;
+        most = at_most;
+        fails = (refl, refl, found);
+      }

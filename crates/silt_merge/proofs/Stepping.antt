@@ -43,7 +43,7 @@ no_slots s region image = refl
 -- nothing is gathered, and nothing is due
 pub started : (content : Content) (stores : List HashState) (sorted : SortedState) (shape : Shape) (region : ℕ) (waiting : List (Key × Source)) (index : Building) (slots ahead : List (List ℕ)) (input : Taken) (hasher : Sha1) → shape ≡ sorted.shape → sorted.region ≢ region
     → waiting ≡ [] → IsBuildingOf [] index → slots ≡ [] → ahead ≡ [] → HasTaken input [] → Holds hasher []
-    → HasMerged content stores sorted (record { shape = shape; region = region; stores = length stores; store = 0; slot = 0; waiting = waiting; passed = 0; written = 0; index = index; decided = 0; last = None; slots = slots; ahead = ahead; input = input; hasher = hasher })
+    → HasMerged content stores sorted (record { shape = shape; region = region; stores = length stores; store = 0; slot = 0; waiting = waiting; passed = 0; written = 0; index = index; decided = 0; last = None; slots = slots; ahead = ahead; input = input; hasher = hasher; damaged = None })
 started content stores sorted shape region waiting index slots ahead input hasher same apart none no_keys none_read none_ahead fresh_input fresh = record {
   shape = sym same;
   counted = refl;

@@ -1,12 +1,12 @@
 -- What a step does that gathers a slot, and one that decides a key.
-use Rattle.std.proofs.Common.{◌≡◌, ℕ, ◌+◌, ◌*◌, ◌<◌, nat_lt, Bool, true, false, IsTrue, List, [], ◌++◌, length, get_or, Option, Some, None, Ok, Err, inl, refl, sym, subst, ap, ◌∙◌, arith}
+use Rattle.std.proofs.Common.{◌≡◌, ℕ, ◌+◌, ◌*◌, ◌<◌, nat_lt, Bool, true, false, IsTrue, List, [], ◌++◌, length, get_or, Option, Some, None, Ok, Err, ◌⊎◌, inl, inr, refl, sym, subst, ap, ◌∙◌, arith}
 use Rattle.std.specs.List.{All}
 use Rattle.std.specs.Option.{is_some}
 use Rattle.std.specs.Prelude.{IsSomeAnd}
-use Rattle.silt_disk.specs.Disk.{Content, GaveAny}
+use Rattle.silt_disk.specs.Disk.{Content}
 use Rattle.silt_disk.specs.Layout.{Shape, entry_len, row_len}
 use Rattle.silt_disk.specs.declared.disk.Disk.{Ghosts}
-use Rattle.silt_event.specs.declared.place.Place.TheVariants.{HashDigest}
+use Rattle.silt_event.specs.declared.place.Place.TheVariants.{HashDigest, SortedDigest}
 use Rattle.silt_frame.specs.Rows.{StoredRow, row_of}
 use Rattle.silt_frame.specs.declared.key.Key.{Key}
 use Rattle.silt_frame.specs.declared.key.Row.{Row}
@@ -15,19 +15,19 @@ use Rattle.silt_hash_store.specs.Slots.{slot_row}
 use Rattle.silt_hash_store.specs.State.{HashState}
 use Rattle.silt_sorted_store.specs.State.{SortedState, entries_of}
 use Rattle.silt_merge.specs.Choice.{Gathers, IsNextEntry}
-use Rattle.silt_merge.specs.Comparing.{MayTake}
+use Rattle.silt_merge.specs.Comparing.{MatchesDigests, MayTake}
+use Rattle.silt_merge.specs.Merging.{AreSound, HasMerged}
 use Rattle.silt_merge.specs.Pieces.{AreEntries, AreSlots, parts_after}
 use Rattle.silt_merge.specs.Rows.{regions_of}
-use Rattle.silt_merge.specs.State.{IsHeldMerge, MergeState, ends_entries, ends_store, input_after, is_behind, slot_after, source_at}
-use Rattle.silt_merge.specs.Steps.{FailsMerge, GathersRow, RefusesRow, TakesStep}
-use Rattle.silt_merge.specs.declared.merge.StepError.{StepError}
+use Rattle.silt_merge.specs.State.{IsHeldMerge, MergeState, ends_entries, ends_store, finding, input_after, is_behind, slot_after, source_at}
+use Rattle.silt_merge.specs.Steps.{GathersRow, TakesStep, damaged_place}
 use Rattle.silt_merge.specs.declared.source.Source.{Source}
-use Rattle.silt_merge.specs.declared.merge.StepError.TheVariants.{Read, Write, NoMemory, Damaged}
-use Rattle.silt_merge.proofs.Comparing.{compared_key, compared_slot, slot_agrees}
-use Rattle.silt_merge.proofs.Ending.{merged_behind}
+use Rattle.silt_merge.specs.declared.merge.StepError.TheVariants.{NoMemory}
+use Rattle.silt_merge.proofs.Comparing.{compared_key, compared_slot, entry_agrees, slot_agrees}
+use Rattle.silt_merge.proofs.Ending.{merged_behind, merged_noted}
 use Rattle.silt_merge.proofs.Pieces.{first_slot}
 use Rattle.silt_merge.proofs.Reading.{store_at}
-use Rattle.silt_merge.proofs.Stepped.{gathering_place, refused, went_on}
+use Rattle.silt_merge.proofs.Stepped.{deciding_place, gathering_place, refused, went_on}
 use Rattle.silt_merge.proofs.Stepping.{gathered_step, slots_more}
 use Rattle.silt_hasher.specs.Taking.{HasTaken, Taken}
 
@@ -37,17 +37,12 @@ module _ {D F : Type 0} (facts : Ghosts D F) (stores : List HashState) (disk : D
   abbrev content : Content
   content = facts.content disk
 
-  -- it has another digest
-  pub slot_refused : {T : Type 0} (region : ℕ) (answer : Bool) (after : MergeState) → region ≡ store.region → answer ≡ false
-      → ((bytes : List ℕ) → HasTaken merge.input bytes → MayTake (ends_store merge) (bytes ++ get_or merge.slots 0 []) store.digest answer) → after ≡ merge
-      → (sorted : SortedState) (digest : List ℕ) → TakesStep {T = T} facts stores sorted digest disk disk merge after (Err (Damaged (HashDigest region)))
-  slot_refused region answer after region_is differs may same sorted digest =
-      refused facts stores sorted digest disk merge after (Damaged (HashDigest region)) same held (
-        refl,
-        refl,
-        gathering_place stores merge store region below counted here region_is,
-        λ matches. slot_agrees (facts.content disk) stores sorted digest merge matches store below some long shapes here (λ bytes holds. subst (MayTake (ends_store merge) (bytes ++ get_or merge.slots 0 []) store.digest) differs (may bytes holds)),
-      )
+  -- it fits, or the store is found damaged
+  slot_finds : (region : ℕ) (fits : Bool) → region ≡ store.region → ((bytes : List ℕ) → HasTaken merge.input bytes → MayTake (ends_store merge) (bytes ++ get_or merge.slots 0 []) store.digest fits)
+      → (sorted : SortedState) (digest : List ℕ) → (finding fits (HashDigest region) ≡ None) ⊎ ((finding fits (HashDigest region) ≡ Some (damaged_place stores merge)) × (MatchesDigests content stores sorted digest merge → ⊥))
+  slot_finds region true region_is may sorted digest = inl refl
+  slot_finds region false region_is may sorted digest =
+      inr (ap Some (gathering_place stores merge store region below counted here region_is), λ matches. slot_agrees content stores sorted digest merge matches store below some long shapes here may)
 
   -- the row in the slot, by the store
   module _ (row : Option Row) (its : IsRowAt (row_of (get_or merge.slots 0 [])) merge.slot row) where
@@ -56,60 +51,46 @@ module _ {D F : Type 0} (facts : Ghosts D F) (stores : List HashState) (disk : D
     shown shape region image are = subst (λ (r : StoredRow). IsRowAt r merge.slot row) (sym (first_slot shape region merge.slot image merge.slots some are)) its
 
     -- it is taken
-    pub slot_taken : {T : Type 0} (waiting : List (Key × Source)) (input : Taken) (after : MergeState) (x : T) → ((bytes : List ℕ) → HasTaken merge.input bytes → MayTake (ends_store merge) (bytes ++ get_or merge.slots 0 []) store.digest true)
+    pub slot_taken : {T : Type 0} (region : ℕ) (fits : Bool) → region ≡ store.region → merge.damaged ≡ None → (waiting : List (Key × Source)) (input : Taken) (after : MergeState) (x : T)
+        → ((bytes : List ℕ) → HasTaken merge.input bytes → MayTake (ends_store merge) (bytes ++ get_or merge.slots 0 []) store.digest fits)
         → Gathers merge.store merge.slot row merge.waiting waiting → ((bytes : List ℕ) → HasTaken merge.input bytes → HasTaken input (input_after (ends_store merge) bytes (get_or merge.slots 0 [])))
-        → after ≡ (let m : MergeState = record merge { store = (slot_after merge.store merge.slot (4 * merge.shape.buckets)).0; slot = (slot_after merge.store merge.slot (4 * merge.shape.buckets)).1; waiting = waiting; slots = parts_after true merge.slots; input = input } in m)
+        → after ≡ (let m : MergeState = record merge { store = (slot_after merge.store merge.slot (4 * merge.shape.buckets)).0; slot = (slot_after merge.store merge.slot (4 * merge.shape.buckets)).1; waiting = waiting; slots = parts_after true merge.slots; input = input; damaged = finding fits (HashDigest region) } in m)
         → IsHeldMerge after → (sorted : SortedState) (digest : List ℕ) → TakesStep facts stores sorted digest disk disk merge after (Ok x)
-    slot_taken waiting input after x may keeps hashed is held_after sorted digest =
+    slot_taken region fits region_is sound waiting input after x may keeps hashed is held_after sorted digest =
         let next : ℕ × ℕ = slot_after merge.store merge.slot (4 * merge.shape.buckets) in
-        let moved : MergeState = record merge { store = next.0; slot = next.1; waiting = waiting; slots = parts_after true merge.slots; input = input } in
+        let taken : MergeState = record merge { store = next.0; slot = next.1; waiting = waiting; slots = parts_after true merge.slots; input = input } in
+        let moved : MergeState = record taken { damaged = finding fits (HashDigest region) } in
         let further = slots_more merge.store merge.slot (4 * merge.shape.buckets) in
         subst (λ (m : MergeState). TakesStep facts stores sorted digest disk disk merge m (Ok x)) (sym is)
-        (went_on facts stores sorted digest disk merge moved x (record { shape = refl; region = refl; stores = refl }) (subst IsHeldMerge is held_after) refl refl (omega (arith, further))
-        (gathered_step (facts.content disk) stores sorted merge row waiting next input held below some long hashed (λ honest same slots. shown sorted.shape (get_or (regions_of stores) merge.store 0) (facts.content disk).shown slots) keeps refl)
-        (compared_slot stores sorted digest merge store next waiting (parts_after true merge.slots) input held below long here may hashed refl))
+        (went_on facts stores sorted digest disk merge moved x (record { shape = refl; region = refl; stores = refl }) (subst IsHeldMerge is held_after) refl refl (omega (arith, further)) sound
+        (λ was. merged_noted (facts.content disk) stores sorted taken (finding fits (HashDigest region))
+        (gathered_step (facts.content disk) stores sorted merge row waiting next input held below some long hashed (λ honest same slots. shown sorted.shape (get_or (regions_of stores) merge.store 0) (facts.content disk).shown slots) keeps refl was))
+        (compared_slot stores sorted digest merge fits (HashDigest region) sound store next waiting (parts_after true merge.slots) input held below long here may hashed refl)
+        (slot_finds region fits region_is may sorted digest))
 
-    -- there is no memory for its row
-    pub row_refused : {T : Type 0} (error : StepError F) (after : MergeState) → RefusesRow (GaveAny facts.gave disk) (facts.content disk) store merge.slot row error → IsSomeAnd row (λ (r : Row). source_at merge.waiting r.key.0 ≡ None) → after ≡ merge
-        → (sorted : SortedState) (digest : List ℕ) → TakesStep {T = T} facts stores sorted digest disk disk merge after (Err error)
-    row_refused error after cause new_key same sorted digest = refused facts stores sorted digest disk merge after error same held (fails error cause)
-      where
-        image : List ℕ
-        image = (facts.content disk).shown
+    -- it is that of the slot that the disk shows, if the merge goes on well
+    shows_row : (sorted : SortedState) → HasMerged (facts.content disk) stores sorted merge → AreSound (facts.content disk).shown stores sorted → IsTrue (facts.content disk).honest
+        → IsRowAt (slot_row merge.shape (get_or (regions_of stores) merge.store 0) (facts.content disk).shown merge.slot) merge.slot row
+    shows_row sorted merged sound honest =
+        let image : List ℕ = (facts.content disk).shown in
+        let region : ℕ = get_or (regions_of stores) merge.store 0 in
+        let inside : merge.store < length stores = omega (arith, below, counted) in
+        subst (λ (t : Shape). IsRowAt (slot_row t region image merge.slot) merge.slot row) merged.shape (shown sorted.shape region image ((merged.merged honest sound).gathered.slots inside))
 
-        inside : merge.store < length stores
-        inside = omega (arith, below, counted)
+    -- there is no memory for it
+    takes_row : (o : Option Row) → row ≡ o → IsSomeAnd o (λ (r : Row). source_at merge.waiting r.key.0 ≡ None)
+        → (IsTrue (facts.content disk).honest → IsRowAt (slot_row merge.shape (get_or (regions_of stores) merge.store 0) (facts.content disk).shown merge.slot) merge.slot o) → GathersRow (facts.content disk) stores merge
+    takes_row None is never shows = absurd never
+    takes_row (Some r) is new shows = record {
+      gathers = below;
+      known = λ honest. let it = shows honest in it.known;
+      new_key = λ honest. let it = shows honest in ap (source_at merge.waiting) (sym it.key) ∙ new;
+    }
 
-        own : store.shape ≡ merge.shape
-        own = ap (λ (t : HashState). t.shape) here ∙ shapes merge.store store inside
-
-        its_row : slot_row store.shape store.region image merge.slot ≡ slot_row merge.shape (get_or (regions_of stores) merge.store 0) image merge.slot
-        its_row = ap (λ (t : Shape). slot_row t store.region image merge.slot) own ∙ ap (λ r. slot_row merge.shape r image merge.slot) (sym (store_at stores merge.store store inside here))
-
-        takes : (o : Option Row) → IsSomeAnd o (λ (r : Row). source_at merge.waiting r.key.0 ≡ None) → (IsTrue (facts.content disk).honest → IsRowAt (slot_row store.shape store.region image merge.slot) merge.slot o) → GathersRow (facts.content disk) stores merge
-        takes None never is = absurd never
-        takes (Some r) new is = record {
-          gathers = below;
-          known = λ honest. let it = subst (λ (t : StoredRow). IsRowAt t merge.slot (Some r)) its_row (is honest) in it.known;
-          new_key = λ honest. let it = subst (λ (t : StoredRow). IsRowAt t merge.slot (Some r)) its_row (is honest) in ap (source_at merge.waiting) (sym it.key) ∙ new;
-        }
-
-        fails : (e : StepError F) → RefusesRow (GaveAny facts.gave disk) (facts.content disk) store merge.slot row e → FailsMerge facts stores sorted digest disk disk merge merge e
-        fails (Read fault) gave = (refl, refl, gave)
-        fails (Write fault) never = absurd never
-        fails NoMemory is = (refl, refl, inl (takes row new_key is))
-        fails (Damaged place) other = (
-          refl,
-          refl,
-          other.0 ∙ gathering_place stores merge store store.region below counted here refl,
-          λ matches.
-              let was = (matches.merged.merged matches.honest matches.sound).gathered in
-              let shape = matches.merged.shape in
-              let is = shown sorted.shape (get_or (regions_of stores) merge.store 0) image (was.slots inside) in
-              other.1 matches.honest
-              (subst (λ (t : StoredRow). IsRowAt t merge.slot row) (sym its_row)
-              (subst (λ (t : Shape). IsRowAt (slot_row t (get_or (regions_of stores) merge.store 0) image merge.slot) merge.slot row) shape is)),
-        )
+    pub row_refused : {T : Type 0} (after : MergeState) → merge.damaged ≡ None → IsSomeAnd row (λ (r : Row). source_at merge.waiting r.key.0 ≡ None) → after ≡ merge
+        → (sorted : SortedState) (digest : List ℕ) → TakesStep {T = T} facts stores sorted digest disk disk merge after (Err NoMemory)
+    row_refused after sound new_key same sorted digest =
+        refused facts stores sorted digest disk merge after NoMemory same held sound (refl, refl, λ merged sound. inl (takes_row row refl new_key (λ honest. shows_row sorted merged (sound honest) honest)))
 
 -- ---- a key
 
@@ -119,17 +100,28 @@ pub may_be : (ends ends_is : Bool) (part part_is digest : List ℕ) (answer answ
 may_be ends ends_is part part_is digest answer answer_is input same_ends same_part same_answer may bytes holds =
     subst (λ b. MayTake b (bytes ++ part_is) digest answer_is) same_ends (subst (λ l. MayTake ends (bytes ++ l) digest answer_is) same_part (subst (MayTake ends (bytes ++ part) digest) same_answer (may bytes holds)))
 
+-- an entry fits, or the old entries are found damaged
+pub entry_finds : (content : Content) (stores : List HashState) (sorted : SortedState) (digest : List ℕ) (merge : MergeState) (passes fits : Bool) → merge.store ≡ merge.stores → (merge.passed < sorted.count → 0 < length merge.ahead)
+    → ((bytes : List ℕ) → HasTaken merge.input bytes → MayTake (ends_entries passes merge.passed sorted.count) (bytes ++ get_or merge.ahead 0 []) digest fits)
+    → (finding fits SortedDigest ≡ None) ⊎ ((finding fits SortedDigest ≡ Some (damaged_place stores merge)) × (MatchesDigests content stores sorted digest merge → ⊥))
+entry_finds content stores sorted digest merge passes true all there may = inl refl
+entry_finds content stores sorted digest merge passes false all there may =
+    inr (ap Some (deciding_place stores merge all), λ matches. entry_agrees content stores sorted digest merge matches passes all there may)
+
 -- an entry that is skipped because its key is not above the last one
-pub entry_skipped : {D F T : Type 0} (facts : Ghosts D F) (stores : List HashState) (sorted : SortedState) (digest : List ℕ) (disk : D) (merge after : MergeState) (next : Option Key) (bytes : List ℕ) (input : Taken) (x : T) → IsHeldMerge merge → merge.store ≡ merge.stores
+pub entry_skipped : {D F T : Type 0} (facts : Ghosts D F) (stores : List HashState) (sorted : SortedState) (digest : List ℕ) (disk : D) (merge after : MergeState) (fits : Bool) (next : Option Key) (bytes : List ℕ) (input : Taken) (x : T) → IsHeldMerge merge → merge.store ≡ merge.stores → merge.damaged ≡ None
+    → (merge.passed < sorted.count → 0 < length merge.ahead)
     → is_some next ≡ nat_lt merge.passed sorted.count → (IsTrue (facts.content disk).honest → AreEntries (entries_of (facts.content disk) sorted) merge.passed merge.ahead → IsNextEntry (entries_of (facts.content disk) sorted) merge.passed bytes next)
     → is_behind merge.last next ≡ true → length (get_or merge.ahead 0 []) ≡ entry_len merge.shape
-    → ((bytes : List ℕ) → HasTaken merge.input bytes → MayTake (ends_entries true merge.passed sorted.count) (bytes ++ get_or merge.ahead 0 []) digest true)
+    → ((bytes : List ℕ) → HasTaken merge.input bytes → MayTake (ends_entries true merge.passed sorted.count) (bytes ++ get_or merge.ahead 0 []) digest fits)
     → ((bytes : List ℕ) → HasTaken merge.input bytes → HasTaken input (bytes ++ get_or merge.ahead 0 []))
-    → after ≡ (let m : MergeState = record merge { passed = merge.passed + 1; decided = merge.decided + 1; ahead = parts_after true merge.ahead; input = input } in m) → IsHeldMerge after
+    → after ≡ (let m : MergeState = record merge { passed = merge.passed + 1; decided = merge.decided + 1; ahead = parts_after true merge.ahead; input = input; damaged = finding fits SortedDigest } in m) → IsHeldMerge after
     → TakesStep facts stores sorted digest disk disk merge after (Ok x)
-entry_skipped facts stores sorted digest disk merge after next bytes input x held all some there behind long may hashed is held_after =
-    let moved : MergeState = record merge { passed = merge.passed + 1; decided = merge.decided + 1; ahead = parts_after true merge.ahead; input = input } in
+entry_skipped facts stores sorted digest disk merge after fits next bytes input x held all sound some_ahead some there behind long may hashed is held_after =
+    let taken : MergeState = record merge { passed = merge.passed + 1; decided = merge.decided + 1; ahead = parts_after true merge.ahead; input = input } in
+    let moved : MergeState = record taken { damaged = finding fits SortedDigest } in
     subst (λ (m : MergeState). TakesStep facts stores sorted digest disk disk merge m (Ok x)) (sym is)
-    (went_on facts stores sorted digest disk merge moved x (record { shape = refl; region = refl; stores = refl }) (subst IsHeldMerge is held_after) refl refl (omega arith)
-    (merged_behind (facts.content disk) stores sorted merge next bytes input held all some there behind)
-    (compared_key stores sorted digest merge true merge.waiting merge.written merge.index (merge.decided + 1) merge.last (parts_after true merge.ahead) input merge.hasher held all (λ passes. long) may hashed))
+    (went_on facts stores sorted digest disk merge moved x (record { shape = refl; region = refl; stores = refl }) (subst IsHeldMerge is held_after) refl refl (omega arith) sound
+    (λ was. merged_noted (facts.content disk) stores sorted taken (finding fits SortedDigest) (merged_behind (facts.content disk) stores sorted merge next bytes input held all some there behind was))
+    (compared_key stores sorted digest merge fits SortedDigest sound true merge.waiting merge.written merge.index (merge.decided + 1) merge.last (parts_after true merge.ahead) input merge.hasher held all (λ passes. long) may hashed)
+    (entry_finds (facts.content disk) stores sorted digest merge true fits all some_ahead may))

@@ -20,4 +20,5 @@ state_of a = record {
   ahead = a.ahead.parts;
   input = a.input;
   hasher = a.hasher;
+  damaged = a.damaged;
 }

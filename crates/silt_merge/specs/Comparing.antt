@@ -1,5 +1,5 @@
 -- What a merge has compared with the digests of the stores that it reads, on any disk.
-use Rattle.std.specs.Prelude.{◌≡◌, ◌≢◌, ℕ, ◌*◌, ◌≤◌, ◌<◌, nat_lt, Bool, true, false, if◌then◌else◌, IsTrue, List, length, slice_get, Some}
+use Rattle.std.specs.Prelude.{◌≡◌, ◌≢◌, ℕ, ◌*◌, ◌≤◌, ◌<◌, nat_lt, Bool, true, false, if◌then◌else◌, IsTrue, List, length, slice_get, None, Some}
 use Rattle.std.specs.List.{All}
 use Rattle.sha1.specs.Sha1.{sha1}
 use Rattle.silt_disk.specs.Disk.{Content}
@@ -22,12 +22,16 @@ HasBytes len digest = (bytes : List ℕ) × (length bytes ≡ len) × (digest �
 abbrev pub input_len : MergeState → ℕ
 input_len merge = if nat_lt merge.store merge.stores then merge.slot * row_len merge.shape else merge.passed * entry_len merge.shape
 
--- What was read of each store that is read to its end has the store's digest: of the hash stores whose slots are all gathered, and of
--- the entries once all are skipped. What was read of the store in progress is hashed.
+-- If no store was found damaged, what was read of each store that is read to its end has the store's digest: of the hash stores whose
+-- slots are all gathered, and of the entries once all are skipped. What was read of the store in progress is hashed.
 pub record HasCompared (stores : List HashState) (sorted : SortedState) (digest : List ℕ) (merge : MergeState) : Type 0 where
-  pub hashes : (place : ℕ) (store : HashState) → place < merge.store → slice_get stores place ≡ Some store → HasBytes (slots_len merge.shape) store.digest
-  pub entries : 0 < sorted.count → sorted.count ≤ merge.passed → HasBytes (sorted.count * entry_len merge.shape) digest
+  pub hashes : merge.damaged ≡ None → (place : ℕ) (store : HashState) → place < merge.store → slice_get stores place ≡ Some store → HasBytes (slots_len merge.shape) store.digest
+  pub entries : merge.damaged ≡ None → 0 < sorted.count → sorted.count ≤ merge.passed → HasBytes (sorted.count * entry_len merge.shape) digest
   pub input : (bytes : List ℕ) × (length bytes ≡ input_len merge) × HasTaken merge.input bytes
+
+-- on a disk that obeys the crash model no store is found damaged
+abbrev pub IsSoundMerge : Content → MergeState → Type 0
+IsSoundMerge content merge = IsTrue content.honest → merge.damaged ≡ None
 
 -- the disk obeys the crash model, the stores are sound, the merge is theirs, and each store has its digest
 pub record MatchesDigests (content : Content) (stores : List HashState) (sorted : SortedState) (digest : List ℕ) (merge : MergeState) : Type 0 where

@@ -4,6 +4,7 @@ use Rattle.std.specs.Map.{lookup}
 use Rattle.std.specs.Ordering.{is_eq, nat_cmp}
 use Rattle.std.specs.Cmp.Lexicographic.{slice_cmp}
 use Rattle.silt_disk.specs.Layout.{Shape}
+use Rattle.silt_event.specs.declared.place.Place.{Place}
 use Rattle.silt_frame.specs.declared.key.Key.{Key}
 use Rattle.silt_hash_store.specs.State.{HashState}
 use Rattle.silt_merge.specs.declared.source.Source.{Source}
@@ -15,8 +16,9 @@ use Rattle.silt_hasher.specs.Taking.{Taken}
 -- A merge: the sorted region that it writes, the number of hash stores, the store and the slot to gather next, the rows that wait
 -- for their keys to be decided, the number of skipped entries of the sorted store, the number of written entries and the index of
 -- their keys as far as it is built, the number of decided keys and the last of them, and the bytes of the next slots and entries as
--- far as they are read. Then the hasher of what is taken, of the slots of the store in progress or of the entries, and the hasher of
--- the written entries. An entry that is skipped because its key is not greater than the last one counts as a decided key.
+-- far as they are read. Then the hasher of what is taken, of the slots of the store in progress or of the entries, the hasher of the
+-- written entries, and the store that was found damaged, if one was. An entry that is skipped because its key is not greater than the
+-- last one counts as a decided key.
 pub record MergeState : Type 0 where
   pub shape : Shape
   pub region : ℕ
@@ -33,6 +35,7 @@ pub record MergeState : Type 0 where
   pub ahead : List (List ℕ)
   pub input : Taken
   pub hasher : Sha1
+  pub damaged : Option Place
 
 -- the next entry's key is at most the last decided key
 abbrev pub is_behind : Option Key → Option Key → Bool
@@ -88,6 +91,11 @@ input_after false hashed slot = hashed ++ slot
 -- the next slot is the last one of its store
 abbrev pub ends_store : MergeState → Bool
 ends_store merge = merge.slot + 1 == 4 * merge.shape.buckets
+
+-- what is found of a store at this place: nothing if it fits its digest, or that it is damaged
+abbrev pub finding : Bool → Place → Option Place
+finding true place = None
+finding false place = Some place
 
 -- the next entry is skipped, and it is the last one
 abbrev pub ends_entries : Bool → ℕ → ℕ → Bool

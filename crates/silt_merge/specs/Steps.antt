@@ -1,5 +1,5 @@
 -- What a step of a merge does.
-use Rattle.std.specs.Prelude.{◌≡◌, ℕ, ◌+◌, ◌-◌, ◌≤◌, ◌<◌, ◌⊎◌, nat_lt, true, if◌then◌else◌, IsTrue, List, [], get_or, slice_get, None, Option, Result, IfErr, IsSomeAnd, OnErr, OnOk}
+use Rattle.std.specs.Prelude.{◌≡◌, ℕ, ◌+◌, ◌-◌, ◌≤◌, ◌<◌, ◌⊎◌, nat_lt, true, if◌then◌else◌, IsTrue, List, [], get_or, slice_get, None, Some, Option, Result, IfErr, IsSomeAnd, OnErr, OnOk, Err}
 use Rattle.silt_disk.specs.Disk.{ChangesWithin, Content, CountsFault, GaveAny, Makes, MakesAtMost, size}
 use Rattle.silt_disk.specs.Layout.{entry_len, sorted_at, sorted_size}
 use Rattle.silt_disk.specs.declared.disk.Disk.{Ghosts}
@@ -41,13 +41,20 @@ TakesMemory content stores sorted merge = GathersRow content stores merge ⊎ Ta
 abbrev pub damaged_place : List HashState → MergeState → Place
 damaged_place stores merge = if nat_lt merge.store merge.stores then HashDigest (get_or (regions_of stores) merge.store 0) else SortedDigest
 
--- Why a step failed. After a write that failed the merge may have changed. After each other error nothing has.
-abbrev pub FailsMerge : {D F : Type 0} → Ghosts D F → List HashState → SortedState → List ℕ → D → D → MergeState → MergeState → StepError F → Type 0
-FailsMerge facts stores sorted digest old new before after (Read fault) = (after ≡ before) × (new ≡ old) × GaveAny facts.gave old fault
-FailsMerge facts stores sorted digest old new before after (Write fault) = CountsFault facts.failures facts.gave old new fault
-FailsMerge facts stores sorted digest old new before after NoMemory = (after ≡ before) × (new ≡ old) × TakesMemory (facts.content old) stores sorted before
-FailsMerge facts stores sorted digest old new before after (Damaged place) =
-    (after ≡ before) × (new ≡ old) × (place ≡ damaged_place stores before) × (MatchesDigests (facts.content old) stores sorted digest before → ⊥)
+-- Why a step failed. After a write that failed the merge may have changed. After each other error nothing has. Only a merge that has
+-- found a store damaged is refused for that.
+abbrev pub FailsMerge : {D F : Type 0} → Ghosts D F → List HashState → SortedState → D → D → MergeState → MergeState → StepError F → Type 0
+FailsMerge facts stores sorted old new before after (Read fault) = (after ≡ before) × (new ≡ old) × GaveAny facts.gave old fault
+FailsMerge facts stores sorted old new before after (Write fault) = CountsFault facts.failures facts.gave old new fault
+FailsMerge facts stores sorted old new before after NoMemory = (after ≡ before) × (new ≡ old)
+    × (HasMerged (facts.content old) stores sorted before → (IsTrue (facts.content old).honest → AreSound (facts.content old).shown stores sorted) → TakesMemory (facts.content old) stores sorted before)
+FailsMerge facts stores sorted old new before after (Damaged place) = (after ≡ before) × (new ≡ old) × (before.damaged ≡ Some place)
+
+-- A step finds nothing, or that what it reads is damaged. That cannot come if the disk obeys the crash model and the stores have their
+-- digests.
+abbrev pub Finds : Content → List HashState → SortedState → List ℕ → MergeState → MergeState → Type 0
+Finds content stores sorted digest before after =
+    (after.damaged ≡ None) ⊎ ((after.damaged ≡ Some (damaged_place stores before)) × (MatchesDigests content stores sorted digest before → ⊥))
 
 -- what a step does that succeeds
 pub record GoesOn {D F : Type 0} (facts : Ghosts D F) (stores : List HashState) (sorted : SortedState) (digest : List ℕ) (old new : D) (before after : MergeState) : Type 0 where
@@ -61,11 +68,15 @@ pub record GoesOn {D F : Type 0} (facts : Ghosts D F) (stores : List HashState) 
   pub merged : HasMerged (facts.content old) stores sorted before → HasMerged (facts.content new) stores sorted after
   -- and compared
   pub compared : HasCompared stores sorted digest before → HasCompared stores sorted digest after
+  -- a store that does not fit its digest is found damaged
+  pub finds : Finds (facts.content old) stores sorted digest before after
 
 -- What a step does, with these hash stores and this sorted store of this digest: what holds of every result, what holds after Ok,
 -- and what holds after an error.
 pub record TakesStep {D F T : Type 0} (facts : Ghosts D F) (stores : List HashState) (sorted : SortedState) (digest : List ℕ) (old new : D)
     (before after : MergeState) (result : Result T (StepError F)) : Type 0 where
+  -- a merge that has found a store damaged goes no further
+  pub stuck : (place : Place) → before.damaged ≡ Some place → result ≡ Err (Damaged place)
   -- the disk keeps its length
   pub size : size (facts.content new) ≡ size (facts.content old)
   -- only the place of the next entry changes
@@ -84,17 +95,9 @@ pub record TakesStep {D F T : Type 0} (facts : Ghosts D F) (stores : List HashSt
   -- if it fails, it made at most one write
   pub most : OnErr result (MakesAtMost facts.writes facts.syncs 1 0 old new)
   -- and this is why
-  pub fails : IfErr result (FailsMerge facts stores sorted digest old new before after)
+  pub fails : IfErr result (FailsMerge facts stores sorted old new before after)
 
 -- ---- between the calls
-
--- why there is no memory for the row of a slot: the slot has this row, or it shows another one now, or it cannot be read
-abbrev pub RefusesRow : {F : Type 0} → (F → Type 0) → Content → HashState → ℕ → Option Row → StepError F → Type 0
-RefusesRow gave content store slot row (Read fault) = gave fault
-RefusesRow gave content store slot row (Write fault) = ⊥
-RefusesRow gave content store slot row NoMemory = IsTrue content.honest → IsRowAt (slot_row store.shape store.region content.shown slot) slot row
-RefusesRow gave content store slot row (Damaged place) =
-    (place ≡ HashDigest store.region) × (IsTrue content.honest → IsRowAt (slot_row store.shape store.region content.shown slot) slot row → ⊥)
 
 -- a slot was taken of what is ahead: its row waits, if no newer row of its key does, and its bytes are hashed
 pub record GathersSlot (before after : MergeState) : Type 0 where

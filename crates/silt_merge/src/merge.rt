@@ -1,5 +1,5 @@
 // A merge of hash stores and a sorted store, step by step.
-ghost use Rattle.std.specs.Prelude.{◌≡◌, ◌≢◌, ◌==◌, ◌+◌, ◌*◌, ◌-◌, ◌<◌, ◌≤◌, ◌^◌, ◌↔◌, ◌++◌, ◌||◌, ℕ, List, [], Option, true, false, Some};
+ghost use Rattle.std.specs.Prelude.{◌≡◌, ◌≢◌, ◌+◌, ◌*◌, ◌-◌, ◌<◌, ◌≤◌, ◌^◌, ◌↔◌, ◌++◌, ◌||◌, ℕ, List, [], Option, true, false, Some};
 ghost use Rattle.std.specs.Prelude.{None, cond, get_or, length, take, IsTrue, IfOk, IfErr, IfSome, IsSomeAnd, OnOk, OnErr, is_some, nat_lt};
 ghost use Rattle.std.specs.List.{All};
 ghost use Rattle.std.specs.Str.{bytes_eq};
@@ -12,8 +12,8 @@ ghost use Rattle.silt_hasher.specs.Taking.{HasTaken, taken_after};
 ghost use Rattle.silt_merge.specs.Choice.{Gathers, IsNextEntry, IsOffered, ReadsRow, choice_puts};
 ghost use Rattle.silt_merge.specs.Comparing.{HasCompared, MayTake};
 ghost use Rattle.silt_merge.specs.Rows.{regions_of};
-ghost use Rattle.silt_merge.specs.State.{ahead_without, ends_entries, hashed_after, input_after, keys_after, most_entries, passed_after, slot_after, written_after};
-ghost use Rattle.silt_merge.specs.Steps.{GathersSlot, RefusesRow, TakesStep};
+ghost use Rattle.silt_merge.specs.State.{ahead_without, ends_entries, hashed_after, input_after, keys_after, finding, most_entries, passed_after, slot_after, written_after};
+ghost use Rattle.silt_merge.specs.Steps.{GathersSlot, TakesStep, damaged_place};
 ghost use Rattle.silt_trie.specs.Building.{IsBuildingOf, SuitsKeys, is_above};
 ghost use Rattle.silt_merge.specs.declared.source.Source.{Source};
 ghost use Rattle.silt_frame.specs.Rows.{StoredRow, row_of};
@@ -46,7 +46,7 @@ pub enum StepError<F> {
     Write(F),
     /// Out of memory for a row that waits or for a key of the index. Nothing has changed.
     NoMemory,
-    /// What was read of this store does not have the store's digest, or two reads of it differ. Nothing has changed.
+    /// What was read of this store does not have the store's digest. Nothing has changed.
     Damaged(Place),
 }
 
@@ -55,7 +55,8 @@ pub enum StepError<F> {
 /// It holds the key and the place of each row that waits to be decided, the last decided key, and the index of the entries that it
 /// wrote, as far as it is built. It also holds a piece of the next slots and one of the next entries of the sorted store, each from
 /// one read. Each step uses the same buffer for an entry. One hasher gets what is taken of the store that is being read, to compare
-/// it with that store's digest, and one gets what is written, so that the new store's digest needs no further read.
+/// it with that store's digest, and one gets what is written, so that the new store's digest needs no further read. It remembers a store
+/// that does not fit its digest, and then takes no further step.
 #[derive(Drop)]
 pub struct Merge {
     target: SortedRegion,
@@ -72,6 +73,7 @@ pub struct Merge {
     ahead: Piece,
     input: BufferedHasher,
     hasher: Sha1,
+    damaged: Option<Place>,
     made: Vec<u8>,
 }
 
@@ -98,6 +100,7 @@ impl Model for Merge {
       ahead = a.ahead.parts;
       input = a.input;
       hasher = a.hasher;
+      damaged = a.damaged;
     } };
 
     ghost invariant = { λ a. IsHeldMerge (record {
@@ -116,6 +119,7 @@ impl Model for Merge {
       ahead = a.ahead.parts;
       input = a.input;
       hasher = a.hasher;
+      damaged = a.damaged;
     }) × (a.slots.len ≡ row_len a.target.geometry) × (a.ahead.len ≡ entry_len a.target.geometry) × (vec_len a.made ≡ entry_len a.target.geometry)
         × (a.target.geometry.sorted_capacity ≤ 16777216) };
 }
@@ -308,35 +312,6 @@ fn index_key(
     Ok(())
 }
 
-// Whether two reads of a slot gave the same row.
-fn is_same_row(a: Option<Row>, b: Option<Row>) -> bool
-    ensures { result ≡ true ↔ a ≡ b }
-{
-    a == b
-}
-
-// Why the row of a slot is not kept, if there is no memory for it. It reads the slot's head again, so that the contract speaks of
-// what the slot shows now.
-fn refusal_of_row<D: Disk>(
-    store: &HashStore,
-    disk: &D,
-    slot: u32,
-    row: Option<Row>,
-) -> StepError<D::Fault>
-    requires slot { slot < 4 * store.now.shape.buckets }
-    requires size { device_size store.now.shape ≤ size (D.content disk.now) }
-    ensures { RefusesRow (GaveAny D.gave disk.now) (D.content disk.now) store.now slot row result }
-{
-    let now = match store.row_at(disk, slot) {
-        Ok(now) => now,
-        Err(fault) => return StepError::Read(fault),
-    };
-    if !is_same_row(now, row) {
-        return StepError::Damaged(Place::HashDigest(store.region()));
-    }
-    StepError::NoMemory
-}
-
 impl Merge {
     ghost use Rattle.silt_merge.specs.Merging.{AreSound, HasMerged, IsMergeOf};
     ghost use Rattle.silt_merge.specs.Rows.{key_count, merged_rows, sources};
@@ -374,6 +349,7 @@ impl Merge {
           ahead = [];
           input = merge.input;
           hasher = merge.hasher;
+          damaged = None;
         }) }
         ensures levels { IfOk result (λ merge. SuitsKeys (most_entries stores.now sorted.now) merge.index.levels) }
         ensures held { IfOk result IsHeldMerge }
@@ -402,6 +378,7 @@ impl Merge {
             ahead,
             input,
             hasher: Sha1::new(),
+            damaged: None,
             made: vec![in alloc; 0; geometry.entry_len()]?,
         })
     }
@@ -506,7 +483,15 @@ impl Merge {
         Ok(())
     }
 
-    // Whether the next slot, which is ahead, may be taken: it is not the last one of its store, or all have the store's digest.
+    // Notes whether the store at this place, of which a part was taken, is damaged.
+    fn note(&mut self, fits: bool, place: Place)
+        ensures state { self.new ≡ record self.old { damaged = finding fits place } }
+        ensures held { IsHeldMerge self.new }
+    {
+        self.damaged = if fits { None } else { Some(place) };
+    }
+
+    // Whether the store fits its digest with the next slot, which is ahead: it is not the last one of its store, or all have the digest.
     fn may_take_slot(&self, store: &HashStore) -> bool
         requires there { 0 < length self.now.slots }
         ensures answer { (bytes : List ℕ) → HasTaken self.now.input bytes → MayTake (ends_store self.now) (bytes ++ get_or self.now.slots 0 []) store.now.digest result }
@@ -528,19 +513,19 @@ impl Merge {
         requires there { 0 < length self.old.slots }
         requires count { length stores.now ≡ self.old.stores }
         requires shapes { All (λ store. store.shape ≡ self.old.shape) stores.now }
-        requires size { device_size self.old.shape ≤ size (D.content disk.now) }
+        requires sound { self.old.damaged ≡ None }
         ensures step { (sorted : SortedState) (digest : List ℕ) → TakesStep D.Disk stores.now sorted digest disk.now disk.now self.old self.new result }
         ensures slot { OnOk result (GathersSlot self.old self.new) }
     {
         let store = &stores[self.store as usize];
-        if !self.may_take_slot(store) {
-            return Err(StepError::Damaged(Place::HashDigest(store.region())));
-        }
-        let slot = self.slot;
+        let fits = self.may_take_slot(store);
         let row = self.row_ahead();
         match self.take_row(row) {
-            Ok(()) => Ok(()),
-            Err(_) => Err(refusal_of_row(store, disk, slot, row)),
+            Ok(()) => {
+                self.note(fits, Place::HashDigest(store.region()));
+                Ok(())
+            }
+            Err(_) => Err(StepError::NoMemory),
         }
     }
 
@@ -550,6 +535,7 @@ impl Merge {
         requires count { length stores.now ≡ self.old.stores }
         requires shapes { All (λ store. store.shape ≡ self.old.shape) stores.now }
         requires size { device_size self.old.shape ≤ size (D.content disk.now) }
+        requires sound { self.old.damaged ≡ None }
         ensures { (sorted : SortedState) (digest : List ℕ) → TakesStep D.Disk stores.now sorted digest disk.now disk.now self.old self.new result }
     {
         let is_read = match self.read_slots(stores, disk) {
@@ -655,6 +641,7 @@ impl Merge {
         requires shapes { All (λ store. store.shape ≡ self.old.shape) stores.now }
         requires shape { sorted.now.shape ≡ self.old.shape }
         requires size { device_size self.old.shape ≤ size (D.content disk.old) }
+        requires sound { self.old.damaged ≡ None }
         ensures { TakesStep D.Disk stores.now sorted.now digest.now.0 disk.old disk.new self.old self.new result }
     {
         let next = next_entry(sorted, &self.ahead, self.passed, &mut self.made);
@@ -664,11 +651,10 @@ impl Merge {
         };
         let passes = skips_entry(is_behind, &choice);
         let ends = ends_entries(passes, self.passed, sorted);
-        if !may_take(&self.input, self.ahead.first(), ends, digest) {
-            return Err(StepError::Damaged(Place::SortedDigest));
-        }
+        let fits = may_take(&self.input, self.ahead.first(), ends, digest);
         if is_behind {
             self.pass_entry();
+            self.note(fits, Place::SortedDigest);
             return Ok(());
         }
         if let Err(fault) = read_row(stores, disk, &choice, &mut self.made) {
@@ -685,6 +671,7 @@ impl Merge {
             Ok(_) => {
                 hash_entry(&mut self.hasher, &self.made, is_due);
                 self.mark_decided(&choice, is_due);
+                self.note(fits, Place::SortedDigest);
                 Ok(())
             }
             Err(fault) => Err(StepError::Write(fault)),
@@ -705,6 +692,7 @@ impl Merge {
         requires shapes { All (λ store. store.shape ≡ self.old.shape) stores.now }
         requires shape { sorted.now.shape ≡ self.old.shape }
         requires size { device_size self.old.shape ≤ size (D.content disk.old) }
+        requires sound { self.old.damaged ≡ None }
         ensures { TakesStep D.Disk stores.now sorted.now digest.now.0 disk.old disk.new self.old self.new result }
     {
         let is_read = match self.read_ahead(sorted, disk) {
@@ -720,20 +708,29 @@ impl Merge {
         }
     }
 
+    /// The store that was found damaged: what was read of it does not have its digest. Then each later step is refused.
+    pub fn damaged(&self) -> Option<Place>
+        ensures { result ≡ self.now.damaged }
+    {
+        self.damaged
+    }
+
     /// Takes the next step: gathers one slot, or decides one key. It makes at most two reads and then at most one write, of one
     /// entry, and no sync. It allocates memory for at most one row or one key of the index. Slots and entries are read once, in
     /// pieces of at most 64 KiB. If the step that read a piece fails, the piece is read again.
     ///
-    /// Before it takes the last slot of a hash store, it compares the digest of all the store's slots, as they were read, with the
-    /// store's own. Before it skips the last entry, it compares that of all entries with `digest`.
+    /// As it takes the last slot of a hash store, it compares the digest of all the store's slots, as they were read, with the
+    /// store's own. As it skips the last entry, it compares that of all entries with `digest`. If they differ, the store is damaged:
+    /// the merge remembers that, and takes no further step.
     ///
     /// Pass the present stores, from the newest. The last of them must be those that the merge took. Newer ones may have come before
     /// them. `digest` is that of the sorted store.
     ///
     /// # Errors
     ///
-    /// `Read` if a read failed, `NoMemory`, and `Damaged` if a digest differs: nothing has changed, and the next step tries the
-    /// same again. `Write` if the write failed: the merge promises nothing more.
+    /// `Damaged` if an earlier step found a store damaged: nothing has changed, and each later step is refused alike. `Read` if a read
+    /// failed, and `NoMemory`: nothing has changed, and the next step tries the same again. `Write` if the write failed: the merge
+    /// promises nothing more.
     pub fn step<D: Disk>(
         &mut self,
         stores: &[HashStore],
@@ -748,6 +745,9 @@ impl Merge {
         requires size { device_size self.old.shape ≤ size (D.content disk.old) }
         ensures { TakesStep D.Disk (oldest_stores self.old.stores stores.now) sorted.now digest.now.0 disk.old disk.new self.old self.new result }
     {
+        if let Some(place) = self.damaged {
+            return Err(StepError::Damaged(place));
+        }
         let (_newer, taken) = stores.split_at(stores.len() - self.stores as usize);
         if self.store < self.stores {
             return self.gather(taken, disk);

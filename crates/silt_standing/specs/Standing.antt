@@ -14,7 +14,7 @@ use Rattle.silt_log.specs.State.{InBounds, IsLog, all_rows, settled_rows, waitin
 use Rattle.silt_log.specs.State as log
 use Rattle.silt_log_store.specs.State.{LogStoreState, IsIndexed}
 use Rattle.silt_manifest.specs.Standing.{IsCurrent}
-use Rattle.silt_merge.specs.Comparing.{HasCompared}
+use Rattle.silt_merge.specs.Comparing.{HasCompared, IsSoundMerge}
 use Rattle.silt_merge.specs.Merging.{HasMerged}
 use Rattle.silt_merge.specs.State.{MergeState, oldest_stores}
 use Rattle.silt_sorted_store.specs.Index.{HasIndex}
@@ -66,10 +66,11 @@ abbrev pub IsDigested : Content → EngineState → Type 0
 IsDigested content s = HasDigest content s.sorted s.digest
 
 -- a merge of the oldest hash stores and the sorted store has gathered and written what is due so far, and compared what it read of each
--- of them with its digest
+-- of them with its digest. On a disk that obeys the crash model it has found none of them damaged.
 abbrev pub HasGathered : Content → EngineState → MergeState → Type 0
 HasGathered content s merge =
     HasMerged content (oldest_stores merge.stores s.hashes) s.sorted merge × HasCompared (oldest_stores merge.stores s.hashes) s.sorted s.digest merge
+    × IsSoundMerge content merge
 
 -- The stores match their disk: every possible crash image has the stores that are shown, and nothing is wrong with these, also once the
 -- waiting rows are settled. The tables, the tags, the index and the digests in memory are those of what is shown. So are the digests that

@@ -21,12 +21,12 @@ use Rattle.silt_standing.specs.Standing.{SameDisk}
 use Rattle.silt_engine.specs.Conversion.{is_work}
 use Rattle.silt_engine.specs.Costs.{step_syncs, step_writes}
 use Rattle.silt_engine.specs.Costs as engine
-use Rattle.silt_engine.specs.Merge.{EndsMerged, HasMergedEntries, IsDoneBySteps, IsNextMerge, MayLackMemory, Merges, MergesOn, full_stores, merge_progress, merge_sources, merge_turn, merged_body, place_read}
+use Rattle.silt_engine.specs.Merge.{EndsMerged, damaged_in, HasMergedEntries, IsDoneBySteps, IsNextMerge, MayLackMemory, Merges, MergesOn, full_stores, merge_progress, merge_sources, merge_turn, merged_body, place_read}
 use Rattle.silt_standing.specs.Standing.{HasGathered, Stands}
 use Rattle.silt_standing.specs.State.{IsMerging, EngineState, hash_region_of}
 use Rattle.silt_engine.proofs.Meaning.{meaning}
 use Rattle.silt_store_set.specs.Basis.{basis_of}
-use Rattle.silt_store_set.specs.CoreState.{CoreState, DecidesValue, Does, GathersNewKey, GathersNext, IsMergeDue, MadeFor, MergeGoesOn, MergeLacksMemory, entries_written, has_decided, merge_due, merge_work}
+use Rattle.silt_store_set.specs.CoreState.{CoreState, DecidesValue, Does, GathersNewKey, GathersNext, IsMergeDue, MadeFor, MergeGoesOn, MergeLacksMemory, MayFind, entries_written, found_damaged, has_decided, merge_due, merge_work, place_due}
 use Rattle.silt_store_set.proofs.Calls.{seen, seen_failed, advanced, answered, broke, refused}
 use Rattle.silt_store_set.proofs.Damages.{place_seen, slot_below}
 use Rattle.silt_store_set.proofs.Gatherings.{decides_next, new_key_next}
@@ -48,6 +48,16 @@ some_work hashes false = refl
 written_seen : (o : Option MergeState) → entries_written (merge_work o) ≡ engine.written_by_merge o
 written_seen None = refl
 written_seen (Some merge) = refl
+
+-- they have found the same store damaged
+damage_seen : (o : Option MergeState) → found_damaged (merge_work o) ≡ damaged_in o
+damage_seen None = refl
+damage_seen (Some merge) = refl
+
+-- what is never some store is none
+pub none_found : (o : Option Place) → ((place : Place) → o ≡ Some place → ⊥) → o ≡ None
+none_found None never = refl
+none_found (Some place) never = absurd (never place refl)
 
 -- the contracts' view of a step in memory
 goes_on : (s : EngineState) (before : Option MergeState) (after : MergeState) → length s.hashes ≡ length s.manifest.current.hashed → IsNextMerge s before after
@@ -91,6 +101,19 @@ module _ {D F : Type 0} (facts : Ghosts D F) (disk : D) (stores : EngineState) (
       ap (λ (n : ℕ). is_work (merge_progress n (option_map (has_decided before) (merge_work stores.merging)))) (sym hash_count)
       ∙ both_work stores.merging
 
+  -- what a step finds, in the contracts' view
+  finds_seen : (merge : MergeState) → (merge.damaged ≡ None) ⊎ (merge.damaged ≡ Some (place_read stores.hashes stores.merging))
+      → MayFind (place_due stores.manifest.shape stores.manifest.current (merge_work stores.merging)) (merge_work (Some merge))
+  finds_seen merge (inl none) = inl none
+  finds_seen merge (inr damaged) = inr (damaged ∙ ap Some (place_seen stores stands.whole stores.merging stands.whole.merging))
+
+  -- no store is found damaged
+  abbrev IsSound : Type 0
+  IsSound = damaged_in stores.merging ≡ None
+
+  none_seen : IsSound → found_damaged before.merging ≡ None
+  none_seen sound = damage_seen stores.merging ∙ sound
+
   due : (progress : ProgressOf) → progress ≡ merge_turn stores → IsMergeDue facts before progress
   due progress is = record { work = ap is_work is ∙ sym work_same; exact = λ h. is ∙ sym (due_same h) }
 
@@ -122,45 +145,47 @@ module _ {D F : Type 0} (facts : Ghosts D F) (disk : D) (stores : EngineState) (
 
   pub stepped : (progress : ProgressOf) (new : D) (after : EngineState) → SameDisk (facts.content disk) (facts.content new) → Advances [] (facts.content disk) (facts.content new) stores after
       → Merges progress stores after → (progress ≡ Finished → IsTrue (facts.content disk).honest → HasMergedEntries (facts.content disk) (facts.content new) stores after)
-      → (is_work progress ≡ false → new ≡ disk) → facts.failures new ≡ facts.failures disk → engine.StepMakes facts disk new stores after progress
+      → (is_work progress ≡ false → new ≡ disk) → facts.failures new ≡ facts.failures disk → engine.StepMakes facts disk new stores after progress → IsSound
       → Does facts before (seen facts new after count) Merge (Progress progress)
-  stepped Idle new after same goes merges entries quiet counted made =
-      rw (quiet refl, merges.done) (answered facts disk stores count Merge (Progress Idle) stands refl refl refl (refl, due Idle merges.due, refl, refl) none_made (λ _. refl) (λ _. tt))
-  stepped Waiting new after same goes merges entries quiet counted made = absurd merges.done
-  stepped Moved new after same goes merges entries quiet counted made =
+  stepped Idle new after same goes merges entries quiet counted made sound =
+      rw (quiet refl, merges.done) (answered facts disk stores count Merge (Progress Idle) stands refl refl refl (refl, due Idle merges.due, refl, refl, none_seen sound) none_made (λ _. refl) (λ _. tt))
+  stepped Waiting new after same goes merges entries quiet counted made sound = absurd merges.done
+  stepped Moved new after same goes merges entries quiet counted made sound =
       let moves : MergesOn stores after = merges.done in
       let current : after.manifest.current ≡ stores.manifest.current = ap (λ (s : EngineState). s.manifest.current) moves.is in
       let merging : after.merging ≡ Some moves.merge = ap (λ (s : EngineState). s.merging) moves.is in
       let on : MergeGoesOn stores.manifest.current (merge_work stores.merging) (merge_work after.merging) = rw merging (goes_on stores stores.merging moves.merge hash_count moves.step) in
+      let finds : MayFind (place_due stores.manifest.shape stores.manifest.current (merge_work stores.merging)) (merge_work after.merging) = rw merging (finds_seen moves.merge moves.found) in
       advanced facts disk new stores after same stands [] count count Merge (Progress Moved) goes refl refl refl refl
-      (refl, due Moved merges.due, (current, on), counted) (λ m to e. e) (λ _ _. current) (λ _. ap (λ (s : EngineState). s.converting) moves.is) (λ other. absurd (cc)) (λ _. tt) counted (moved_made new after made)
-  stepped Finished new after same goes merges entries quiet counted made =
+      (refl, due Moved merges.due, (current, on, finds), counted, none_seen sound) (λ m to e. e) (λ _ _. current) (λ _. ap (λ (s : EngineState). s.converting) moves.is) (λ other. absurd (cc)) (λ _. tt) counted (moved_made new after made)
+  stepped Finished new after same goes merges entries quiet counted made sound =
       let ends : EndsMerged stores after = merges.done in
       let region : ends.merge.region ≡ 1 - stores.manifest.current.sorted = other_region stores.merging stands.whole.merging ends.merge ends.was in
       advanced facts disk new stores after same stands [] count count Merge (Progress Finished) goes refl refl refl refl (
         refl,
         due Finished merges.due,
         record {
-          work = record { stores = ends.merge.stores; steps = steps_of ends.merge; written = ends.merge.written };
+          work = record { stores = ends.merge.stores; steps = steps_of ends.merge; written = ends.merge.written; damaged = ends.merge.damaged };
           was = ap merge_work ends.was;
           none = ap merge_work ends.none;
           body = ends.current ∙ ap (λ (n : ℕ). merged_body stores.manifest.current ends.merge.stores n ends.merge.written) region;
           entries = λ h. entries_are new after ends.merge ends.was (entries refl h);
         },
         counted,
+        none_seen sound,
       )
       (λ m to e. e) (λ _ unfinished. absurd (cc)) (λ _. ends.converting) (λ other. absurd (cc)) (λ _. tt) counted made
 
   -- ---- a step was refused
 
-  pub step_unread : (new : D) (after : EngineState) (fault : F) → after ≡ stores → new ≡ disk → merge_turn stores ≡ Moved → GaveAny facts.gave disk fault
+  pub step_unread : (new : D) (after : EngineState) (fault : F) → after ≡ stores → new ≡ disk → merge_turn stores ≡ Moved → GaveAny facts.gave disk fault → IsSound
       → Does facts before (seen facts new after count) Merge (Refused (Device fault))
-  step_unread new after fault same same_disk turn given =
-      rw (same_disk, same) (refused facts disk stores count Merge (Device fault) stands refl (inl (due Moved (sym turn), record { given = given; working = refl; same = refl })))
+  step_unread new after fault same same_disk turn given sound =
+      rw (same_disk, same) (refused facts disk stores count Merge (Device fault) stands refl (inl (due Moved (sym turn), record { given = given; working = refl; same = refl }), none_seen sound))
 
-  pub step_spent : (new : D) (after : EngineState) → after ≡ stores → new ≡ disk → merge_turn stores ≡ Finished → IsLastGeneration stores
+  pub step_spent : (new : D) (after : EngineState) → after ≡ stores → new ≡ disk → merge_turn stores ≡ Finished → IsLastGeneration stores → IsSound
       → Does facts before (seen facts new after count) Merge (Refused Spent)
-  step_spent new after same same_disk turn last = rw (same_disk, same) (refused facts disk stores count Merge Spent stands refl (refl, due Finished (sym turn), last))
+  step_spent new after same same_disk turn last sound = rw (same_disk, same) (refused facts disk stores count Merge Spent stands refl (refl, due Finished (sym turn), last, none_seen sound))
 
   -- why a step that goes on is out of memory, in the contracts' view
   abbrev Lacks : Option MergeState → Type 0
@@ -205,19 +230,19 @@ module _ {D F : Type 0} (facts : Ghosts D F) (disk : D) (stores : EngineState) (
   lacks (inr (turn, more)) = inr (inr (due Finished (sym turn), more))
 
   pub step_no_memory : (new : D) (after : EngineState) → after ≡ stores → new ≡ disk
-      → ((merge_turn stores ≡ Moved) × MayLackMemory (facts.content disk) stores) ⊎ ((merge_turn stores ≡ Finished) × (IsLastGeneration stores → ⊥))
+      → ((merge_turn stores ≡ Moved) × MayLackMemory (facts.content disk) stores) ⊎ ((merge_turn stores ≡ Finished) × (IsLastGeneration stores → ⊥)) → IsSound
       → Does facts before (seen facts new after count) Merge (Refused NoMemory)
-  step_no_memory new after same same_disk why = rw (same_disk, same) (refused facts disk stores count Merge NoMemory stands refl (refl, lacks why))
+  step_no_memory new after same same_disk why sound = rw (same_disk, same) (refused facts disk stores count Merge NoMemory stands refl (refl, lacks why, none_seen sound))
 
-  pub step_damaged : (new : D) (after : EngineState) (place : Place) → after ≡ stores → new ≡ disk → merge_turn stores ≡ Moved → place ≡ place_read stores.hashes stores.merging → (IsTrue (facts.content disk).honest → ⊥)
+  pub step_damaged : (new : D) (after : EngineState) (place : Place) → after ≡ stores → new ≡ disk → damaged_in stores.merging ≡ Some place → is_work (merge_turn stores) ≡ true → (IsTrue (facts.content disk).honest → ⊥)
       → Does facts before (seen facts new after count) Merge (Refused (Damaged place))
-  step_damaged new after place same same_disk turn reads never =
-      rw (same_disk, same) (refused facts disk stores count Merge (Damaged place) stands refl (refl, due Moved (sym turn), reads ∙ place_seen stores stands.whole stores.merging stands.whole.merging, never))
+  step_damaged new after place same same_disk found work never =
+      rw (same_disk, same) (refused facts disk stores count Merge (Damaged place) stands refl (refl, work_same ∙ work, damage_seen stores.merging ∙ found, never))
 
   -- a write or a sync failed
   pub step_broke : (new : D) (after : EngineState) (fault : F) → SameDisk (facts.content disk) (facts.content new) → is_work (merge_turn stores) ≡ true → Breaks (facts.content disk) (facts.content new) stores
       → Remaps [] (facts.content disk) (facts.content new) stores after → after.manifest.shape ≡ stores.manifest.shape → GaveAny facts.gave new fault → facts.failures new ≡ (facts.failures disk + 1) % 2 ^ 64
-      → MakesAtMost facts.writes facts.syncs (step_writes (merge_turn stores)) (step_syncs (merge_turn stores)) disk new → Does facts before (seen_failed facts (basis_of (facts.content disk) stores) new after count) Merge (Refused (Device fault))
-  step_broke new after fault same work breaks remaps shape given counted most =
+      → MakesAtMost facts.writes facts.syncs (step_writes (merge_turn stores)) (step_syncs (merge_turn stores)) disk new → IsSound → Does facts before (seen_failed facts (basis_of (facts.content disk) stores) new after count) Merge (Refused (Device fault))
+  step_broke new after fault same work breaks remaps shape given counted most sound =
       broke facts disk new stores after same stands count Merge fault breaks shape remaps
-      (inr (work_same ∙ work, record { given = given; counted = counted; failed = refl })) counted (few_made (merge_turn stores) new most)
+      (inr (work_same ∙ work, record { given = given; counted = counted; failed = refl }), none_seen sound) counted (few_made (merge_turn stores) new most)

@@ -45,11 +45,13 @@ pub record ConvertWork : Type 0 where
   pub region : ℕ
   pub written : ℕ
 
--- a merge in progress: how many of the oldest hash stores it takes, how many steps it took, and how many entries it wrote
+-- a merge in progress: how many of the oldest hash stores it takes, how many steps it took, how many entries it wrote, and the store that
+-- it has found damaged, if there is one
 pub record MergeWork : Type 0 where
   pub stores : ℕ
   pub steps : ℕ
   pub written : ℕ
+  pub damaged : Option Place
 
 -- the contracts' view of a conversion in memory
 abbrev pub convert_work : Option ConversionState → Option ConvertWork
@@ -59,7 +61,7 @@ convert_work (Some conversion) = Some (record { region = conversion.region; writ
 -- the contracts' view of a merge in memory
 abbrev pub merge_work : Option MergeState → Option MergeWork
 merge_work None = None
-merge_work (Some merge) = Some (record { stores = merge.stores; steps = steps_of merge; written = merge.written })
+merge_work (Some merge) = Some (record { stores = merge.stores; steps = steps_of merge; written = merge.written; damaged = merge.damaged })
 
 pub record CoreState (D : Type 0) : Type 0 where
   pub disk : D
@@ -229,6 +231,15 @@ place_due shape body (Some work) =
     then HashDigest (get_or (drop (length body.hashed - work.stores) body.hashed) (work.steps / (4 * shape.buckets)) 0)
     else SortedDigest
 
+-- the store that the merge in progress has found damaged, if there is one
+abbrev pub found_damaged : Option MergeWork → Option Place
+found_damaged None = None
+found_damaged (Some work) = work.damaged
+
+-- a step that reads this store finds nothing, or finds the store damaged
+abbrev pub MayFind : Place → Option MergeWork → Type 0
+MayFind place work = (found_damaged work ≡ None) ⊎ (found_damaged work ≡ Some place)
+
 -- one more step is taken, or the first one of a merge of all hash stores
 abbrev pub MergeGoesOn : Body → Option MergeWork → Option MergeWork → Type 0
 MergeGoesOn body (Some before) (Some after) = (after.stores ≡ before.stores) × (after.steps ≡ before.steps + 1)
@@ -365,7 +376,7 @@ module _ {D F : Type 0} (facts : Ghosts D F) (old new : CoreState D) where
   abbrev pub AnswersMerge : ProgressOf → Type 0
   AnswersMerge Idle = new ≡ old
   AnswersMerge Waiting = ⊥
-  AnswersMerge Moved = (new.body ≡ old.body) × MergeGoesOn old.body old.merging new.merging
+  AnswersMerge Moved = (new.body ≡ old.body) × MergeGoesOn old.body old.merging new.merging × MayFind (place_due old.shape old.body old.merging) new.merging
   AnswersMerge Finished = IsMerged facts old new
 
   -- why merging is out of memory: the merge begins, it gathers the first row of a key, it decides a key that has a value, or it makes what
@@ -376,17 +387,17 @@ module _ {D F : Type 0} (facts : Ghosts D F) (old new : CoreState D) where
       ⊎ (IsMergeDue facts old Moved × IsSomeAnd old.merging (DecidesValue facts old))
       ⊎ (IsMergeDue facts old Finished × (old.body.generation ≢ last_generation))
 
-  -- a step of merging does the next thing that is due, and only the last one writes the manifest; on an honest disk nothing that it reads is
-  -- damaged
+  -- a step of merging does the next thing that is due, and only the last one writes the manifest. A merge that has found a store damaged is
+  -- refused at each step, with that store, and no other merge is. On an honest disk none is.
   abbrev pub MergeCause : Reply F → Type 0
-  MergeCause (Progress progress) = (old.failed ≡ false) × IsMergeDue facts old progress × AnswersMerge progress × (facts.failures new.disk ≡ facts.failures old.disk)
+  MergeCause (Progress progress) = (old.failed ≡ false) × IsMergeDue facts old progress × AnswersMerge progress × (facts.failures new.disk ≡ facts.failures old.disk) × (found_damaged old.merging ≡ None)
   MergeCause (Refused Failed) = old.failed ≡ true
-  MergeCause (Refused Spent) = (old.failed ≡ false) × IsMergeDue facts old Finished × (old.body.generation ≡ last_generation)
-  MergeCause (Refused NoMemory) = (old.failed ≡ false) × MergeLacksMemory
+  MergeCause (Refused Spent) = (old.failed ≡ false) × IsMergeDue facts old Finished × (old.body.generation ≡ last_generation) × (found_damaged old.merging ≡ None)
+  MergeCause (Refused NoMemory) = (old.failed ≡ false) × MergeLacksMemory × (found_damaged old.merging ≡ None)
   MergeCause (Refused (Damaged place)) =
-      (old.failed ≡ false) × IsMergeDue facts old Moved × (place ≡ place_due old.shape old.body old.merging) × (IsTrue (facts.content old.disk).honest → ⊥)
+      (old.failed ≡ false) × (is_work (merge_due old) ≡ true) × (found_damaged old.merging ≡ Some place) × (IsTrue (facts.content old.disk).honest → ⊥)
   MergeCause (Refused (Device fault)) =
-      (IsMergeDue facts old Moved × FailsRead facts old new fault) ⊎ ((is_work (merge_due old) ≡ true) × FailsBy facts old new fault)
+      ((IsMergeDue facts old Moved × FailsRead facts old new fault) ⊎ ((is_work (merge_due old) ≡ true) × FailsBy facts old new fault)) × (found_damaged old.merging ≡ None)
   MergeCause reply = ⊥
 
   -- what is true if the event has this reply

@@ -10,7 +10,7 @@ use Rattle.silt_standing.specs.State.{EngineState, hash_region_of}
 use Rattle.silt_standing.specs.Standing.{Stands}
 use Rattle.silt_engine.specs.Merge.{refusal_of_step}
 use Rattle.silt_engine.proofs.ConvertCounting.{sound_hashes}
-use Rattle.silt_engine.proofs.MergeSteps.{begin_merges, begun, failed_map, first_lacks, first_turn, most_made, some_stores, started_not_done, started_reads, started_way, started_written, step_advances, step_cause, step_disk, step_made, steps_in, taken_shapes, way_after}
+use Rattle.silt_engine.proofs.MergeSteps.{begin_merges, begun, failed_map, first_lacks, first_turn, found_by, most_made, some_stores, started_not_done, started_sound, started_way, started_written, step_advances, step_cause, step_disk, step_made, steps_in, taken_shapes, way_after}
 use Rattle.silt_engine.proofs.Exits.{on_error, on_refusal}
 use Rattle.silt_engine.proofs.Viewing.{state_of}
 use Rattle.silt_engine.proofs.Wholes.{whole_with}
@@ -40,7 +40,8 @@ returns-in_err-step-clause-err g c =
     let remaps = failed_map g.D.Disk c.args.disk.now c.step.new.disk stores c.in-Ok.merge c.step.new.self _ stands way step stores.merging in
     rw (← c.self.view_is) (on_error c.from_residual.result (refusal_of_step c.in_err-step.field-0.0) _ c.from_residual.ensures.1
     (step_cause g.D.Disk c.args.disk.now c.step.new.disk stores c.in-Ok.merge c.step.new.self _ stands way step stores (first_turn stores none some) gathered (λ same. refl) (λ takes. first_lacks (g.D.Disk.content c.args.disk.now) stores none)
-    (started_reads stores (1 - c.region-region.result) c.deref.result.now none some c.self.invariant.whole other c.deref.ensures.value c.entries-sorted.result.now c.entries-sorted.ensures c.in-Ok.merge c.in-Ok.ensures.start c.in-Ok.ensures.held) remaps c.in_err-step.field-0.0 step.fails))
+    (λ place found. let sound = started_sound stores (1 - c.region-region.result) c.deref.result.now none some c.self.invariant.whole other c.deref.ensures.value c.entries-sorted.result.now c.entries-sorted.ensures c.in-Ok.merge c.in-Ok.ensures.start c.in-Ok.ensures.held in
+    let no : None ≡ Some place = sym sound ∙ found in absurd (cc)) remaps c.in_err-step.field-0.0 step.fails))
 
 pub invariant_of-self : goal.invariant_of-self
 invariant_of-self g c =
@@ -98,7 +99,8 @@ returns-clause-merges g c =
     let none : stores.merging ≡ None = subst (λ (v : EngineState). v.merging ≡ None) (sym c.self.view_is) c.requires.none in
     let some : 0 < length stores.hashes = some_stores stores.hashes _ c.is_empty.result c.is_empty.ensures c.if-is_empty.false c.self.inside.hashes.ok.0 in
     let other : 1 - c.region-region.result ≡ 1 - stores.sorted.region = ap (λ (n : ℕ). 1 - n) c.region-region.ensures.value in
-    rw (← c.self.view_is) (begin_merges stores (1 - c.region-region.result) c.deref.result.now none some c.self.invariant.whole other c.deref.ensures.value c.entries-sorted.result.now c.entries-sorted.ensures c.in-Ok.merge c.in-Ok.ensures.start c.in-Ok.ensures.held c.step.new.self c.step.ensures.same c.in_ok-step.ensures.goes.steps)
+    let step = steps_in stores c.deref-2.result.now c.entries-sorted.result.now c.digest.result.now.0 c.deref-2.ensures.value c.entries-sorted.ensures c.digest.ensures c.in_ok-step.ensures in
+    rw (← c.self.view_is) (begin_merges stores (1 - c.region-region.result) c.deref.result.now none some c.self.invariant.whole other c.deref.ensures.value c.entries-sorted.result.now c.entries-sorted.ensures c.in-Ok.merge c.in-Ok.ensures.start c.in-Ok.ensures.held c.step.new.self c.step.ensures.same c.in_ok-step.ensures.goes.steps (found_by (g.D.Disk.content c.args.disk.now) (oldest_stores c.in-Ok.merge.stores stores.hashes) stores.sorted stores.digest c.in-Ok.merge c.step.new.self step.goes.finds))
 
 pub returns-clause-moves : goal.returns-clause-moves
 returns-clause-moves g c = λ is. let no : Moved ≡ Finished = is in cc

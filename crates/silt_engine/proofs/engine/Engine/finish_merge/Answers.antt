@@ -1,9 +1,9 @@
-use Rattle.std.proofs.Common.{◌≡◌, ◌<◌, ◌-◌, ◌^◌, length, ap, sym, ◌∙◌, subst, arith}
+use Rattle.std.proofs.Common.{◌≡◌, None, ◌<◌, ◌-◌, ◌^◌, length, ap, sym, ◌∙◌, subst, arith}
 use Rattle.std.proofs.lemmas.List.{length-map}
 use Rattle.silt_event.specs.declared.progress.Progress.TheVariants.{Finished}
 use Rattle.silt_manifest.specs.declared.body.Body.{Body}
 use Rattle.silt_engine.specs.Digests.{merged_digests}
-use Rattle.silt_engine.specs.Merge.{merge_turn, merged_body}
+use Rattle.silt_engine.specs.Merge.{damaged_in, merge_turn, merged_body}
 use Rattle.silt_standing.specs.State.{EngineState, hash_region_of}
 use Rattle.silt_engine.proofs.Holdings.{before_last}
 use Rattle.silt_engine.proofs.MergeDone.{may_end}
@@ -16,6 +16,7 @@ pub end_merge-requires-clause-ends : goal.end_merge-requires-clause-ends
 end_merge-requires-clause-ends g c κs within =
     let stores : EngineState = state_of c.self.inside in
     let turn = subst (λ (v : EngineState). merge_turn v ≡ Finished) (sym c.self.view_is) c.requires.turn in
+    let sound = sym (ap damaged_in c.in-Some.is) ∙ subst (λ (v : EngineState). damaged_in v.merging ≡ None) (sym c.self.view_is) c.requires.sound in
     let unspent = before_last stores.manifest.shape _ stores.manifest.current c.current-current.ensures.sound (λ e. c.if-current-eq-LAST_GENERATION.false (ap (λ (b : Body). b.generation) c.current-current.ensures.value ∙ e)) in
     let count = c.stores-count.ensures.value in
     let region = c.region.ensures.value ∙ ap (λ t. t.region) c.in-Ok.ensures.store in
@@ -26,7 +27,7 @@ end_merge-requires-clause-ends g c κs within =
     ∙ ap (λ n. merged_body stores.manifest.current c.in-Some.merge.stores c.in-Some.merge.region n) written in
     let digests = subst (λ (v : EngineState). c.merged_digests-digests.result ≡ merged_digests v c.stores-count.result c.in-Ok.sorted) (sym c.self.view_is) c.merged_digests-digests.ensures
     ∙ ap (λ n. merged_digests stores n c.in-Ok.sorted) count in
-    rw (← c.self.view_is) (may_end stores c.merged_body-body.result c.merged_digests-digests.result c.in-Some.merge c.in-Ok.sorted c.in-Some.is (is_finished stores c.in-Some.merge c.in-Some.is turn) unspent c.in-Ok.ensures.store body digests c.in-Ok.ensures.indexed c.in-Ok.ensures.digested)
+    rw (← c.self.view_is) (may_end stores c.merged_body-body.result c.merged_digests-digests.result c.in-Some.merge c.in-Ok.sorted c.in-Some.is (is_finished stores c.in-Some.merge c.in-Some.is turn) sound unspent c.in-Ok.ensures.store body digests c.in-Ok.ensures.indexed c.in-Ok.ensures.digested)
 
 pub merged_body-body-requires-clause-count : goal.merged_body-body-requires-clause-count
 merged_body-body-requires-clause-count g c =

@@ -6,9 +6,9 @@ use Rattle.silt_merge.specs.Steps.{TakesMemory}
 use Rattle.silt_standing.specs.State.{EngineState}
 use Rattle.silt_standing.specs.Standing.{Stands}
 use Rattle.silt_engine.specs.Costs.{written_by_merge}
-use Rattle.silt_engine.specs.Merge.{merge_turn, place_read, refusal_of_step}
+use Rattle.silt_engine.specs.Merge.{damaged_in, merge_turn, refusal_of_step}
 use Rattle.silt_event.specs.declared.progress.Progress.TheVariants.{Moved}
-use Rattle.silt_engine.proofs.MergeSteps.{failed_map, gathered_of, merging_of, most_made, next_merges, step_advances, step_cause, step_disk, step_made, steps_in, taken_shapes, way_after}
+use Rattle.silt_engine.proofs.MergeSteps.{failed_map, found_by, gathered_of, merging_of, most_made, next_merges, step_advances, step_cause, step_disk, step_made, steps_in, taken_shapes, way_after}
 use Rattle.silt_engine.proofs.Exits.{on_error, on_refusal}
 use Rattle.silt_engine.proofs.Viewing.{state_of}
 use Rattle.silt_engine.proofs.Wholes.{whole_with}
@@ -35,7 +35,7 @@ returns-in_err-step-clause-err g c =
     rw (← c.self.view_is) (on_error c.from_residual.result (refusal_of_step c.in_err-step.field-0.0) _ c.from_residual.ensures.1
     (step_cause g.D.Disk c.args.disk.now c.step.new.disk stores c.in-Some.merge c.step.new.self _ stands way step after turn gathered same
     (λ takes. subst (λ (o : Option MergeState). IfSome o (λ merge. TakesMemory (g.D.Disk.content c.args.disk.now) (oldest_stores merge.stores stores.hashes) stores.sorted merge)) (sym c.in-Some.is) takes)
-    (ap (place_read stores.hashes) (sym c.in-Some.is)) remaps c.in_err-step.field-0.0 step.fails))
+    (λ place found. ap damaged_in c.in-Some.is ∙ found) remaps c.in_err-step.field-0.0 step.fails))
 
 pub invariant_of-self : goal.invariant_of-self
 invariant_of-self g c =
@@ -75,7 +75,8 @@ pub returns-clause-merges : goal.returns-clause-merges
 returns-clause-merges g c =
     let stores : EngineState = state_of c.self.inside in
     let turn = subst (λ (v : EngineState). merge_turn v ≡ Moved) (sym c.self.view_is) c.requires.turn in
-    rw (← c.self.view_is) (next_merges stores c.in-Some.merge c.step.new.self c.in-Some.is turn c.step.ensures.same c.in_ok-step.ensures.goes.steps)
+    let step = steps_in stores c.deref.result.now c.entries.result.now c.digest.result.now.0 c.deref.ensures.value c.entries.ensures c.digest.ensures c.in_ok-step.ensures in
+    rw (← c.self.view_is) (next_merges stores c.in-Some.merge c.step.new.self c.in-Some.is turn c.step.ensures.same c.in_ok-step.ensures.goes.steps (found_by (g.D.Disk.content c.args.disk.now) (oldest_stores c.in-Some.merge.stores stores.hashes) stores.sorted stores.digest c.in-Some.merge c.step.new.self step.goes.finds))
 
 pub returns-clause-made : goal.returns-clause-made
 returns-clause-made g c =

@@ -12,19 +12,19 @@ use Rattle.silt_sorted_store.specs.State.{sorted_rows, entries_of}
 use Rattle.silt_merge.specs.Choice.{IsNextEntry, ReadsRow, choice_puts}
 use Rattle.silt_merge.specs.Pieces.{AreEntries, parts_after}
 use Rattle.silt_merge.specs.Rows.{regions_of}
-use Rattle.silt_merge.specs.State.{IsHeldMerge, MergeState, ends_entries, hashed_after, is_behind, passed_after, written_after}
+use Rattle.silt_merge.specs.State.{IsHeldMerge, MergeState, ends_entries, finding, hashed_after, is_behind, passed_after, written_after}
 use Rattle.silt_merge.specs.Steps.{TakesStep}
 use Rattle.silt_merge.specs.declared.choice.Choice.{Choice}
-use Rattle.silt_merge.specs.declared.merge.StepError.TheVariants.{Damaged, NoMemory, Read}
+use Rattle.silt_merge.specs.declared.merge.StepError.TheVariants.{NoMemory, Read}
 use Rattle.silt_merge.specs.declared.source.Source.{Source}
 use Rattle.silt_merge.proofs.Choosing.{offered}
-use Rattle.silt_merge.proofs.Comparing.{compared_key, entry_agrees}
-use Rattle.silt_merge.proofs.Ending.{held_with, merged_step, next_puts, nothing_left, offered_inside, skipped_inside}
+use Rattle.silt_merge.proofs.Comparing.{compared_key}
+use Rattle.silt_merge.proofs.Ending.{held_with, merged_noted, merged_step, next_puts, nothing_left, offered_inside, skipped_inside}
 use Rattle.silt_merge.proofs.Keys.{count_written}
 use Rattle.silt_merge.proofs.Making.{made_added}
 use Rattle.silt_merge.proofs.Reading.{each_source}
-use Rattle.silt_merge.proofs.Stepped.{broke, decided_on, deciding_place, refused}
-use Rattle.silt_merge.proofs.Taking.{entry_skipped, may_be}
+use Rattle.silt_merge.proofs.Stepped.{broke, decided_on, refused}
+use Rattle.silt_merge.proofs.Taking.{entry_finds, entry_skipped, may_be}
 use Rattle.silt_merge.proofs.Viewing.{state_of}
 use Rattle.silt_merge.proofs.merge.Merge.decide_next.Goals as goal
 
@@ -40,26 +40,12 @@ returns-in_default g c =
     let all = rw (← c.self.view_is) at c.requires.gathered in
     absurd (nothing_left merge c.args.sorted.now c.first.result c.next_entry-next.result more all c.first.ensures c.next_entry-next.ensures.is_some (sym c.choose.ensures ∙ c.in_default.is))
 
-pub returns-then-not-may_take : goal.returns-then-not-may_take
-returns-then-not-may_take g c =
-    let merge : MergeState = state_of c.self.inside in
-    let all = rw (← c.self.view_is) at c.requires.gathered in
-    let there = rw (← c.self.view_is) at c.requires.there in
-    rw (← c.self.view_is)
-    (refused g.D.Disk c.args.stores.now c.args.sorted.now c.args.digest.now.0 c.args.disk.now merge merge (Damaged SortedDigest) refl c.self.invariant.0 (
-      refl,
-      refl,
-      deciding_place c.args.stores.now merge all,
-      λ matches. entry_agrees (g.D.Disk.content c.args.disk.now) c.args.stores.now c.args.sorted.now c.args.digest.now.0 merge matches c.skips_entry-passes.result all there
-          (may_be c.ends_entries-ends.result (ends_entries c.skips_entry-passes.result merge.passed c.args.sorted.now.count) c.first-2.result.now (get_or merge.ahead 0 []) c.args.digest.now.0 c.may_take.result false merge.input
-          c.ends_entries-ends.ensures c.first-2.ensures.part c.if-not-may_take.true c.may_take.ensures),
-    ))
-
 pub returns-then-is_behind : goal.returns-then-is_behind
 returns-then-is_behind g c =
     let merge : MergeState = state_of c.self.inside in
     let all = rw (← c.self.view_is) at c.requires.gathered in
     let there = rw (← c.self.view_is) at c.requires.there in
+    let sound = rw (← c.self.view_is) at c.requires.sound in
     let behind : is_behind merge.last c.next_entry-next.result ≡ true = sym c.is_behind-is_behind.ensures ∙ c.if-is_behind.true in
     let skips : c.skips_entry-passes.result ≡ true = c.skips_entry-passes.ensures ∙ ap (λ b. b || c.in-Some.choice.passes) c.if-is_behind.true in
     let inside = skipped_inside merge.passed c.args.sorted.now.count merge.last c.first.result c.next_entry-next.result c.in-Some.choice (sym c.choose.ensures ∙ c.in-Some.is) c.next_entry-next.ensures.is_some (ap (λ b. b || c.in-Some.choice.passes) behind) in
@@ -67,11 +53,11 @@ returns-then-is_behind g c =
     let next : IsTrue (g.D.Disk.content c.args.disk.now).honest → AreEntries (entries_of (g.D.Disk.content c.args.disk.now) c.args.sorted.now) merge.passed merge.ahead
     → IsNextEntry (entries_of (g.D.Disk.content c.args.disk.now) c.args.sorted.now) merge.passed c.next_entry-next.new.out c.next_entry-next.result = λ honest. c.next_entry-next.ensures.next (entries_of (g.D.Disk.content c.args.disk.now) c.args.sorted.now) in
     rw (← c.self.view_is)
-    (entry_skipped g.D.Disk c.args.stores.now c.args.sorted.now c.args.digest.now.0 c.args.disk.now merge c.pass_entry.new.self c.next_entry-next.result c.next_entry-next.new.out c.pass_entry.new.self.input _ c.self.invariant.0 all
-    c.next_entry-next.ensures.is_some next behind long
-    (may_be c.ends_entries-ends.result (ends_entries true merge.passed c.args.sorted.now.count) c.first-2.result.now (get_or merge.ahead 0 []) c.args.digest.now.0 c.may_take.result true merge.input
-    (c.ends_entries-ends.ensures ∙ ap (λ b. ends_entries b merge.passed c.args.sorted.now.count) skips) c.first-2.ensures.part c.if-not-may_take.false c.may_take.ensures)
-    c.pass_entry.ensures.hashed c.pass_entry.ensures.state c.pass_entry.ensures.held)
+    (entry_skipped g.D.Disk c.args.stores.now c.args.sorted.now c.args.digest.now.0 c.args.disk.now merge c.note.new.self c.may_take-fits.result c.next_entry-next.result c.next_entry-next.new.out c.pass_entry.new.self.input _ c.self.invariant.0 all sound
+    there c.next_entry-next.ensures.is_some next behind long
+    (may_be c.ends_entries-ends.result (ends_entries true merge.passed c.args.sorted.now.count) c.first-2.result.now (get_or merge.ahead 0 []) c.args.digest.now.0 c.may_take-fits.result c.may_take-fits.result merge.input
+    (c.ends_entries-ends.ensures ∙ ap (λ b. ends_entries b merge.passed c.args.sorted.now.count) skips) c.first-2.ensures.part refl c.may_take-fits.ensures)
+    c.pass_entry.ensures.hashed (c.note.ensures.state ∙ ap (λ (m : MergeState). let r : MergeState = record m { damaged = finding c.may_take-fits.result SortedDigest } in r) c.pass_entry.ensures.state) c.note.ensures.held)
 
 pub read_row-requires-clause-store : goal.read_row-requires-clause-store
 read_row-requires-clause-store g c κs within =
@@ -99,7 +85,7 @@ read_row-requires-clause-shapes g c κs within =
 pub returns-in-Err : goal.returns-in-Err
 returns-in-Err g c =
     let merge : MergeState = state_of c.self.inside in
-    rw (← c.self.view_is) (refused g.D.Disk c.args.stores.now c.args.sorted.now c.args.digest.now.0 c.args.disk.now merge merge (Read c.in-Err.fault) refl c.self.invariant.0 (refl, refl, c.in-Err.ensures.fault))
+    rw (← c.self.view_is) (refused g.D.Disk c.args.stores.now c.args.sorted.now c.args.digest.now.0 c.args.disk.now merge merge (Read c.in-Err.fault) refl c.self.invariant.0 (rw (← c.self.view_is) at c.requires.sound) (refl, refl, c.in-Err.ensures.fault))
 
 pub returns-in-Err-index_key : goal.returns-in-Err-index_key
 returns-in-Err-index_key g c =
@@ -117,10 +103,10 @@ returns-in-Err-index_key g c =
     let both = and_parts (choice_puts c.in-Some.choice.source) (nat_lt merge.written merge.shape.sorted_capacity) (sym c.is_due-is_due.ensures ∙ c.in-Err-index_key.ensures.due) in
     let same : (let m : MergeState = record merge { index = c.index_key.new.index } in m) ≡ merge = ap (λ i. let m : MergeState = record merge { index = i } in m) c.in-Err-index_key.ensures.err in
     rw (← c.self.view_is)
-    (refused g.D.Disk c.args.stores.now c.args.sorted.now c.args.digest.now.0 c.args.disk.now merge (let m : MergeState = record merge { index = c.index_key.new.index } in m) NoMemory same c.self.invariant.0 (
+    (refused g.D.Disk c.args.stores.now c.args.sorted.now c.args.digest.now.0 c.args.disk.now merge (let m : MergeState = record merge { index = c.index_key.new.index } in m) NoMemory same c.self.invariant.0 (rw (← c.self.view_is) at c.requires.sound) (
       refl,
       refl,
-      inr (record {
+      λ was sound. inr (record {
         gathered = all;
         room = ltb-true merge.written merge.shape.sorted_capacity both.1;
         puts = next_puts content c.args.stores.now c.args.sorted.now merge c.first.result c.next_entry-next.result c.in-Some.choice c.next_entry-next.new.out c.read_row.new.out c.self.invariant.0 all c.first.ensures (sym c.choose.ensures ∙ c.in-Some.is)
@@ -133,7 +119,7 @@ returns-in-Err-write_due g c =
     let merge : MergeState = state_of c.self.inside in
     let all = rw (← c.self.view_is) at c.requires.gathered in
     rw (← c.self.view_is)
-    (broke g.D.Disk c.args.stores.now c.args.sorted.now c.args.digest.now.0 c.args.disk.now c.write_due.new.disk merge (let m : MergeState = record merge { index = c.index_key.new.index } in m) c.write_due.ensures.size all (record { shape = refl; region = refl; stores = refl })
+    (broke g.D.Disk c.args.stores.now c.args.sorted.now c.args.digest.now.0 c.args.disk.now c.write_due.new.disk merge (let m : MergeState = record merge { index = c.index_key.new.index } in m) (rw (← c.self.view_is) at c.requires.sound) c.write_due.ensures.size all (record { shape = refl; region = refl; stores = refl })
     (held_with merge merge.slots merge.ahead c.index_key.new.index merge.hasher c.index_key.ensures.most c.self.invariant.0) c.write_due.ensures.changes c.write_due.ensures.region c.in-Err-write_due.fault refl refl c.in-Err-write_due.ensures.made c.in-Err-write_due.ensures.failures)
 
 pub invariant_of-self-in-Ok : goal.invariant_of-self-in-Ok
@@ -160,7 +146,9 @@ mark_decided-requires-clause-room g c = λ due.
 pub returns-in-Ok : goal.returns-in-Ok
 returns-in-Ok g c =
     let merge : MergeState = state_of c.self.inside in
-    let fits = rw (← c.self.view_is) at c.requires.size in
+    let large = rw (← c.self.view_is) at c.requires.size in
+    let sound = rw (← c.self.view_is) at c.requires.sound in
+    let fits : Bool = c.may_take-fits.result in
     let all = rw (← c.self.view_is) at c.requires.gathered in
     let there = rw (← c.self.view_is) at c.requires.there in
     let shapes = rw (← c.self.view_is) at c.requires.shapes in
@@ -188,18 +176,20 @@ returns-in-Ok g c =
     skipped_inside merge.passed c.args.sorted.now.count merge.last c.first.result c.next_entry-next.result choice made c.next_entry-next.ensures.is_some
     (ap (λ b. b || choice.passes) (sym c.is_behind-is_behind.ensures ∙ c.if-is_behind.false) ∙ passes) in
     let long : choice.passes ≡ true → length (get_or merge.ahead 0 []) ≡ entry_len merge.shape = λ passes. ap length (sym c.first-2.ensures.part) ∙ c.first-2.ensures.len (there (inside passes)) ∙ c.self.invariant.2 in
-    let may = may_be c.ends_entries-ends.result (ends_entries choice.passes merge.passed c.args.sorted.now.count) c.first-2.result.now (get_or merge.ahead 0 []) c.args.digest.now.0 c.may_take.result true merge.input
-    (c.ends_entries-ends.ensures ∙ ap (λ b. ends_entries b merge.passed c.args.sorted.now.count) own) c.first-2.ensures.part c.if-not-may_take.false c.may_take.ensures in
+    let may = may_be c.ends_entries-ends.result (ends_entries choice.passes merge.passed c.args.sorted.now.count) c.first-2.result.now (get_or merge.ahead 0 []) c.args.digest.now.0 c.may_take-fits.result c.may_take-fits.result merge.input
+    (c.ends_entries-ends.ensures ∙ ap (λ b. ends_entries b merge.passed c.args.sorted.now.count) own) c.first-2.ensures.part refl c.may_take-fits.ensures in
     let after : MergeState = record merge { waiting = c.mark_decided.new.self.waiting; passed = passed_after choice.passes merge.passed; written = written_after due merge.written; index = c.index_key.new.index; decided = merge.decided + 1; last = Some choice.key; ahead = parts_after choice.passes merge.ahead; input = c.mark_decided.new.self.input; hasher = c.hash_entry.new.hasher } in
-    let is : c.mark_decided.new.self ≡ after = c.mark_decided.ensures.state in
+    let noted : MergeState = record after { damaged = finding fits SortedDigest } in
+    let is : c.note-in-Ok.new.self ≡ noted = c.note-in-Ok.ensures.state ∙ ap (λ (m : MergeState). let r : MergeState = record m { damaged = finding fits SortedDigest } in r) c.mark_decided.ensures.state in
     let counted = count_written merge.shape.sorted_capacity merge.written (choice_puts choice.source) due c.in-Ok.field-0 c.is_due-is_due.ensures c.in-Ok.ensures.count in
     rw (← c.self.view_is)
     (subst (λ (m : MergeState). TakesStep g.D.Disk c.args.stores.now c.args.sorted.now c.args.digest.now.0 c.args.disk.now c.write_due.new.disk merge m (Ok tt)) (sym is)
-    (decided_on g.D.Disk c.args.stores.now c.args.sorted.now c.args.digest.now.0 c.args.disk.now c.write_due.new.disk merge after c.write_due.ensures.size all (record { shape = refl; region = refl; stores = refl }) (subst IsHeldMerge is c.mark_decided.ensures.held)
+    (decided_on g.D.Disk c.args.stores.now c.args.sorted.now c.args.digest.now.0 c.args.disk.now c.write_due.new.disk merge noted sound c.write_due.ensures.size all (record { shape = refl; region = refl; stores = refl }) (subst IsHeldMerge is c.note-in-Ok.ensures.held)
     c.write_due.ensures.changes c.write_due.ensures.region due tt (inr (choice.key, refl, offers.above)) refl
     (made_added (cond (is_written due merge.written merge.shape.sorted_capacity) 1 0) c.in-Ok.field-0 merge.written (written_after due merge.written) c.in-Ok.ensures.count counted c.in-Ok.ensures.made) c.in-Ok.ensures.failures (omega arith)
-    (merged_step old new c.args.stores.now c.args.sorted.now merge c.self.invariant.0 c.next_entry-next.ensures.held fits c.write_due.ensures.region c.first.result c.next_entry-next.result choice c.next_entry-next.new.out c.read_row.new.out
+    (λ was. merged_noted new c.args.stores.now c.args.sorted.now after (finding fits SortedDigest) (merged_step old new c.args.stores.now c.args.sorted.now merge c.self.invariant.0 c.next_entry-next.ensures.held large c.write_due.ensures.region c.first.result c.next_entry-next.result choice c.next_entry-next.new.out c.read_row.new.out
     c.mark_decided.new.self.waiting due c.in-Ok.field-0 c.index_key.new.index c.mark_decided.new.self.input c.hash_entry.new.hasher all c.first.ensures made c.next_entry-next.ensures.is_some next there read c.is_due-is_due.ensures c.in-Ok.ensures.count written
-    c.mark_decided.ensures.gone c.in_default-index_key.ensures.index c.mark_decided.ensures.hashed hashes)
-    (compared_key c.args.stores.now c.args.sorted.now c.args.digest.now.0 merge choice.passes c.mark_decided.new.self.waiting (written_after due merge.written) c.index_key.new.index (merge.decided + 1) (Some choice.key) (parts_after choice.passes merge.ahead)
-    c.mark_decided.new.self.input c.hash_entry.new.hasher c.self.invariant.0 all long may c.mark_decided.ensures.hashed)))
+    c.mark_decided.ensures.gone c.in_default-index_key.ensures.index c.mark_decided.ensures.hashed hashes was))
+    (compared_key c.args.stores.now c.args.sorted.now c.args.digest.now.0 merge fits SortedDigest sound choice.passes c.mark_decided.new.self.waiting (written_after due merge.written) c.index_key.new.index (merge.decided + 1) (Some choice.key) (parts_after choice.passes merge.ahead)
+    c.mark_decided.new.self.input c.hash_entry.new.hasher c.self.invariant.0 all long may c.mark_decided.ensures.hashed)
+    (entry_finds old c.args.stores.now c.args.sorted.now c.args.digest.now.0 merge choice.passes fits all there may)))

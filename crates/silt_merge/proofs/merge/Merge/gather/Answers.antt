@@ -7,7 +7,7 @@ use Rattle.silt_merge.proofs.merge.Merge.gather.Goals as goal
 
 pub returns-in-Err : goal.returns-in-Err
 returns-in-Err g c = λ sorted digest.
-    refused g.D.Disk c.args.stores.now sorted digest c.args.disk.now c.args.self.now c.read_slots.new.self _ c.in-Err.ensures.err (subst IsHeldMerge c.in-Err.ensures.err c.read_slots.ensures.held) (refl, refl, c.in-Err.ensures.fault)
+    refused g.D.Disk c.args.stores.now sorted digest c.args.disk.now c.args.self.now c.read_slots.new.self _ c.in-Err.ensures.err (subst IsHeldMerge c.in-Err.ensures.err c.read_slots.ensures.held) c.requires.sound (refl, refl, c.in-Err.ensures.fault)
 
 pub returns-in-Ok-gather_ahead : goal.returns-in-Ok-gather_ahead
 returns-in-Ok-gather_ahead g c = λ sorted digest.

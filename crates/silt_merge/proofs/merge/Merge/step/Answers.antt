@@ -1,8 +1,9 @@
-use Rattle.std.proofs.Common.{◌≡◌, List, ap, ◌∙◌, sym, subst}
+use Rattle.std.proofs.Common.{◌≡◌, List, Some, ap, ◌∙◌, sym, subst}
 use Rattle.std.specs.List.{All}
 use Rattle.silt_hash_store.specs.State.{HashState}
-use Rattle.silt_merge.specs.State.{MergeState, oldest_stores}
+use Rattle.silt_merge.specs.State.{IsHeldMerge, MergeState, oldest_stores}
 use Rattle.silt_merge.specs.Steps.{TakesStep}
+use Rattle.silt_merge.proofs.Stepped.{refused_at_once}
 use Rattle.silt_merge.proofs.merge.Merge.step.Goals as goal
 
 pub returns-then-self : goal.returns-then-self
@@ -19,3 +20,8 @@ pub decide-requires-clause-shapes : goal.decide-requires-clause-shapes
 decide-requires-clause-shapes g c κs within =
     let taken = c.split_at.ensures.back ∙ ap (λ (m : MergeState). oldest_stores m.stores c.args.stores.now) c.self.view_is in
     subst (λ (l : List HashState). All (λ (store : HashState). store.shape ≡ c.args.self.now.shape) l) (sym taken) c.requires.shapes
+
+pub returns-in-Some : goal.returns-in-Some
+returns-in-Some g c =
+    refused_at_once g.D.Disk (oldest_stores c.args.self.now.stores c.args.stores.now) c.args.sorted.now c.args.digest.now.0 c.args.disk.now c.args.self.now c.in-Some.place
+    (subst (λ (m : MergeState). m.damaged ≡ Some c.in-Some.place) c.self.view_is c.in-Some.is) (subst IsHeldMerge c.self.view_is c.self.invariant.0)

@@ -35,6 +35,7 @@ struct Lender {
     first: u32,
     last: u32,
     takes: u32,
+    tries: u32,
 }
 
 impl Lender {
@@ -64,6 +65,7 @@ fn lends_after(rt: &impl Abort, alloc: Global, first: u32, last: u32, takes: u32
         first,
         last,
         takes,
+        tries: TRIES,
     }
 }
 
@@ -95,7 +97,7 @@ fn lend_step(
     (steps, lender.lend(merge), refused, place)
 }
 
-// Takes the steps of a merge.
+// Takes the steps of a merge, as many as the lender tries.
 fn lend_steps(
     merge: &mut Merge,
     stores: &[HashStore],
@@ -112,7 +114,7 @@ fn lend_steps(
     ensures size { size (memory_content disk.new) ≡ size (memory_content disk.old) }
 {
     let mut all: Done = (0, 0, 0, None);
-    for _step in 0..TRIES {
+    for _step in 0..lender.tries {
         let one = lend_step(merge, stores, sorted, digest, disk, lender);
         all = (
             all.0.saturating_add(one.0),
@@ -157,7 +159,7 @@ fn lends(rt: &impl Abort, alloc: Global, (first, last, takes): (u32, u32, u32)) 
     merge_twice(rt, alloc, &mut disk, geometry, &mut lender)
 }
 
-// What is damaged: the store of hash region 0, whose last step is the sixteenth.
+// What is damaged: the store of hash region 0, whose last slot the sixteenth step takes. Each later step is refused.
 const DAMAGED: Option<Place> = Some(Place::HashDigest(0));
 
 // Four slots or entries are lent at a time, and taken back before the next step: three times in each store of 16 slots, whose last
@@ -165,7 +167,7 @@ const DAMAGED: Option<Place> = Some(Place::HashDigest(0));
 #[test]
 fn refuses_damage_in_lent_bytes(rt: HostRuntime) {
     let found = lends(&rt, rt.alloc(), (0, 120, 0));
-    same(&rt, &found, &((52, 11, 0, None), (15, 3, 45, DAMAGED)));
+    same(&rt, &found, &((52, 11, 0, None), (16, 3, 44, DAMAGED)));
 }
 
 // Both merges are as without a lending, but for what is lent once, after this step.
@@ -174,7 +176,7 @@ fn ignores(rt: &impl Abort, alloc: Global, lent: u32, takes: u32) {
     same_in(
         rt,
         &found,
-        &((52, 1, 0, None), (15, 0, 45, DAMAGED)),
+        &((52, 1, 0, None), (16, 0, 44, DAMAGED)),
         &(lent, takes),
     );
 }
@@ -189,4 +191,42 @@ fn ignores_what_comes_late(rt: HostRuntime) {
     ignores(&rt, alloc, 12, 33);
     ignores(&rt, alloc, 36, 49);
     ignores(&rt, alloc, 5, 60);
+}
+
+// Takes twenty steps of a merge from a disk on which a byte of the first slot has changed, and twenty more once it is as it was.
+fn merge_healed(
+    rt: &impl Abort,
+    alloc: Global,
+    disk: &mut MemDisk,
+    geometry: Geometry,
+    lender: &mut Lender,
+) -> (Done, Done)
+    requires hashes { geometry.hashes ≡ 2 }
+    requires capacity { 20 ≤ geometry.sorted_capacity }
+    requires size { device_size geometry ≤ size (memory_content disk.old) }
+{
+    let place = geometry.hash_at(0) + 30;
+    put(rt, disk, place, &[1]);
+    let stores = both(rt, alloc, disk, geometry);
+    let sorted = SortedEntries::new(geometry, 0, 20);
+    let digest = digest_of(rt, alloc, disk, &sorted);
+    let mut merge = done(rt, Merge::start(alloc, &stores, &sorted, 1));
+    lender.tries = 20;
+    put(rt, disk, place, &[2]);
+    let damaged = lend_steps(&mut merge, &stores, &sorted, &digest, disk, lender);
+    put(rt, disk, place, &[1]);
+    let later = lend_steps(&mut merge, &stores, &sorted, &digest, disk, lender);
+    (damaged, later)
+}
+
+// A merge that has found a store damaged goes no further, also if the disk then shows the right bytes.
+#[test]
+fn remembers_damage(rt: HostRuntime) {
+    let alloc = rt.alloc();
+    let geometry = long(&rt);
+    let mut disk = blank_of(&rt, alloc, geometry);
+    fill_long(&rt, &mut disk, geometry);
+    let mut lender = lends_after(&rt, alloc, 1, 0, 0);
+    let found = merge_healed(&rt, alloc, &mut disk, geometry, &mut lender);
+    same(&rt, &found, &((16, 0, 4, DAMAGED), (0, 0, 20, DAMAGED)));
 }
