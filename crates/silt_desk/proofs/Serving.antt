@@ -1,5 +1,5 @@
 -- A call at a desk, from what the store does and what is noted.
-use Rattle.std.proofs.Common.{◌≡◌, ℕ, ◌+◌, ◌++◌, Bool, true, false, IsTrue, List, length, Option, Some, None, Ok, Err, Result, refl, ap, sym, ◌∙◌, subst, inr}
+use Rattle.std.proofs.Common.{◌≡◌, ℕ, ◌+◌, ◌++◌, Bool, true, false, IsTrue, List, length, Option, Some, None, Ok, Err, Result, IfSome, refl, ap, sym, ◌∙◌, subst, inr}
 use Rattle.silt_disk.specs.declared.disk.Disk.{Ghosts}
 use Rattle.silt_event.specs.Commands.{Command, Map}
 use Rattle.silt_event.specs.declared.progress.Progress.{Progress as ProgressOf}
@@ -16,10 +16,11 @@ use Rattle.silt_event.specs.declared.reply.Reply.TheVariants.{Accepted, Acknowle
 use Rattle.silt_store_set.proofs.Keeps.{own_counts}
 use Rattle.silt_desk.specs.declared.call.RecordedCall.{RecordedCall}
 use Rattle.silt_desk.specs.declared.trace.Trace.{Ghosts as TraceOf}
-use Rattle.silt_desk.specs.DeskState.{DeskState, Notes, Serves}
+use Rattle.silt_desk.specs.DeskState.{CountsCalls, DeskState, Notes, Serves}
 use Rattle.silt_desk.specs.History.{accepted_by, call}
 use Rattle.silt_desk.specs.Notes.{plain_answer}
-use Rattle.silt_desk.specs.Seats.{SeatState, Totals}
+use Rattle.silt_desk.specs.Seats.{SeatState, Totals, counted}
+use Rattle.std.specs.Option.{option_map}
 use Rattle.silt_desk.specs.Seeing.{NoneWaits, SeenStep, SeenStore, seen}
 
 -- ---- replies without their faults
@@ -236,7 +237,7 @@ module _ {D F : Type 0} (facts : Ghosts D F) where
       ] in
       go old.failed refl new.failed refl
 
-  module _ {T : Type 0} (trace : TraceOf T) (c0 c1 : CoreState D) (t0 t1 : T) (totals after_totals : Totals) (seat after : SeatState) (event : Event) where
+  module _ {T : Type 0} (trace : TraceOf T) (c0 c1 : CoreState D) (t0 t1 : T) (totals after_totals : Option Totals) (seat after : SeatState) (event : Event) where
     abbrev desk : CoreState D → T → DeskState D T
     desk core kept = record { core = core; trace = kept }
 
@@ -299,26 +300,43 @@ module _ {D F : Type 0} (facts : Ghosts D F) where
       pub keeps_agreeing : (reply : Reply F) (told : Reply (Unit {0})) → told ≡ plain reply → Does facts c0 c1 event reply → Notes trace.extends t0 t1 totals after_totals seat after event told → agrees t0 (seen facts c0) → agrees t1 (seen facts c1)
       keeps_agreeing reply told is does notes held = keeps_told reply does (subst (λ r. Notes trace.extends t0 t1 totals after_totals seat after event r) is notes) held
 
-module _ {T : Type 0} (counts : T → ℕ → ℕ → Type 0) (extends : T → RecordedCall → T → Type 0) (t0 t1 : T) (totals after_totals : Totals) (seat after : SeatState) (event : Event)
-    (law : (c : RecordedCall) → counts t0 totals.calls totals.accepted → extends t0 c t1 → after_totals.calls ≡ totals.calls + 1 → after_totals.accepted ≡ totals.accepted + accepted_by c.reply → counts t1 after_totals.calls after_totals.accepted) where
+-- the books count on
+books_after : (books : Option Totals) (calls accepted more : ℕ) → IfSome books (λ totals. (totals.calls ≡ calls) × (totals.accepted ≡ accepted))
+    → IfSome (option_map (counted more) books) (λ totals. (totals.calls ≡ calls + 1) × (totals.accepted ≡ accepted + more))
+books_after None calls accepted more held = tt
+books_after (Some totals) calls accepted more held = (ap (λ n. n + 1) held.0, ap (λ n. n + more) held.1)
+
+module _ {T : Type 0} (counts : T → ℕ → ℕ → Type 0) (extends : T → RecordedCall → T → Type 0) (t0 t1 : T) (totals after_totals : Option Totals) (seat after : SeatState) (event : Event)
+    (law : (c : RecordedCall) (n m k l : ℕ) → counts t0 n m → extends t0 c t1 → k ≡ n + 1 → l ≡ m + accepted_by c.reply → counts t1 k l) where
+  counts_more : (c : RecordedCall) → extends t0 c t1 → after_totals ≡ option_map (counted (accepted_by c.reply)) totals → CountsCalls counts t0 totals → CountsCalls counts t1 after_totals
+  counts_more c more books held = (
+    held.0 + 1,
+    held.1 + accepted_by c.reply,
+    law c held.0 held.1 (held.0 + 1) (held.1 + accepted_by c.reply) held.2 more refl refl,
+    subst (λ b. IfSome b (λ t. (t.calls ≡ held.0 + 1) × (t.accepted ≡ held.1 + accepted_by c.reply))) (sym books) (books_after totals held.0 held.1 (accepted_by c.reply) held.3),
+  )
+
+  counts_same : t1 ≡ t0 → after_totals ≡ totals → CountsCalls counts t0 totals → CountsCalls counts t1 after_totals
+  counts_same traces books held = subst (λ (t : T). CountsCalls counts t after_totals) (sym traces) (subst (λ b. CountsCalls counts t0 b) (sym books) held)
+
   -- the trace counts on
-  pub keeps_counting : (reply : Reply (Unit {0})) → Notes extends t0 t1 totals after_totals seat after event reply → counts t0 totals.calls totals.accepted → counts t1 after_totals.calls after_totals.accepted
-  keeps_counting (Accepted n) notes held = law (call seat.number event (Accepted n)) held notes.0 notes.2 notes.3
-  keeps_counting (Acknowledged n) notes held = law (call seat.number event (Acknowledged n)) held notes.0 notes.2 notes.3
-  keeps_counting (Found v) notes held = law (call seat.number event (Found v)) held notes.0 notes.2 notes.3
-  keeps_counting Absent notes held = law (call seat.number event Absent) held notes.0 notes.2 notes.3
-  keeps_counting Differs notes held = law (call seat.number event Differs) held notes.0 notes.2 notes.3
-  keeps_counting (Unsettled n) notes held = law (call seat.number event (Unsettled n)) held notes.0 notes.2 notes.3
-  keeps_counting NotServed notes held = law (call seat.number event NotServed) held notes.0 notes.2 notes.3
-  keeps_counting (Progress progress) notes held = law (call seat.number event (Progress progress)) held notes.0 notes.2 notes.3
-  keeps_counting (Refused NotFormatted) notes held = law (call seat.number event (Refused NotFormatted)) held notes.0 notes.2 notes.3
-  keeps_counting (Refused BadGeometry) notes held = law (call seat.number event (Refused BadGeometry)) held notes.0 notes.2 notes.3
-  keeps_counting (Refused (Damaged place)) notes held = law (call seat.number event (Refused (Damaged place))) held notes.0 notes.2 notes.3
-  keeps_counting (Refused Crowded) notes held = law (call seat.number event (Refused Crowded)) held notes.0 notes.2 notes.3
-  keeps_counting (Refused (Device fault)) notes held = law (call seat.number event (Refused (Device fault))) held notes.0 notes.2 notes.3
-  keeps_counting (Refused StoreFull) notes held = law (call seat.number event (Refused StoreFull)) held notes.0 notes.2 notes.3
-  keeps_counting (Refused NoRoom) notes held = law (call seat.number event (Refused NoRoom)) held notes.0 notes.2 notes.3
-  keeps_counting (Refused Failed) notes held = law (call seat.number event (Refused Failed)) held notes.0 notes.2 notes.3
-  keeps_counting (Refused Spent) notes held = law (call seat.number event (Refused Spent)) held notes.0 notes.2 notes.3
-  keeps_counting (Refused NoMemory) notes held = subst (λ (t : T). counts t after_totals.calls after_totals.accepted) (sym notes.0) (subst (λ (n : Totals). counts t0 n.calls n.accepted) (sym notes.1) held)
-  keeps_counting (Refused HistoryFull) notes held = subst (λ (t : T). counts t after_totals.calls after_totals.accepted) (sym notes.0) (subst (λ (n : Totals). counts t0 n.calls n.accepted) (sym notes.1) held)
+  pub keeps_counting : (reply : Reply (Unit {0})) → Notes extends t0 t1 totals after_totals seat after event reply → CountsCalls counts t0 totals → CountsCalls counts t1 after_totals
+  keeps_counting (Accepted n) notes held = counts_more (call seat.number event (Accepted n)) notes.0 notes.2 held
+  keeps_counting (Acknowledged n) notes held = counts_more (call seat.number event (Acknowledged n)) notes.0 notes.2 held
+  keeps_counting (Found v) notes held = counts_more (call seat.number event (Found v)) notes.0 notes.2 held
+  keeps_counting Absent notes held = counts_more (call seat.number event Absent) notes.0 notes.2 held
+  keeps_counting Differs notes held = counts_more (call seat.number event Differs) notes.0 notes.2 held
+  keeps_counting (Unsettled n) notes held = counts_more (call seat.number event (Unsettled n)) notes.0 notes.2 held
+  keeps_counting NotServed notes held = counts_more (call seat.number event NotServed) notes.0 notes.2 held
+  keeps_counting (Progress progress) notes held = counts_more (call seat.number event (Progress progress)) notes.0 notes.2 held
+  keeps_counting (Refused NotFormatted) notes held = counts_more (call seat.number event (Refused NotFormatted)) notes.0 notes.2 held
+  keeps_counting (Refused BadGeometry) notes held = counts_more (call seat.number event (Refused BadGeometry)) notes.0 notes.2 held
+  keeps_counting (Refused (Damaged place)) notes held = counts_more (call seat.number event (Refused (Damaged place))) notes.0 notes.2 held
+  keeps_counting (Refused Crowded) notes held = counts_more (call seat.number event (Refused Crowded)) notes.0 notes.2 held
+  keeps_counting (Refused (Device fault)) notes held = counts_more (call seat.number event (Refused (Device fault))) notes.0 notes.2 held
+  keeps_counting (Refused StoreFull) notes held = counts_more (call seat.number event (Refused StoreFull)) notes.0 notes.2 held
+  keeps_counting (Refused NoRoom) notes held = counts_more (call seat.number event (Refused NoRoom)) notes.0 notes.2 held
+  keeps_counting (Refused Failed) notes held = counts_more (call seat.number event (Refused Failed)) notes.0 notes.2 held
+  keeps_counting (Refused Spent) notes held = counts_more (call seat.number event (Refused Spent)) notes.0 notes.2 held
+  keeps_counting (Refused NoMemory) notes held = counts_same notes.0 notes.1 held
+  keeps_counting (Refused HistoryFull) notes held = counts_same notes.0 notes.1 held

@@ -13,6 +13,8 @@ use Rattle.silt_desk.specs.declared.trace.Trace as Trace
 use Rattle.silt_desk.specs.declared.seat.DeskId as DeskId
 use Rattle.silt_desk.specs.contracts.desk.Desk as Desk
 use Rattle.silt_desk.specs.contracts.desk.Desk.TheInside as DeskInside
+use Rattle.silt_desk.specs.contracts.seat.Books as Books
+use Rattle.silt_desk.specs.contracts.seat.Books.TheInside as BooksInside
 use Rattle.silt_desk.specs.contracts.seat.Ledgers as Ledgers
 use Rattle.silt_desk.specs.contracts.seat.Ledgers.TheInside as LedgersInside
 use Rattle.silt_desk.specs.contracts.seat.CallsOf as CallsOf
@@ -57,12 +59,20 @@ module _ (T : RattleType) (g : Ghosts T.Denot) where
   pub share_sync : IsSync (Share.the_row T g)
   share_sync = record { shared = λ d b o κ. λ q. part_keyless (Share.the_row T g) share_send q d b o }
 
+books_inside_sync : (N : RattleType) (h : DeskId.Ghosts N.Denot) → IsSync (BooksInside.the_row N h)
+books_inside_sync N h =
+    let B = BooksInside.the_type N h in
+    let k = calls.ghosts N h calls.no_dict in
+    let a = accepted.ghosts N h accepted.no_dict in
+    let all : AllSync (fields B) = (book_sync (CallsOf.the_row N) k, (book_sync (AcceptedOf.the_row N) a, (share_sync (CallsOf.the_row N) k, (share_sync (AcceptedOf.the_row N) a, tt)))) in recorded_sync (Struct (shape B)) B.D B.to B.to_one (struct_sync (shape B) all)
+
+books_sync : (N : RattleType) (h : DeskId.Ghosts N.Denot) → IsSync (Books.the_row N h)
+books_sync N h = view_sync _ _ _ _ _ (books_inside_sync N h)
+
 ledgers_inside_sync : (N : RattleType) (h : DeskId.Ghosts N.Denot) → IsSync (LedgersInside.the_row N h)
 ledgers_inside_sync N h =
     let L = LedgersInside.the_type N h in
-    let k = calls.ghosts N h calls.no_dict in
-    let a = accepted.ghosts N h accepted.no_dict in
-    let all : AllSync (fields L) = (search sendable, (book_sync (CallsOf.the_row N) k, (book_sync (AcceptedOf.the_row N) a, (share_sync (CallsOf.the_row N) k, (share_sync (AcceptedOf.the_row N) a, tt))))) in recorded_sync (Struct (shape L)) L.D L.to L.to_one (struct_sync (shape L) all)
+    let all : AllSync (fields L) = (search sendable, (search (sendable, books_sync N h), tt)) in recorded_sync (Struct (shape L)) L.D L.to L.to_one (struct_sync (shape L) all)
 
 pub ledgers_sync : (N : RattleType) (h : DeskId.Ghosts N.Denot) → IsSync (Ledgers.the_row N h)
 ledgers_sync N h = view_sync _ _ _ _ _ (ledgers_inside_sync N h)

@@ -1,5 +1,6 @@
 -- What contracts see of a desk, and what its calls do.
-use Rattle.std.specs.Prelude.{◌≡◌, ◌⊎◌, ℕ, ◌+◌, MatchBool}
+use Rattle.std.specs.Prelude.{◌≡◌, ◌⊎◌, ℕ, MatchBool, IfSome, Option}
+use Rattle.std.specs.Option.{option_map}
 use Rattle.silt_disk.specs.declared.disk.Disk.{Ghosts}
 use Rattle.silt_store_set.specs.CoreState.{CoreState, Does}
 use Rattle.silt_event.specs.Events.{plain}
@@ -10,7 +11,7 @@ use Rattle.silt_event.specs.declared.reply.Reply.TheVariants.{Refused}
 use Rattle.silt_desk.specs.declared.call.RecordedCall.{RecordedCall}
 use Rattle.silt_desk.specs.declared.trace.Trace.{Ghosts as TraceOf}
 use Rattle.silt_desk.specs.History.{accepted_by, call, is_recorded}
-use Rattle.silt_desk.specs.Seats.{SeatState, Totals, after_call}
+use Rattle.silt_desk.specs.Seats.{SeatState, Totals, after_call, counted}
 
 -- a store and the trace of its calls
 pub record DeskState (D T : Type 0) : Type 0 where
@@ -40,9 +41,14 @@ module _ {D F T : Type 0} (facts : Ghosts D F) (trace : TraceOf T) (old new : De
   abbrev pub Serves : Type 0
   Serves = MatchBool (is_recorded reply) Records Refuses
 
+-- the trace counts the recorded calls, and so do the books, if there are any
+abbrev pub CountsCalls : {T : Type 0} → (T → ℕ → ℕ → Type 0) → T → Option Totals → Type 0
+CountsCalls counts trace books =
+    (calls : ℕ) × (accepted : ℕ) × counts trace calls accepted × IfSome books (λ totals. (totals.calls ≡ calls) × (totals.accepted ≡ accepted))
+
 -- what is noted of one call: it is recorded and counted, or nothing is noted
-abbrev pub Notes : {T : Type 0} → (T → RecordedCall → T → Type 0) → T → T → Totals → Totals → SeatState → SeatState → Event → Reply (Unit {0}) → Type 0
-Notes extends old new totals after_totals seat after event reply =
+abbrev pub Notes : {T : Type 0} → (T → RecordedCall → T → Type 0) → T → T → Option Totals → Option Totals → SeatState → SeatState → Event → Reply (Unit {0}) → Type 0
+Notes extends old new books after_books seat after event reply =
     MatchBool (is_recorded reply)
-    (extends old (call seat.number event reply) new × (after ≡ after_call seat (accepted_by reply)) × (after_totals.calls ≡ totals.calls + 1) × (after_totals.accepted ≡ totals.accepted + accepted_by reply))
-    ((new ≡ old) × (after_totals ≡ totals) × (after ≡ seat))
+    (extends old (call seat.number event reply) new × (after ≡ after_call seat (accepted_by reply)) × (after_books ≡ option_map (counted (accepted_by reply)) books))
+    ((new ≡ old) × (after_books ≡ books) × (after ≡ seat))

@@ -1,29 +1,41 @@
 -- Seats, as contracts see them.
-use Rattle.std.specs.Prelude.{ℕ, List, ◌+◌, sum_by}
+use Rattle.std.specs.Prelude.{ℕ, List, ◌+◌, Option, Some, None, sum_by}
+use Rattle.std.specs.Option.{option_map, unwrap_or}
 
--- a seat: its number, and how many of its calls are recorded and are accepted commands
-pub record SeatState : Type 0 where
-  pub number : ℕ
-  pub calls : ℕ
-  pub accepted : ℕ
-
--- the totals of all seats
+-- how many calls are recorded, and how many of them are accepted commands
 pub record Totals : Type 0 where
   pub calls : ℕ
   pub accepted : ℕ
 
+-- a seat: its number, and what is counted of its calls, if the desk keeps books
+pub record SeatState : Type 0 where
+  pub number : ℕ
+  pub counts : Option Totals
+
+-- what is counted of a seat's calls, or nothing
+abbrev pub counts_of : SeatState → Totals
+counts_of seat = unwrap_or seat.counts (record { calls = 0; accepted = 0 })
+
 -- the recorded calls of these seats, added up
 abbrev pub calls_of : List SeatState → ℕ
-calls_of seats = sum_by (λ (seat : SeatState). seat.calls) seats
+calls_of seats = sum_by (λ (seat : SeatState). (counts_of seat).calls) seats
 
 -- the accepted commands of these seats, added up
 abbrev pub accepted_of : List SeatState → ℕ
-accepted_of seats = sum_by (λ (seat : SeatState). seat.accepted) seats
+accepted_of seats = sum_by (λ (seat : SeatState). (counts_of seat).accepted) seats
 
 -- the seat of this number before any call
 abbrev pub fresh : ℕ → SeatState
-fresh number = record { number = number; calls = 0; accepted = 0 }
+fresh number = record { number = number; counts = Some (record { calls = 0; accepted = 0 }) }
 
--- the seat after one more recorded call
+-- the seat of this number at a desk without books
+abbrev pub unbooked : ℕ → SeatState
+unbooked number = record { number = number; counts = None }
+
+-- the totals after one more recorded call
+abbrev pub counted : ℕ → Totals → Totals
+counted accepted totals = record { calls = totals.calls + 1; accepted = totals.accepted + accepted }
+
+-- the seat after one more recorded call, which is counted if the desk keeps books
 abbrev pub after_call : SeatState → ℕ → SeatState
-after_call seat accepted = record { number = seat.number; calls = seat.calls + 1; accepted = seat.accepted + accepted }
+after_call seat accepted = record { number = seat.number; counts = option_map (counted accepted) seat.counts }

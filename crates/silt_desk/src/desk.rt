@@ -5,7 +5,8 @@ ghost use Rattle.silt_event.specs.Events.{Step, plain};
 ghost use Rattle.silt_desk.specs.DeskState.{Notes};
 ghost use Rattle.silt_desk.specs.Notes.{given, noted_event, reply_of};
 ghost use Rattle.silt_desk.specs.Preparing.{unprepared_refusal};
-ghost use Rattle.silt_desk.specs.Seats.{accepted_of, calls_of, fresh};
+ghost use Rattle.silt_desk.specs.Seats.{accepted_of, calls_of, fresh, unbooked};
+ghost use Rattle.silt_inbox.specs.Books.{has_books};
 
 use crate::call::{Note, plain};
 use crate::seat::{DeskId, Ledgers, MissingSeats, Seat};
@@ -37,7 +38,7 @@ pub struct NotMade<D: Disk, T: Trace> {
 impl<D: Disk, T: Trace, N: DeskId> Model for Desk<D, T, N> {
     ghost use Rattle.std.specs.Coded.{codes};
     ghost use Rattle.silt_event.specs.Commands.{map_code};
-    ghost use Rattle.silt_desk.specs.DeskState.{DeskState};
+    ghost use Rattle.silt_desk.specs.DeskState.{CountsCalls, DeskState};
     ghost use Rattle.silt_desk.specs.Seeing.{seen};
 
     ghost Value = { DeskState D T };
@@ -46,7 +47,7 @@ impl<D: Disk, T: Trace, N: DeskId> Model for Desk<D, T, N> {
 
     ghost view = { λ d. record { core = d.core; trace = d.trace } };
 
-    ghost invariant = { λ d. T.agrees d.trace (seen D.Disk d.core) × T.counts d.trace d.ledgers.calls d.ledgers.accepted };
+    ghost invariant = { λ d. T.agrees d.trace (seen D.Disk d.core) × CountsCalls T.counts d.trace d.ledgers };
 }
 
 // Notes a call in the trace, with the seat and in the ledgers, if it is to be recorded. Only a swap can have a second value.
@@ -144,6 +145,37 @@ impl<D: Disk, T: Trace, N: DeskId> Desk<D, T, N> {
         ensures err { IfErr result (λ e. (e.core ≡ core) × (e.trace ≡ trace)) }
     {
         match Ledgers::new(alloc, seats, calls, accepted) {
+            Ok((ledgers, places)) => Ok((
+                Desk {
+                    core,
+                    trace,
+                    ledgers,
+                },
+                places,
+            )),
+            Err(_) => Err(NotMade { core, trace }),
+        }
+    }
+
+    /// A desk without books, with this many seats, numbered from 0. Its seats are never settled. So there may be a list of such desks,
+    /// of one type.
+    ///
+    /// # Errors
+    ///
+    /// Out of memory for the list of seats. Then the store and the trace are given back.
+    pub fn unbooked(
+        alloc: Global,
+        core: Core<D>,
+        trace: T,
+        seats: u64,
+    ) -> Result<(Desk<D, T, N>, Vec<Seat<N>>), NotMade<D, T>>
+        requires books { has_books N.seats ≡ false }
+        requires trace { T.agrees trace (seen D.Disk core) × T.counts trace 0 0 }
+        ensures desk { IfOk result (λ r. (r.0.core ≡ core) × (r.0.trace ≡ trace)) }
+        ensures seats { IfOk result (λ r. (vec_len r.1 ≡ seats) × ((k : ℕ) → k < seats → slice_get r.1.items k ≡ Some (unbooked k))) }
+        ensures err { IfErr result (λ e. (e.core ≡ core) × (e.trace ≡ trace)) }
+    {
+        match Ledgers::unbooked(alloc, seats) {
             Ok((ledgers, places)) => Ok((
                 Desk {
                     core,
@@ -398,9 +430,10 @@ impl<D: Disk, T: Trace, N: DeskId> Desk<D, T, N> {
         self.core.look(key, out)
     }
 
-    /// The trace, which agrees with the store as it is now.
+    /// The trace, which agrees with the store as it is now, and counts its own calls.
     pub fn trace(&self) -> &T
         ensures trace { result.now ≡ self.now.trace }
+        ensures counts { (calls : ℕ) × (accepted : ℕ) × T.counts self.now.trace calls accepted }
         ensures agrees { T.agrees self.now.trace (seen D.Disk self.now.core) }
     {
         &self.trace
@@ -411,7 +444,7 @@ impl<D: Disk, T: Trace, N: DeskId> Desk<D, T, N> {
     ///
     /// # Errors
     ///
-    /// A seat is missing. Then all are handed back.
+    /// A seat is missing, as always at a desk without books. Then all are handed back.
     pub fn settle(&mut self, seats: Vec<Seat<N>>) -> Result<(u64, u64), MissingSeats<N>>
         ensures same { self.new ≡ self.old }
         ensures counts { OnOk result (T.counts self.old.trace (calls_of seats.items) (accepted_of seats.items)) }

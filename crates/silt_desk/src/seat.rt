@@ -1,6 +1,8 @@
 // Places at a desk, and the ledgers that count what is done from them.
-ghost use Rattle.std.specs.Prelude.{◌≡◌, ◌≢◌, ℕ, ◌+◌, ◌<◌, Some, IfOk, MatchResult, vec_len, slice_get};
-ghost use Rattle.silt_desk.specs.Seats.{accepted_of, after_call, calls_of, fresh};
+ghost use Rattle.std.specs.Prelude.{◌≡◌, ◌≢◌, ℕ, ◌+◌, ◌<◌, Some, None, false, true, is_some, IfOk, MatchResult, vec_len, slice_get};
+ghost use Rattle.std.specs.Option.{option_map};
+ghost use Rattle.silt_inbox.specs.Books.{has_books};
+ghost use Rattle.silt_desk.specs.Seats.{accepted_of, after_call, calls_of, counted, counts_of, fresh, unbooked};
 
 use std::alloc::{AllocError, Global};
 use std::marker::{Brand, Model, PhantomData};
@@ -14,7 +16,7 @@ pub trait DeskId {
     /// The name of the ledger of accepted commands.
     ghost accepted_name: { ℕ };
 
-    /// How many seats the desk has.
+    /// How many seats the desk has. If they are more than a list can have, 2^64 or more, it keeps no books.
     ghost seats: { ℕ };
 }
 
@@ -48,24 +50,42 @@ impl<N: DeskId> Ledger for AcceptedOf<N> {
     ghost parts = { N.seats };
 }
 
-/// A place at a desk. Contracts see its number, and how many calls from it are recorded and are accepted commands. It fits only the
-/// desk that gave it out.
+// What a seat has done, as the books have it.
 #[derive(Drop)]
-pub struct Seat<N: DeskId> {
-    number: u64,
+struct Shares<N: DeskId> {
     calls: Share<CallsOf<N>>,
     accepted: Share<AcceptedOf<N>>,
 }
 
-impl<N: DeskId> Model for Seat<N> {
+impl<N: DeskId> Model for Shares<N> {
     ghost use Rattle.std.specs.Prelude.{◌≡◌};
+    ghost use Rattle.silt_desk.specs.Seats.{Totals};
+
+    ghost Value = { Totals };
+
+    ghost view = { λ s. record { calls = s.calls.amount; accepted = s.accepted.amount } };
+
+    ghost invariant = { λ s. (s.calls.parts ≡ 1) × (s.accepted.parts ≡ 1) };
+}
+
+/// A place at a desk. Contracts see its number, and how many calls from it are recorded and are accepted commands, if the desk keeps
+/// books. It fits only the desk that gave it out.
+#[derive(Drop)]
+pub struct Seat<N: DeskId> {
+    number: u64,
+    shares: Option<Shares<N>>,
+}
+
+impl<N: DeskId> Model for Seat<N> {
+    ghost use Rattle.std.specs.Prelude.{◌≡◌, is_some};
+    ghost use Rattle.silt_inbox.specs.Books.{has_books};
     ghost use Rattle.silt_desk.specs.Seats.{SeatState};
 
     ghost Value = { SeatState };
 
-    ghost view = { λ s. record { number = s.number; calls = s.calls.amount; accepted = s.accepted.amount } };
+    ghost view = { λ s. record { number = s.number; counts = s.shares } };
 
-    ghost invariant = { λ s. (s.calls.parts ≡ 1) × (s.accepted.parts ≡ 1) };
+    ghost invariant = { λ s. is_some s.shares ≡ has_books N.seats };
 }
 
 impl<N: DeskId> Seat<N> {
@@ -75,6 +95,22 @@ impl<N: DeskId> Seat<N> {
     {
         self.number
     }
+
+    // Gives the seat's parts up.
+    fn leave(self, calls: &mut Share<CallsOf<N>>, accepted: &mut Share<AcceptedOf<N>>)
+        requires { has_books N.seats ≡ true }
+        ensures calls { (calls.new.parts ≡ calls.old.parts + 1) × (calls.new.amount ≡ calls.old.amount + (counts_of self).calls) }
+        ensures accepted { (accepted.new.parts ≡ accepted.old.parts + 1) × (accepted.new.amount ≡ accepted.old.amount + (counts_of self).accepted) }
+    {
+        if let Some(shares) = self.shares {
+            let Shares {
+                calls: mine,
+                accepted: mine_accepted,
+            } = shares;
+            calls.merge(mine);
+            accepted.merge(mine_accepted);
+        }
+    }
 }
 
 /// The given seats, if some of a desk's seats are missing.
@@ -83,25 +119,62 @@ pub struct MissingSeats<N: DeskId> {
     pub seats: Vec<Seat<N>>,
 }
 
-/// The ledgers of a desk. Contracts see their totals.
+// The books of a desk. Contracts see their totals.
 #[derive(Drop)]
-pub(crate) struct Ledgers<N: DeskId> {
-    seats: u64,
+struct Books<N: DeskId> {
     calls: Book<CallsOf<N>>,
     accepted: Book<AcceptedOf<N>>,
     idle_calls: Share<CallsOf<N>>,
     idle_accepted: Share<AcceptedOf<N>>,
 }
 
-impl<N: DeskId> Model for Ledgers<N> {
+impl<N: DeskId> Model for Books<N> {
     ghost use Rattle.std.specs.Prelude.{◌≡◌};
     ghost use Rattle.silt_desk.specs.Seats.{Totals};
 
     ghost Value = { Totals };
 
-    ghost view = { λ l. record { calls = l.calls.total; accepted = l.accepted.total } };
+    ghost view = { λ b. record { calls = b.calls.total; accepted = b.accepted.total } };
 
-    ghost invariant = { λ l. (l.seats ≡ N.seats) × (l.idle_calls.parts ≡ 0) × (l.idle_calls.amount ≡ 0) × (l.idle_accepted.parts ≡ 0) × (l.idle_accepted.amount ≡ 0) };
+    ghost invariant = { λ b. (b.idle_calls.parts ≡ 0) × (b.idle_calls.amount ≡ 0) × (b.idle_accepted.parts ≡ 0) × (b.idle_accepted.amount ≡ 0) };
+}
+
+impl<N: DeskId> Books<N> {
+    // The totals are what was done from these seats, which are all.
+    fn settle(&mut self, seats: Vec<Seat<N>>)
+        requires all { vec_len seats ≡ N.seats }
+        requires books { has_books N.seats ≡ true }
+        ensures same { self.new ≡ self.old }
+        ensures sums { (self.old.calls ≡ calls_of seats.items) × (self.old.accepted ≡ accepted_of seats.items) }
+    {
+        let mut calls = self.idle_calls.empty();
+        let mut accepted = self.idle_accepted.empty();
+        let mut seats = seats;
+        while let Some(seat) = seats.pop() {
+            seat.leave(&mut calls, &mut accepted);
+        }
+        self.calls.audit(&mut calls);
+        self.accepted.audit(&mut accepted);
+    }
+}
+
+/// The ledgers of a desk. Contracts see the totals of its books, if it keeps any.
+#[derive(Drop)]
+pub(crate) struct Ledgers<N: DeskId> {
+    seats: u64,
+    books: Option<Books<N>>,
+}
+
+impl<N: DeskId> Model for Ledgers<N> {
+    ghost use Rattle.std.specs.Prelude.{◌≡◌, Option, MatchOption, true, false};
+    ghost use Rattle.silt_inbox.specs.Books.{has_books};
+    ghost use Rattle.silt_desk.specs.Seats.{Totals};
+
+    ghost Value = { Option Totals };
+
+    ghost view = { λ l. l.books };
+
+    ghost invariant = { λ l. MatchOption l.books (has_books N.seats ≡ false) (λ _. (has_books N.seats ≡ true) × (l.seats ≡ N.seats)) };
 }
 
 impl<N: DeskId> Ledgers<N> {
@@ -115,61 +188,78 @@ impl<N: DeskId> Ledgers<N> {
         requires calls { (calls.name ≡ N.calls_name) × (calls.parts ≡ N.seats) }
         requires accepted { (accepted.name ≡ N.accepted_name) × (accepted.parts ≡ N.seats) }
         requires seats { seats ≡ N.seats }
-        ensures totals { IfOk result (λ r. (r.0.calls ≡ 0) × (r.0.accepted ≡ 0)) }
+        ensures totals { IfOk result (λ r. r.0 ≡ Some (record { calls = 0; accepted = 0 })) }
         ensures seats { IfOk result (λ r. (vec_len r.1 ≡ seats) × ((k : ℕ) → k < seats → slice_get r.1.items k ≡ Some (fresh k))) }
     {
         let mut places = Vec::with_capacity(alloc, seats as usize)?;
         let (calls, mut calls_left) = calls.open::<CallsOf<N>>();
         let (accepted, mut accepted_left) = accepted.open::<AcceptedOf<N>>();
         for number in 0..seats {
-            places.push_reserved(Seat {
-                number,
+            let shares = Shares {
                 calls: calls_left.split_off(1, 0),
                 accepted: accepted_left.split_off(1, 0),
+            };
+            places.push_reserved(Seat {
+                number,
+                shares: Some(shares),
             });
         }
-        let ledgers = Ledgers {
-            seats,
+        let books = Books {
             calls,
             accepted,
             idle_calls: calls_left,
             idle_accepted: accepted_left,
         };
+        let ledgers = Ledgers {
+            seats,
+            books: Some(books),
+        };
         Ok((ledgers, places))
     }
 
-    // Counts a recorded call, and whether it is an accepted command, for the seat and in all.
-    pub fn count(&mut self, seat: &mut Seat<N>, acceptance: u64)
-        ensures seat { seat.new ≡ after_call seat.old acceptance }
-        ensures totals { (self.new.calls ≡ self.old.calls + 1) × (self.new.accepted ≡ self.old.accepted + acceptance) }
+    // No books, and this many seats, numbered from 0.
+    pub fn unbooked(alloc: Global, seats: u64) -> Result<(Ledgers<N>, Vec<Seat<N>>), AllocError>
+        requires { has_books N.seats ≡ false }
+        ensures totals { IfOk result (λ r. r.0 ≡ None) }
+        ensures seats { IfOk result (λ r. (vec_len r.1 ≡ seats) × ((k : ℕ) → k < seats → slice_get r.1.items k ≡ Some (unbooked k))) }
     {
-        self.calls.add(&mut seat.calls, 1);
-        self.accepted.add(&mut seat.accepted, acceptance);
+        let mut places = Vec::with_capacity(alloc, seats as usize)?;
+        for number in 0..seats {
+            places.push_reserved(Seat {
+                number,
+                shares: None,
+            });
+        }
+        Ok((Ledgers { seats, books: None }, places))
     }
 
-    // If all seats are given, the totals are what was done from them.
+    // Counts a recorded call, and whether it is an accepted command, for the seat and in all, if there are books.
+    pub fn count(&mut self, seat: &mut Seat<N>, acceptance: u64)
+        ensures seat { seat.new ≡ after_call seat.old acceptance }
+        ensures totals { self.new ≡ option_map (counted acceptance) self.old }
+    {
+        if let Some(books) = &mut self.books {
+            if let Some(shares) = &mut seat.shares {
+                books.calls.add(&mut shares.calls, 1);
+                books.accepted.add(&mut shares.accepted, acceptance);
+            }
+        }
+    }
+
+    // If there are books and all seats are given, the totals are what was done from them.
     pub fn settle(&mut self, seats: Vec<Seat<N>>) -> Result<(), MissingSeats<N>>
         ensures same { self.new ≡ self.old }
-        ensures sums { IfOk result (λ _. (self.old.calls ≡ calls_of seats.items) × (self.old.accepted ≡ accepted_of seats.items)) }
+        ensures sums { IfOk result (λ _. self.old ≡ Some (record { calls = calls_of seats.items; accepted = accepted_of seats.items })) }
         ensures missing { MatchResult result (λ _. vec_len seats ≡ N.seats) (λ e. (e.seats.items ≡ seats.items) × (vec_len seats ≢ N.seats)) }
     {
-        if seats.len() as u64 != self.seats {
+        let count = seats.len() as u64;
+        let Some(books) = &mut self.books else {
+            return Err(MissingSeats { seats });
+        };
+        if count != self.seats {
             return Err(MissingSeats { seats });
         }
-        let mut calls = self.idle_calls.empty();
-        let mut accepted = self.idle_accepted.empty();
-        let mut seats = seats;
-        while let Some(seat) = seats.pop() {
-            let Seat {
-                number: _,
-                calls: mine,
-                accepted: mine_accepted,
-            } = seat;
-            calls.merge(mine);
-            accepted.merge(mine_accepted);
-        }
-        self.calls.audit(&mut calls);
-        self.accepted.audit(&mut accepted);
+        books.settle(seats);
         Ok(())
     }
 }

@@ -1,2 +1,3 @@
 pub mod Answers
+pub mod Books
 pub mod JobQueue

@@ -1,11 +1,11 @@
 // What lies under the lock of an inbox.
-ghost use Rattle.std.specs.Prelude.{◌≡◌, ◌≢◌, ℕ, ◌+◌, ◌%◌, ◌^◌, ◌++◌, ◌∷◌, [], length, sum, vec_len, true, false, IfOk, MatchResult, MatchOption, MatchBool};
+ghost use Rattle.std.specs.Prelude.{◌≡◌, ◌≢◌, ◌+◌, ◌%◌, ◌^◌, ◌++◌, ◌∷◌, [], length, vec_len, true, false, IfOk, IfSome, IsSomeAnd, MatchResult, MatchOption, MatchBool};
+ghost use Rattle.silt_inbox.specs.Books.{counted, has_books, jobs_of};
 ghost use Rattle.silt_inbox.specs.JobQueue.{JobQueueState, IsReason};
 
-use crate::places::{Feeder, InboxId, PutOf, TakenOf, Taker};
+use crate::places::{Books, Feeder, InboxId, Taker, count_put, count_taken};
 use crate::queue::Queue;
 use std::marker::Model;
-use std::sync::ledger::{Book, Share};
 
 /// Why a job was not put.
 #[derive(Clone, Copy, Debug, PartialEq, Eq)]
@@ -38,35 +38,27 @@ pub(crate) struct JobQueue<J: Drop, P: InboxId> {
     feeders: u64,
     put: u64,
     taken: u64,
-    put_book: Book<PutOf<P>>,
-    taken_book: Book<TakenOf<P>>,
-    idle: Share<PutOf<P>>,
+    books: Option<Books<P>>,
 }
 
 impl<J: Drop, P: InboxId> Model for JobQueue<J, P> {
-    ghost use Rattle.std.specs.Prelude.{◌≡◌, ◌+◌, ◌%◌, ◌^◌, length};
-    ghost use Rattle.silt_inbox.specs.JobQueue.{JobQueueState};
+    ghost use Rattle.std.specs.Prelude.{◌≡◌, ◌+◌, ◌%◌, ◌^◌, length, MatchOption, false, true};
+    ghost use Rattle.silt_inbox.specs.Books.{has_books};
+    ghost use Rattle.silt_inbox.specs.JobQueue.{IsBooked, JobQueueState};
 
     ghost Value = { JobQueueState J };
 
     ghost view = { λ l. record { jobs = l.queue; closed = l.closed } };
 
-    ghost invariant = { λ l. (l.put_book.total ≡ l.taken_book.total + length l.queue) × (l.put ≡ l.put_book.total % 2 ^ 64) × (l.taken ≡ l.taken_book.total % 2 ^ 64)
-        × (l.feeders ≡ P.feeders) × (l.idle.parts ≡ 0) × (l.idle.amount ≡ 0) };
+    ghost invariant = { λ l. MatchOption l.books (has_books P.feeders ≡ false) (IsBooked P.feeders l.feeders l.queue l.put l.taken) };
 }
 
 impl<J: Drop, P: InboxId> JobQueue<J, P> {
     // No jobs yet. All feeders have their places.
-    pub fn new(
-        queue: Queue<J>,
-        feeders: u64,
-        put_book: Book<PutOf<P>>,
-        taken_book: Book<TakenOf<P>>,
-        idle: Share<PutOf<P>>,
-    ) -> JobQueue<J, P>
+    pub fn new(queue: Queue<J>, feeders: u64, books: Books<P>) -> JobQueue<J, P>
         requires none { queue ≡ [] }
-        requires books { (put_book.total ≡ 0) × (taken_book.total ≡ 0) }
-        requires feeders { (feeders ≡ P.feeders) × (idle.parts ≡ 0) × (idle.amount ≡ 0) }
+        requires books { (books.put ≡ 0) × (books.taken ≡ 0) }
+        requires feeders { feeders ≡ P.feeders }
         ensures { (result.jobs ≡ []) × (result.closed ≡ false) }
     {
         JobQueue {
@@ -75,15 +67,29 @@ impl<J: Drop, P: InboxId> JobQueue<J, P> {
             feeders,
             put: 0,
             taken: 0,
-            put_book,
-            taken_book,
-            idle,
+            books: Some(books),
+        }
+    }
+
+    // No jobs yet, and no books.
+    pub fn unbooked(queue: Queue<J>) -> JobQueue<J, P>
+        requires none { queue ≡ [] }
+        requires books { has_books P.feeders ≡ false }
+        ensures { (result.jobs ≡ []) × (result.closed ≡ false) }
+    {
+        JobQueue {
+            queue,
+            closed: false,
+            feeders: 0,
+            put: 0,
+            taken: 0,
+            books: None,
         }
     }
 
     // Puts a job at the back, or hands it back.
     pub fn put(&mut self, feeder: &mut Feeder<P>, job: J) -> Result<(), NotPut<J>>
-        ensures put { MatchResult result (λ _. (self.new.jobs ≡ self.old.jobs ++ job ∷ []) × (feeder.new ≡ feeder.old + 1)) (λ e. (e.job ≡ job) × (self.new.jobs ≡ self.old.jobs)
+        ensures put { MatchResult result (λ _. (self.new.jobs ≡ self.old.jobs ++ job ∷ []) × (feeder.new ≡ counted 1 feeder.old)) (λ e. (e.job ≡ job) × (self.new.jobs ≡ self.old.jobs)
             × (feeder.new ≡ feeder.old)) }
         ensures reason { MatchResult result (λ _. self.old.closed ≡ false) (λ e. IsReason self.old.closed e.reason) }
         ensures closed { self.new.closed ≡ self.old.closed }
@@ -96,7 +102,7 @@ impl<J: Drop, P: InboxId> JobQueue<J, P> {
         }
         match self.queue.push(job) {
             Ok(()) => {
-                feeder.count(&mut self.put_book);
+                count_put(&mut self.books, feeder);
                 self.put = self.put.wrapping_add(1);
                 Ok(())
             }
@@ -109,7 +115,7 @@ impl<J: Drop, P: InboxId> JobQueue<J, P> {
 
     // Takes all jobs. `None` if there are none.
     pub fn take_all(&mut self, taker: &mut Taker<P>) -> Option<Vec<J>>
-        ensures taken { MatchOption result ((self.old.jobs ≡ []) × (taker.new ≡ taker.old)) (λ v. (v.items ≡ self.old.jobs) × (taker.new ≡ taker.old + vec_len v)) }
+        ensures taken { MatchOption result ((self.old.jobs ≡ []) × (taker.new ≡ taker.old)) (λ v. (v.items ≡ self.old.jobs) × (taker.new ≡ counted (vec_len v) taker.old)) }
         ensures none { self.new.jobs ≡ [] }
         ensures closed { self.new.closed ≡ self.old.closed }
     {
@@ -118,7 +124,7 @@ impl<J: Drop, P: InboxId> JobQueue<J, P> {
         }
         let jobs = self.queue.drain();
         let count = jobs.len() as u64;
-        taker.count(&mut self.taken_book, count);
+        count_taken(&mut self.books, taker, count);
         self.taken = self.taken.wrapping_add(count);
         Some(jobs)
     }
@@ -145,22 +151,20 @@ impl<J: Drop, P: InboxId> JobQueue<J, P> {
         taker: Taker<P>,
     ) -> Result<(u64, u64, u64), MissingFeeders<P>>
         ensures same { self.new ≡ self.old }
-        ensures put { IfOk result (λ r. r.0 ≡ sum feeders.items % 2 ^ 64) }
-        ensures taken { IfOk result (λ r. r.1 ≡ taker % 2 ^ 64) }
-        ensures left { IfOk result (λ r. (r.2 ≡ length self.old.jobs) × (sum feeders.items ≡ taker + r.2)) }
+        ensures put { IfOk result (λ r. r.0 ≡ jobs_of feeders.items % 2 ^ 64) }
+        ensures taken { IfOk result (λ r. IfSome taker (λ taken. r.1 ≡ taken % 2 ^ 64)) }
+        ensures left { IfOk result (λ r. (r.2 ≡ length self.old.jobs) × IsSomeAnd taker (λ taken. jobs_of feeders.items ≡ taken + r.2)) }
         ensures missing { MatchResult result (λ _. vec_len feeders ≡ P.feeders) (λ e. (e.feeders.items ≡ feeders.items) × (e.taker ≡ taker) × (vec_len feeders ≢ P.feeders)) }
     {
-        if feeders.len() as u64 != self.feeders {
+        let count = feeders.len() as u64;
+        let Some(books) = &mut self.books else {
+            return Err(MissingFeeders { feeders, taker });
+        };
+        if count != self.feeders {
             return Err(MissingFeeders { feeders, taker });
         }
         let mut taker = taker;
-        taker.audit(&mut self.taken_book);
-        let mut all = self.idle.empty();
-        let mut feeders = feeders;
-        while let Some(feeder) = feeders.pop() {
-            feeder.leave(&mut all);
-        }
-        self.put_book.audit(&mut all);
+        books.settle(feeders, &mut taker);
         Ok((self.put, self.taken, self.queue.len() as u64))
     }
 }

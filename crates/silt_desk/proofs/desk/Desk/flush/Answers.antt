@@ -17,6 +17,6 @@ invariant_of-self g c = (
       g.T.Trace.agrees (λ held call more step. g.met.T.Trace.agrees_after c.self.inside.trace c.note.new.trace call (seen g.D.Disk c.self.inside.core) (seen g.D.Disk c.flush-answer.new.self) held more step)
       (flush_reply c.flush-answer.result) (flush_reply c.plain.result) (ap flush_reply c.plain.ensures ∙ flush_plain c.flush-answer.result) c.flush-answer.ensures c.note.ensures c.self.invariant.0,
   keeps_counting g.T.Trace.counts g.T.Trace.extends c.self.inside.trace c.note.new.trace c.self.inside.ledgers c.note.new.ledgers c.args.seat.now c.note.new.seat Flush
-      (λ call held more calls accepted. g.met.T.Trace.counts_after c.self.inside.trace c.note.new.trace call c.self.inside.ledgers.calls c.self.inside.ledgers.accepted c.note.new.ledgers.calls c.note.new.ledgers.accepted held more calls accepted)
+      (λ call n m k l held more calls accepted. g.met.T.Trace.counts_after c.self.inside.trace c.note.new.trace call n m k l held more calls accepted)
       (flush_reply c.plain.result) c.note.ensures c.self.invariant.1,
 )
