@@ -1,4 +1,5 @@
 pub mod Alike
+pub mod Attempts
 pub mod Joins
 pub mod KeySteps
 pub mod Lists

@@ -1,5 +1,5 @@
 -- Disks that open as a set, one after the other.
-use Rattle.std.proofs.Common.{◌≡◌, ◌<◌, ◌≤◌, ℕ, suc, ◌+◌, ◌&&◌, nat_le, true, IsTrue, Option, Some, None, List, [], ◌∷◌, ◌++◌, length, length-append, Result, Ok, Err, Vec, inl, inr, refl, ap, sym, ◌∙◌, subst, arith}
+use Rattle.std.proofs.Common.{◌≡◌, ◌<◌, ◌≤◌, ℕ, suc, ◌+◌, ◌&&◌, nat_le, true, IsTrue, Option, Some, None, List, [], ◌∷◌, ◌++◌, length, Result, Ok, Err, Vec, inl, inr, refl, ap, sym, ◌∙◌, subst, arith}
 use Rattle.std.specs.List.{AllZip}
 use Rattle.std.specs.declared.alloc.Global.{Global}
 use Rattle.std.specs.Prelude.{IfOk, IfSome, slice_get}
@@ -8,9 +8,11 @@ use Rattle.std.proofs.lemmas.Bool.Decides.{nat_tests}
 use Rattle.std.proofs.lemmas.List.Elements.{All-append, All-cons, All-nil}
 use Rattle.std.proofs.lemmas.Option.{same_Some, slice_get_within}
 use Rattle.std.proofs.lemmas.Slice.Zip.{AllZip-long}
+use Rattle.silt_disk.specs.Disk.{Content}
 use Rattle.silt_disk.specs.Header.{shape_of}
 use Rattle.silt_disk.specs.Layout.{Shape}
 use Rattle.silt_disk.specs.declared.disk.Disk.{Ghosts}
+use Rattle.silt_recovery.specs.Opening.{LeavesNoOther}
 use Rattle.silt_store_set.specs.CoreState.{CoreState, Opens}
 use Rattle.silt_shards.specs.Opening.{AreOfOneShape, AreShards, CausedAt, IsLike, IsRefusedSet, Says}
 use Rattle.silt_shards.specs.Routing.{IsShardCount}
@@ -66,6 +68,10 @@ shape_alike {D} (first ∷ cores) same = λ k d within.
 
 -- ---- why they are refused
 
+-- what was not changed leaves nothing else
+pub no_other : (content : Content) → LeavesNoOther content content
+no_other content = record { each = λ honest image left. inl left }
+
 module _ {D F : Type 0} (facts : Ghosts D F) where
   -- the disks before this one are shards of one set
   abbrev pub EachSays : List D → List ℕ → ℕ → Type 0
@@ -112,15 +118,16 @@ module _ {D F : Type 0} (facts : Ghosts D F) where
   pub refused_next : (disks done rest : List D) (disk left : D) (cores : List (CoreState D)) (shard : ℕ) (cause : SetCause F) → done ++ disk ∷ rest ≡ disks
       → AllZip (λ d (core : CoreState D). Opens facts (facts.content d) core) done cores → shard ≡ length cores
       → ((count : ℕ) (first : D) → IfSome (slice_get cores 0) (Opens facts (facts.content first)) → CausedAt facts count (length cores) first disk left cause)
-      → IsRefusedSet facts disks shard left cause
-  refused_next disks [] rest disk left [] shard cause is opened number caused = record {
+      → LeavesNoOther (facts.content disk) (facts.content left) → IsRefusedSet facts disks shard left cause
+  refused_next disks [] rest disk left [] shard cause is opened number caused images = record {
     first = disk;
     disk = disk;
     at_first = ap (λ (l : List D). slice_get l 0) (sym is);
     at_shard = ap (slice_get disks) number ∙ ap (λ (l : List D). slice_get l 0) (sym is);
     caused = subst (λ (n : ℕ). CausedAt facts (length disks) n disk disk left cause) (sym number) (caused (length disks) disk tt);
+    images = images;
   }
-  refused_next disks (d ∷ done) rest disk left (c ∷ cores) shard cause is opened number caused =
+  refused_next disks (d ∷ done) rest disk left (c ∷ cores) shard cause is opened number caused images =
       let same : length cores ≡ length done = AllZip-long (λ d (core : CoreState D). Opens facts (facts.content d) core) done cores opened.1 in
       record {
         first = d;
@@ -128,29 +135,15 @@ module _ {D F : Type 0} (facts : Ghosts D F) where
         at_first = ap (λ (l : List D). slice_get l 0) (sym is);
         at_shard = ap (slice_get disks) (number ∙ ap suc same) ∙ ap (λ (l : List D). slice_get l (length (d ∷ done))) (sym is) ∙ get_behind (d ∷ done) disk rest;
         caused = subst (λ (n : ℕ). CausedAt facts (length disks) n d disk left cause) (sym number) (caused (length disks) d opened.0);
+        images = images;
       }
-  refused_next disks [] rest disk left (c ∷ cores) shard cause is opened number caused = absurd opened
-  refused_next disks (d ∷ done) rest disk left [] shard cause is opened number caused = absurd opened
-
-  -- before the last disk, fewer stores are open than a set may have shards
-  pub few_open : (disks done rest : List D) (disk : D) (cores : List (CoreState D)) → IsShardCount (length disks) → done ++ disk ∷ rest ≡ disks
-      → AllZip (λ d (core : CoreState D). Opens facts (facts.content d) core) done cores → length cores < 64
-  few_open disks done rest disk cores count is opened =
-      let most : length disks ≤ 64 = count_most (length disks) count in
-      let len : length cores ≡ length done = AllZip-long (λ d (core : CoreState D). Opens facts (facts.content d) core) done cores opened in
-      omega (arith, most, len, length-append done (disk ∷ rest), ap length is)
+  refused_next disks [] rest disk left (c ∷ cores) shard cause is opened number caused images = absurd opened
+  refused_next disks (d ∷ done) rest disk left [] shard cause is opened number caused images = absurd opened
 
   -- one more store is open
   pub open_more : (done : List D) (cores : List (CoreState D)) (disk : D) (core : CoreState D) → AllZip (λ d (c : CoreState D). Opens facts (facts.content d) c) done cores
       → Opens facts (facts.content disk) core → AllZip (λ d (c : CoreState D). Opens facts (facts.content d) c) (done ++ disk ∷ []) (cores ++ core ∷ [])
   open_more done cores disk core opened one = zip_more (λ d (c : CoreState D). Opens facts (facts.content d) c) done cores disk core opened one
-
-  -- as many stores as disks
-  pub open_count : (disks done rest : List D) (cores : List (CoreState D)) → done ++ rest ≡ disks → length rest ≡ 0
-      → AllZip (λ d (c : CoreState D). Opens facts (facts.content d) c) done cores → length cores ≡ length disks
-  open_count disks done rest cores is none opened =
-      let len : length cores ≡ length done = AllZip-long (λ d (core : CoreState D). Opens facts (facts.content d) core) done cores opened in
-      omega (arith, len, none, length-append done rest, ap length is)
 
 -- the stores that were opened, if they were
 pub result_alike : {D E : Type 0} (result : Result (Vec (CoreState D) Global) E) → IfOk result (λ cores. AreOfOneShape cores.items)

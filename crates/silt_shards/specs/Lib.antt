@@ -1,3 +1,4 @@
+pub mod Attempts
 pub mod Marks
 pub mod Opening
 pub mod Routing

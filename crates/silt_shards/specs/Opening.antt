@@ -5,6 +5,7 @@ use Rattle.silt_disk.specs.Header.{shape_of}
 use Rattle.silt_disk.specs.Layout.{Shape}
 use Rattle.silt_disk.specs.declared.disk.Disk.{Ghosts}
 use Rattle.silt_event.specs.declared.refusal.Refusal.TheVariants.{Device}
+use Rattle.silt_recovery.specs.Opening.{LeavesNoOther}
 use Rattle.silt_store_set.specs.CoreState.{CoreState}
 use Rattle.silt_store_set.specs.Opening.{OpeningCause}
 use Rattle.silt_shards.specs.Marks.{marking_of}
@@ -73,13 +74,14 @@ module _ {D F : Type 0} (facts : Ghosts D F) where
   CausedAt count shard first disk left (NotDue fault) = IsNotDue count shard first disk fault
   CausedAt count shard first disk left (Refused refusal) = OpeningCause facts (facts.content disk) left refusal
 
-  -- why disks are not opened as a set: one of them, of this number, is refused
+  -- why disks are not opened as a set: one of them, of this number, is refused, and nothing else may be left on it than before
   pub record IsRefusedSet (disks : List D) (shard : ℕ) (left : D) (cause : SetCause F) : Type 0 where
     pub first : D
     pub disk : D
     pub at_first : slice_get disks 0 ≡ Some first
     pub at_shard : slice_get disks shard ≡ Some disk
     pub caused : CausedAt (length disks) shard first disk left cause
+    pub images : LeavesNoOther (facts.content disk) (facts.content left)
 
   -- the same, before any store is opened: the disk is as it was
   pub record IsRefusedUnopened (disks : List D) (shard : ℕ) (cause : SetCause F) : Type 0 where

@@ -14,7 +14,7 @@ pub enum MarkFault {
     #[error("its mark of a shard is of another version, or damaged")]
     Unknown,
     /// It is shard `shard` of a set of `of` shards, and a store of its own is due.
-    #[error("it is shard {shard} of {of}; use run --shards {of}")]
+    #[error("it is shard {shard} of {of}; ask for --shards {of}")]
     InSet { shard: u32, of: u32 },
     /// It is a shard of a set of `found` shards, and `asked` are asked for.
     #[error("it is one of {found} shards, and {asked} are asked for")]

@@ -7,13 +7,14 @@
 //!
 //! A file says by its [`Mark`] which shard of which set it is. [`write_mark`] writes it behind `format`, and [`close_mark`] takes it
 //! away. A mark does not matter to the store in the file. [`open_shards`] opens the files of a set, and refuses files that are not all of
-//! it in their order. Its [`SetFault`] says which file is wrong, and why. [`check_unmarked`] refuses a shard where a store of
-//! its own is due.
+//! it in their order ([`compare_marks`]); [`open_shards_beside`] opens them side by side, in threads. Its [`SetFault`] says which file is wrong, and why. [`check_unmarked`] refuses a shard where a
+//! store of its own is due.
 //!
 //! The laws are promises about all sets: [`shard_runs_law`] and [`set_lives_law`] say what each shard does and what a crash keeps of it,
 //! [`has_map_law`] and [`set_map_law`] that a set is one map, and its replies are those of that map.
 #![tactic(auto)]
 
+mod attempt;
 mod fault;
 mod laws;
 mod mark;
@@ -27,9 +28,9 @@ pub use laws::{
     set_map_law, shard_runs_law,
 };
 pub use mark::{Mark, Marking, close_mark, read_mark, write_mark};
-pub use shard_files::{check_unmarked, open_shards};
+pub use shard_files::{check_unmarked, compare_marks, open_shards, open_shards_beside};
 pub use shard_key::{LEAST_SHARDS, MOST_SHARDS, shard_of};
-pub use store_set::StoreSet;
+pub use store_set::{StoreSet, join, no_facts, plus};
 
 #[cfg(test)]
 mod tests;

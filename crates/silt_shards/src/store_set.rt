@@ -102,8 +102,8 @@ impl<A: Answerer + Drop> Answerer for StoreSet<A> {
     }
 }
 
-// The facts of no store.
-fn no_facts() -> Facts
+/// The facts of no store.
+pub fn no_facts() -> Facts
     ensures { result ≡ no_facts }
 {
     Facts {
@@ -121,8 +121,8 @@ fn no_facts() -> Facts
     }
 }
 
-// The sums of two stores' facts.
-fn plus(a: Facts, b: Facts) -> Facts
+/// The sums of two stores' facts, each no more than a fact can hold.
+pub fn plus(a: Facts, b: Facts) -> Facts
     ensures { result ≡ plus a b }
 {
     Facts {
@@ -140,8 +140,8 @@ fn plus(a: Facts, b: Facts) -> Facts
     }
 }
 
-// The reply to a flush of some shards, joined with that of the next one.
-fn join(so_far: Reply<()>, part: Reply<()>) -> Reply<()>
+/// The reply to a flush of some shards, joined with that of the next one.
+pub fn join(so_far: Reply<()>, part: Reply<()>) -> Reply<()>
     ensures { (parts : List PlainReply) → so_far ≡ joined parts → result ≡ joined (parts ++ part ∷ []) }
 {
     let Reply::Acknowledged(sum) = so_far else {

@@ -1,6 +1,6 @@
 use Rattle.std.proofs.Common.{length, refl, arith}
 use Rattle.std.proofs.lemmas.Option.{slice_get_read}
-use Rattle.silt_shards.proofs.Openings.{count_least, says_all, says_more, says_none}
+use Rattle.silt_shards.proofs.Openings.{count_least, no_other, says_all, says_more, says_none}
 use Rattle.silt_shards.proofs.shard_files.compare_marks.Goals as goal
 
 pub returns-in-Err-clause-cause : goal.returns-in-Err-clause-cause
@@ -15,6 +15,7 @@ returns-in-Err-clause-cause g c =
         at_first = there;
         at_shard = there;
         caused = c.in-Err.ensures.cause c.index-disks-0.result;
+        images = no_other (g.D.Disk.content c.index-disks-0.result);
       };
     }
 
@@ -37,6 +38,7 @@ returns-then-not-are_of_one_set-clause-cause g c =
         at_first = first;
         at_shard = there;
         caused = (c.in-Ok-due_mark.mark, c.in-Ok.mark, c.in-Ok-due_mark.ensures.mark.2, c.in-Ok.ensures.mark.2, λ same. absurd (let shown = c.are_of_one_set.ensures.1 same in let hidden = c.if-not-are_of_one_set.true in cc));
+        images = no_other (g.D.Disk.content c.index-disks-shard.result);
       };
     }
 
@@ -53,6 +55,7 @@ returns-in-Err-due_mark-clause-cause g c =
         at_first = first;
         at_shard = there;
         caused = c.in-Err-due_mark.ensures.cause c.index-disks-0.result;
+        images = no_other (g.D.Disk.content c.index-disks-shard.result);
       };
     }
 
