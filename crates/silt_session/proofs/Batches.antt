@@ -14,6 +14,7 @@ use Rattle.silt_store_set.specs.CoreState.{CoreState, Does, wants_convert, wants
 use Rattle.silt_store_set.specs.Replies.{change_reply, flush_reply, swap_reply}
 use Rattle.silt_desk.specs.DeskState.{DeskState, Records, Refuses, Serves}
 use Rattle.silt_desk.specs.History.{is_recorded}
+use Rattle.silt_inbox.specs.Books.{counted}
 use Rattle.silt_desk.specs.Notes.{plain_answer}
 use Rattle.silt_desk.specs.Seats.{SeatState}
 use Rattle.silt_desk.specs.declared.trace.Trace.{Ghosts as TraceOf}
@@ -361,11 +362,11 @@ module _ {D F T N : Type 0} (facts : Ghosts D F) (trace : TraceOf T) (seconds : 
 
 module _ {D F T N : Type 0} (facts : Ghosts D F) (trace : TraceOf T) (seconds : ℕ) (is_over : Type 0) where
   -- a batch more is done behind the others
-  pub batches_more : (seat mid after : SeatState) (taken then end : ℕ) (batches : List (List (Job D T N F))) (jobs done : List (Job D T N F)) (due : Due)
+  pub batches_more : (seat mid after : SeatState) (taken then end : Option ℕ) (batches : List (List (Job D T N F))) (jobs done : List (Job D T N F)) (due : Due)
       → ServesBatches facts trace seconds is_over seat taken batches mid then
-      → ServesBatch facts trace seconds is_over mid jobs done after due → end ≡ then + length jobs
+      → ServesBatch facts trace seconds is_over mid jobs done after due → end ≡ counted (length jobs) then
       → ServesBatches facts trace seconds is_over seat taken (batches ++ jobs ∷ []) after end
   batches_more seat mid after taken then end [] jobs done due all one is =
-      (done, after, due, subst (λ (s : SeatState). ServesBatch facts trace seconds is_over s jobs done after due) all.0 one, (refl, is ∙ ap (λ (n : ℕ). n + length jobs) all.1))
+      (done, after, due, subst (λ (s : SeatState). ServesBatch facts trace seconds is_over s jobs done after due) all.0 one, (refl, is ∙ ap (counted (length jobs)) all.1))
   batches_more seat mid after taken then end (x ∷ batches) jobs done due all one is =
-      (all.0, all.1, all.2, all.3, batches_more all.1 mid after (taken + length x) then end batches jobs done due all.4 one is)
+      (all.0, all.1, all.2, all.3, batches_more all.1 mid after (counted (length x) taken) then end batches jobs done due all.4 one is)

@@ -1,11 +1,15 @@
 -- The log of all jobs.
-use Rattle.std.proofs.Common.{◌≡◌, ℕ, ◌+◌, ◌<◌, ◌≤◌, ◌==◌, Bool, true, false, List, [], ◌∷◌, ◌++◌, length, refl, ap, sym, subst, arith, inl, length-append, None}
+use Rattle.std.proofs.Common.{◌≡◌, ℕ, ◌+◌, ◌<◌, ◌≤◌, ◌==◌, Bool, true, false, List, [], ◌∷◌, ◌++◌, length, refl, ap, sym, ◌∙◌, subst, arith, inl, length-append, Option, Some, None}
+use Rattle.std.specs.Prelude.{IfOk, IfSome, Result, Ok, Err}
+use Rattle.std.specs.Result.{result_ok}
 use Rattle.std.proofs.lemmas.List.{append-nil}
 use Rattle.std.proofs.lemmas.Bool.Decides.{nat_tests}
+use Rattle.std.proofs.lemmas.Option.{same_Some}
 use mathlib.Core.List.{IsPrefix}
 use prog.Atomic.{either}
 use Rattle.logbook.specs.Pages.{Cell, cell, keeps, no_nib, step, Moves, Goes}
 use Rattle.silt_session.specs.JobLogs.{AppendsJob, IsKept}
+use Rattle.silt_session.specs.Requests.{TaskState, requests_of}
 use Rattle.silt_session.specs.declared.job.Request.{Request}
 
 -- of two beginnings of one list the shorter begins the longer
@@ -67,3 +71,13 @@ pub adds_moves : (v : List (List Request)) (e : List Request) (old : ℕ) → le
 adds_moves v e old len cs log kept pre away =
     let P : List Cell → Type 0 = λ c. (0 < length c) × ((cell c 0).1 ≡ true) × Goes IsKept shown moved 0 (v, (no_nib, None)) (λ n. either (n == old) (old + 1) n) (AppendsJob (step 0 old (old + 1) e) (v, (no_nib, None))) c log in
     subst P (sym kept.words) (omega arith, refl, adds_goes log v e old len pre (length log == old) refl)
+
+-- ---- what was handed over
+
+-- the tasks that come back ask for what was handed over
+pub awaited_come : {V E : Type 0} (items : V → List TaskState) (asked : Option (List Request)) (requests : List Request) (found : Option V) (given : Result V E)
+    → asked ≡ Some requests → found ≡ result_ok given → IfSome found (λ tasks. asked ≡ Some (requests_of (items tasks))) → IfOk given (λ tasks. requests_of (items tasks) ≡ requests)
+awaited_come {V} items asked requests found (Ok tasks) is same came =
+    let all : asked ≡ Some (requests_of (items tasks)) = subst (λ (o : Option V). IfSome o (λ t. asked ≡ Some (requests_of (items t)))) same came in
+    same_Some (requests_of (items tasks)) requests (sym all ∙ is)
+awaited_come items asked requests found (Err e) is same came = tt

@@ -4,3 +4,4 @@ mod Lists
 mod Marks
 mod Pipelines
 mod JobLogs
+mod Sets

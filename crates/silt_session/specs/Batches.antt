@@ -2,6 +2,7 @@
 use Rattle.std.specs.Prelude.{◌≡◌, ◌≢◌, ◌≤◌, ◌&&◌, ◌||◌, ◌⊎◌, ℕ, zero, suc, ◌+◌, Bool, true, false, MatchOption, List, [], ◌∷◌, ◌++◌, drop, length, take, Option, Some, Err, vec_capacity, vec_len}
 use Rattle.std.specs.List.{AllZip}
 use Rattle.silt_disk.specs.declared.disk.Disk.{Ghosts}
+use Rattle.silt_inbox.specs.Books.{counted}
 use Rattle.silt_event.specs.declared.refusal.Refusal.TheVariants.{NoRoom}
 use Rattle.silt_store_set.specs.CoreState.{wants_convert, wants_merge}
 use Rattle.silt_desk.specs.DeskState.{DeskState}
@@ -161,9 +162,9 @@ module _ {D F T : Type 0} (facts : Ghosts D F) (trace : TraceOf T) where
         × IsDueAt then due
         × RepliesToAll flushed mid.done new
 
-    -- the desk does batch after batch from the seat, and this many jobs are taken in all
-    abbrev pub ServesBatches : SeatState → ℕ → List (List (Job D T N F)) → SeatState → ℕ → Type 0
+    -- the desk does batch after batch from the seat, and this many jobs are taken in all, if they are counted
+    abbrev pub ServesBatches : SeatState → Option ℕ → List (List (Job D T N F)) → SeatState → Option ℕ → Type 0
     ServesBatches seat taken [] after then = (after ≡ seat) × (then ≡ taken)
     ServesBatches seat taken (jobs ∷ batches) after then =
         (left : List (Job D T N F)) × (mid : SeatState) × (due : Due) × ServesBatch seat jobs left mid due
-        × ServesBatches mid (taken + length jobs) batches after then
+        × ServesBatches mid (counted (length jobs) taken) batches after then

@@ -5,4 +5,7 @@ pub mod Batches
 pub mod Marks
 pub mod Sessions
 pub mod Pipelines
+pub mod Asked
+pub mod Handing
 pub mod Unanswered
+pub mod SetAnswers

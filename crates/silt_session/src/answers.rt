@@ -3,6 +3,7 @@ ghost use Rattle.std.specs.Prelude.{◌≡◌, ℕ, ◌+◌, ◌++◌, ◌∷◌
 ghost use Rattle.std.specs.List.{AllZip};
 ghost use Rattle.silt_event.specs.declared.event.Event.{Event as EventOf};
 ghost use Rattle.silt_event.specs.declared.event.Event.TheVariants as event_case;
+ghost use Rattle.silt_session.specs.Handing.{AreAsked};
 ghost use Rattle.silt_session.specs.Pipelines.{AnswersSoFar, HasRoom, IsFree, IsSettled, IsShown, Looks, MaySettle, SettlesShown, awaited, shown_of};
 ghost use Rattle.silt_session.specs.Requests.{IsNoRequest, requests_of};
 ghost use Rattle.silt_session.specs.Origins.{Origin};
@@ -10,6 +11,7 @@ ghost use Rattle.silt_session.specs.Sessions.{IsAnswer};
 ghost use Rattle.silt_store_set.specs.CoreState.{CoreState};
 ghost use Rattle.silt_store_set.specs.Facts.{facts_of};
 
+use crate::asked::AskedEvents;
 use crate::job::Request;
 use crate::job_log::LogId;
 use crate::pipeline::{Pipeline, reply_alone};
@@ -193,22 +195,56 @@ impl<D: Disk, T: Trace, N: DeskId + InboxId + LogId, R: Wait> Session<'_, D, T, 
         }
     }
 
-    // Takes all events, and waits until the last requests are done.
+    // Takes all events. The last requests wait.
     fn take_all(&self, pipeline: &mut Pipeline<D, T>, events: Vec<Event>) -> Result<(), Unanswered>
         requires settled { IsSettled pipeline.old }
         requires none { pipeline.old.replies.items ≡ [] }
         requires room { HasRoom pipeline.old (vec_len events) }
-        ensures { OnOk result (AllZip (IsAnswer D.Disk T.Trace self.now.settles_gets) events.items pipeline.new.replies.items) }
+        ensures answers { OnOk result (AnswersSoFar D.Disk self.now.settles_gets T.Trace events.items pipeline.new) }
+        ensures room { OnOk result (HasRoom pipeline.new 0) }
     {
         for event in events {
             self.take(pipeline, event)?;
         }
-        pipeline.settle(self)
+        Ok(())
     }
 
-    /// The replies to events, in order. Puts, deletes, swaps and flushes are gathered into one job of the writer. A get is
-    /// looked up at once, but if one of these may change its key, only when they are done. Steps are not served. If gets
+    /// Asks for the replies to events. Puts, deletes, swaps and flushes are gathered into one job of the writer, which is handed over. A
+    /// get is looked up at once, but if one of these may change its key, only when they are done. Steps are not served. If gets
     /// settle what they show, those that a crash may undo wait for a flush, one for all of them.
+    ///
+    /// # Errors
+    ///
+    /// No reply comes, or one that does not fit its event; or out of memory for the replies.
+    pub fn begin(&self, events: Vec<Event>) -> Result<AskedEvents<D, T, N>, Unanswered>
+        ensures { IfOk result (AreAsked D.Disk self.now.settles_gets T.Trace events.items) }
+    {
+        let Ok(mut pipeline) = Pipeline::new(self.alloc, events.len()) else {
+            return Err(Unanswered::NoMemory);
+        };
+        self.take_all(&mut pipeline, events)?;
+        let handed = pipeline.hand_over(self);
+        Ok(AskedEvents { pipeline, handed })
+    }
+
+    /// Waits for the replies to events that were asked for, in order.
+    ///
+    /// # Errors
+    ///
+    /// No reply comes, or one that does not fit its event.
+    pub fn finish(&self, asked: AskedEvents<D, T, N>) -> Result<Vec<Reply<()>>, Unanswered>
+        ensures { (events : List EventOf) → AreAsked D.Disk self.now.settles_gets T.Trace events asked
+            → IfOk result (λ replies. AllZip (IsAnswer D.Disk T.Trace self.now.settles_gets) events replies.items) }
+    {
+        let AskedEvents {
+            mut pipeline,
+            handed,
+        } = asked;
+        pipeline.settle_by(self.rt, self.alloc, handed)?;
+        Ok(pipeline.replies)
+    }
+
+    /// The replies to events, in order: asks for them, as [`Session::begin`] does, and waits for them.
     ///
     /// # Errors
     ///
@@ -216,10 +252,7 @@ impl<D: Disk, T: Trace, N: DeskId + InboxId + LogId, R: Wait> Session<'_, D, T, 
     pub fn answer_all(&self, events: Vec<Event>) -> Result<Vec<Reply<()>>, Unanswered>
         ensures { IfOk result (λ replies. AllZip (IsAnswer D.Disk T.Trace self.now.settles_gets) events.items replies.items) }
     {
-        let Ok(mut pipeline) = Pipeline::new(self.alloc, events.len()) else {
-            return Err(Unanswered::NoMemory);
-        };
-        self.take_all(&mut pipeline, events)?;
-        Ok(pipeline.replies)
+        let asked = self.begin(events)?;
+        self.finish(asked)
     }
 }

@@ -9,12 +9,17 @@
 //! A job has one [`Task`], or all changes of one read up to a get of a key that one of them may change. So a client that
 //! writes many lines before it reads waits for one flush, and its get still sees its changes before it.
 //!
+//! The connection of a set has a session at each shard ([`SetAsking`]). It gives each event to the shard of its key, and a flush to all
+//! shards. Events that come at once are handed over to all shards before the replies of one are waited for ([`Session::begin`],
+//! [`Session::finish`]), so the shards flush side by side; then the replies are put into the order of the events.
+//!
 //! The contract of [`Workplace::serve_batch`] states the replies to a batch of jobs, and that of [`Session::answer_all`] that each
 //! reply comes from its own request: a [`Task`] keeps which calls its reply comes from, and a [`Ticket`] says whose job it is.
 //! Nothing is proved of whether messages arrive.
 #![tactic(auto)]
 
 mod answers;
+mod asked;
 mod batch;
 mod client;
 mod held;
@@ -28,11 +33,13 @@ mod replier;
 mod room;
 mod session;
 mod session_slots;
+mod set;
 mod task;
 mod ticket;
 mod unanswered;
 mod work;
 
+pub use asked::AskedEvents;
 pub use batch::Workplace;
 pub use client::{AskBy, Asking, Client};
 pub use job::{Awaited, Job, Request, Tasks};
@@ -42,6 +49,7 @@ pub use replier::{replier_channel, send_batches, send_replies};
 pub use room::{HearsRoom, RoomGate, RoomWait, room_channel};
 pub use session::{Session, WriterLink};
 pub use session_slots::{SessionSlot, free_slot, slots_of};
+pub use set::{AskAheadBy, AskingAhead, SetAsking};
 pub use task::Task;
 pub use ticket::Ticket;
 pub use unanswered::Unanswered;

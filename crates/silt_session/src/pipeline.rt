@@ -2,13 +2,16 @@
 ghost use Rattle.std.specs.Prelude.{◌≡◌, ◌≤◌, ◌<◌, ◌+◌, ◌++◌, ◌∷◌, ◌||◌, ◌↔◌, [], List, false, is_some, map, true, IfOk, IfSome, OnOk, vec_capacity, vec_len};
 ghost use Rattle.std.specs.VecDeque.{deque_capacity, deque_len};
 ghost use Rattle.silt_event.specs.Events.{PlainReply};
+ghost use Rattle.silt_session.specs.Handing.{AwaitsRequests, Hands, HasHanded, IsHanded};
 ghost use Rattle.silt_session.specs.Pipelines.{AddsFlush, Fills, FillsAll, GathersTask, IsFree, IsSettled, MarksToo, MovesPlaces, NothingWaits};
-ghost use Rattle.silt_session.specs.Pipelines.{SettlesAll, TakesLast, flush_if, reply_without_tasks};
+ghost use Rattle.silt_session.specs.Pipelines.{SettlesAll, TakesLast, reply_without_tasks};
 ghost use Rattle.silt_session.specs.Requests.{TaskState, asked_event, changed_key, requests_of};
 ghost use Rattle.silt_session.specs.Sessions.{IsReplyOf};
+ghost use Rattle.silt_session.specs.declared.job.Request.{Request as RequestOf};
+ghost use Rattle.silt_session.specs.declared.pipeline.Pipeline.{Pipeline as PipelineOf};
 ghost use Rattle.silt_session.specs.declared.place.Place.TheVariants as place;
 
-use crate::job::Request;
+use crate::job::{Awaited, Request};
 use crate::job_log::LogId;
 use crate::key_marks::KeyMarks;
 use crate::place::{Place, Shown};
@@ -36,6 +39,25 @@ pub struct Pipeline<D: Disk, T: Trace> {
     pub marks: KeyMarks,
     /// Whether a reply waits for a flush.
     pub needs_flush: bool,
+}
+
+/// The tasks that were handed over, if there were any, and whether the last of them is that of a flush.
+#[derive(Drop)]
+pub struct Handed<D: Disk, T: Trace, N: LogId> {
+    pub has_flush: bool,
+    pub awaited: Option<Awaited<D, T, N>>,
+}
+
+impl<D: Disk, T: Trace, N: LogId> Handed<D, T, N> {
+    // Waits until the tasks come back.
+    fn wait<R: Wait>(self, rt: &R, alloc: Global) -> Result<Vec<Task<D, T>>, Unanswered>
+        ensures { (requests : List RequestOf) → AwaitsRequests self.awaited requests → IfOk result (λ tasks. requests_of tasks.items ≡ requests) }
+    {
+        match self.awaited {
+            Some(awaited) => awaited.wait(rt).ok_or(Unanswered::Lost),
+            None => Ok(Vec::new(alloc)),
+        }
+    }
 }
 
 impl<D: Disk, T: Trace> Pipeline<D, T> {
@@ -119,14 +141,49 @@ impl<D: Disk, T: Trace> Pipeline<D, T> {
         requires room { vec_len self.old.replies + deque_len self.old.places ≤ vec_capacity self.old.replies }
         ensures { OnOk result (SettlesAll D.Disk T.Trace self.old self.new) }
     {
-        let has_flush = self.needs_flush;
-        match self.commit(session) {
-            Ok(tasks) => self.fill(tasks, has_flush),
+        let handed = self.hand_over(session);
+        self.settle_by(session.rt, session.alloc, handed)
+    }
+
+    /// Waits until the tasks that were handed over come back. Then each event has its reply. If out of memory for the tasks, none of
+    /// them is done.
+    ///
+    /// # Errors
+    ///
+    /// No reply comes, or one that does not fit.
+    pub(crate) fn settle_by<N: LogId, R: Wait>(
+        &mut self,
+        rt: &R,
+        alloc: Global,
+        handed: Result<Handed<D, T, N>, Unanswered>,
+    ) -> Result<(), Unanswered>
+        requires room { vec_len self.old.replies + deque_len self.old.places ≤ vec_capacity self.old.replies }
+        ensures { (before : PipelineOf D T D.Fault) → HasHanded before self.old handed → OnOk result (SettlesAll D.Disk T.Trace before self.new) }
+    {
+        match handed {
+            Ok(handed) => self.fill_by(rt, alloc, handed),
             Err(Unanswered::NoMemory) => {
                 self.fill_without_tasks();
                 Ok(())
             }
             Err(Unanswered::Lost) => Err(Unanswered::Lost),
+        }
+    }
+
+    // Waits until the tasks come back, and moves each place to the replies.
+    fn fill_by<N: LogId, R: Wait>(
+        &mut self,
+        rt: &R,
+        alloc: Global,
+        handed: Handed<D, T, N>,
+    ) -> Result<(), Unanswered>
+        requires { vec_len self.old.replies + deque_len self.old.places ≤ vec_capacity self.old.replies }
+        ensures { (before : PipelineOf D T D.Fault) → IsHanded before self.old → Hands before handed → OnOk result (SettlesAll D.Disk T.Trace before self.new) }
+    {
+        let has_flush = handed.has_flush;
+        match handed.wait(rt, alloc) {
+            Ok(tasks) => self.fill(tasks, has_flush),
+            Err(lack) => Err(lack),
         }
     }
 
@@ -148,22 +205,35 @@ impl<D: Disk, T: Trace> Pipeline<D, T> {
         }
     }
 
-    // Has the tasks that wait done, if there are any.
-    fn commit<N: DeskId + InboxId + LogId, R: Wait>(
+    /// Hands the tasks that wait over, with that of a flush behind them if a reply waits for one, and does not wait until they come
+    /// back.
+    ///
+    /// # Errors
+    ///
+    /// The inbox is closed, or out of memory for the tasks.
+    pub(crate) fn hand_over<N: DeskId + InboxId + LogId, R: Wait>(
         &mut self,
         session: &Session<'_, D, T, N, R>,
-    ) -> Result<Vec<Task<D, T>>, Unanswered>
-        ensures asked { IfOk result (λ tasks. (self.old.lacks_memory ≡ false) × (requests_of tasks.items ≡ requests_of self.old.tasks.items ++ flush_if self.old.needs_flush)) }
+    ) -> Result<Handed<D, T, N>, Unanswered>
+        ensures asked { IfOk result (Hands self.old) }
         ensures none { NothingWaits self.new }
         ensures same { (self.new.replies ≡ self.old.replies) × (self.new.places ≡ self.old.places) }
     {
+        let has_flush = self.needs_flush;
         let Some(tasks) = self.take_tasks(session.alloc) else {
             return Err(Unanswered::NoMemory);
         };
         if tasks.is_empty() {
-            return Ok(tasks);
+            return Ok(Handed {
+                has_flush,
+                awaited: None,
+            });
         }
-        session.writer.commit(tasks)
+        let awaited = session.writer.send(tasks)?;
+        Ok(Handed {
+            has_flush,
+            awaited: Some(awaited),
+        })
     }
 
     // Moves each place to the replies, by the tasks that came back. The last of them is a flush's if there is one.

@@ -51,6 +51,21 @@ impl<D: Disk, T: Trace, N: InboxId + LogId, R: Wait> WriterLink<'_, D, T, N, R> 
         }
     }
 
+    /// Hands tasks to the writer as one job, and returns where they will come back with their replies.
+    ///
+    /// # Errors
+    ///
+    /// The inbox is closed, or out of memory. Nothing is handed over.
+    pub(crate) fn send(&self, tasks: Vec<Task<D, T>>) -> Result<Awaited<D, T, N>, Unanswered>
+        ensures { IfOk result (λ awaited. awaited.ticket.asked ≡ Some (requests_of tasks.items)) }
+    {
+        match self.hand_over(tasks) {
+            Ok(awaited) => Ok(awaited),
+            Err(NotPutReason::NoMemory) => Err(Unanswered::NoMemory),
+            Err(NotPutReason::Closed) => Err(Unanswered::Lost),
+        }
+    }
+
     /// Has tasks done together, and waits until they come back with their replies: those of the same requests, in order.
     ///
     /// # Errors
@@ -59,10 +74,7 @@ impl<D: Disk, T: Trace, N: InboxId + LogId, R: Wait> WriterLink<'_, D, T, N, R> 
     pub fn commit(&self, tasks: Vec<Task<D, T>>) -> Result<Vec<Task<D, T>>, Unanswered>
         ensures { IfOk result (λ done. requests_of done.items ≡ requests_of tasks.items) }
     {
-        match self.hand_over(tasks) {
-            Ok(awaited) => awaited.wait(self.rt).ok_or(Unanswered::Lost),
-            Err(NotPutReason::NoMemory) => Err(Unanswered::NoMemory),
-            Err(NotPutReason::Closed) => Err(Unanswered::Lost),
-        }
+        let awaited = self.send(tasks)?;
+        awaited.wait(self.rt).ok_or(Unanswered::Lost)
     }
 }

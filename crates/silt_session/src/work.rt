@@ -1,5 +1,6 @@
 // The writer, a worker that does the requests of the sessions.
-ghost use Rattle.std.specs.Prelude.{◌≡◌, ◌+◌, List, MatchOption, vec_len};
+ghost use Rattle.std.specs.Prelude.{◌≡◌, List, MatchOption, vec_len};
+ghost use Rattle.silt_inbox.specs.Books.{counted};
 ghost use Rattle.silt_session.specs.Batches.{ServesBatches};
 ghost use Rattle.silt_session.specs.declared.job.Job.{Job as JobOf};
 
@@ -22,7 +23,7 @@ pub trait Jobs<D: Disk, T: Trace, N: InboxId + LogId> {
 
     /// Waits for jobs and takes all of them, in order. None if there are no more.
     fn take_all<R: Wait>(&self, rt: &R, taker: &mut Taker<N>) -> Option<Vec<Job<D, T, N>>>
-        ensures { MatchOption result (has_ended self.now × (taker.new ≡ taker.old)) (λ jobs. taker.new ≡ taker.old + vec_len jobs) };
+        ensures { MatchOption result (has_ended self.now × (taker.new ≡ taker.old)) (λ jobs. taker.new ≡ counted (vec_len jobs) taker.old) };
 }
 
 impl<D: Disk, T: Trace, N: InboxId + LogId> Jobs<D, T, N> for Inbox<Job<D, T, N>, N> {

@@ -1,4 +1,5 @@
-use Rattle.std.proofs.Common.{◌∙◌, ◌++◌, ◌∷◌, [], arith}
+use Rattle.std.proofs.Common.{◌∙◌, ◌++◌, ◌∷◌, [], ap}
+use Rattle.silt_inbox.specs.Books.{counted}
 use Rattle.silt_session.proofs.Batches.{batches_more}
 use Rattle.silt_session.proofs.batch.Workplace.serve_all.Goals as goal
 
@@ -10,6 +11,6 @@ loop-preserved g c =
       number = c.serve_batch-left.ensures.number ∙ before.number;
       batches = (
         before.batches.0 ++ jobs.items ∷ [],
-        batches_more g.D.Disk g.T.Trace _ _ _ _ _ _ _ _ before.batches.0 _ _ c.serve_batch-left.result.1 before.batches.1 c.serve_batch-left.ensures.batch (omega (arith, c.in-Some-take_all.ensures, jobs.ok.0)),
+        batches_more g.D.Disk g.T.Trace _ _ _ _ _ _ _ _ before.batches.0 _ _ c.serve_batch-left.result.1 before.batches.1 c.serve_batch-left.ensures.batch (c.in-Some-take_all.ensures ∙ ap (λ n. counted n c.loop.taker) jobs.ok.0),
       );
     }

@@ -1,8 +1,9 @@
-use Rattle.std.proofs.Common.{◌++◌, ◌∷◌, [], List, append_assoc, length, refl, sym, ◌∙◌, ap, arith}
+use Rattle.std.proofs.Common.{◌++◌, ◌∷◌, [], List, append_assoc, length, refl, sym, ◌∙◌, ap, arith, subst}
 use Rattle.std.proofs.lemmas.List.{append-nil, nil_from_length}
 use Rattle.std.specs.Vec.Iter.{into_iter_items}
 use Rattle.silt_event.specs.declared.event.Event.{Event as EventOf}
-use Rattle.silt_session.proofs.Pipelines.{answers_none, settles_last}
+use Rattle.silt_session.specs.Pipelines.{AnswersSoFar}
+use Rattle.silt_session.proofs.Pipelines.{answers_none}
 use Rattle.silt_session.proofs.session.Session.take_all.Goals as goal
 
 pub loop-event-init : goal.loop-event-init
@@ -31,11 +32,11 @@ loop-event-preserved g c =
       );
     }
 
-pub returns : goal.returns
-returns g c =
+pub returns-clause-answers : goal.returns-clause-answers
+returns-clause-answers g c =
     let (done, whole, some) = c.loop-event.invariant.so_far in
     let given = c.into_iter-event-iterator.ensures.into_iter_gives in
     let left = c.loop-event.event-iterator in
     let ended = nil_from_length (into_iter_items left) (omega (arith, c.in-None.ensures.steps.0, left.rest.ok.0)) in
-    settles_last g.D.Disk _ g.T.Trace c.settle.result c.args.events.items done c.loop-event.pipeline c.settle.new.self
-    (sym (append-nil done) ∙ ap (λ (l : List EventOf). done ++ l) (sym ended) ∙ whole ∙ given.0) some c.settle.ensures
+    subst (λ (l : List EventOf). AnswersSoFar g.D.Disk c.args.self.now.settles_gets g.T.Trace l c.loop-event.pipeline)
+    (sym (append-nil done) ∙ ap (λ (l : List EventOf). done ++ l) (sym ended) ∙ whole ∙ given.0) some
