@@ -1,5 +1,6 @@
 -- What a server writes and leaves.
-use Rattle.std.specs.Prelude.{◌≡◌, ◌⊎◌, ℕ, List, length, ◌++◌, ◌%◌, ◌^◌, Option, codes}
+use Rattle.std.specs.Prelude.{◌≡◌, ◌⊎◌, ℕ, All, List, length, ◌++◌, ◌%◌, ◌^◌, Option, codes, sum}
+use Rattle.std.specs.List.{AllZip}
 use Rattle.std.specs.Io.KnownBytes.{Appends}
 use Rattle.silt_disk.specs.Disk.{Content}
 use Rattle.silt_disk.specs.Layout.{Shape}
@@ -58,6 +59,28 @@ counts_kept kept calls accepted = (length kept.calls ≡ calls) × (count_accept
 abbrev pub ServesKept : {D F : Type 0} → Ghosts D F → (ℕ → Type 0) → D → Option (List ℕ) → Option (List ℕ) → Type 0
 ServesKept {D} facts has_port disk before after =
     (core : CoreState D) × (kept : Keeping) × (core.disk ≡ disk) × IsHistory kept (seen facts core) × PrintsServed has_port counts_kept kept before after
+
+-- ---- a server of a set
+
+-- these are the numbers of the calls that the traces count
+abbrev pub CountsEach : {T : Type 0} → (T → ℕ → ℕ → Type 0) → List T → List ℕ → Type 0
+CountsEach counts traces calls = AllZip (λ trace n. (accepted : ℕ) × counts trace n accepted) traces calls
+
+-- their sum was written, as it is modulo 2^64
+abbrev pub PrintsAllCalls : {T : Type 0} → (T → ℕ → ℕ → Type 0) → List T → Option (List ℕ) → Option (List ℕ) → Type 0
+PrintsAllCalls counts traces before after = (calls : List ℕ) × CountsEach counts traces calls × Appends before after (calls_text (sum calls % 2 ^ 64))
+
+-- the head was written with the listener's port, and behind it the number of calls that all the traces count
+abbrev pub PrintsAllServed : {T : Type 0} → (ℕ → Type 0) → (T → ℕ → ℕ → Type 0) → List T → Option (List ℕ) → Option (List ℕ) → Type 0
+PrintsAllServed has_port counts traces before after =
+    (port : ℕ) × has_port port × (calls : List ℕ) × CountsEach counts traces calls × Appends before after (head_text port ++ calls_text (sum calls % 2 ^ 64))
+
+-- The head with the listener's port and a number of calls are written. There is a disk for each of so many shards, and each possible crash
+-- image of each represents one map after some first part of one list of commands.
+abbrev pub ServesSetAt : {D F : Type 0} → (ℕ → Type 0) → Ghosts D F → ℕ → List D → Option (List ℕ) → Option (List ℕ) → Type 0
+ServesSetAt has_port facts shards disks before after =
+    (port : ℕ) × has_port port × (calls : ℕ) × Appends before after (head_text port ++ calls_text calls)
+    × (length disks ≡ shards) × All (λ disk. (shape : Shape) × LeavesBegun (facts.content disk) shape) disks
 
 -- ---- a server that did not serve to its end
 

@@ -7,6 +7,7 @@ use crate::counting_listener::Listens;
 use crate::limits::Limits;
 use crate::threads::{Ended, Parts, run_beside};
 use crate::workers::{Worker, Workers, WriterParts};
+use crossbeam_channel::Sender;
 use silt_desk::{DeskId, Gate, Seat, Shared, Trace, WorkerEnds, converter, merger};
 use silt_disk::Disk;
 use silt_event::{Event, Facts, Reply};
@@ -58,6 +59,27 @@ fn gather_served<N: DeskId>(back: Option<Ended<Seat<N>>>) -> Option<Served<N>> {
             accepted: ended.sessions,
         }),
         None => None,
+    }
+}
+
+// What the threads of the workers and of the writer need.
+fn parts_of<D: Disk, T: Trace, N: DeskId + InboxId + LogId>(
+    workers: Workers<D, T, N>,
+    taker: Taker<N>,
+) -> Parts<Part<D, T, N>, D, T, N> {
+    let Workers {
+        writer,
+        converter,
+        merger,
+        stops,
+        batches,
+    } = workers;
+    Parts {
+        merger: Part::Merger(merger),
+        converter: Part::Converter(converter),
+        writer: Part::Writer(writer, taker),
+        stops,
+        batches,
     }
 }
 
@@ -133,6 +155,29 @@ impl<D: Disk, T: Trace, N: DeskId + InboxId + LogId, G: Gate, R: Wait + Clock> S
         }
     }
 
+    /// The session of a slot. With `settles_gets` a get waits for a flush if a crash may take away what it shows.
+    pub fn session<'b>(
+        &'b self,
+        slot: &'b Mutex<SessionSlot<N>>,
+        settles_gets: bool,
+    ) -> Session<'b, D, T, N, R>
+        ensures { result.settles_gets ≡ settles_gets }
+    {
+        Session {
+            rt: self.rt,
+            alloc: self.alloc,
+            desk: self.desk,
+            writer: WriterLink {
+                rt: self.rt,
+                alloc: self.alloc,
+                inbox: self.inbox,
+                log: self.log,
+                slot,
+            },
+            settles_gets,
+        }
+    }
+
     // Runs the session in the slot of this number, and then frees the slot.
     fn serve_slot(&self, number: usize) {
         let Some(slot) = self.slots.get(number) else {
@@ -140,19 +185,7 @@ impl<D: Disk, T: Trace, N: DeskId + InboxId + LogId, G: Gate, R: Wait + Clock> S
         };
         let stream = slot.lock(self.rt).connection();
         if let Some(stream) = stream {
-            let session = Session {
-                rt: self.rt,
-                alloc: self.alloc,
-                desk: self.desk,
-                writer: WriterLink {
-                    rt: self.rt,
-                    alloc: self.alloc,
-                    inbox: self.inbox,
-                    log: self.log,
-                    slot,
-                },
-                settles_gets: self.limits.protocol.settles_gets(),
-            };
+            let session = self.session(slot, self.limits.protocol.settles_gets());
             let one = |event: Event| -> Result<Reply<()>, Unanswered> { session.answer(event) };
             let all = |events: Vec<Event>| -> Result<Vec<Reply<()>>, Unanswered> {
                 session.answer_all(events)
@@ -214,24 +247,10 @@ impl<
         workers: Workers<D, T, N>,
         taker: Taker<N>,
     ) -> Option<Served<N>> {
-        let Workers {
-            writer,
-            converter,
-            merger,
-            stops,
-            batches,
-        } = workers;
-        let parts = Parts {
-            merger: Part::Merger(merger),
-            converter: Part::Converter(converter),
-            writer: Part::Writer(writer, taker),
-            stops,
-            batches,
-        };
         gather_served(run_beside(
             self.rt,
             self,
-            parts,
+            parts_of(workers, taker),
             &|serving: &Serving<'_, Shared<D, T, N>, Job<D, T, N>, N, G, R>, part: Part<
                 D,
                 T,
@@ -241,5 +260,27 @@ impl<
                 serving.serve_sessions(listener)
             },
         ))
+    }
+
+    /// Runs the workers, the writer and the replier of one shard, until its inbox is closed and all its requests are done. Says when
+    /// they run, or that one of them has no thread.
+    pub fn run_shard(&self, workers: Workers<D, T, N>, taker: Taker<N>, runs: &Sender<bool>) {
+        let back = run_beside(
+            self.rt,
+            self,
+            parts_of(workers, taker),
+            &|serving: &Serving<'_, Shared<D, T, N>, Job<D, T, N>, N, G, R>, part: Part<
+                D,
+                T,
+                N,
+            >| -> Seat<N> { serving.work(part) },
+            &|serving: &Serving<'_, Shared<D, T, N>, Job<D, T, N>, N, G, R>| -> io::Result<()> {
+                let _ = runs.send(serving.rt, true);
+                Ok(())
+            },
+        );
+        if back.is_none() {
+            let _ = runs.send(self.rt, false);
+        }
     }
 }

@@ -15,10 +15,13 @@ mod connection;
 mod counting_listener;
 mod limits;
 mod serve;
+mod serve_set;
+mod serving_set;
 mod threads;
 mod workers;
 mod written;
 
 pub use counting_listener::Listens;
 pub use limits::{Limits, Protocol};
-pub use serve::{Server, ServerState, refuse_network};
+pub use serve::{Server, ServerState, refuse_network, refuse_set_network};
+pub use serve_set::SetServer;

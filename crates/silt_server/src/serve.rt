@@ -29,7 +29,7 @@ use std::thread::Threads;
 use std::time::Clock;
 
 /// How many seats the workers have.
-const WORKERS: u64 = 3;
+pub(crate) const WORKERS: u64 = 3;
 
 /// A server of one store: where its connections come from, its limits, and the gate that its workers pass.
 #[derive(Drop)]
@@ -225,6 +225,17 @@ pub fn refuse_network<D: Disk, W: Write>(core: Core<D>, out: &mut W) -> (D, io::
     (core.close(), write_no_network(out))
 }
 
+/// Writes that the network failed before the stores of a set could be served, and returns the status.
+///
+/// # Errors
+///
+/// The writer's.
+pub fn refuse_set_network<W: Write>(out: &mut W) -> io::Result<u8>
+    ensures { IfOk result (λ status. (status ≡ 1) × Appends (W.contents out.old) (W.contents out.new) (codes "opened\n" ++ network_text)) }
+{
+    write_no_network(out)
+}
+
 // Writes that the store is opened and that the network failed, and returns the status.
 fn write_no_network<W: Write>(out: &mut W) -> io::Result<u8>
     ensures { IfOk result (λ status. (status ≡ 1) × Appends (W.contents out.old) (W.contents out.new) (codes "opened\n" ++ network_text)) }
@@ -295,8 +306,8 @@ impl<D: Disk, T: Trace, N: DeskId + InboxId + LogId> ServerState<D, T, N> {
     }
 }
 
-// Writes the head. If the listener has no port, or the writer fails, nothing is served, and this is the status.
-fn begin<L: Listens, W: Write>(
+/// Writes the head. If the listener has no port, or the writer fails, nothing is served, and this is the status.
+pub(crate) fn begin<L: Listens, W: Write>(
     alloc: Global,
     listener: &L,
     out: &mut W,

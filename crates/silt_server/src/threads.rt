@@ -160,3 +160,65 @@ pub fn run_beside<
         sessions,
     })
 }
+
+// Whether so many shards say that they run.
+fn all_run<R: Wait>(rt: &R, heard: &Receiver<bool>, count: usize) -> bool {
+    for _number in 0..count {
+        match heard.recv(rt) {
+            Ok(true) => {}
+            _ => return false,
+        }
+    }
+    true
+}
+
+/// Runs each shard in a thread of its own beside the sessions, until these have ended, and then closes the shards, which ends their
+/// threads. Each shard says when it runs, or that it cannot. None if one of them cannot; then there are no sessions.
+pub fn run_shards<
+    S: Sync,
+    X: Send + Drop,
+    C: Fn(&S, X) + Sync,
+    F: Fn(&S) -> io::Result<()>,
+    E: Fn(&S),
+    R: Threads + Wait + Sync,
+>(
+    rt: &R,
+    shared: &S,
+    shards: Vec<X>,
+    heard: Receiver<bool>,
+    work: &C,
+    ends: (&F, &E),
+) -> Option<io::Result<()>>
+    requires work { C.IsAlwaysCallable work.now }
+    requires sessions { F.IsAlwaysCallable ends.0.now }
+    requires close { E.IsAlwaysCallable ends.1.now }
+{
+    let (sessions, close) = ends;
+    thread::scope(
+        thread::scope_env(),
+        rt,
+        move |scope| -> Option<io::Result<()>>
+            requires { C.IsAlwaysCallable work.now × F.IsAlwaysCallable sessions.now × E.IsAlwaysCallable close.now }
+        {
+            let count = shards.len();
+            let mut started = 0_usize;
+            for shard in shards {
+                let spawned = scope.spawn(
+                    move ||
+                        requires { C.IsAlwaysCallable work.now }
+                    { work(shared, shard) },
+                );
+                if spawned.is_ok() {
+                    started = started.saturating_add(1);
+                }
+            }
+            let ended = if started == count && all_run(rt, &heard, count) {
+                Some(sessions(shared))
+            } else {
+                None
+            };
+            close(shared);
+            ended
+        },
+    )
+}

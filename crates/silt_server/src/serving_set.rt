@@ -1,0 +1,200 @@
+// What the threads of a server of a set share: what those of each shard share, in the order of the shards.
+ghost use Rattle.std.specs.Prelude.{◌≡◌, All, IfSome, length, true, vec_len};
+ghost use Rattle.silt_shards.specs.Routing.{IsShardCount};
+
+use crate::admission::{Door, accept_clients};
+use crate::common::Serving;
+use crate::connection::answer_client;
+use crate::counting_listener::Listens;
+use crate::threads::run_shards;
+use crate::workers::Workers;
+use crossbeam_channel::{Receiver, Sender};
+use silt_desk::{DeskId, Gate, Shared, Trace};
+use silt_disk::Disk;
+use silt_event::{Event, Facts, Reply};
+use silt_inbox::{InboxId, Taker};
+use silt_session::{AskAheadBy, AskedEvents, Job, LogId, Session, SetAsking, Unanswered};
+use std::alloc::Global;
+use std::io;
+use std::marker::PhantomData;
+use std::net::TcpStream;
+use std::sync::Wait;
+use std::thread::Threads;
+use std::time::Clock;
+
+/// What the threads of a server of a set share. `S` is what those of one shard share.
+#[derive(Drop)]
+pub struct ServingSet<'a, S> {
+    pub alloc: Global,
+    pub shards: &'a [S],
+    ghost count: { IsShardCount (length shards.now) },
+}
+
+/// What one shard needs: its number, its workers and its writer, and where it says that they run.
+#[derive(Drop)]
+pub struct ShardPart<D: Disk, T: Trace, N: DeskId + InboxId + LogId> {
+    pub number: usize,
+    pub workers: Workers<D, T, N>,
+    pub taker: Taker<N>,
+    pub runs: Sender<bool>,
+}
+
+impl<D: Disk, T: Trace, N: DeskId + InboxId + LogId, G: Gate, R: Wait + Clock> ServingSet<
+    '_,
+    Serving<'_, Shared<D, T, N>, Job<D, T, N>, N, G, R>,
+> {
+    // The sessions of the slot of this number, one at each shard, in their order. Their gets show only what a crash keeps. None if out of
+    // memory.
+    fn sessions(&self, number: usize) -> Option<Vec<Session<'_, D, T, N, R>>>
+        ensures count { IfSome result (λ sessions. vec_len sessions ≡ length self.now.shards.now) }
+        ensures settle { IfSome result (λ sessions. All (λ session. session.settles_gets ≡ true) sessions.items) }
+    {
+        let mut sessions = Vec::with_capacity(self.alloc, self.shards.len()).ok()?;
+        for shard in self.shards {
+            let slot = shard.slots.get(number)?;
+            sessions.push_reserved(shard.session(slot, true));
+        }
+        Some(sessions)
+    }
+
+    // Replies to the connection of the slot of this number by sessions at all shards.
+    fn answer(
+        &self,
+        sessions: &[Session<'_, D, T, N, R>],
+        number: usize,
+        first: &Serving<'_, Shared<D, T, N>, Job<D, T, N>, N, G, R>,
+        stream: &TcpStream,
+    )
+        requires { IsShardCount (length sessions.now) }
+    {
+        let Ok(mut shards) = Vec::with_capacity(self.alloc, sessions.len()) else {
+            return;
+        };
+        for session in sessions {
+            shards.push_reserved(AskAheadBy {
+                one: move |event: Event| -> Result<Reply<()>, Unanswered> { session.answer(event) },
+                begin: move |events: Vec<Event>| -> Result<AskedEvents<D, T, N>, Unanswered> {
+                    session.begin(events)
+                },
+                finish: move |asked: AskedEvents<D, T, N>| -> Result<Vec<Reply<()>>, Unanswered> {
+                    session.finish(asked)
+                },
+                facts: move || -> Facts { session.facts() },
+                of: PhantomData,
+            });
+        }
+        let asking = SetAsking {
+            alloc: self.alloc,
+            shards: shards.as_slice(),
+        };
+        answer_client(
+            self.alloc,
+            asking,
+            first.value_len,
+            first.limits,
+            u32::try_from(number).unwrap_or(u32::MAX),
+            stream,
+        );
+    }
+
+    // Runs the session in the slot of this number, and then frees the slot. The first shard's slots are those of the connections.
+    fn serve_slot(&self, number: usize) {
+        let Some(first) = self.shards.first() else {
+            return;
+        };
+        let Some(slot) = first.slots.get(number) else {
+            return;
+        };
+        let stream = slot.lock(first.rt).connection();
+        if let Some(stream) = stream {
+            if let Some(sessions) = self.sessions(number) {
+                self.answer(sessions.as_slice(), number, first, &stream);
+            }
+        }
+        slot.lock(first.rt).leave();
+    }
+
+    // Closes the inbox of each shard.
+    fn close(&self) {
+        for shard in self.shards {
+            shard.inbox.close(shard.rt);
+        }
+    }
+}
+
+impl<
+    D: Disk,
+    T: Trace + Send + Sync,
+    N: DeskId + InboxId + LogId + Send + Sync,
+    G: Gate + Sync,
+    R: Threads + Wait + Clock + Sync,
+> ServingSet<'_, Serving<'_, Shared<D, T, N>, Job<D, T, N>, N, G, R>> {
+    // Runs the workers, the writer and the replier of one shard, until its inbox is closed.
+    fn run_shard(&self, part: ShardPart<D, T, N>) {
+        let ShardPart {
+            number,
+            workers,
+            taker,
+            runs,
+        } = part;
+        if let Some(shard) = self.shards.get(number) {
+            shard.run_shard(workers, taker, &runs);
+        }
+    }
+
+    // Serves the connections of a listener.
+    fn serve_sessions<L: Listens>(&self, rt: &R, listener: &L) -> io::Result<()> {
+        let Some(first) = self.shards.first() else {
+            return Ok(());
+        };
+        let door = Door {
+            alloc: self.alloc,
+            limits: first.limits,
+            slots: first.slots,
+        };
+        let accepted = accept_clients(
+            rt,
+            listener,
+            &door,
+            self,
+            &|set: &ServingSet<
+                '_,
+                Serving<'_, Shared<D, T, N>, Job<D, T, N>, N, G, R>,
+            >, number: usize| { set.serve_slot(number) },
+        );
+        match accepted {
+            Ok(_) => Ok(()),
+            Err(error) => Err(error),
+        }
+    }
+
+    /// Runs the shards beside the sessions of a listener's connections, until these have ended and all their requests are done. None if
+    /// a worker or a writer has no thread.
+    pub fn run<L: Listens>(
+        &self,
+        rt: &R,
+        listener: &L,
+        parts: Vec<ShardPart<D, T, N>>,
+        heard: Receiver<bool>,
+    ) -> Option<io::Result<()>> {
+        run_shards(
+            rt,
+            self,
+            parts,
+            heard,
+            &|set: &ServingSet<
+                '_,
+                Serving<'_, Shared<D, T, N>, Job<D, T, N>, N, G, R>,
+            >, part: ShardPart<D, T, N>| { set.run_shard(part) },
+            (
+                &|set: &ServingSet<
+                    '_,
+                    Serving<'_, Shared<D, T, N>, Job<D, T, N>, N, G, R>,
+                >| -> io::Result<()> { set.serve_sessions(rt, listener) },
+                &|set: &ServingSet<'_, Serving<'_, Shared<D, T, N>, Job<D, T, N>, N, G, R>>| {
+                    set.close()
+                },
+            ),
+        )
+    }
+}
