@@ -15,6 +15,8 @@ COST = re.compile(
 )
 UNITS = {"kB": 1000, "MB": 1_000_000}
 SEVERAL = "split them over several stores"
+# What comes behind a number of keys that two shards have room for.
+TWO = "; --shards 2 has room for them"
 
 
 class Plans(WatchedCase):
@@ -63,10 +65,10 @@ class Plans(WatchedCase):
     def test_no_plan(self):
         """The value is looked at first, then the keys, and then the memory."""
         for words, reason in (
-            ("16777140 100", "KEYS is 16777140, and may be 0 to 16777139"),
-            ("16777216 8", "KEYS is 16777216, and may be 0 to 16777139"),
+            ("16777140 100", f"KEYS is 16777140, and may be 0 to 16777139{TWO}"),
+            ("16777216 8", f"KEYS is 16777216, and may be 0 to 16777139{TWO}"),
             ("4294967295 8", "KEYS is 4294967295, and may be 0 to 16777139"),
-            ("16777140 8 --memory 57597", "KEYS is 16777140, and may be 0 to 16777139"),
+            ("16777140 8 --memory 57597", f"KEYS is 16777140, and may be 0 to 16777139{TWO}"),
             ("1000 4097", "V is 4097, and may be 1 to 4096"),
             ("4294967295 4097 --memory 57597", "V is 4097, and may be 1 to 4096"),
             ("1000 0", "V is 0, and may be 1 to 4096"),

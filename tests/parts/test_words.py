@@ -4,10 +4,10 @@ from harness import Case, Ended
 
 FORMS = """silt format FILE V B CAP NL NH S [OPTION]...  makes an empty store in a file
 silt run FILE [OPTION]...                     replies to the lines of the standard input
-silt tend FILE [--merge-at K]                 does all background work that is due
-silt check FILE                               prints what the store in a file consists of
-silt dump FILE                                prints a line for each key that puts its value
-silt plan KEYS V [--memory BYTES]             prints the six numbers of a store for so many keys
+silt tend FILE [OPTION]...                    does all background work that is due
+silt check FILE [--shards M]                  prints what the store in a file consists of
+silt dump FILE [--shards M]                   prints a line for each key that puts its value
+silt plan KEYS V [OPTION]...                  prints the six numbers of a store for so many keys
 silt script V B CAP NL NH S                   runs the lives of the standard input in memory
 silt serve FILE PORT [OPTION]...              replies to the lines of a port's connections
 
@@ -29,7 +29,11 @@ PORT  a port of this machine, at most 65535; 0 lets the system choose
 --merge-at K      run --tend: merges once there are K hash stores, and not only if no region is free
 --shards M        run: replies with the M shards in the files FILE.0, FILE.1 .. as one store
 --merge-at K      tend: merges only if there are K hash stores; any number if left out
+--shards M        tend: does that for each of the M shards in the files FILE.0, FILE.1 ..
+--shards M        check: prints that of each of the M shards in the files FILE.0, FILE.1 ..
+--shards M        dump: prints the lines of the M shards in the files FILE.0, FILE.1 ..
 --memory BYTES    what the store may take of memory, merge included
+--shards M        plan: prints the six numbers of one of M shards, and what all of them take
 --audit N         refuses every call after the first N, which it records in memory; the record is not printed
 --sessions M      ends after M sessions; 0 has no end
 --idle SECONDS    closes a connection that sends nothing for so long; 0 never does
@@ -40,20 +44,21 @@ PORT  a port of this machine, at most 65535; 0 lets the system choose
 --bind ADDRESS    serve --resp: listens on this IP address; 127.0.0.1 if left out
 --password-file PATH  serve --resp: asks clients for the password in the first line of this file
 --clients N       serves at most N connections at once, 1 to 1024; 64 if left out
+--shards M        serve: serves the M shards in the files FILE.0, FILE.1 .. as one store; not with --audit
 """
 
 # The values and the options of each job.
 JOBS = {
     "format": ("FILE V B CAP NL NH S", "--force --sparse --shards"),
     "run": ("FILE", "--tend --strict --merge-at --shards"),
-    "tend": ("FILE", "--merge-at"),
-    "check": ("FILE", ""),
-    "dump": ("FILE", ""),
-    "plan": ("KEYS V", "--memory"),
+    "tend": ("FILE", "--merge-at --shards"),
+    "check": ("FILE", "--shards"),
+    "dump": ("FILE", "--shards"),
+    "plan": ("KEYS V", "--memory --shards"),
     "script": ("V B CAP NL NH S", ""),
     "serve": (
         "FILE PORT",
-        "--audit --sessions --idle --wait --merge-at --pipeline --resp --bind --password-file --clients",
+        "--audit --sessions --idle --wait --merge-at --pipeline --resp --bind --password-file --clients --shards",
     ),
 }
 # What the help of a job with an input says of its lines.
@@ -84,6 +89,8 @@ NO_ADDRESS = "an address is written in digits, as 10.0.0.1"
 CLIENTS = "a server has 1 to 1024 clients at once"
 # What is wrong with an address that other machines reach.
 UNGUARDED = "--bind {} needs --password-file: other machines reach this address"
+# Of a set there is no record.
+RECORD_OF_SET = "--audit is not for --shards: a record is a history of one store"
 # Words with single spaces between them, and what is wrong with them.
 COMPLAINTS = {
     "prune disk": "there is no job 'prune'",
@@ -117,7 +124,17 @@ COMPLAINTS = {
     "format disk 2 2 4 2 2 8 --shards=1": "--shards cannot be '1': a set has 2 to 64 shards",
     "run disk --shards 2 --shards 2": "--shards is given twice",
     "run disk --shards two": "--shards cannot be 'two': a number is written in digits alone",
-    "tend disk --shards 2": "'--shards' is no option here",
+    "script 2 2 4 2 2 8 --shards 2": "'--shards' is no option here",
+    "tend disk --shards 1": "--shards cannot be '1': a set has 2 to 64 shards",
+    "check disk --shards": "--shards needs a number behind it",
+    "dump disk --shards 65": "--shards cannot be '65': a set has 2 to 64 shards",
+    "plan 10 2 --shards 0": "--shards cannot be '0': a set has 2 to 64 shards",
+    "plan 10 2 --shards 1": "--shards cannot be '1': a set has 2 to 64 shards",
+    "plan 1000 --shards 2": "V is missing",
+    "check disk --shards 0": "--shards cannot be '0': a set has 2 to 64 shards",
+    "dump disk --shards 1": "--shards cannot be '1': a set has 2 to 64 shards",
+    "tend disk --shards 65": "--shards cannot be '65': a set has 2 to 64 shards",
+    "tend disk --shards 4 --merge-at 0": "--merge-at cannot be '0': a merge is of at least one hash store",
     "format disk 2 2 4 2 2 -8": "'-8' is no option here",
     "format disk 2 2 4 2 2 +8": f"S cannot be '+8': {NO_DIGITS}",
     "format disk 2 x 4 2 2 8": f"B cannot be 'x': {NO_DIGITS}",
@@ -193,6 +210,12 @@ COMPLAINTS = {
     "serve disk 0 --clients 1025": f"--clients cannot be '1025': {CLIENTS}",
     "serve disk 0 --clients x": f"--clients cannot be 'x': {NO_DIGITS}",
     "serve disk 0 --clients 1 --clients=1": "--clients is given twice",
+    "serve disk 0 --shards": "--shards needs a number behind it",
+    "serve disk 0 --shards 1": "--shards cannot be '1': a set has 2 to 64 shards",
+    "serve disk 0 --shards=65 --audit 2": "--shards cannot be '65': a set has 2 to 64 shards",
+    "serve disk 0 --shards 2 --shards 2": "--shards is given twice",
+    "serve disk 0 --audit 5 --shards 4": RECORD_OF_SET,
+    "serve disk 0 --shards 64 --resp --audit=0": RECORD_OF_SET,
     "run disk --bind 127.0.0.1": "'--bind' is no option here",
 }
 

@@ -14,3 +14,4 @@ pub mod BackgroundWork
 pub mod Texts
 pub mod MadeShards
 pub mod TendingSets
+pub mod SetParts

@@ -6,8 +6,8 @@ use Rattle.std.proofs.lemmas.List.{drop_all, drop_more}
 use Rattle.silt_disk.specs.Layout.{Shape}
 use Rattle.silt_words.specs.declared.job.PlanRequest.{PlanRequest}
 use Rattle.silt_jobs.specs.Ended.{IsDone, Refuses}
-use Rattle.silt_jobs.specs.PlanCosts.{Plans, cost_of}
-use Rattle.silt_jobs.specs.Plans.{first_planned, is_needed, is_planned, is_possible, memory_planned, plan_text, shape_planned}
+use Rattle.silt_jobs.specs.PlanCosts.{Plans, cost_of, store_text}
+use Rattle.silt_jobs.specs.Plans.{first_planned, is_needed, is_planned, is_possible, memory_planned, shape_planned}
 use Rattle.silt_jobs.specs.declared.ended.Ended.{Ended}
 use Rattle.silt_jobs.specs.declared.ended.Found.TheVariants.{Cost}
 use Rattle.silt_jobs.specs.declared.ended.Why.TheVariants.{NoPlan}
@@ -91,11 +91,11 @@ none_left r whole counts at past rest = ap (option_map (shape_planned r)) (sym (
 module _ {E F : Type 0} (r : PlanRequest) where
   -- the plan of this geometry, with its cost
   pub plans_here : (planned : Option ℕ) (geometry : Shape) (ended : Ended E F) (before after : Option (List ℕ)) → Some geometry ≡ option_map (shape_planned r) planned
-      → ended.found ≡ Some (Cost (cost_of r.keys geometry.buckets)) → IsDone (plan_text geometry (memory_planned r geometry.buckets)) ended before after
+      → ended.found ≡ Some (Cost (cost_of r.keys geometry.buckets)) → IsDone (store_text geometry (memory_planned r geometry.buckets)) ended before after
       → Plans r planned ended before after
   plans_here (Some buckets) geometry ended before after is cost done =
       let same : geometry ≡ shape_planned r buckets = cc in
-      subst (λ (s : Shape). (ended.found ≡ Some (Cost (cost_of r.keys s.buckets))) × IsDone (plan_text s (memory_planned r s.buckets)) ended before after) same (cost, done)
+      subst (λ (s : Shape). (ended.found ≡ Some (Cost (cost_of r.keys s.buckets))) × IsDone (store_text s (memory_planned r s.buckets)) ended before after) same (cost, done)
   plans_here None geometry ended before after is cost done = absurd (cc)
 
   -- there is no plan

@@ -11,7 +11,7 @@ use Rattle.silt_recovery.specs.Errors.{refusal_of_opening}
 use Rattle.silt_recovery.specs.declared.fault.OpenError.{OpenError}
 use Rattle.silt_jobs.specs.Ended.{IsDone, RefusesSo}
 use Rattle.silt_jobs.specs.Jobs.{IsBad}
-use Rattle.silt_jobs.specs.Openings.{RefusesNoDisk}
+use Rattle.silt_jobs.specs.Openings.{OnDisk}
 use Rattle.silt_jobs.specs.declared.ended.Ended.{Ended}
 
 -- the line that puts this value at this key
@@ -34,4 +34,4 @@ module _ {D E F : Type 0} (facts : Ghosts D F) where
   -- a dump of the disk that the source opened, which is returned, or it opened none
   abbrev pub DumpsFile : (D → Type 0) → (E → Type 0) → Option D → Ended E F → Option (List ℕ) → Option (List ℕ) → Type 0
   DumpsFile Opened NotOpened given ended before after =
-      RefusesNoDisk NotOpened given ended before after ⊎ ((disk : D) × Opened disk × (given ≡ Some disk) × Dumps disk ended before after)
+      OnDisk Opened NotOpened (λ disk. (given ≡ Some disk) × Dumps disk ended before after) given ended before after

@@ -1,12 +1,14 @@
 -- How a job ended, and what it wrote.
-use Rattle.std.specs.Prelude.{◌≡◌, ℕ, IfOk, List, Option, Some, None, codes}
+use Rattle.std.specs.Prelude.{◌≡◌, ℕ, IfOk, List, [], Option, Some, None, codes}
 use Rattle.std.specs.Io.KnownBytes.{Appends}
+use Rattle.std.specs.Result.{result_unwrap_or}
 use Rattle.silt_event.specs.declared.refusal.Refusal.{Refusal}
 use Rattle.silt_event.specs.declared.reply.Reply.TheVariants.{Refused as RefusedReply}
 use Rattle.silt_jobs.specs.Scripts.{reply_line}
 use Rattle.silt_jobs.specs.declared.ended.Ended.{Ended}
+use Rattle.silt_jobs.specs.declared.ended.Ends.{Ends}
 use Rattle.silt_jobs.specs.declared.ended.Why.{Why}
-use Rattle.silt_jobs.specs.declared.ended.Why.TheVariants.{NoDisk, Refused, Holds, IsStream, FewRegions, ShortValues, OutOfLimits, NoPlan, NotListening, NoRandom, NotDue, NoJob}
+use Rattle.silt_jobs.specs.declared.ended.Why.TheVariants.{NoDisk, Refused, Holds, IsStream, FewRegions, ShortValues, OutOfLimits, NoPlan, NoSetPlan, NotListening, NoRandom, NotDue, NoJob}
 use Rattle.silt_jobs.specs.declared.failure.Failure.{Failure}
 use Rattle.silt_jobs.specs.declared.failures.Failures.{Failures}
 
@@ -29,6 +31,7 @@ module _ {E F : Type 0} where
   why_line ShortValues = codes "refused 2 BadGeometry\n"
   why_line (OutOfLimits numbers) = codes "refused 2 BadGeometry\n"
   why_line (NoPlan request) = codes "no plan\n"
+  why_line (NoSetPlan shards request) = codes "no plan\n"
   why_line (NotListening socket error) = codes "network fault\n"
   why_line (NoRandom error) = codes "refused 5 Device\n"
   why_line (NotDue fault) = codes "refused 2 BadGeometry\n"
@@ -48,6 +51,14 @@ module _ {E F : Type 0} where
   -- the store refused so, with the offset of the damage, if that is known
   abbrev pub RefusesSo : Refusal F → Ended E F → Option (List ℕ) → Option (List ℕ) → Type 0
   RefusesSo refusal ended before after = (at : Option ℕ) × Refuses (Refused refusal at) ended before after
+
+  -- the status that the program ends with
+  abbrev pub exit_status : Ended E F → ℕ
+  exit_status ended = result_unwrap_or ended.status 1
+
+  -- the job has no end for each file, but this one
+  abbrev pub EndsWhole : Ended E F → Ends E F → Type 0
+  EndsWhole ended ends = (ends.parts.items ≡ []) × (ends.whole ≡ ended)
 
   -- the job was done: this text was written, if the writer did not fail
   abbrev pub IsDone : List ℕ → Ended E F → Option (List ℕ) → Option (List ℕ) → Type 0

@@ -55,8 +55,7 @@ module _ {D E F : Type 0} (facts : Ghosts D F) where
 
   -- a check of the disk that the source opened, which is returned, or it opened none
   abbrev pub ChecksFile : (D → Type 0) → (E → Type 0) → Option D → Ended E F → Option (List ℕ) → Option (List ℕ) → Type 0
-  ChecksFile Given NotGiven given ended before after =
-      RefusesNoDisk NotGiven given ended before after ⊎ ((disk : D) × Given disk × (given ≡ Some disk) × Checks facts disk ended before after)
+  ChecksFile Given NotGiven given ended before after = OnDisk Given NotGiven (λ disk. (given ≡ Some disk) × Checks facts disk ended before after) given ended before after
 
 -- what giving a length does to a disk that is to be sparse, or to one of which all bytes are written
 abbrev pub sized_by : {D X : Type 0} → Bool → (D → ℕ → X → Type 0) → (D → ℕ → X → Type 0) → D → ℕ → X → Type 0

@@ -11,6 +11,8 @@ pub mod PlanCosts
 pub mod Plans
 pub mod Scripts
 pub mod SetFiles
+pub mod SetJobs
+pub mod SetPlans
 pub mod Stops
 pub mod Tally
 pub mod BackgroundWork

@@ -1,5 +1,6 @@
 -- What a planned store costs in merging, and in memory at rest.
 use Rattle.std.specs.Prelude.{◌≡◌, ℕ, ◌+◌, ◌*◌, ◌/◌, ◌==◌, nat_lt, ◌||◌, Bool, List, [], ◌∷◌, max, Option, Some, None, if◌then◌else◌}
+use Rattle.silt_disk.specs.Layout.{Shape, device_size}
 use Rattle.silt_words.specs.declared.job.PlanRequest.{PlanRequest}
 use Rattle.silt_jobs.specs.Ended.{IsDone, Refuses}
 use Rattle.silt_jobs.specs.Plans.{bucket_counts, memory_of, memory_planned, plan_text, shape_planned}
@@ -53,8 +54,12 @@ remedy_of keys buckets =
 abbrev pub cost_of : ℕ → ℕ → PlanCost
 cost_of keys buckets = record { keys = keys; rows = rows_between_merges buckets; at_rest = at_rest keys buckets; remedy = remedy_of keys buckets }
 
+-- the numbers of one store, and what it takes
+abbrev pub store_text : Shape → ℕ → List ℕ
+store_text s memory = plan_text s (device_size s) memory
+
 -- the plan of this many buckets was written, with its cost, or the line says that there is none
 abbrev pub Plans : {E F : Type 0} → PlanRequest → Option ℕ → Ended E F → Option (List ℕ) → Option (List ℕ) → Type 0
 Plans r (Some buckets) ended before after =
-    (ended.found ≡ Some (Cost (cost_of r.keys buckets))) × IsDone (plan_text (shape_planned r buckets) (memory_planned r buckets)) ended before after
+    (ended.found ≡ Some (Cost (cost_of r.keys buckets))) × IsDone (store_text (shape_planned r buckets) (memory_planned r buckets)) ended before after
 Plans r None ended before after = Refuses (NoPlan r) ended before after

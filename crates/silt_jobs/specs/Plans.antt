@@ -2,7 +2,7 @@
 use Rattle.std.specs.Prelude.{ℕ, ◌+◌, ◌*◌, ◌/◌, ◌==◌, nat_le, nat_lt, ◌&&◌, ◌||◌, Bool, true, List, [], ◌∷◌, ◌++◌, Option, Some, None, if◌then◌else◌, codes}
 use Rattle.std.specs.Fmt.{decimal}
 use Rattle.silt_disk.specs.Header.{is_in_limits}
-use Rattle.silt_disk.specs.Layout.{Shape, device_size}
+use Rattle.silt_disk.specs.Layout.{Shape}
 use Rattle.silt_words.specs.declared.job.PlanRequest.{PlanRequest}
 
 -- the bucket counts of a geometry, the greatest first
@@ -50,13 +50,13 @@ unfoldable pub number_after : List ℕ → ℕ → List ℕ
 number_after word number = word ++ decimal number
 
 -- the six numbers in the order of the command line, and what they cost on disk and in memory
-abbrev pub plan_text : Shape → ℕ → List ℕ
-plan_text s memory =
+abbrev pub plan_text : Shape → ℕ → ℕ → List ℕ
+plan_text s disk memory =
     number_after (codes "") s.value_len
     ++ (number_after (codes " ") s.buckets
     ++ (number_after (codes " ") s.log_capacity
     ++ (number_after (codes " ") s.logs
     ++ (number_after (codes " ") s.hashes
     ++ (number_after (codes " ") s.sorted_capacity
-    ++ (number_after (codes "\ndisk ") (device_size s)
+    ++ (number_after (codes "\ndisk ") disk
     ++ (number_after (codes "\nmemory ") memory ++ codes "\n")))))))

@@ -1,5 +1,5 @@
 -- What the jobs on the files of a set do.
-use Rattle.std.specs.Prelude.{◌≡◌, ◌⊎◌, ◌<◌, ℕ, zero, suc, Bool, true, false, IfOk, List, [], ◌∷◌, ◌++◌, MatchBool, Option, Some, None, Result, Ok, codes, map, slice_get}
+use Rattle.std.specs.Prelude.{◌≡◌, ◌⊎◌, ◌<◌, ◌≤◌, ℕ, zero, suc, Bool, true, false, IfOk, IfSome, List, [], ◌∷◌, ◌++◌, MatchBool, Option, Some, None, Result, Ok, codes, map, slice_get}
 use Rattle.std.specs.Fmt.{decimal}
 use Rattle.std.specs.Io.KnownBytes.{Appends}
 use Rattle.std.specs.List.{AllZip}
@@ -120,15 +120,26 @@ module _ {S D E F N : Type 0} (facts : Ghosts D F) (disks : SourceOf S D E F) (s
       ⊎ ((shard : ℕ) × (made : List D) × (mid : N) × (between : Option (List ℕ)) × MakesShards count set shard old mid made before between
       × EndsAtShard shard mid new ended between after))))
 
-module _ {S D E F : Type 0} (disks : SourceOf S D E F) (source : S) (file : List ℕ) where
+module _ {S D E F : Type 0} (disks : SourceOf S D E F) (source : S) where
+  -- the source opened this disk at this path, to read, shared with other readers, or for this job alone
+  abbrev pub opened_by : Bool → List ℕ → D → Type 0
+  opened_by true = disks.shared source
+  opened_by false = disks.opened source
+
+  -- the source opened no disk at this path so
+  abbrev pub not_opened_by : Bool → List ℕ → E → Type 0
+  not_opened_by true = disks.not_shared source
+  not_opened_by false = disks.not_opened source
+
+module _ {S D E F : Type 0} (disks : SourceOf S D E F) (source : S) (shared : Bool) (file : List ℕ) where
   -- the source opened so many files of a set, and these are their disks
   abbrev pub OpensFiles : ℕ → List D → Type 0
   OpensFiles zero given = given ≡ []
-  OpensFiles (suc shard) given = (front : List D) × (disk : D) × (given ≡ front ++ disk ∷ []) × OpensFiles shard front × disks.opened source (shard_file file shard) disk
+  OpensFiles (suc shard) given = (front : List D) × (disk : D) × (given ≡ front ++ disk ∷ []) × OpensFiles shard front × opened_by disks source shared (shard_file file shard) disk
 
   -- the source opened no file of this shard, and all before it; or memory ran out
   abbrev pub OpensNot : ℕ → Why E F → Type 0
-  OpensNot shard why = ((error : E) × disks.not_opened source (shard_file file shard) error × (why ≡ NoDisk error)) ⊎ (why ≡ Refused OutOfMemory None)
+  OpensNot shard why = ((error : E) × not_opened_by disks source shared (shard_file file shard) error × (why ≡ NoDisk error)) ⊎ (why ≡ Refused OutOfMemory None)
 
 -- a refusal, or else that of other stores
 abbrev pub refusal_or : Option PlainRefusal → Option PlainRefusal → Option PlainRefusal
@@ -158,6 +169,10 @@ OpensSession answers informs contents end value_len old new remaining left befor
 abbrev pub HasFewRegions : {D : Type 0} → Option ℕ → List (CoreState D) → ℕ → Type 0
 HasFewRegions {D} merge_at cores hashes =
     (first : CoreState D) × (slice_get cores 0 ≡ Some first) × (hashes ≡ first.shape.hashes) × IsSomeAnd merge_at (λ least. first.shape.hashes < least)
+
+-- the shards have as many hash regions as the hash stores of which a merge is to begin, if that is said
+abbrev pub HasRegions : {D : Type 0} → Option ℕ → List (CoreState D) → Type 0
+HasRegions merge_at cores = IfSome (slice_get cores 0) (λ first. IfSome merge_at (λ least. least ≤ first.shape.hashes))
 
 module _ {W : Type 0} (contents : W → Option (List ℕ)) (kept_error : W → Option StreamError) (kept_tally : W → Tally) (options : RunOptions) (reading : Option StreamError) where
   -- a session with this end, of values of this length, which left the writer so, and this refusal of background work make this status, and this
@@ -216,5 +231,5 @@ module _ {S D E F W : Type 0} (facts : Ghosts D F) (disks : SourceOf S D E F) (s
   abbrev pub RunsSet : ℕ → Ended E F → Option (List ℕ) → Option (List ℕ) → W → W → Type 0
   RunsSet count ended remaining left before after =
       ((¬ IsShardCount count) × Refuses NoJob ended (contents before) (contents after))
-      ⊎ (((shard : ℕ) × (why : Why E F) × OpensNot disks source file shard why × RefusesAt shard why ended (contents before) (contents after))
-      ⊎ ((given : List D) × IsShardCount count × OpensFiles disks source file count given × RunsDisks facts contents kept_error kept_tally options reading given ended remaining left before after))
+      ⊎ (((shard : ℕ) × (why : Why E F) × OpensNot disks source false file shard why × RefusesAt shard why ended (contents before) (contents after))
+      ⊎ ((given : List D) × IsShardCount count × OpensFiles disks source false file count given × RunsDisks facts contents kept_error kept_tally options reading given ended remaining left before after))

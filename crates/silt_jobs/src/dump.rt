@@ -5,8 +5,9 @@ ghost use Rattle.std.specs.Io.KnownBytes.{Appends};
 ghost use Rattle.silt_frame.specs.Rows.{key_cmp};
 ghost use Rattle.silt_jobs.specs.Dump.{Dumps, DumpsFile, entry_lines, put_line};
 
-use crate::ended::{Ended, Why};
+use crate::ended::Ended;
 use crate::jobs::refuse_disk;
+use crate::not_opened::given_disk;
 use silt_device::DiskSource;
 use silt_disk::Disk;
 use silt_store_set::{Key, Refusal, Value, read_entries};
@@ -98,11 +99,11 @@ pub fn dump_file<S: DiskSource, W: Write>(
 ) -> (Option<S::Disk>, Ended<S::Error, <S::Disk as Disk>::Fault>)
     ensures { DumpsFile S.Disk.Disk (S.shared source path.now) (S.not_shared source path.now) result.0 result.1 (W.contents writer.old) (W.contents writer.new) }
 {
-    match source.open_shared(path) {
+    match given_disk(source.open_shared(path)) {
         Ok(disk) => {
             let ended = dump_on(alloc, &disk, writer);
             (Some(disk), ended)
         }
-        Err(error) => (None, Ended::refuse(alloc, Why::NoDisk(error), writer)),
+        Err(unopened) => unopened.refuse(alloc, writer),
     }
 }

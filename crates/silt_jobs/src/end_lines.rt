@@ -1,9 +1,9 @@
 // How a job ended, as lines for people.
-use crate::ended::{Ended, Found, Session, Why};
+use crate::ended::{Ended, Ends, Found, Session, Why};
 use crate::geometry::{NumbersText, out_of_limits};
 use crate::held_data::{HeldStore, Holding};
 use crate::input_lines::InputLines;
-use crate::plan::obstacle_of;
+use crate::plan::{obstacle_of, set_obstacle_of};
 use crate::plan_cost::PlanCost;
 use crate::streams::StreamError;
 use crate::tally::{KINDS, Refusals};
@@ -47,6 +47,14 @@ impl<'a> FileName<'a> {
         };
         FileName { name, shard }
     }
+
+    // The name of the file of this shard, if there is one, and else this one.
+    fn or(self, shard: Option<u32>) -> FileName<'a> {
+        FileName {
+            name: self.name,
+            shard: shard.or(self.shard),
+        }
+    }
 }
 
 impl fmt::Display for FileName<'_> {
@@ -59,9 +67,30 @@ impl fmt::Display for FileName<'_> {
     }
 }
 
-/// Prints how a job ended: `silt: `, the subject, and the words of the system. A line that cannot be written is left out.
-pub fn print_ended<E: Display + Drop, F: Display + Drop, W: Write>(
+/// Prints how a job ended, first on each file of its set, if it has such ends: `silt: `, the subject, and the words of the
+/// system. A line that cannot be written is left out.
+pub fn print_ends<E: Display + Drop, F: Display + Drop, W: Write>(
     subject: &Subject<'_>,
+    ends: &Ends<E, F>,
+    out: &mut W,
+) {
+    let mut shard = 0_u32;
+    for part in ends.parts.iter() {
+        let file = FileName {
+            name: subject.file,
+            shard: Some(shard),
+        };
+        print_ended(subject, file, part, out);
+        shard = shard.saturating_add(1);
+    }
+    let file = FileName::of(subject.file, &ends.whole.found);
+    print_ended(subject, file, &ends.whole, out);
+}
+
+// Prints how a job ended on a file of this name.
+fn print_ended<E: Display + Drop, F: Display + Drop, W: Write>(
+    subject: &Subject<'_>,
+    file: FileName<'_>,
     ended: &Ended<E, F>,
     out: &mut W,
 ) {
@@ -70,22 +99,18 @@ pub fn print_ended<E: Display + Drop, F: Display + Drop, W: Write>(
         None => {}
         Some(Why::NoJob) => print_words(subject.words, out),
         // The writer's error says enough of a plan that could not be written.
-        Some(Why::NoPlan(_)) if !is_printed => {}
-        Some(why) => print_why(FileName::of(subject.file, &ended.found), why, out),
+        Some(Why::NoPlan(_) | Why::NoSetPlan(..)) if !is_printed => {}
+        Some(why) => print_why(file, why, out),
     }
     match &ended.found {
         Some(Found::Session(session)) => print_session(session, subject.lines, out),
-        Some(Found::Store(store)) if is_printed => print_store(subject.file, store, out),
+        Some(Found::Store(store)) if is_printed => print_store(file, store, out),
         Some(Found::Cost(cost)) if is_printed => print_cost(cost, out),
         _ => {}
     }
     for failure in [ended.failures.read, ended.failures.last] {
         if let Some(failure) = failure {
-            let file = FileName {
-                name: subject.file,
-                shard: ended.failures.shard,
-            };
-            print_of_name(file, &failure, out);
+            print_of_name(file.or(ended.failures.shard), &failure, out);
         }
     }
     if let Err(error) = ended.status {
@@ -153,6 +178,9 @@ fn write_unfit<E, F, W: Write>(file: FileName<'_>, why: &Why<E, F>, out: &mut W)
             None => Ok(()),
         },
         Why::NoPlan(request) => writeln!(out, "silt: {}", obstacle_of(request)),
+        Why::NoSetPlan(shards, request) => {
+            writeln!(out, "silt: {}", set_obstacle_of(*shards, request))
+        }
         Why::NotListening(socket, StreamError { error }) => {
             writeln!(out, "silt: {socket}: {error}")
         }
@@ -205,7 +233,7 @@ fn print_holding<W: Write>(file: FileName<'_>, holding: &Holding, out: &mut W) {
 }
 
 // Prints the six numbers of a checked store and its charge, if the numbers could be read again.
-fn print_store<W: Write>(file: &str, store: &HeldStore, out: &mut W) {
+fn print_store<W: Write>(file: FileName<'_>, store: &HeldStore, out: &mut W) {
     if let (Some(geometry), Some(charge)) = (store.geometry, store.charge) {
         let most = geometry.sorted_capacity();
         let numbers = NumbersText::of(&geometry);

@@ -1,8 +1,7 @@
 // How a job ended, as a value that one function prints for people.
-ghost use Rattle.std.specs.Prelude.{◌≡◌, ◌⊎◌, IfOk, None, Some};
+ghost use Rattle.std.specs.Prelude.{◌≡◌, ◌⊎◌, IfOk, None, Some, is_err};
 ghost use Rattle.std.specs.Io.KnownBytes.{Appends};
-ghost use Rattle.std.specs.Result.{result_unwrap_or};
-ghost use Rattle.silt_jobs.specs.Ended.{Refuses, none_failed, why_line, why_status};
+ghost use Rattle.silt_jobs.specs.Ended.{EndsWhole, Refuses, exit_status, none_failed, why_line, why_status};
 
 use crate::failures::Failures;
 use crate::held_data::{HeldStore, Holding};
@@ -38,6 +37,8 @@ pub enum Why<E, F> {
     OutOfLimits(Numbers),
     /// No store has room for what is planned.
     NoPlan(PlanRequest),
+    /// No set of so many shards has room for what is planned.
+    NoSetPlan(u32, PlanRequest),
     /// The listener on this socket failed.
     NotListening(SocketAddr, StreamError),
     /// The system gave no random bytes to name a set.
@@ -113,9 +114,37 @@ impl<E: Drop, F: Drop> Ended<E, F> {
 
     /// The status that the program ends with: 1 if the job's reader or writer failed.
     pub fn exit_status(&self) -> u8
-        ensures { result ≡ result_unwrap_or self.now.status 1 }
+        ensures { result ≡ exit_status self.now }
     {
         self.status.unwrap_or(1)
+    }
+
+    /// Whether the job's reader or writer failed.
+    pub fn is_broken(&self) -> bool
+        ensures { result ≡ is_err self.now.status }
+    {
+        self.status.is_err()
+    }
+}
+
+/// How a job on one file or on a set of files ended.
+#[derive(Drop)]
+pub struct Ends<E, F> {
+    /// How it ended on each file of the set, in their order, if it has such an end for each.
+    pub parts: Vec<Ended<E, F>>,
+    /// How all of it ended.
+    pub whole: Ended<E, F>,
+}
+
+impl<E: Drop, F: Drop> Ends<E, F> {
+    /// A job that has no end for each file.
+    pub fn of(alloc: Global, whole: Ended<E, F>) -> Self
+        ensures { EndsWhole whole result }
+    {
+        Ends {
+            parts: Vec::new(alloc),
+            whole,
+        }
     }
 }
 
@@ -131,7 +160,7 @@ fn write_why<E, F: Drop, W: Write>(alloc: Global, why: &Why<E, F>, writer: &mut 
         Why::FewRegions(_) | Why::ShortValues | Why::OutOfLimits(_) | Why::NotDue(_) => {
             write_line(b"refused 2 BadGeometry\n", 1, writer)
         }
-        Why::NoPlan(_) => write_line(b"no plan\n", 1, writer),
+        Why::NoPlan(_) | Why::NoSetPlan(..) => write_line(b"no plan\n", 1, writer),
         Why::NotListening(..) => write_line(b"network fault\n", 1, writer),
         Why::NoJob => write_line(b"usage\n", 2, writer),
     }

@@ -37,7 +37,7 @@ pub trait Watched: Disk {
         ensures { kept_read self.now result };
 
     /// From now on the first failed write or sync is reported at once.
-    fn report_at_once(&mut self)
+    fn report_at_once(&mut self, shard: Option<u32>)
         ensures disk { Self.content self.new ≡ Self.content self.old }
         ensures last { last_failure self.new ≡ last_failure self.old };
 }

@@ -56,10 +56,23 @@ pub fn format_file<S: DiskSource, W: Write, T: Tells>(
             Ended::refuse(alloc, Why::OutOfLimits(asked.numbers), writer),
         );
     };
-    match source.find(asked.file) {
-        Ok(disk) => format_found(alloc, source, disk, geometry, asked, writer, people),
-        Err(error) => (None, Ended::refuse(alloc, Why::NoDisk(error), writer)),
+    let made = MadeFile {
+        file: asked.file,
+        geometry,
+        options: asked.options,
+    };
+    match given_disk(source.find(asked.file)) {
+        Ok(disk) => format_found(alloc, source, disk, &made, writer, people),
+        Err(unopened) => unopened.refuse(alloc, writer),
     }
+}
+
+// A file that is to be a store of this geometry, and how it is made.
+#[derive(Clone, Copy)]
+struct MadeFile<'a> {
+    file: &'a str,
+    geometry: Geometry,
+    options: FormatOptions,
 }
 
 // Formats a disk that was found, if its data may be overwritten.
@@ -67,18 +80,17 @@ fn format_found<S: DiskSource, W: Write, T: Tells>(
     alloc: Global,
     source: S,
     disk: S::Disk,
-    geometry: Geometry,
-    asked: &NewStore<'_>,
+    made: &MadeFile<'_>,
     writer: &mut W,
     people: &mut T,
 ) -> (Option<S::Disk>, Ended<S::Error, <S::Disk as Disk>::Fault>)
-    ensures { FormatsFound S.Disk.Disk (sized_by asked.now.options.sparse S.resized S.filled) (sized_by asked.now.options.sparse S.not_resized S.not_filled)
-        (T.told people.old people.new asked.now.file.now) (people.new ≡ people.old) geometry asked.now.options.force disk result.0 result.1 (W.contents writer.old) (W.contents writer.new) }
+    ensures { FormatsFound S.Disk.Disk (sized_by made.now.options.sparse S.resized S.filled) (sized_by made.now.options.sparse S.not_resized S.not_filled)
+        (T.told people.old people.new made.now.file.now) (people.new ≡ people.old) made.now.geometry made.now.options.force disk result.0 result.1 (W.contents writer.old) (W.contents writer.new) }
 {
-    match may_overwrite(alloc, &disk, asked.options.force) {
+    match may_overwrite(alloc, &disk, made.options.force) {
         Ok(store) => {
-            tell_store(asked.file, store, people);
-            format_sized(alloc, source, disk, geometry, asked, writer)
+            tell_store(made.file, store, people);
+            format_sized(alloc, source, disk, made, writer)
         }
         Err(why) => (Some(disk), Ended::refuse(alloc, why, writer)),
     }
@@ -100,16 +112,16 @@ fn size_disk<S: DiskSource>(
     source: S,
     disk: S::Disk,
     len: u64,
-    asked: &NewStore<'_>,
+    made: &MadeFile<'_>,
 ) -> Result<S::Disk, S::Error>
-    ensures sized { IfOk result (sized_by asked.now.options.sparse S.resized S.filled disk len) }
+    ensures sized { IfOk result (sized_by made.now.options.sparse S.resized S.filled disk len) }
     ensures size { IfOk result (λ new. size (S.Disk.Disk.content new) ≡ len) }
-    ensures not_sized { IfErr result (sized_by asked.now.options.sparse S.not_resized S.not_filled disk len) }
+    ensures not_sized { IfErr result (sized_by made.now.options.sparse S.not_resized S.not_filled disk len) }
 {
-    if asked.options.sparse {
+    if made.options.sparse {
         S::resize(alloc, disk, len)
     } else {
-        source.fill(asked.file, disk, len)
+        source.fill(made.file, disk, len)
     }
 }
 
@@ -118,16 +130,15 @@ fn format_sized<S: DiskSource, W: Write>(
     alloc: Global,
     source: S,
     disk: S::Disk,
-    geometry: Geometry,
-    asked: &NewStore<'_>,
+    made: &MadeFile<'_>,
     writer: &mut W,
 ) -> (Option<S::Disk>, Ended<S::Error, <S::Disk as Disk>::Fault>)
-    ensures { FormatsSized S.Disk.Disk (sized_by asked.now.options.sparse S.resized S.filled) (sized_by asked.now.options.sparse S.not_resized S.not_filled)
-        geometry disk result.0 result.1 (W.contents writer.old) (W.contents writer.new) }
+    ensures { FormatsSized S.Disk.Disk (sized_by made.now.options.sparse S.resized S.filled) (sized_by made.now.options.sparse S.not_resized S.not_filled)
+        made.now.geometry disk result.0 result.1 (W.contents writer.old) (W.contents writer.new) }
 {
-    match size_disk(alloc, source, disk, geometry.size(), asked) {
+    match size_disk(alloc, source, disk, made.geometry.size(), made) {
         Ok(disk) => {
-            let (disk, ended) = format_unmarked(alloc, disk, geometry, writer);
+            let (disk, ended) = format_unmarked(alloc, disk, made.geometry, writer);
             (Some(disk), ended)
         }
         Err(error) => (None, Ended::refuse(alloc, Why::NoDisk(error), writer)),
@@ -216,8 +227,8 @@ where
     }
 }
 
-// Does all background work of the store on a disk, as `tend_file` does. It may be a shard of a set.
-fn tend_on<E: Drop, D: Watched, W: Write>(
+/// Does all background work of the store on a disk, as [`tend_file`] does. It may be a shard of a set.
+pub(crate) fn tend_on<E: Drop, D: Watched, W: Write>(
     alloc: Global,
     disk: D,
     merge_at: Option<u32>,
@@ -245,11 +256,11 @@ pub fn check_file<S: DiskSource, W: Write>(
 ) -> (Option<S::Disk>, Ended<S::Error, <S::Disk as Disk>::Fault>)
     ensures { ChecksFile S.Disk.Disk (S.shared source path.now) (S.not_shared source path.now) result.0 result.1 (W.contents writer.old) (W.contents writer.new) }
 {
-    match source.open_shared(path) {
+    match given_disk(source.open_shared(path)) {
         Ok(disk) => {
             let ended = check_on(alloc, &disk, writer);
             (Some(disk), ended)
         }
-        Err(error) => (None, Ended::refuse(alloc, Why::NoDisk(error), writer)),
+        Err(unopened) => unopened.refuse(alloc, writer),
     }
 }

@@ -2,13 +2,14 @@
 ghost use Rattle.std.specs.Prelude.{◌≡◌, ◌≤◌, ◌+◌, ◌*◌, if◌then◌else◌, Some, None, IfOk, string_bytes};
 ghost use Rattle.std.specs.Io.KnownBytes.{Appends};
 ghost use Rattle.std.specs.Option.{option_map};
-ghost use Rattle.silt_jobs.specs.PlanCosts.{Plans};
-ghost use Rattle.silt_jobs.specs.Plans.{bucket_counts, first_planned, fits_memory, is_needed, is_possible, memory_of, memory_planned, number_after, plan_text, shape_planned};
+ghost use Rattle.silt_jobs.specs.PlanCosts.{Plans, store_text};
+ghost use Rattle.silt_jobs.specs.Plans.{bucket_counts, first_planned, fits_memory, is_needed, is_possible, memory_of, number_after, plan_text, shape_planned};
 
 use crate::ended::{Ended, Found, Why};
 use crate::failures::Failures;
 use crate::output::write_out;
 use crate::plan_cost::cost_of;
+use crate::set_plan::{least_shards, share_of};
 use silt_disk::Geometry;
 use silt_words::PlanRequest;
 use std::alloc::{AllocError, Global};
@@ -20,8 +21,8 @@ pub(crate) const BUCKET_COUNTS: [u32; 15] = [
     32_768, 16_384, 8192, 4096, 2048, 1024, 512, 256, 128, 64, 32, 16, 8, 4, 2,
 ];
 
-// The most keys of a plan: with two buckets and eleven regions of seven rows, the sum is the greatest S.
-const MOST_KEYS: u32 = 16_777_216 - 77;
+/// The most keys of a plan: with two buckets and eleven regions of seven rows, the sum is the greatest S.
+pub(crate) const MOST_KEYS: u32 = 16_777_216 - 77;
 
 /// Writes the six numbers of a store for this many keys, and what it costs on disk and in memory. It has as many
 /// buckets as four logs need for a ninth of the keys, or fewer if the numbers or the memory are limited. The status is 1 if
@@ -37,7 +38,7 @@ pub fn write_plan<E: Drop, F: Drop, W: Write>(
         Some(geometry) => {
             let cost = cost_of(request.keys, geometry.buckets());
             Ended {
-                status: write_planned(alloc, request, &geometry, writer),
+                status: write_planned(alloc, request.keys, &geometry, writer),
                 why: None,
                 found: Some(Found::Cost(cost)),
                 failures: Failures::none(),
@@ -47,17 +48,30 @@ pub fn write_plan<E: Drop, F: Drop, W: Write>(
     }
 }
 
-// Writes the numbers of this store and what it costs, and returns the status.
+// Writes the numbers of this store for so many keys and what it costs, and returns the status.
 fn write_planned<W: Write>(
     alloc: Global,
-    request: &PlanRequest,
+    keys: u32,
     geometry: &Geometry,
     writer: &mut W,
 ) -> io::Result<u8>
-    ensures { IfOk result (λ status. (status ≡ 0) × Appends (W.contents writer.old) (W.contents writer.new) (plan_text geometry.now (memory_planned request.now geometry.now.buckets))) }
+    ensures { IfOk result (λ status. (status ≡ 0) × Appends (W.contents writer.old) (W.contents writer.new) (store_text geometry.now (memory_of keys geometry.now.buckets))) }
 {
-    let memory = memory_planned(request.keys, geometry.buckets());
-    let text = print_plan(alloc, geometry, memory)?;
+    let memory = memory_planned(keys, geometry.buckets());
+    write_numbers(alloc, geometry, geometry.size(), memory, writer)
+}
+
+/// Writes the six numbers of a geometry, and so many bytes on disk and in memory. Returns the status.
+pub(crate) fn write_numbers<W: Write>(
+    alloc: Global,
+    geometry: &Geometry,
+    disk: u64,
+    memory: u64,
+    writer: &mut W,
+) -> io::Result<u8>
+    ensures { IfOk result (λ status. (status ≡ 0) × Appends (W.contents writer.old) (W.contents writer.new) (plan_text geometry.now disk memory)) }
+{
+    let text = print_plan(alloc, geometry, disk, memory)?;
     write_out(text.as_bytes(), writer)?;
     Ok(0)
 }
@@ -67,8 +81,14 @@ fn write_planned<W: Write>(
 pub enum Obstacle {
     /// A value has this many bytes.
     ValueLen(u32),
-    /// There are this many keys.
-    Keys(u32),
+    /// There are this many keys. A set of so many shards has room for them.
+    Keys(u32, Option<u32>),
+    /// There are this many keys in each of so many shards. A set of so many has room for them.
+    Shares {
+        shards: u32,
+        share: u32,
+        enough: Option<u32>,
+    },
     /// The least store for this many keys needs this many bytes of memory.
     Memory(u32, u64),
 }
@@ -77,11 +97,33 @@ impl fmt::Display for Obstacle {
     fn fmt<W: fmt::Write>(&self, f: &mut fmt::Formatter<W>) -> fmt::Result {
         match *self {
             Obstacle::ValueLen(len) => write!(f, "V is {len}, and may be 1 to 4096"),
-            Obstacle::Keys(keys) => write!(f, "KEYS is {keys}, and may be 0 to {MOST_KEYS}"),
+            Obstacle::Keys(keys, enough) => {
+                write!(f, "KEYS is {keys}, and may be 0 to {MOST_KEYS}")?;
+                write_enough(enough, f)
+            }
+            Obstacle::Shares {
+                shards,
+                share,
+                enough,
+            } => {
+                write!(
+                    f,
+                    "each of {shards} shards is for {share} keys, and may be for {MOST_KEYS}"
+                )?;
+                write_enough(enough, f)
+            }
             Obstacle::Memory(keys, bytes) => {
                 write!(f, "{keys} keys need {bytes} bytes of memory or more")
             }
         }
+    }
+}
+
+// Writes with how many shards there is room, if there is.
+fn write_enough<W: fmt::Write>(enough: Option<u32>, f: &mut fmt::Formatter<W>) -> fmt::Result {
+    match enough {
+        Some(shards) => write!(f, "; --shards {shards} has room for them"),
+        None => Ok(()),
     }
 }
 
@@ -90,14 +132,14 @@ pub(crate) fn obstacle_of(request: &PlanRequest) -> Obstacle {
     if request.value_len < 1 || request.value_len > 4096 {
         Obstacle::ValueLen(request.value_len)
     } else if request.keys > MOST_KEYS {
-        Obstacle::Keys(request.keys)
+        Obstacle::Keys(request.keys, least_shards(request.keys))
     } else {
         Obstacle::Memory(request.keys, memory_planned(request.keys, 2))
     }
 }
 
-// The geometry of the most buckets that can be planned.
-fn plan(request: &PlanRequest) -> Option<Geometry>
+/// The geometry of the most buckets that can be planned.
+pub(crate) fn plan(request: &PlanRequest) -> Option<Geometry>
     ensures { result ≡ option_map (shape_planned request.now) (first_planned request.now bucket_counts) }
 {
     for buckets in BUCKET_COUNTS {
@@ -117,6 +159,24 @@ fn is_needed(request: &PlanRequest, buckets: u32) -> bool
     ensures { result ≡ is_needed request.now buckets }
 {
     buckets == 2 || 63 * buckets < request.keys
+}
+
+/// What no set of so many shards has room for, if there is no plan: the length of a value, else the keys of each shard, else
+/// the memory of all.
+pub(crate) fn set_obstacle_of(shards: u32, request: &PlanRequest) -> Obstacle {
+    if shards < 2 || request.value_len < 1 || request.value_len > 4096 {
+        return Obstacle::ValueLen(request.value_len);
+    }
+    let share = share_of(shards, request.keys);
+    if share > MOST_KEYS {
+        return Obstacle::Shares {
+            shards,
+            share,
+            enough: least_shards(request.keys),
+        };
+    }
+    let memory = memory_planned(share, 2).saturating_mul(u64::from(shards));
+    Obstacle::Memory(request.keys, memory)
 }
 
 // The geometry of this many buckets, if its numbers are in their limits and it fits the memory.
@@ -157,9 +217,14 @@ fn number_after(alloc: Global, word: &str, number: u64) -> Result<String, AllocE
     format!(in alloc; "{word}{number}")
 }
 
-// The six numbers of a geometry, its length and what it takes in memory.
-fn print_plan(alloc: Global, geometry: &Geometry, memory: u64) -> Result<String, AllocError>
-    ensures { IfOk result (λ text. string_bytes text ≡ plan_text geometry.now memory) }
+// The six numbers of a geometry, and so many bytes on disk and in memory.
+fn print_plan(
+    alloc: Global,
+    geometry: &Geometry,
+    disk: u64,
+    memory: u64,
+) -> Result<String, AllocError>
+    ensures { IfOk result (λ text. string_bytes text ≡ plan_text geometry.now disk memory) }
 {
     let value_len = number_after(alloc, "", u64::from(geometry.value_len()))?;
     let buckets = number_after(alloc, " ", u64::from(geometry.buckets()))?;
@@ -167,7 +232,7 @@ fn print_plan(alloc: Global, geometry: &Geometry, memory: u64) -> Result<String,
     let logs = number_after(alloc, " ", u64::from(geometry.logs()))?;
     let hashes = number_after(alloc, " ", u64::from(geometry.hashes()))?;
     let most = number_after(alloc, " ", u64::from(geometry.sorted_capacity()))?;
-    let disk = number_after(alloc, "\ndisk ", geometry.size())?;
+    let disk = number_after(alloc, "\ndisk ", disk)?;
     let memory = number_after(alloc, "\nmemory ", memory)?;
     format!(in alloc; "{value_len}{buckets}{rows}{logs}{hashes}{most}{disk}{memory}\n")
 }

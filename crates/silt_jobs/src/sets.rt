@@ -1,13 +1,13 @@
 // The jobs on the files of a set, each of which is a shard of one store.
-ghost use Rattle.std.specs.Prelude.{◌≡◌, ◌<◌, IfErr, IfOk, IfSome, IsTrue, Ok, Some, string_bytes, vec_len};
+ghost use Rattle.std.specs.Prelude.{◌≡◌, ◌<◌, IfErr, IfOk, IfSome, IsTrue, None, Ok, Some, string_bytes, vec_len};
 ghost use Rattle.std.specs.Io.KnownBytes.{Appends};
 ghost use Rattle.silt_shards.specs.Opening.{AreOfOneShape};
 ghost use Rattle.silt_shards.specs.Routing.{IsShardCount, is_shard_count};
 ghost use Rattle.silt_shards.specs.Sets.{AreAlike, SetDoes, value_len_of};
 ghost use Rattle.silt_wire.specs.Sessions.{Ends};
 ghost use Rattle.silt_jobs.specs.SetFiles.{AnswersCores, AnswersTended, EndsAtShard, EndsSession, EndsUnformatted, FormatsSet};
-ghost use Rattle.silt_jobs.specs.SetFiles.{HasFewRegions, HasFormatted, MakesShard, OpensFiles, OpensNot, OpensSession, RefusesAt};
-ghost use Rattle.silt_jobs.specs.SetFiles.{RunsCores, RunsDisks, RunsSet, at_shard, first_refusal, is_done_so, set_value_len, shard_file, tending_each};
+ghost use Rattle.silt_jobs.specs.SetFiles.{HasFewRegions, HasFormatted, HasRegions, MakesShard, OpensFiles, OpensNot, OpensSession, RefusesAt};
+ghost use Rattle.silt_jobs.specs.SetFiles.{RunsCores, RunsDisks, RunsSet, at_shard, first_refusal, is_done_so, opened_by, set_value_len, shard_file, tending_each};
 
 use crate::background_work::{Tended, Tending};
 use crate::ended::{Ended, Found, Session, Why};
@@ -46,22 +46,26 @@ pub struct NewSet<'a> {
     pub set: [u8; 16],
 }
 
-// The name of the file of a shard.
-fn shard_path(alloc: Global, name: &str, shard: u32) -> Result<String, AllocError>
+/// The name of the file of a shard.
+///
+/// # Errors
+///
+/// Out of memory for it.
+pub fn shard_path(alloc: Global, name: &str, shard: u32) -> Result<String, AllocError>
     ensures { IfOk result (λ path. string_bytes path ≡ shard_file name.now shard) }
 {
     format!(in alloc; "{name}.{shard}")
 }
 
-// Whether a set has so many shards.
-fn is_set(shards: u32) -> bool
+/// Whether a set has so many shards.
+pub fn is_set(shards: u32) -> bool
     ensures { result ≡ is_shard_count shards }
 {
     shards >= LEAST_SHARDS && shards <= MOST_SHARDS
 }
 
-// The same end, because of the file of this shard.
-fn at_shard<E, F>(shard: u32, ended: Ended<E, F>) -> Ended<E, F>
+/// The same end, because of the file of this shard.
+pub fn at_shard<E, F>(shard: u32, ended: Ended<E, F>) -> Ended<E, F>
     ensures { result ≡ at_shard shard ended }
 {
     let Ended {
@@ -78,8 +82,8 @@ fn at_shard<E, F>(shard: u32, ended: Ended<E, F>) -> Ended<E, F>
     }
 }
 
-// Refuses a job for this reason, because of the file of this shard.
-fn refuse_at<E: Drop, F: Drop, W: Write>(
+/// Refuses a job for this reason, because of the file of this shard.
+pub fn refuse_at<E: Drop, F: Drop, W: Write>(
     alloc: Global,
     shard: u32,
     why: Why<E, F>,
@@ -181,7 +185,7 @@ fn format_shard<S: DiskSources, W: Write, T: Tells>(
 }
 
 // Whether a job was done, and its line was written.
-fn is_done<E, F>(ended: &Ended<E, F>) -> bool
+pub(crate) fn is_done<E, F>(ended: &Ended<E, F>) -> bool
     ensures { result ≡ is_done_so ended.now }
 {
     match (&ended.why, &ended.status) {
@@ -213,27 +217,33 @@ where
     if !is_set(files.shards) {
         return Ended::refuse(alloc, Why::NoJob, writer);
     }
-    match open_files(alloc, source, files) {
+    match open_files(alloc, source, files, false) {
         Ok(disks) => run_disks(alloc, disks, options, reader, writer),
         Err((shard, why)) => refuse_at(alloc, shard, why, writer),
     }
 }
 
-// Opens the disk of each file of a set. The error has the number of the shard of which there is none.
-fn open_files<S: DiskSources>(
+/// Opens the disk of each file of a set, shared with other readers or not. The error has the number of the shard of which there
+/// is none.
+///
+/// # Errors
+///
+/// The first shard of which no disk is opened, and why; and out of memory.
+pub fn open_files<S: DiskSources>(
     alloc: Global,
     source: S,
     files: &SetFiles<'_>,
+    shared: bool,
 ) -> Result<Vec<S::Disk>, (u32, Why<S::Error, <S::Disk as Disk>::Fault>)>
     ensures count { IfOk result (λ disks. vec_len disks ≡ files.now.shards) }
-    ensures opened { IfOk result (λ disks. OpensFiles S.DiskSource source files.now.name.now files.now.shards disks.items) }
-    ensures not { IfErr result (λ fault. OpensNot S.DiskSource source files.now.name.now fault.0 fault.1) }
+    ensures opened { IfOk result (λ disks. OpensFiles S.DiskSource source shared files.now.name.now files.now.shards disks.items) }
+    ensures not { IfErr result (λ fault. OpensNot S.DiskSource source shared files.now.name.now fault.0 fault.1) }
 {
     let Ok(mut disks) = Vec::with_capacity(alloc, files.shards as usize) else {
         return Err((0, Why::Refused(Refusal::NoMemory, None)));
     };
     for shard in 0..files.shards {
-        match open_file(alloc, source.another(), files.name, shard) {
+        match open_file(alloc, source.another(), files.name, shard, shared) {
             Ok(disk) => disks.push_reserved(disk),
             Err(why) => return Err((shard, why)),
         }
@@ -247,14 +257,20 @@ fn open_file<S: DiskSources>(
     source: S,
     name: &str,
     shard: u32,
+    shared: bool,
 ) -> Result<S::Disk, Why<S::Error, <S::Disk as Disk>::Fault>>
-    ensures opened { IfOk result (S.opened source (shard_file name.now shard)) }
-    ensures not { IfErr result (OpensNot S.DiskSource source name.now shard) }
+    ensures opened { IfOk result (opened_by S.DiskSource source shared (shard_file name.now shard)) }
+    ensures not { IfErr result (OpensNot S.DiskSource source shared name.now shard) }
 {
     let Ok(path) = shard_path(alloc, name, shard) else {
         return Err(Why::Refused(Refusal::NoMemory, None));
     };
-    match source.open(path.as_str()) {
+    let opened = if shared {
+        source.open_shared(path.as_str())
+    } else {
+        source.open(path.as_str())
+    };
+    match opened {
         Ok(disk) => Ok(disk),
         Err(error) => Err(Why::NoDisk(error)),
     }
@@ -310,9 +326,10 @@ fn run_cores<
     }
 }
 
-// The number of hash regions of these stores, if that is less than the number of hash stores of which a merge is to begin.
-fn few_regions<D: Disk>(cores: &[Core<D>], merge_at: Option<u32>) -> Option<u32>
-    ensures { IfSome result (HasFewRegions merge_at cores.now) }
+/// The number of hash regions of these stores, if that is less than the number of hash stores of which a merge is to begin.
+pub fn few_regions<D: Disk>(cores: &[Core<D>], merge_at: Option<u32>) -> Option<u32>
+    ensures few { IfSome result (HasFewRegions merge_at cores.now) }
+    ensures enough { result ≡ None → HasRegions merge_at cores.now }
 {
     let core = cores.first()?;
     if has_few_regions(core, merge_at) {
@@ -321,8 +338,8 @@ fn few_regions<D: Disk>(cores: &[Core<D>], merge_at: Option<u32>) -> Option<u32>
     None
 }
 
-// The length of the values of these stores.
-fn value_len_of<D: Disk>(cores: &[Core<D>]) -> u32
+/// The length of the values of these stores.
+pub fn value_len_of<D: Disk>(cores: &[Core<D>]) -> u32
     ensures { result ≡ set_value_len cores.now }
 {
     match cores.first() {

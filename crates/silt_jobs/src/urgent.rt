@@ -17,8 +17,8 @@ use std::net::SocketAddr;
 pub enum Urgent {
     /// This store is overwritten.
     Overwrites(HeldStore),
-    /// This call failed, and with it the store.
-    FailedStore(Failure),
+    /// This call failed, and with it the store, or the store of the shard of this number.
+    FailedStore(Failure, Option<u32>),
     /// The file gives the server no password.
     NoPassword(StreamError),
     /// The text that the server is to listen on is no IP address.
@@ -63,9 +63,13 @@ fn write_urgent<W: Write>(file: &str, urgent: &Urgent, out: &mut W) -> io::Resul
         Urgent::Overwrites(store) => {
             writeln!(out, "silt: {file} holds a store{store}; it is overwritten")
         }
-        Urgent::FailedStore(failure) => writeln!(
+        Urgent::FailedStore(failure, None) => writeln!(
             out,
             "silt: {failure}; the store takes nothing more until it is opened again"
+        ),
+        Urgent::FailedStore(failure, Some(shard)) => writeln!(
+            out,
+            "silt: shard {shard}: {failure}; it takes nothing more until it is opened again"
         ),
         Urgent::NoPassword(StreamError { error }) => writeln!(out, "silt: {file}: {error}"),
         Urgent::NoAddress => writeln!(out, "silt: {file}: it is no IP address"),

@@ -27,6 +27,7 @@ pub struct WatchedFile<'a> {
     last: Option<Failure>,
     errors: Stderr,
     reports_at_once: bool,
+    shard: Option<u32>,
     progress: &'a Progress,
 }
 
@@ -113,7 +114,8 @@ impl WatchedFile<'_> {
         let failure = failure_of(&fault);
         if self.reports_at_once && self.last.is_none() {
             self.progress.end();
-            self.errors.tell("", &Urgent::FailedStore(failure));
+            self.errors
+                .tell("", &Urgent::FailedStore(failure, self.shard));
         }
         self.last = Some(failure);
         fault
@@ -145,8 +147,9 @@ impl Watched for WatchedFile<'_> {
         self.first_read.get().copied()
     }
 
-    fn report_at_once(&mut self) {
+    fn report_at_once(&mut self, shard: Option<u32>) {
         self.reports_at_once = true;
+        self.shard = shard;
     }
 }
 
@@ -198,6 +201,7 @@ fn watched(disk: FileDisk, errors: Stderr, progress: &Progress) -> WatchedFile<'
         last: None,
         errors,
         reports_at_once: false,
+        shard: None,
         progress,
     }
 }

@@ -7,11 +7,12 @@ use Rattle.clap.specs.declared.builder.Command.{Command}
 use Rattle.clap.specs.declared.builder.ArgAction.TheVariants.{Set, SetTrue}
 use Rattle.silt_wire.specs.Numbers.{number_of}
 use Rattle.silt_words.specs.Addresses.{is_address, is_loopback}
-use Rattle.silt_words.specs.Jobs.{Named, NamedAccess, NamedService, format, format_set, script, run, run_set, tend, check, dump, plan, serve}
+use Rattle.silt_words.specs.Jobs.{Named, NamedAccess, NamedService, format, script, run, tend, check, dump, on_set, plan, plan_set, serve}
 use Rattle.silt_words.specs.declared.job.FormatOptions.{FormatOptions}
 use Rattle.silt_words.specs.declared.job.Numbers.{Numbers}
 use Rattle.silt_words.specs.declared.job.PlanRequest.{PlanRequest}
 use Rattle.silt_words.specs.declared.job.RunOptions.{RunOptions}
+use Rattle.silt_words.specs.declared.job.SetWork.TheVariants.{Format, Run, Tend, Check, Dump}
 
 -- a value that has to be given
 abbrev pub value_rule : Text → Rule
@@ -53,22 +54,22 @@ abbrev pub run_app : App
 run_app = with_option (with_option (with_flag (with_flag (with_file (new_app (codes "run"))) (codes "tend")) (codes "strict")) (codes "merge-at")) (codes "shards")
 
 abbrev pub tend_app : App
-tend_app = with_option (with_file (new_app (codes "tend"))) (codes "merge-at")
+tend_app = with_option (with_option (with_file (new_app (codes "tend"))) (codes "merge-at")) (codes "shards")
 
 abbrev pub check_app : App
-check_app = with_file (new_app (codes "check"))
+check_app = with_option (with_file (new_app (codes "check"))) (codes "shards")
 
 abbrev pub dump_app : App
-dump_app = with_file (new_app (codes "dump"))
+dump_app = with_option (with_file (new_app (codes "dump"))) (codes "shards")
 
 abbrev pub plan_app : App
-plan_app = with_option (with_value (with_value (new_app (codes "plan")) (codes "KEYS")) (codes "V")) (codes "memory")
+plan_app = with_option (with_option (with_value (with_value (new_app (codes "plan")) (codes "KEYS")) (codes "V")) (codes "memory")) (codes "shards")
 
 abbrev pub serve_app : App
 serve_app =
-    with_option (with_option (with_option (with_flag (with_flag (with_option (with_option (with_option (with_option (with_option (with_value (with_file (new_app (codes "serve"))) (codes "PORT"))
+    with_option (with_option (with_option (with_option (with_flag (with_flag (with_option (with_option (with_option (with_option (with_option (with_value (with_file (new_app (codes "serve"))) (codes "PORT"))
     (codes "audit")) (codes "sessions")) (codes "idle")) (codes "wait")) (codes "merge-at")) (codes "pipeline")) (codes "resp"))
-    (codes "bind")) (codes "password-file")) (codes "clients")
+    (codes "bind")) (codes "password-file")) (codes "clients")) (codes "shards")
 
 -- the program
 abbrev pub silt : App
@@ -136,6 +137,11 @@ makes_set (Some shards) = nat_le 2 shards && nat_le shards 64
 abbrev pub shards_in : List Row → Option (Option ℕ)
 shards_in rows = option_and_then (λ given. if makes_set given then Some given else None) (option_in rows (codes "shards"))
 
+-- the most calls of a record, if one is asked for: there is none of a set
+abbrev pub audit_in : List Row → Option (Option ℕ)
+audit_in rows =
+    option_and_then (λ audit. option_and_then (λ shards. if is_some audit && is_some shards then None else Some audit) (shards_in rows)) (option_in rows (codes "audit"))
+
 -- whether an option without a value is given
 abbrev pub flag_in : List Row → Text → Bool
 flag_in rows name = option_map_or (λ text. bytes_eq text (codes "true")) (first_of name rows) false
@@ -159,12 +165,27 @@ run_options_in rows =
 -- the formatting of a file, or of all files of a set
 abbrev pub format_or_set : List ℕ → Numbers → FormatOptions → Option ℕ → Named
 format_or_set file numbers options None = format file numbers options
-format_or_set file numbers options (Some shards) = format_set file shards numbers options
+format_or_set file numbers options (Some shards) = on_set file shards (Format numbers options)
 
 -- the run of a file, or of a set
 abbrev pub run_or_set : List ℕ → RunOptions → Option ℕ → Named
 run_or_set file options None = run file options
-run_or_set file options (Some shards) = run_set file shards options
+run_or_set file options (Some shards) = on_set file shards (Run options)
+
+-- the background work of a file, or of all files of a set
+abbrev pub tend_or_set : List ℕ → Option ℕ → Option ℕ → Named
+tend_or_set file merge_at None = tend file merge_at
+tend_or_set file merge_at (Some shards) = on_set file shards (Tend merge_at)
+
+-- the check of a file, or of all files of a set
+abbrev pub check_or_set : List ℕ → Option ℕ → Named
+check_or_set file None = check file
+check_or_set file (Some shards) = on_set file shards Check
+
+-- the dump of a file, or of all files of a set
+abbrev pub dump_or_set : List ℕ → Option ℕ → Named
+dump_or_set file None = dump file
+dump_or_set file (Some shards) = on_set file shards Dump
 
 -- the formatting that is asked for
 abbrev pub format_in : List Row → Option Named
@@ -174,6 +195,18 @@ format_in rows =
 -- the run that is asked for
 abbrev pub run_in : List Row → Option Named
 run_in rows = option_and_then (λ file. option_and_then (λ options. option_map (run_or_set file options) (shards_in rows)) (run_options_in rows)) (file_in rows)
+
+-- the background work that is asked for
+abbrev pub tend_in : List Row → Option Named
+tend_in rows = option_and_then (λ file. option_and_then (λ merge_at. option_map (tend_or_set file merge_at) (shards_in rows)) (count_in rows (codes "merge-at"))) (file_in rows)
+
+-- the check that is asked for
+abbrev pub check_in : List Row → Option Named
+check_in rows = option_and_then (λ file. option_map (check_or_set file) (shards_in rows)) (file_in rows)
+
+-- the dump that is asked for
+abbrev pub dump_in : List Row → Option Named
+dump_in rows = option_and_then (λ file. option_map (dump_or_set file) (shards_in rows)) (file_in rows)
 
 -- the address that a text gives, if a text is given
 abbrev pub address_given : Option Text → Option (Option Text)
@@ -201,9 +234,10 @@ access_in rows =
 -- how a file is to be served
 abbrev pub service_in : List Row → Option NamedService
 service_in rows =
-    option_and_then (λ file. option_and_then (λ port. option_and_then (λ access. option_and_then (λ audit. option_and_then (λ sessions. option_and_then (λ idle. option_and_then (λ wait. option_map (λ merge_at.
+    option_and_then (λ file. option_and_then (λ port. option_and_then (λ access. option_and_then (λ audit. option_and_then (λ sessions. option_and_then (λ idle. option_and_then (λ wait. option_and_then (λ shards. option_map (λ merge_at.
     record {
       file = file;
+      shards = shards;
       port = port;
       access = access;
       audit = audit;
@@ -214,7 +248,7 @@ service_in rows =
       pipeline = flag_in rows (codes "pipeline");
       resp = flag_in rows (codes "resp");
     })
-    (count_in rows (codes "merge-at"))) (option_in rows (codes "wait"))) (limit_in rows (codes "idle"))) (limit_in rows (codes "sessions"))) (option_in rows (codes "audit"))) (access_in rows)) (port_in rows)) (file_in rows)
+    (count_in rows (codes "merge-at"))) (shards_in rows)) (option_in rows (codes "wait"))) (limit_in rows (codes "idle"))) (limit_in rows (codes "sessions"))) (audit_in rows)) (access_in rows)) (port_in rows)) (file_in rows)
 
 -- what a store is to be planned for
 abbrev pub request_in : List Row → Option PlanRequest
@@ -223,16 +257,25 @@ request_in rows =
     record { keys = keys; value_len = value_len; memory = memory })
     (option_in rows (codes "memory"))) (number_in rows (codes "V"))) (number_in rows (codes "KEYS"))
 
+-- the plan of a store, or of one shard of a set
+abbrev pub plan_or_set : PlanRequest → Option ℕ → Named
+plan_or_set request None = plan request
+plan_or_set request (Some shards) = plan_set shards request
+
+-- the plan that is asked for
+abbrev pub plan_in : List Row → Option Named
+plan_in rows = option_and_then (λ request. option_map (plan_or_set request) (shards_in rows)) (request_in rows)
+
 -- the job of the command that was met
 abbrev pub job_in : Text → List Row → Option Named
 job_in name rows =
     if bytes_eq name (codes "format") then format_in rows
     else if bytes_eq name (codes "script") then option_map script (numbers_in rows)
     else if bytes_eq name (codes "run") then run_in rows
-    else if bytes_eq name (codes "tend") then option_and_then (λ file. option_map (λ merge_at. tend file merge_at) (count_in rows (codes "merge-at"))) (file_in rows)
-    else if bytes_eq name (codes "check") then option_map check (file_in rows)
-    else if bytes_eq name (codes "dump") then option_map dump (file_in rows)
-    else if bytes_eq name (codes "plan") then option_map plan (request_in rows)
+    else if bytes_eq name (codes "tend") then tend_in rows
+    else if bytes_eq name (codes "check") then check_in rows
+    else if bytes_eq name (codes "dump") then dump_in rows
+    else if bytes_eq name (codes "plan") then plan_in rows
     else if bytes_eq name (codes "serve") then option_map serve (service_in rows)
     else None
 

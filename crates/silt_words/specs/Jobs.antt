@@ -1,11 +1,12 @@
 -- The jobs that the words of a command line may name.
 use Rattle.std.specs.Prelude.{ℕ, Bool, List, Option, Some, None, option_map}
 use Rattle.silt_words.specs.declared.job.Job.{Job}
-use Rattle.silt_words.specs.declared.job.Job.TheVariants.{Format, FormatSet, Script, Run, RunSet, Tend, Check, Dump, Plan, Serve}
+use Rattle.silt_words.specs.declared.job.Job.TheVariants.{Format, Script, Run, Tend, Check, Dump, Set, Plan, PlanSet, Serve}
 use Rattle.silt_words.specs.declared.job.FormatOptions.{FormatOptions}
 use Rattle.silt_words.specs.declared.job.Numbers.{Numbers}
 use Rattle.silt_words.specs.declared.job.PlanRequest.{PlanRequest}
 use Rattle.silt_words.specs.declared.job.RunOptions.{RunOptions}
+use Rattle.silt_words.specs.declared.job.SetWork.{SetWork}
 use Rattle.silt_words.specs.declared.job.Access.{Access}
 use Rattle.silt_words.specs.declared.job.Service.{Service}
 
@@ -26,6 +27,7 @@ named_access access = record {
 -- how a file is to be served, by the text of its name
 pub record NamedService : Type 0 where
   pub file : List ℕ
+  pub shards : Option ℕ
   pub port : ℕ
   pub access : NamedAccess
   pub audit : Option ℕ
@@ -40,6 +42,7 @@ pub record NamedService : Type 0 where
 abbrev pub named_service : Service → NamedService
 named_service service = record {
   file = service.file.now;
+  shards = service.shards;
   port = service.port;
   access = named_access service.access;
   audit = service.audit;
@@ -54,38 +57,44 @@ named_service service = record {
 -- a job, by the text of its file's name
 pub data Named : Type 0 where
   format : List ℕ → Numbers → FormatOptions → Named
-  format_set : List ℕ → ℕ → Numbers → FormatOptions → Named
   script : Numbers → Named
   run : List ℕ → RunOptions → Named
-  run_set : List ℕ → ℕ → RunOptions → Named
   tend : List ℕ → Option ℕ → Named
   check : List ℕ → Named
   dump : List ℕ → Named
+  on_set : List ℕ → ℕ → SetWork → Named
   plan : PlanRequest → Named
+  plan_set : ℕ → PlanRequest → Named
   serve : NamedService → Named
 
 -- what a job is by that text
 abbrev pub named : Job → Named
 named (Format file numbers options) = format file.now numbers options
-named (FormatSet file shards numbers options) = format_set file.now shards numbers options
 named (Script numbers) = script numbers
 named (Run file options) = run file.now options
-named (RunSet file shards options) = run_set file.now shards options
 named (Tend file merge_at) = tend file.now merge_at
 named (Check file) = check file.now
 named (Dump file) = dump file.now
+named (Set job) = on_set job.file.now job.shards job.work
 named (Plan request) = plan request
+named (PlanSet shards request) = plan_set shards request
 named (Serve service) = serve (named_service service)
 
 -- the name of the file that a job works on, or of the files of its set, if it works on one
 abbrev pub job_file : Job → Option (List ℕ)
 job_file (Format file numbers options) = Some file.now
-job_file (FormatSet file shards numbers options) = Some file.now
 job_file (Script numbers) = None
 job_file (Run file options) = Some file.now
-job_file (RunSet file shards options) = Some file.now
 job_file (Tend file merge_at) = Some file.now
 job_file (Check file) = Some file.now
 job_file (Dump file) = Some file.now
+job_file (Set job) = Some job.file.now
 job_file (Plan request) = None
+job_file (PlanSet shards request) = None
 job_file (Serve service) = Some service.file.now
+
+-- the number of the files that a job works on, if these are a set
+abbrev pub job_shards : Job → Option ℕ
+job_shards (Set job) = Some job.shards
+job_shards (Serve service) = service.shards
+job_shards job = None

@@ -1,7 +1,8 @@
 // The commands, as clap is given them.
-ghost use Rattle.std.specs.Prelude.{◌≡◌, IfOk, IsOkAnd, false};
+ghost use Rattle.std.specs.Prelude.{◌≡◌, IfOk, IsOkAnd, codes, false};
 ghost use Rattle.clap.specs.Words.{AddsArg, AddsSubcommand, app_of, new_app, rule_of};
-ghost use Rattle.silt_words.specs.Commands.{JoinsAs, check_app, dump_app, flag_rule, format_app, option_rule, plan_app, run_app, script_app, serve_app, silt, tend_app, value_rule, with_file};
+ghost use Rattle.silt_words.specs.Commands.{JoinsAs, check_app, dump_app, format_app, plan_app, run_app, script_app, serve_app, silt, tend_app};
+ghost use Rattle.silt_words.specs.Commands.{flag_rule, option_rule, value_rule, with_file, with_option};
 
 use clap::{Arg, ArgAction, Command};
 use std::alloc::{AllocError, Global};
@@ -30,13 +31,6 @@ fn flag<'a>(alloc: Global, name: &'a str) -> Arg<'a>
     ensures local { result.global ≡ false }
 {
     Arg::new(alloc, name).long(name).action(ArgAction::SetTrue)
-}
-
-// A command with a file as its value.
-fn on_file<'a>(alloc: Global, name: &'a str) -> Result<Command<'a>, AllocError>
-    ensures { IfOk result (JoinsAs (with_file (new_app name.entry.now))) }
-{
-    Command::new(alloc, name).arg(value(alloc, "FILE"))
 }
 
 // What was made so far, with one more value that has to be given.
@@ -100,7 +94,16 @@ fn tend<'a>(alloc: Global) -> Result<Command<'a>, AllocError>
     ensures { IfOk result (JoinsAs tend_app) }
 {
     let with_file = add_value(Ok(Command::new(alloc, "tend")), alloc, "FILE");
-    add_option(with_file, alloc, "merge-at")
+    let with_merge_at = add_option(with_file, alloc, "merge-at");
+    add_option(with_merge_at, alloc, "shards")
+}
+
+// A command on a file, or on the files of a set.
+fn on_file<'a>(alloc: Global, name: &'a str) -> Result<Command<'a>, AllocError>
+    ensures { IfOk result (JoinsAs (with_option (with_file (new_app name.entry.now)) (codes "shards"))) }
+{
+    let with_file = add_value(Ok(Command::new(alloc, name)), alloc, "FILE");
+    add_option(with_file, alloc, "shards")
 }
 
 fn plan<'a>(alloc: Global) -> Result<Command<'a>, AllocError>
@@ -108,7 +111,8 @@ fn plan<'a>(alloc: Global) -> Result<Command<'a>, AllocError>
 {
     let with_keys = add_value(Ok(Command::new(alloc, "plan")), alloc, "KEYS");
     let with_v = add_value(with_keys, alloc, "V");
-    add_option(with_v, alloc, "memory")
+    let with_memory = add_option(with_v, alloc, "memory");
+    add_option(with_memory, alloc, "shards")
 }
 
 fn serve<'a>(alloc: Global) -> Result<Command<'a>, AllocError>
@@ -125,7 +129,8 @@ fn serve<'a>(alloc: Global) -> Result<Command<'a>, AllocError>
     let with_resp = add_flag(with_pipeline, alloc, "resp");
     let with_bind = add_option(with_resp, alloc, "bind");
     let with_password = add_option(with_bind, alloc, "password-file");
-    add_option(with_password, alloc, "clients")
+    let with_clients = add_option(with_password, alloc, "clients");
+    add_option(with_clients, alloc, "shards")
 }
 
 // The command with one more below it, if that one was made.

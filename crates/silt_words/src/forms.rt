@@ -15,7 +15,7 @@ pub struct Choice {
 }
 
 /// The most options that a job has.
-pub const MOST_OPTIONS: usize = 10;
+pub const MOST_OPTIONS: usize = 11;
 
 /// What follows most options.
 const NUMBER: &str = "a number";
@@ -60,6 +60,41 @@ const RUN_SHARDS: Choice = Choice {
     operand: Some(NUMBER),
     needs: None,
     line: "--shards M        run: replies with the M shards in the files FILE.0, FILE.1 .. as one store",
+};
+
+const TEND_SHARDS: Choice = Choice {
+    name: "--shards",
+    operand: Some(NUMBER),
+    needs: None,
+    line: "--shards M        tend: does that for each of the M shards in the files FILE.0, FILE.1 ..",
+};
+
+const CHECK_SHARDS: Choice = Choice {
+    name: "--shards",
+    operand: Some(NUMBER),
+    needs: None,
+    line: "--shards M        check: prints that of each of the M shards in the files FILE.0, FILE.1 ..",
+};
+
+const DUMP_SHARDS: Choice = Choice {
+    name: "--shards",
+    operand: Some(NUMBER),
+    needs: None,
+    line: "--shards M        dump: prints the lines of the M shards in the files FILE.0, FILE.1 ..",
+};
+
+const PLAN_SHARDS: Choice = Choice {
+    name: "--shards",
+    operand: Some(NUMBER),
+    needs: None,
+    line: "--shards M        plan: prints the six numbers of one of M shards, and what all of them take",
+};
+
+const SERVE_SHARDS: Choice = Choice {
+    name: "--shards",
+    operand: Some(NUMBER),
+    needs: None,
+    line: "--shards M        serve: serves the M shards in the files FILE.0, FILE.1 .. as one store; not with --audit",
 };
 
 const TEND: Choice = Choice {
@@ -205,30 +240,30 @@ const FORMS: [Form; 8] = [
     },
     Form {
         job: "tend",
-        line: "silt tend FILE [--merge-at K]                 does all background work that is due",
+        line: "silt tend FILE [OPTION]...                    does all background work that is due",
         values: &["FILE"],
-        options: &[TEND_MERGE_AT],
+        options: &[TEND_MERGE_AT, TEND_SHARDS],
         input: &[],
     },
     Form {
         job: "check",
-        line: "silt check FILE                               prints what the store in a file consists of",
+        line: "silt check FILE [--shards M]                  prints what the store in a file consists of",
         values: &["FILE"],
-        options: &[],
+        options: &[CHECK_SHARDS],
         input: &[],
     },
     Form {
         job: "dump",
-        line: "silt dump FILE                                prints a line for each key that puts its value",
+        line: "silt dump FILE [--shards M]                   prints a line for each key that puts its value",
         values: &["FILE"],
-        options: &[],
+        options: &[DUMP_SHARDS],
         input: &[],
     },
     Form {
         job: "plan",
-        line: "silt plan KEYS V [--memory BYTES]             prints the six numbers of a store for so many keys",
+        line: "silt plan KEYS V [OPTION]...                  prints the six numbers of a store for so many keys",
         values: &["KEYS", "V"],
-        options: &[MEMORY],
+        options: &[MEMORY, PLAN_SHARDS],
         input: &[],
     },
     Form {
@@ -253,6 +288,7 @@ const FORMS: [Form; 8] = [
             BIND,
             PASSWORD_FILE,
             CLIENTS,
+            SERVE_SHARDS,
         ],
         input: &[EVENTS, FACTS],
     },

@@ -47,7 +47,10 @@ pub struct Access<'a> {
 /// How the store in a file is to be served.
 #[derive(Clone, Copy, Debug)]
 pub struct Service<'a> {
+    /// The name of the file, or of the set.
     pub file: &'a str,
+    /// The number of shards, 2 to 64, if a set is to be served.
+    pub shards: Option<u32>,
     /// The port to listen on. For 0 the system chooses one.
     pub port: u16,
     pub access: Access<'a>,
@@ -67,15 +70,43 @@ pub struct Service<'a> {
     pub resp: bool,
 }
 
-/// What a store is to be planned for.
+/// What a store, or a set of shards, is to be planned for.
 #[derive(Clone, Copy, Debug, PartialEq, Eq)]
 pub struct PlanRequest {
     /// How many keys have values at one time.
     pub keys: u32,
     /// The bytes of a value.
     pub value_len: u32,
-    /// The bytes of memory that the store may use, if they are limited.
+    /// The bytes of memory that the store, or the whole set, may use, if they are limited.
     pub memory: Option<u32>,
+}
+
+/// What is to be done with the files of a set, each of which is a shard of one store.
+#[derive(Clone, Copy, Debug, PartialEq, Eq)]
+pub enum SetWork {
+    /// Makes an empty store in each file, and makes it that shard of the set.
+    Format {
+        numbers: Numbers,
+        options: FormatOptions,
+    },
+    /// Replies to lines with all stores as one.
+    Run(RunOptions),
+    /// Does all background work of each store. With a number it begins a merge only of so many hash stores, at least one.
+    Tend(Option<u32>),
+    /// Prints what each store consists of.
+    Check,
+    /// Prints a line for each key with a value, file by file.
+    Dump,
+}
+
+/// A job on the files of a set.
+#[derive(Clone, Copy, Debug)]
+pub struct SetJob<'a> {
+    /// The name of the set. A file has it, a dot, and the number of its shard.
+    pub file: &'a str,
+    /// The number of shards, 2 to 64.
+    pub shards: u32,
+    pub work: SetWork,
 }
 
 /// What the words ask for.
@@ -87,28 +118,11 @@ pub enum Job<'a> {
         numbers: Numbers,
         options: FormatOptions,
     },
-    /// Makes an empty store in each file of a set, and makes it that shard of the set.
-    FormatSet {
-        /// The name of the set. A file has it, a dot, and the number of its shard.
-        file: &'a str,
-        /// The number of shards, 2 to 64.
-        shards: u32,
-        numbers: Numbers,
-        options: FormatOptions,
-    },
     /// Replies to lines with a new store in memory.
     Script(Numbers),
     /// Replies to lines with the store in a file.
     Run {
         file: &'a str,
-        options: RunOptions,
-    },
-    /// Replies to lines with the stores in the files of a set.
-    RunSet {
-        /// The name of the set. A file has it, a dot, and the number of its shard.
-        file: &'a str,
-        /// The number of shards, 2 to 64.
-        shards: u32,
         options: RunOptions,
     },
     /// Does all background work of the store in a file.
@@ -125,15 +139,23 @@ pub enum Job<'a> {
     Dump {
         file: &'a str,
     },
+    /// Does a job on the files of a set.
+    Set(SetJob<'a>),
     /// Prints the numbers of a store for this many keys.
     Plan(PlanRequest),
-    /// Serves the sessions of a port with the store in a file.
+    /// Prints the numbers of one shard of a set for this many keys.
+    PlanSet {
+        /// The number of shards, 2 to 64.
+        shards: u32,
+        request: PlanRequest,
+    },
+    /// Serves the sessions of a port with the store in a file, or with a set.
     Serve(Service<'a>),
 }
 
 impl<'a> Job<'a> {
     ghost use Rattle.std.specs.Prelude.{◌≡◌, option_map};
-    ghost use Rattle.silt_words.specs.Jobs.{job_file};
+    ghost use Rattle.silt_words.specs.Jobs.{job_file, job_shards};
 
     /// The name of the file that it works on, or of its set, if it works on one.
     pub fn file(&self) -> Option<&'a str>
@@ -141,15 +163,26 @@ impl<'a> Job<'a> {
     {
         match *self {
             Job::Format { file, .. } => Some(file),
-            Job::FormatSet { file, .. } => Some(file),
             Job::Run { file, .. } => Some(file),
-            Job::RunSet { file, .. } => Some(file),
             Job::Tend { file, .. } => Some(file),
             Job::Check { file } => Some(file),
             Job::Dump { file } => Some(file),
+            Job::Set(job) => Some(job.file),
             Job::Serve(service) => Some(service.file),
             Job::Script(_) => None,
             Job::Plan(_) => None,
+            Job::PlanSet { .. } => None,
+        }
+    }
+
+    /// The number of the files that it works on, if these are a set.
+    pub fn shards(&self) -> Option<u32>
+        ensures { result ≡ job_shards self.now }
+    {
+        match *self {
+            Job::Set(job) => Some(job.shards),
+            Job::Serve(service) => service.shards,
+            _ => None,
         }
     }
 }

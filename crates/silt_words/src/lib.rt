@@ -4,9 +4,9 @@
 //! `run FILE`, `tend FILE`, `check FILE`, `dump FILE`, `plan KEYS V` or `serve FILE PORT`. A number is one to ten decimal
 //! digits, and at most 4,294,967,295; a port is at most 65,535.
 //!
-//! Options are `--force`, `--sparse` and `--shards M` of `format`, `--tend`, `--strict` and `--shards M` of `run`, `--memory BYTES` of
-//! `plan`, and `--audit N`,
-//! `--sessions M`, `--idle SECONDS`, `--wait SECONDS`, `--merge-at K`, `--pipeline`, `--resp`, `--bind ADDRESS`,
+//! Options are `--force` and `--sparse` of `format`, `--tend` and `--strict` of `run`, `--merge-at K` of `run`, `tend` and
+//! `serve`, `--memory BYTES` of `plan`, `--shards M` of `format`, `run`, `tend`, `check`, `dump` and `plan`, and `--audit N`,
+//! `--sessions M`, `--idle SECONDS`, `--wait SECONDS`, `--pipeline`, `--resp`, `--bind ADDRESS`,
 //! `--password-file PATH` and `--clients N` of `serve`. Each is given at most once, before,
 //! between or after the values, and `--audit=N` is the same as two words. No other word of more than one character may
 //! begin with a hyphen, but after the first word `--` every word is a value. Without `--sessions`, or with 0, the server
@@ -22,6 +22,9 @@ mod usage;
 mod words;
 
 pub use forms::{Form, Forms};
-pub use job::{Access, FormatOptions, Job, Numbers, PlanRequest, RunOptions, Service, WordsError};
+pub use job::{
+    Access, FormatOptions, Job, Numbers, PlanRequest, RunOptions, Service, SetJob, SetWork,
+    WordsError,
+};
 pub use usage::{Complaint, VERSION, asks_version, complaint_of, forms_for};
 pub use words::{FEWEST_SHARDS, MOST_CLIENTS, MOST_SHARDS, read_words};

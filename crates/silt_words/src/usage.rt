@@ -36,6 +36,8 @@ pub enum Complaint<'a> {
     },
     /// Other machines reach this address, and no password is asked for.
     Unguarded(&'a str),
+    /// A record is asked for, and a set has none.
+    RecordOfSet,
     /// The word for this value is none: no number, one that is too great, or no address.
     NoValue {
         name: &'a str,
@@ -58,6 +60,9 @@ impl fmt::Display for Complaint<'_> {
                 f,
                 "--bind {address} needs --password-file: other machines reach this address"
             ),
+            Complaint::RecordOfSet => {
+                f.write_str("--audit is not for --shards: a record is a history of one store")
+            }
             Complaint::NoValue { name, word } => {
                 write!(f, "{name} cannot be '{word}': {}", why_no_value(name, word))
             }
@@ -270,8 +275,16 @@ impl<'a> Walk<'a> {
             Some(address) if !self.has_met("--password-file") => {
                 Some(Complaint::Unguarded(address))
             }
-            _ => None,
+            _ => self.record_of_set(),
         }
+    }
+
+    // That a record is asked for, and a set has none.
+    fn record_of_set(&self) -> Option<Complaint<'a>> {
+        if self.has_met("--audit") && self.has_met("--shards") {
+            return Some(Complaint::RecordOfSet);
+        }
+        None
     }
 
     // Whether the option of this name was met.

@@ -2,15 +2,16 @@
 ghost use Rattle.std.specs.Prelude.{◌≡◌, Some, None, MatchResult, codes, map, option_map, string_bytes};
 ghost use Rattle.clap.specs.Words.{first_of, found_of, rows_of, subcommand_rows_of};
 ghost use Rattle.silt_words.specs.Commands.{access_in, address_given, clients_in, count_in, file_in, flag_in, format_options_in, job_in, job_met, job_named};
-ghost use Rattle.silt_words.specs.Commands.{format_in, run_in, shards_in};
+ghost use Rattle.silt_words.specs.Commands.{audit_in, check_in, dump_in, format_in, plan_in, run_in, shards_in, tend_in};
 ghost use Rattle.silt_words.specs.Commands.{limit_in, may_listen, number_in, numbers_in, option_in, port_in, request_in, run_options_in, service_in};
-ghost use Rattle.silt_words.specs.Jobs.{named, named_access, named_service};
+ghost use Rattle.silt_words.specs.Jobs.{named, named_access, named_service, on_set};
 ghost use Rattle.silt_words.specs.declared.job.WordsError.TheVariants.{Usage};
 
 use crate::address::{is_address, is_loopback};
 use crate::command::command;
 use crate::job::{
-    Access, FormatOptions, Job, Numbers, PlanRequest, RunOptions, Service, WordsError,
+    Access, FormatOptions, Job, Numbers, PlanRequest, RunOptions, Service, SetJob, SetWork,
+    WordsError,
 };
 use clap::ArgMatches;
 use clap::error::ErrorKind;
@@ -139,6 +140,13 @@ fn shards_of(matches: &ArgMatches<'_>) -> Option<Option<u32>>
     }
 }
 
+// A job on the files of a set.
+fn set_job<'a>(file: &'a str, shards: u32, work: SetWork) -> Job<'a>
+    ensures { named result ≡ on_set file.entry.now shards work }
+{
+    Job::Set(SetJob { file, shards, work })
+}
+
 // The formatting of a file, or of all files of a set.
 fn format_of<'a>(matches: &ArgMatches<'a>) -> Option<Job<'a>>
     ensures { option_map named result ≡ format_in (rows_of (found_of matches.now)) }
@@ -152,12 +160,7 @@ fn format_of<'a>(matches: &ArgMatches<'a>) -> Option<Job<'a>>
             numbers,
             options,
         }),
-        Some(shards) => Some(Job::FormatSet {
-            file,
-            shards,
-            numbers,
-            options,
-        }),
+        Some(shards) => Some(set_job(file, shards, SetWork::Format { numbers, options })),
     }
 }
 
@@ -169,11 +172,41 @@ fn run_of<'a>(matches: &ArgMatches<'a>) -> Option<Job<'a>>
     let options = run_options_of(matches)?;
     match shards_of(matches)? {
         None => Some(Job::Run { file, options }),
-        Some(shards) => Some(Job::RunSet {
-            file,
-            shards,
-            options,
-        }),
+        Some(shards) => Some(set_job(file, shards, SetWork::Run(options))),
+    }
+}
+
+// The background work of a file, or of all files of a set.
+fn tend_of<'a>(matches: &ArgMatches<'a>) -> Option<Job<'a>>
+    ensures { option_map named result ≡ tend_in (rows_of (found_of matches.now)) }
+{
+    let file = file_of(matches)?;
+    let merge_at = merge_at_of(matches)?;
+    match shards_of(matches)? {
+        None => Some(Job::Tend { file, merge_at }),
+        Some(shards) => Some(set_job(file, shards, SetWork::Tend(merge_at))),
+    }
+}
+
+// The check of a file, or of all files of a set.
+fn check_of<'a>(matches: &ArgMatches<'a>) -> Option<Job<'a>>
+    ensures { option_map named result ≡ check_in (rows_of (found_of matches.now)) }
+{
+    let file = file_of(matches)?;
+    match shards_of(matches)? {
+        None => Some(Job::Check { file }),
+        Some(shards) => Some(set_job(file, shards, SetWork::Check)),
+    }
+}
+
+// The dump of a file, or of all files of a set.
+fn dump_of<'a>(matches: &ArgMatches<'a>) -> Option<Job<'a>>
+    ensures { option_map named result ≡ dump_in (rows_of (found_of matches.now)) }
+{
+    let file = file_of(matches)?;
+    match shards_of(matches)? {
+        None => Some(Job::Dump { file }),
+        Some(shards) => Some(set_job(file, shards, SetWork::Dump)),
     }
 }
 
@@ -238,6 +271,18 @@ fn access_of<'a>(matches: &ArgMatches<'a>) -> Option<Access<'a>>
     })
 }
 
+// The most calls of the record, if one is kept. There is none of a set.
+fn audit_of(matches: &ArgMatches<'_>) -> Option<Option<u32>>
+    ensures { result ≡ audit_in (rows_of (found_of matches.now)) }
+{
+    let audit = option_at(matches, "audit")?;
+    let shards = shards_of(matches)?;
+    if audit.is_some() && shards.is_some() {
+        return None;
+    }
+    Some(audit)
+}
+
 fn service_of<'a>(matches: &ArgMatches<'a>) -> Option<Service<'a>>
     ensures { option_map named_service result ≡ service_in (rows_of (found_of matches.now)) }
 {
@@ -245,7 +290,8 @@ fn service_of<'a>(matches: &ArgMatches<'a>) -> Option<Service<'a>>
         file: file_of(matches)?,
         port: port_of(matches)?,
         access: access_of(matches)?,
-        audit: option_at(matches, "audit")?,
+        shards: shards_of(matches)?,
+        audit: audit_of(matches)?,
         sessions: limit_at(matches, "sessions")?,
         idle: limit_at(matches, "idle")?,
         wait: option_at(matches, "wait")?,
@@ -265,6 +311,17 @@ fn request_of(matches: &ArgMatches<'_>) -> Option<PlanRequest>
     })
 }
 
+// The plan of a store, or of one shard of a set.
+fn plan_of<'a>(matches: &ArgMatches<'a>) -> Option<Job<'a>>
+    ensures { option_map named result ≡ plan_in (rows_of (found_of matches.now)) }
+{
+    let request = request_of(matches)?;
+    match shards_of(matches)? {
+        None => Some(Job::Plan(request)),
+        Some(shards) => Some(Job::PlanSet { shards, request }),
+    }
+}
+
 fn job_of<'a>(name: &str, matches: &ArgMatches<'a>) -> Option<Job<'a>>
     ensures { option_map named result ≡ job_in name.now (rows_of (found_of matches.now)) }
 {
@@ -272,17 +329,10 @@ fn job_of<'a>(name: &str, matches: &ArgMatches<'a>) -> Option<Job<'a>>
         "format" => format_of(matches),
         "script" => Some(Job::Script(numbers_of(matches)?)),
         "run" => run_of(matches),
-        "tend" => Some(Job::Tend {
-            file: file_of(matches)?,
-            merge_at: merge_at_of(matches)?,
-        }),
-        "check" => Some(Job::Check {
-            file: file_of(matches)?,
-        }),
-        "dump" => Some(Job::Dump {
-            file: file_of(matches)?,
-        }),
-        "plan" => Some(Job::Plan(request_of(matches)?)),
+        "tend" => tend_of(matches),
+        "check" => check_of(matches),
+        "dump" => dump_of(matches),
+        "plan" => plan_of(matches),
         "serve" => Some(Job::Serve(service_of(matches)?)),
         _ => None,
     }

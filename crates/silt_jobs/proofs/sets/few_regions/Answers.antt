@@ -2,8 +2,8 @@ use Rattle.std.proofs.Common.{◌∙◌, ap, sym}
 use Rattle.silt_disk.specs.Layout.{Shape}
 use Rattle.silt_jobs.proofs.sets.few_regions.Goals as goal
 
-pub returns-then-has_few_regions : goal.returns-then-has_few_regions
-returns-then-has_few_regions g c = (
+pub returns-then-has_few_regions-clause-few : goal.returns-then-has_few_regions-clause-few
+returns-then-has_few_regions-clause-few g c = (
   c.in_ok-core.core.now,
   sym c.in_ok-core.ensures.value,
   c.hashes.ensures.value ∙ ap (λ (s : Shape). s.hashes) c.geometry.ensures,

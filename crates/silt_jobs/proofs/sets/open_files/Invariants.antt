@@ -9,5 +9,5 @@ invariant-loop-shard g l =
     record {
       count : vec_len l.disks ≡ l.shard;
       room : l.files.shards ≤ vec_capacity l.disks;
-      opened : OpensFiles g.S.DiskSource l.source l.files.name.now l.shard l.disks.items;
+      opened : OpensFiles g.S.DiskSource l.source l.shared l.files.name.now l.shard l.disks.items;
     }

@@ -8,4 +8,5 @@ pub returns : goal.returns
 returns c =
     let stands1 = one_more (new_app (codes "plan")) _ (λ old arg new adds. adds.globals) (Ok c.new.result) _ c.add_value-with_keys.ensures (c.new.ensures.app, c.new.ensures.local) in
     let stands2 = one_more _ _ (λ old arg new adds. adds.globals) _ _ c.add_value-with_v.ensures stands1 in
-    joins_as _ (λ old sub new adds. adds.shape) _ (one_more _ _ (λ old arg new adds. adds.globals) _ _ c.add_option.ensures stands2)
+    let stands3 = one_more _ _ (λ old arg new adds. adds.globals) _ _ c.add_option-with_memory.ensures stands2 in
+    joins_as _ (λ old sub new adds. adds.shape) _ (one_more _ _ (λ old arg new adds. adds.globals) _ _ c.add_option.ensures stands3)

@@ -17,4 +17,5 @@ returns c =
     let stands9 = one_more _ _ (λ old arg new adds. adds.globals) _ _ c.add_flag-with_resp.ensures stands8 in
     let stands10 = one_more _ _ (λ old arg new adds. adds.globals) _ _ c.add_option-with_bind.ensures stands9 in
     let stands11 = one_more _ _ (λ old arg new adds. adds.globals) _ _ c.add_option-with_password.ensures stands10 in
-    joins_as _ (λ old sub new adds. adds.shape) _ (one_more _ _ (λ old arg new adds. adds.globals) _ _ c.add_option.ensures stands11)
+    let stands12 = one_more _ _ (λ old arg new adds. adds.globals) _ _ c.add_option-with_clients.ensures stands11 in
+    joins_as _ (λ old sub new adds. adds.shape) _ (one_more _ _ (λ old arg new adds. adds.globals) _ _ c.add_option.ensures stands12)
