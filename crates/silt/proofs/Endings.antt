@@ -21,6 +21,16 @@ served_ended Unserved Served Refused (Ok before) (Ok now) (inl zero) done (inl s
 served_ended Unserved Served Refused (Ok before) (Ok now) (inr unserved) done (inl same) = inr (same ∙ unserved.0, inl unserved.1)
 served_ended Unserved Served Refused (Ok before) (Ok now) known done (inr refused) = inr (refused.1, inr (done (ap Ok refused.0)))
 
+-- the same, with what is quiet at status 0
+pub quiet_ended : {E : Type 0} (Quiet Unserved Served Refused : Type 0) (status ended : Result ℕ E) → IfOk status (IsStatus Unserved) → (status ≡ Ok 0 → Quiet) → (status ≡ Ok 0 → Served)
+    → IfOk ended (λ now. IsOkAnd status (λ before. (now ≡ before) ⊎ ((before ≡ 0) × (now ≡ 1) × Refused)))
+    → IfOk ended (λ now. ((now ≡ 0) × Quiet × Served) ⊎ ((now ≡ 1) × (Unserved ⊎ Served)))
+quiet_ended Quiet Unserved Served Refused status (Err error) known quiet done h = tt
+quiet_ended Quiet Unserved Served Refused (Err error) (Ok now) known quiet done h = absurd h
+quiet_ended Quiet Unserved Served Refused (Ok before) (Ok now) (inl zero) quiet done (inl same) = inl (same ∙ zero, quiet (ap Ok zero), done (ap Ok zero))
+quiet_ended Quiet Unserved Served Refused (Ok before) (Ok now) (inr unserved) quiet done (inl same) = inr (same ∙ unserved.0, inl unserved.1)
+quiet_ended Quiet Unserved Served Refused (Ok before) (Ok now) known quiet done (inr refused) = inr (refused.1, inr (done (ap Ok refused.0)))
+
 -- what is known at status 0, and what at 1
 pub at_status : {E : Type 0} (Bound Quiet Served Unserved : Type 0) (status : Result ℕ E) → IfOk status (IsStatus Unserved) → (status ≡ Ok 0 → Bound) → (status ≡ Ok 0 → Quiet)
     → (status ≡ Ok 0 → Served) → IfOk status (λ now. ((now ≡ 0) × Bound × Quiet × Served) ⊎ ((now ≡ 1) × Unserved))

@@ -1,1 +1,3 @@
+pub mod Apart
 pub mod Endings
+pub mod Gates

@@ -1,8 +1,9 @@
 -- What is said of a job whose file is a standard stream.
-use Rattle.std.specs.Prelude.{◌≡◌, ℕ, IfOk, List, MatchBool, Option, Some, None}
+use Rattle.std.specs.Prelude.{◌≡◌, ℕ, IfOk, List, MatchBool, Option, Some, None, option_map}
 use Rattle.silt_event.specs.declared.refusal.Refusal.TheVariants.{Device}
 use Rattle.silt_jobs.specs.Jobs.{Prints}
 use Rattle.silt_jobs.specs.declared.ended.Ended.{Ended}
+use Rattle.silt_jobs.specs.declared.ended.Found.TheVariants.{Shard}
 use Rattle.silt_jobs.specs.declared.ended.Why.{Why}
 use Rattle.silt_jobs.specs.declared.ended.Why.TheVariants.{IsStream}
 use Rattle.silt.specs.declared.clash.Clash.{Clash}
@@ -15,6 +16,7 @@ PrintsClash clash before after = MatchBool clash.same.output (after ≡ before) 
 abbrev pub SaysClash : {E F : Type 0} → Clash → Option (Why E F) → Type 0
 SaysClash clash why = MatchBool clash.same.error (why ≡ None) (why ≡ Some (IsStream clash.stream))
 
--- the job was refused, and neither the line nor the reason goes into the file
+-- the job was refused because of that file of a set, if of one, and neither the line nor the reason goes into the file
 abbrev pub RefusesClash : {E F : Type 0} → Clash → Ended E F → Option (List ℕ) → Option (List ℕ) → Type 0
-RefusesClash clash ended before after = SaysClash clash ended.why × IfOk ended.status (λ status. (status ≡ 1) × PrintsClash clash before after)
+RefusesClash clash ended before after =
+    SaysClash clash ended.why × (ended.found ≡ option_map (λ shard. Shard shard) clash.shard) × IfOk ended.status (λ status. (status ≡ 1) × PrintsClash clash before after)

@@ -3,4 +3,5 @@ pub mod Mounts
 pub mod Passwords
 pub mod Programs
 pub mod Services
+pub mod SetServices
 pub mod Streams

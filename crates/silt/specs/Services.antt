@@ -1,5 +1,5 @@
 -- What serving the disk of a path does.
-use Rattle.std.specs.Prelude.{◌≡◌, ◌⊎◌, ◌<◌, ℕ, Bool, true, false, IfOk, IfSome, List, Option, None, Some, codes, unwrap_or}
+use Rattle.std.specs.Prelude.{◌≡◌, ◌⊎◌, ◌<◌, ◌/◌, ℕ, max, Bool, true, false, IfOk, IfSome, List, Option, None, Some, codes, unwrap_or}
 use Rattle.std.specs.Net.Socket.{socket_port}
 use Rattle.std.specs.Option.{IsSomeAnd}
 use Rattle.silt_disk.specs.Layout.{Shape}
@@ -29,6 +29,10 @@ abbrev pub protocol_of : Bool → Bool → Protocol
 protocol_of pipeline true = Resp
 protocol_of true false = PipelinedLines
 protocol_of false false = Lines
+
+-- of how many hash stores a merge begins, if a store has this many regions for them: half of them, but at least one, if no number is asked for
+abbrev pub least_merged : Option ℕ → ℕ → ℕ
+least_merged asked hashes = unwrap_or asked (max (hashes / 2) 1)
 
 -- the values of a store for Redis clients have no room for a string's length: the job is refused, and the disk is returned
 abbrev pub RefusesShortValues : {D E F : Type 0} → Bool → CoreState D → D → Ended E F → Option (List ℕ) → Option (List ℕ) → Type 0

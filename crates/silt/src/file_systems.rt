@@ -3,7 +3,7 @@
 use crate::clash::clash_of;
 use crate::mounts::{Mount, Weakness, mount_of, weakness_of};
 use crate::standard_streams::StandardStreams;
-use silt_words::Job;
+use silt_words::{Job, SetJob, SetWork};
 use std::alloc::Global;
 use std::fs::{self, File, Metadata};
 use std::io::{self, Read, Write};
@@ -17,7 +17,7 @@ const MOUNTS: &str = "/proc/self/mountinfo";
 /// Tells why the file system of a job's file may not keep what it has synced, if that is known, by one write. A check and a
 /// dump write nothing that could be lost. Of a system that does not say what it has mounted nothing is told, and neither is
 /// anything of a file that is a standard stream: it could go into that file.
-pub fn tell_weakness<R: Files<File = File> + StandardStreams, W: Write>(
+pub fn tell_weakness<R: AllocGlobal + Files<File = File> + StandardStreams, W: Write>(
     alloc: Global,
     system: &R,
     job: &Job<'_>,
@@ -25,10 +25,16 @@ pub fn tell_weakness<R: Files<File = File> + StandardStreams, W: Write>(
 ) {
     let file = match job {
         Job::Check { .. } | Job::Dump { .. } => None,
+        Job::Set(
+            SetJob {
+                work: SetWork::Check | SetWork::Dump,
+                ..
+            },
+        ) => None,
         _ => job.file(),
     };
     if let Some(file) = file
-        && clash_of(system, job).is_none()
+        && let Ok(None) = clash_of(system, job)
         && let Ok(Some(weakness)) = weakness_at(alloc, system, file)
         && let Ok(note) = format!(in alloc; "silt: {file}: {weakness}\n")
     {

@@ -1,6 +1,7 @@
 //! The program silt.
 //!
-//! - `silt plan KEYS V [--memory BYTES]` prints the six numbers of a store for this many keys, and what they cost.
+//! - `silt plan KEYS V [--memory BYTES]` prints the six numbers of a store for this many keys, and what they cost. With
+//!   `--shards M` it prints those of one shard of a set, and what all of them cost.
 //! - `silt format FILE V B CAP NL NH S [--force] [--sparse]` makes an empty store of this geometry in a file, and prints the
 //!   file's length. Without `--force` a file with other data stays as it is. Without `--sparse` all of the file is written.
 //!   With `--shards M` it makes an empty set of the files FILE.0 to FILE.(M-1), each a shard of one store.
@@ -8,7 +9,8 @@
 //!   writes one reply line for each. The end of the input flushes nothing. With `--tend` it does the background work that
 //!   is due between the lines; if that is refused, it prints why behind the replies, and ends with status 1. With
 //!   `--strict` it ends with status 3 if a line was refused. With `--shards M` it is one life of the set of these M files.
-//! - `silt tend FILE [--merge-at K]` does all background work of the store in a file.
+//! - `silt tend FILE [--merge-at K]` does all background work of the store in a file. With `--shards M` it does so for each
+//!   file of a set, as `check` and `dump` do their work.
 //! - `silt check FILE` prints a report of the store in a file, in numbers.
 //! - `silt dump FILE` prints a line for each key with a value, which puts that value.
 //! - `silt script V B CAP NL NH S` makes an empty store of this geometry on a disk in memory, reads lines to the end, and
@@ -30,11 +32,13 @@ mod clash;
 mod file_identity;
 mod file_systems;
 mod listener;
+mod merge_gate;
 mod mounts;
 mod password;
 mod program;
 mod random_bytes;
 mod service;
+mod set_service;
 mod standard_streams;
 
 use file_systems::tell_weakness;
@@ -42,7 +46,7 @@ use program::{program, refuse_words};
 use silt_device::FileDisks;
 use silt_jobs::{
     AfterProgress, KeepsLines, Progress, Subject, WatchedFiles, WatchedReader, WatchedWriter,
-    print_ended, print_of,
+    print_ends, print_of,
 };
 use silt_words::{WordsError, read_words};
 use standard_streams::{NULL_DEVICE, StandardStreams, fill_descriptors};
@@ -102,14 +106,14 @@ fn done<
     }
     let files = WatchedFiles::new(FileDisks::new(rt, &progress), at_once, &progress);
     let mut reader = WatchedReader::new(rt.alloc(), rt.reader());
-    let (file, ended) = program(rt, files, words, &mut reader, &mut writer, &mut errors);
+    let (file, ends) = program(rt, files, words, &mut reader, &mut writer, &mut errors);
     let subject = Subject {
         words,
         file: file.unwrap_or(""),
         lines: reader.lines(),
     };
-    print_ended(&subject, &ended, &mut errors);
-    ExitCode::from(ended.exit_status())
+    print_ends(&subject, &ends, &mut errors);
+    ExitCode::from(ends.whole.exit_status())
 }
 
 // The standard error, if it is a terminal.

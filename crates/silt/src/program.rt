@@ -1,21 +1,22 @@
 // The program's work, over any source of disks, reader and writer.
 ghost use Rattle.std.specs.Prelude.{◌≡◌, map, option_map, string_bytes};
 ghost use Rattle.silt_jobs.specs.Ended.{HasFailed};
-ghost use Rattle.silt.specs.Programs.{Answers, DoesJob, EndsJob, FormatsNamed, RefusesWords};
+ghost use Rattle.silt.specs.Programs.{Answers, DoesJob, DoesServe, DoesSetJob, EndsJob, FormatsNamed, RefusesWords};
 
 use crate::clash::{clash_of, refuse_clash};
 use crate::random_bytes::random_set;
 use crate::service::serve_file;
+use crate::set_service::serve_set;
 use crate::standard_streams::StandardStreams;
 use silt_device::DiskSources;
 use silt_disk::Disk;
 use silt_jobs::{
-    Ended, KeepsError, KeepsLines, KeepsTally, NewSet, NewStore, SetFiles, StreamError, Tells,
-    Tended, Watched, Why, check_file, dump_file, format_file, format_set, run_file, run_script,
-    run_set, tend_file, write_plan,
+    Ended, Ends, KeepsError, KeepsLines, KeepsTally, NewSet, NewStore, SetFiles, ShardJob,
+    StreamError, Tells, Tended, Watched, Why, check_file, do_each, dump_file, dump_set,
+    format_file, format_set, run_file, run_script, run_set, tend_file, write_plan, write_set_plan,
 };
 use silt_store_set::Refusal;
-use silt_words::{Job, WordsError, read_words};
+use silt_words::{Job, Service, SetJob, SetWork, WordsError, read_words};
 use std::alloc::Global;
 use std::io::{Read, Write};
 use std::net::{Net, TcpListener, TcpStream};
@@ -25,7 +26,7 @@ use std::time::Clock;
 
 /// Does the job that the words name. Returns the name of its file, if it has one, and how it ended, with the status 0 if it is
 /// done, 1 if it is refused, 2 if the words name no job, and 3 if it is a strict run and a line was refused. The first word is
-/// the program's own. A job whose file is a standard stream is refused before anything is opened, read or printed.
+/// the program's own. A job is refused if one of its files is a standard stream, before anything is opened, read or printed.
 pub fn program<
     'a,
     S: DiskSources,
@@ -46,7 +47,7 @@ pub fn program<
     reader: &mut R,
     writer: &mut W,
     people: &mut T,
-) -> (Option<&'a str>, Ended<S::Error, <S::Disk as Disk>::Fault>)
+) -> (Option<&'a str>, Ends<S::Error, <S::Disk as Disk>::Fault>)
 where
     S::Disk: Tended + Watched,
     ensures { Answers S.Disk.Disk (HasFailed S.Disk.Watched.kept_read S.Disk.Watched.last_failure) S.DiskSource source
@@ -55,11 +56,14 @@ where
 {
     match read_words(rt.alloc(), words) {
         Ok(job) => (job.file(), answer(rt, source, job, reader, writer, people)),
-        Err(error) => (None, refuse_words(rt.alloc(), error, writer)),
+        Err(error) => {
+            let ended = refuse_words(rt.alloc(), error, writer);
+            (None, Ends::of(rt.alloc(), ended))
+        }
     }
 }
 
-// Does a job, unless its file is a standard stream.
+// Does a job, unless one of its files is a standard stream.
 fn answer<
     S: DiskSources,
     H: Net<Listener = TcpListener, Stream = TcpStream>
@@ -79,16 +83,21 @@ fn answer<
     reader: &mut R,
     writer: &mut W,
     people: &mut T,
-) -> Ended<S::Error, <S::Disk as Disk>::Fault>
+) -> Ends<S::Error, <S::Disk as Disk>::Fault>
 where
     S::Disk: Tended + Watched,
     ensures { EndsJob S.Disk.Disk (HasFailed S.Disk.Watched.kept_read S.Disk.Watched.last_failure) S.DiskSource source
         W.contents W.kept_error W.kept_tally T.told people.old people.new (H.begins rt.now) (H.are_file rt.now)
         job.entry (R.kept_error reader.new) result (R.remaining reader.old) (R.remaining reader.new) writer.old writer.new }
 {
+    let alloc = rt.alloc();
     match clash_of(rt, &job) {
-        Some(clash) => refuse_clash(rt.alloc(), &clash, writer),
-        None => do_job(rt, source, job, reader, writer, people),
+        Ok(Some(clash)) => Ends::of(alloc, refuse_clash(alloc, &clash, writer)),
+        Ok(None) => do_job(rt, source, job, reader, writer, people),
+        Err(_) => {
+            let why = Why::Refused(Refusal::NoMemory, None);
+            Ends::of(alloc, Ended::refuse(alloc, why, writer))
+        }
     }
 }
 
@@ -112,7 +121,7 @@ fn do_job<
     reader: &mut R,
     writer: &mut W,
     people: &mut T,
-) -> Ended<S::Error, <S::Disk as Disk>::Fault>
+) -> Ends<S::Error, <S::Disk as Disk>::Fault>
 where
     S::Disk: Tended + Watched,
     ensures { DoesJob S.Disk.Disk (HasFailed S.Disk.Watched.kept_read S.Disk.Watched.last_failure) S.DiskSource source
@@ -131,36 +140,101 @@ where
                 numbers,
                 options,
             };
-            format_file(alloc, source, &asked, writer, people).1
+            let (_, ended) = format_file(alloc, source, &asked, writer, people);
+            Ends::of(alloc, ended)
         }
-        Job::FormatSet {
-            file,
-            shards,
-            numbers,
-            options: made,
-        } => {
+        Job::Script(numbers) => Ends::of(alloc, run_script(alloc, &numbers, reader, writer)),
+        Job::Run { file, options } => {
+            let (_, ended) = run_file(alloc, source, file, options, reader, writer);
+            Ends::of(alloc, ended)
+        }
+        Job::Tend { file, merge_at } => {
+            Ends::of(alloc, tend_file(alloc, source, file, merge_at, writer).1)
+        }
+        Job::Check { file } => Ends::of(alloc, check_file(alloc, source, file, writer).1),
+        Job::Dump { file } => Ends::of(alloc, dump_file(alloc, source, file, writer).1),
+        Job::Set(job) => do_set_job(rt, source, &job, reader, writer, people),
+        Job::Plan(request) => Ends::of(alloc, write_plan(alloc, &request, writer)),
+        Job::PlanSet { shards, request } => {
+            Ends::of(alloc, write_set_plan(alloc, shards, &request, writer))
+        }
+        Job::Serve(service) => Ends::of(alloc, serve(rt, source, &service, writer, people)),
+    }
+}
+
+// Does a job on the files of a set.
+fn do_set_job<
+    S: DiskSources,
+    H: AllocGlobal + StandardStreams,
+    R: Read + KeepsError + KeepsLines,
+    W: Write + KeepsError + KeepsTally,
+    T: Tells,
+>(
+    rt: &H,
+    source: S,
+    job: &SetJob<'_>,
+    reader: &mut R,
+    writer: &mut W,
+    people: &mut T,
+) -> Ends<S::Error, <S::Disk as Disk>::Fault>
+where
+    S::Disk: Tended + Watched,
+    ensures { DoesSetJob S.Disk.Disk (HasFailed S.Disk.Watched.kept_read S.Disk.Watched.last_failure) S.DiskSource source
+        W.contents W.kept_error W.kept_tally T.told people.old people.new (H.begins rt.now)
+        job.now.file.now job.now.shards job.now.work (R.kept_error reader.new) result (R.remaining reader.old) (R.remaining reader.new) writer.old writer.new }
+{
+    let alloc = rt.alloc();
+    let files = SetFiles {
+        name: job.file,
+        shards: job.shards,
+    };
+    match job.work {
+        SetWork::Format { numbers, options } => {
             let store = NewStore {
-                file,
+                file: job.file,
                 numbers,
-                options: made,
+                options,
             };
-            format_named(rt, source, store, shards, writer, people)
+            let ended = format_named(rt, source, store, job.shards, writer, people);
+            Ends::of(alloc, ended)
         }
-        Job::Script(numbers) => run_script(alloc, &numbers, reader, writer),
-        Job::Run { file, options } => run_file(alloc, source, file, options, reader, writer).1,
-        Job::RunSet {
-            file,
-            shards,
-            options,
-        } => {
-            let files = SetFiles { name: file, shards };
-            run_set(alloc, source, &files, options, reader, writer)
+        SetWork::Run(options) => {
+            let ended = run_set(alloc, source, &files, options, reader, writer);
+            Ends::of(alloc, ended)
         }
-        Job::Tend { file, merge_at } => tend_file(alloc, source, file, merge_at, writer).1,
-        Job::Check { file } => check_file(alloc, source, file, writer).1,
-        Job::Dump { file } => dump_file(alloc, source, file, writer).1,
-        Job::Plan(request) => write_plan(alloc, &request, writer),
-        Job::Serve(service) => serve_file(rt, source, &service, writer, people).1,
+        SetWork::Tend(merge_at) => do_each(alloc, source, &files, ShardJob::Tend(merge_at), writer),
+        SetWork::Check => do_each(alloc, source, &files, ShardJob::Check, writer),
+        SetWork::Dump => Ends::of(alloc, dump_set(alloc, source, &files, writer)),
+    }
+}
+
+// Serves the store in a file, or the stores in the files of a set.
+fn serve<
+    S: DiskSources,
+    H: Net<Listener = TcpListener, Stream = TcpStream>
+        + AllocGlobal
+        + Clock
+        + Threads
+        + Wait
+        + Sync
+        + StandardStreams,
+    W: Write,
+    T: Tells,
+>(
+    rt: &H,
+    source: S,
+    service: &Service<'_>,
+    writer: &mut W,
+    people: &mut T,
+) -> Ended<S::Error, <S::Disk as Disk>::Fault>
+where
+    S::Disk: Watched,
+    ensures { DoesServe S.Disk.Disk (HasFailed S.Disk.Watched.kept_read S.Disk.Watched.last_failure) S.DiskSource source service.now (T.told people.old people.new) (people.new ≡ people.old)
+        service.now.shards result (W.contents writer.old) (W.contents writer.new) }
+{
+    match service.shards {
+        None => serve_file(rt, source, service, writer, people).1,
+        Some(shards) => serve_set(rt, source, shards, service, writer, people).1,
     }
 }
 

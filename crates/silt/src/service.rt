@@ -1,5 +1,5 @@
 // The server on the disk of a path.
-ghost use Rattle.std.specs.Prelude.{◌≡◌, ◌⊎◌, ◌<◌, ◌≤◌, ◌/◌, None, Ok, IfOk, IfSome, IsOkAnd, is_some, false, max, true, unwrap_or};
+ghost use Rattle.std.specs.Prelude.{◌≡◌, ◌⊎◌, ◌<◌, ◌≤◌, None, Ok, IfOk, IfSome, IsOkAnd, is_some, false, true, unwrap_or};
 ghost use Rattle.silt_disk.specs.Layout.{Shape};
 ghost use Rattle.silt_store_set.specs.CoreInvariant.{LeavesBegun};
 ghost use Rattle.silt_wire.specs.Statuses.{IsStatus};
@@ -10,14 +10,13 @@ ghost use Rattle.silt.specs.Passwords.{HasPassword};
 ghost use Rattle.silt_words.specs.Jobs.{named_access};
 
 use crate::listener::{Entrance, PatientListener, enter, tell_no_entrance};
+use crate::merge_gate::MergeGate;
 use crate::standard_streams::StandardStreams;
-use silt_desk::{Gate, Spot};
 use silt_device::DiskSource;
-use silt_disk::{Disk, Geometry};
-use silt_event::Place;
+use silt_disk::Disk;
 use silt_jobs::{
-    Ended, Failures, StreamError, Tells, Urgent, Watched, Why, has_few_regions, merge_damage_at,
-    open_store, refuse_few_regions,
+    Ended, Failures, StreamError, Tells, Watched, Why, has_few_regions, open_store,
+    refuse_few_regions,
 };
 use silt_resp::LENGTH_LEN;
 use silt_server::{Limits, Protocol, Server, refuse_network};
@@ -25,7 +24,7 @@ use silt_store_set::Core;
 use silt_words::Service;
 use std::io::{self, Write};
 use std::net::{Net, SocketAddr, TcpListener, TcpStream};
-use std::sync::{OnceLock, Wait};
+use std::sync::Wait;
 use std::thread::Threads;
 use std::time::Clock;
 
@@ -91,7 +90,7 @@ where
         (T.told people.old people.new) (people.new ≡ people.old) disk result.0 result.1 (W.contents writer.old) (W.contents writer.new) }
 {
     let entrance = entrance_of(rt, service, people);
-    disk.report_at_once();
+    disk.report_at_once(None);
     match open_store(rt.alloc(), Ok(disk)) {
         Ok(core) => {
             let (disk, ended) = serve_opened(rt, core, entrance, service, writer);
@@ -101,8 +100,8 @@ where
     }
 }
 
-// The entrance of a service. If there is none, people are told why.
-fn entrance_of<H: Net<Listener = TcpListener, Stream = TcpStream> + StandardStreams, T: Tells>(
+/// The entrance of a service. If there is none, people are told why.
+pub fn entrance_of<H: Net<Listener = TcpListener, Stream = TcpStream> + StandardStreams, T: Tells>(
     rt: &H,
     service: &Service<'_>,
     people: &mut T,
@@ -165,8 +164,16 @@ fn has_short_values<D: Disk>(core: &Core<D>, resp: bool) -> bool
     ensures short { result ≡ true → (resp ≡ true) × (core.now.shape.value_len < 2) }
     ensures enough { result ≡ false → resp ≡ true → 2 ≤ core.now.shape.value_len }
 {
+    are_short(core.geometry().value_len(), resp)
+}
+
+/// Whether values of this length, for Redis clients, have no room for a string's length.
+pub fn are_short(value_len: u32, resp: bool) -> bool
+    ensures short { result ≡ true → (resp ≡ true) × (value_len < 2) }
+    ensures enough { result ≡ false → resp ≡ true → 2 ≤ value_len }
+{
     match resp {
-        true => (core.geometry().value_len() as usize) < LENGTH_LEN,
+        true => (value_len as usize) < LENGTH_LEN,
         false => false,
     }
 }
@@ -204,14 +211,7 @@ fn serve_store<
     };
     let limits = limits_of(service, entrance.password);
     let listener = PatientListener::new(rt, entrance.listener, entrance.socket);
-    let geometry = core.geometry();
-    let gate = MergeGate {
-        rt,
-        file: service.file,
-        geometry,
-        least: least_merged(service.merge_at, geometry.hashes()),
-        is_noted: OnceLock::new(),
-    };
+    let gate = MergeGate::new(rt, service.file, None, &core, service.merge_at);
     let server = Server {
         rt,
         alloc: rt.alloc(),
@@ -221,12 +221,12 @@ fn serve_store<
     };
     let (disk, status) = server.serve(core, writer);
     let why = listener_fault(entrance.socket, listener.failure(), &status);
-    let status = status_served(status, gate.is_noted.get().is_some());
+    let status = status_served(status, gate.is_noted());
     (disk, status, why)
 }
 
-// The status of a server with this status: 1 if a merge was refused.
-fn status_served(status: io::Result<u8>, is_unmerged: bool) -> io::Result<u8>
+/// The status of a server with this status: 1 if a merge was refused.
+pub fn status_served(status: io::Result<u8>, is_unmerged: bool) -> io::Result<u8>
     ensures done { result ≡ Ok 0 → (status ≡ Ok 0) × (is_unmerged ≡ false) }
     ensures printed { IfOk result (λ ended. IsOkAnd status (λ served. (ended ≡ served) ⊎ ((served ≡ 0) × (ended ≡ 1) × (is_unmerged ≡ true)))) }
 {
@@ -236,8 +236,8 @@ fn status_served(status: io::Result<u8>, is_unmerged: bool) -> io::Result<u8>
     }
 }
 
-// The limits of a server of this service.
-fn limits_of(service: &Service<'_>, password: Option<[u8; 20]>) -> Limits
+/// The limits of a server of this service.
+pub fn limits_of(service: &Service<'_>, password: Option<[u8; 20]>) -> Limits
     ensures sessions { result.sessions ≡ unwrap_or service.now.sessions 0 }
     ensures clients { result.clients ≡ unwrap_or service.now.access.clients 64 }
     ensures password { result.password ≡ password }
@@ -268,42 +268,8 @@ fn protocol_of(pipeline: bool, resp: bool) -> Protocol
     }
 }
 
-// Of how many hash stores a merge begins, if a store has this many regions for them: half of them, but at least one, if
-// no number is asked for.
-fn least_merged(asked: Option<u32>, hashes: u32) -> u32
-    ensures { result ≡ unwrap_or asked (max (hashes / 2) 1) }
-{
-    asked.unwrap_or((hashes / 2).max(1))
-}
-
-// A gate that is always open. The merger waits for so many hash stores, and the first damage that it finds is told of at once.
-#[derive(Drop)]
-struct MergeGate<'a, H> {
-    rt: &'a H,
-    file: &'a str,
-    geometry: Geometry,
-    least: u32,
-    is_noted: OnceLock<()>,
-}
-
-impl<H: AllocGlobal + StandardStreams> Gate for MergeGate<'_, H> {
-    fn pass(&self, _spot: Spot) {}
-
-    fn merges_at(&self) -> u32 {
-        self.least
-    }
-
-    fn damaged(&self, _spot: Spot, place: Place) {
-        if self.is_noted.try_set(()).is_ok() {
-            let at = merge_damage_at(&self.geometry, place);
-            let urgent = Urgent::Unmerged(self.rt.alloc(), place, at);
-            self.rt.errors().tell(self.file, &urgent);
-        }
-    }
-}
-
-// Why the listener of this socket failed, if the server failed.
-fn listener_fault<E: Drop, F: Drop>(
+/// Why the listener of this socket failed, if the server failed.
+pub fn listener_fault<E: Drop, F: Drop>(
     socket: SocketAddr,
     failure: Option<io::Error>,
     status: &io::Result<u8>,

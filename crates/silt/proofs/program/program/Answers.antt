@@ -6,4 +6,5 @@ pub returns-in-Ok : goal.returns-in-Ok
 returns-in-Ok g c = inl (c.in-Ok.job, c.in-Ok.ensures, c.file.ensures, c.answer.ensures)
 
 pub returns-in-Err : goal.returns-in-Err
-returns-in-Err g c = inr (c.in-Err.error, unread (map string_bytes c.args.words.now) c.in-Err.error c.in-Err.ensures, refl, c.refuse_words.ensures)
+returns-in-Err g c =
+    inr (c.in-Err.error, unread (map string_bytes c.args.words.now) c.in-Err.error c.in-Err.ensures, refl, c.of.ensures.0, rw c.of.ensures.1 c.refuse_words-ended.ensures)
