@@ -4,7 +4,7 @@ import os
 import pathlib
 import re
 
-# The most memory that a proof takes, or a build with checks, in bytes. The largest proof is that of silt_desk_tests.
+# The most memory that a proof takes, or a build with checks, in bytes, but for one: silt_server takes up to 5.8 GB.
 JOB_MEMORY = 4_500_000_000
 
 

@@ -31,6 +31,3 @@ pub use mark::{Mark, Marking, close_mark, read_mark, write_mark};
 pub use shard_files::{check_unmarked, compare_marks, open_shards, open_shards_beside};
 pub use shard_key::{LEAST_SHARDS, MOST_SHARDS, shard_of};
 pub use store_set::{StoreSet, join, no_facts, plus};
-
-#[cfg(test)]
-mod tests;
