@@ -227,11 +227,22 @@ impl Engine {
         Ok(())
     }
 
+    // The memory that the merge in progress has kept for its index.
+    fn take_room(&mut self, alloc: Global) -> Vec<u8>
+        ensures { self.new ≡ self.old }
+    {
+        match &mut self.merging {
+            Some(merge) => merge.take_room(alloc),
+            None => Vec::new(alloc),
+        }
+    }
+
     // Finishes the merge, all of whose keys are decided, if the manifest has a generation left. The index of the new
-    // entries is finished first, so if memory runs out the merge is as it was.
+    // entries is finished first, with this memory, so if memory runs out the merge is as it was.
     fn finish_merge<D: Disk>(
         &mut self,
         alloc: Global,
+        room: Vec<u8>,
         disk: &mut D,
     ) -> Result<Progress, MergeError<D::Fault>>
         requires stands { Stands (D.content disk.old) self.old }
@@ -251,7 +262,7 @@ impl Engine {
         let Some(merge) = &self.merging else {
             unreachable!()
         };
-        let Ok(sorted) = merge.finish(alloc) else {
+        let Ok(sorted) = merge.finish(alloc, room) else {
             return Err(MergeError::NoMemory);
         };
         let count = merge.stores() as usize;
@@ -293,7 +304,8 @@ impl Engine {
             return self.begin_merge(alloc, disk);
         };
         if merge.is_done(self.sorted.entries()) {
-            return self.finish_merge(alloc, disk);
+            let room = self.take_room(alloc);
+            return self.finish_merge(alloc, room, disk);
         }
         self.step_merge(disk)
     }

@@ -57,12 +57,14 @@ impl BitWriter {
         BitReader::new(&self.bytes, start, count)
     }
 
-    /// A copy of these bits, with room for this many bytes more. So these bytes need no further memory, and the bits need not be
-    /// copied again for them.
-    pub fn try_clone_with_room(&self, alloc: Global, more: usize) -> Result<BitWriter, AllocError>
+    /// A copy of these bits in place of the bytes of `room`, with room for this many bytes more. So these bytes need no further
+    /// memory, and if `room` is long enough, the copy needs none either.
+    pub fn copy_into(&self, room: Vec<u8>, more: usize) -> Result<BitWriter, AllocError>
         ensures { IfOk result (λ copy. copy ≡ self.now) }
     {
-        let mut bytes = Vec::with_capacity(alloc, self.bytes.len().saturating_add(more))?;
+        let mut bytes = room;
+        bytes.clear();
+        bytes.reserve(self.bytes.len().saturating_add(more))?;
         bytes.extend_from_slice(&self.bytes)?;
         Ok(BitWriter {
             bytes,

@@ -22,6 +22,8 @@ ghost use Rattle.silt_sorted_store.specs.Region.{is_written};
 ghost use Rattle.silt_sorted_store.specs.State.{HasDigest, IsHeldSorted, SortedState, entries_of};
 ghost use Rattle.sha1.specs.Sha1.{Holds, sha1};
 
+mod ending;
+
 use crate::choice::{Choice, choose, is_behind};
 use crate::piece::Piece;
 use crate::source::{Source, first, keep, remove_waiting};
@@ -56,7 +58,8 @@ pub enum StepError<F> {
 /// wrote, as far as it is built. It also holds a piece of the next slots and one of the next entries of the sorted store, each from
 /// one read. Each step uses the same buffer for an entry. One hasher gets what is taken of the store that is being read, to compare
 /// it with that store's digest, and one gets what is written, so that the new store's digest needs no further read. It remembers a store
-/// that does not fit its digest, and then takes no further step.
+/// that does not fit its digest, and then takes no further step. It keeps room for a copy of the index, as long as the index is so far,
+/// so that its end needs no new memory for it.
 #[derive(Drop)]
 pub struct Merge {
     target: SortedRegion,
@@ -75,6 +78,7 @@ pub struct Merge {
     hasher: Sha1,
     damaged: Option<Place>,
     made: Vec<u8>,
+    room: Vec<u8>,
 }
 
 impl Model for Merge {
@@ -380,6 +384,7 @@ impl Merge {
             hasher: Sha1::new(),
             damaged: None,
             made: vec![in alloc; 0; geometry.entry_len()]?,
+            room: Vec::new(alloc),
         })
     }
 
@@ -715,6 +720,31 @@ impl Merge {
         self.damaged
     }
 
+    // Takes the next step, whatever room there is.
+    fn take_step<D: Disk>(
+        &mut self,
+        stores: &[HashStore],
+        sorted: &SortedEntries,
+        digest: &Digest,
+        disk: &mut D,
+    ) -> Result<(), StepError<D::Fault>>
+        requires more { is_done self.old sorted.now ≡ false }
+        requires count { self.old.stores ≤ length stores.now }
+        requires shapes { All (λ store. store.shape ≡ self.old.shape) (oldest_stores self.old.stores stores.now) }
+        requires shape { sorted.now.shape ≡ self.old.shape }
+        requires size { device_size self.old.shape ≤ size (D.content disk.old) }
+        ensures { TakesStep D.Disk (oldest_stores self.old.stores stores.now) sorted.now digest.now.0 disk.old disk.new self.old self.new result }
+    {
+        if let Some(place) = self.damaged {
+            return Err(StepError::Damaged(place));
+        }
+        let (_newer, taken) = stores.split_at(stores.len() - self.stores as usize);
+        if self.store < self.stores {
+            return self.gather(taken, disk);
+        }
+        self.decide(taken, sorted, digest, disk)
+    }
+
     /// Takes the next step: gathers one slot, or decides one key. It makes at most two reads and then at most one write, of one
     /// entry, and no sync. It allocates memory for at most one row or one key of the index. Slots and entries are read once, in
     /// pieces of at most 64 KiB. If the step that read a piece fails, the piece is read again.
@@ -745,14 +775,8 @@ impl Merge {
         requires size { device_size self.old.shape ≤ size (D.content disk.old) }
         ensures { TakesStep D.Disk (oldest_stores self.old.stores stores.now) sorted.now digest.now.0 disk.old disk.new self.old self.new result }
     {
-        if let Some(place) = self.damaged {
-            return Err(StepError::Damaged(place));
-        }
-        let (_newer, taken) = stores.split_at(stores.len() - self.stores as usize);
-        if self.store < self.stores {
-            return self.gather(taken, disk);
-        }
-        self.decide(taken, sorted, digest, disk)
+        self.keep_room();
+        self.take_step(stores, sorted, digest, disk)
     }
 
     /// Lends what is taken and not hashed yet, if it is 16 KiB or more, to be hashed elsewhere. Returns whether it did.
@@ -769,27 +793,5 @@ impl Merge {
         ensures { self.new ≡ self.old }
     {
         self.input.take_back(lent);
-    }
-
-    /// The sorted store of the written entries, with the index of their keys and the digest of their bytes.
-    ///
-    /// # Errors
-    ///
-    /// Out of memory: the index could not be allocated.
-    pub fn finish(&self, alloc: Global) -> Result<SortedStore, AllocError>
-        ensures store { IfOk result (λ store. store.sorted ≡ record { shape = self.now.shape; region = self.now.region; count = self.now.written }) }
-        ensures entries { (content : Content) (stores : List HashState) (sorted : SortedState) → is_done self.now sorted ≡ true → HasMerged content stores sorted self.now → IsTrue content.honest
-            → AreSound content.shown stores sorted → IfOk result (λ store. entries_of content store.sorted ≡ take self.now.shape.sorted_capacity (merged_rows (sources content.shown stores sorted))) }
-        ensures merge { (content : Content) (stores : List HashState) (sorted : SortedState) → is_done self.now sorted ≡ true → HasMerged content stores sorted self.now → IsTrue content.honest
-            → AreSound content.shown stores sorted → length (merged_rows (sources content.shown stores sorted)) ≤ self.now.shape.sorted_capacity
-            → IfOk result (λ store. IsMergeOf (sources content.shown stores sorted) (entries_of content store.sorted)) }
-        ensures indexed { (content : Content) (stores : List HashState) (sorted : SortedState) → is_done self.now sorted ≡ true → HasMerged content stores sorted self.now → IsTrue content.honest
-            → AreSound content.shown stores sorted → IfOk result (λ store. IsIndexOf (entries_of content store.sorted) store.index) }
-        ensures digested { (content : Content) (stores : List HashState) (sorted : SortedState) → HasMerged content stores sorted self.now
-            → IfOk result (λ store. HasDigest content store.sorted store.digest) }
-    {
-        let index = self.index.finish(alloc)?;
-        let entries = SortedEntries::new(self.target.geometry, self.target.number, self.written);
-        Ok(SortedStore::new(entries, index, digest_so_far(&self.hasher)))
     }
 }

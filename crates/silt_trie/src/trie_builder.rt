@@ -116,6 +116,12 @@ impl MarkedTrieBuilder {
         Ok(true)
     }
 
+    /// How many bytes a copy of the code takes, that of the group under way included: less than a byte a key of
+    /// it if its keys are spread evenly.
+    pub fn room_for_code(&self) -> usize {
+        self.bits.as_bytes().len().saturating_add(self.group.len())
+    }
+
     /// The trie of the keys that were taken. It has a copy of their code and marks: so the caller
     /// may fail afterwards, and still has a builder that takes keys and can be asked again.
     pub fn finish(&self, alloc: Global) -> Result<MarkedTrie, AllocError>
@@ -125,8 +131,20 @@ impl MarkedTrieBuilder {
         ensures groups { IfOk result (λ made. made.groups ≡ 8) }
         ensures levels { IfOk result (λ made. made.levels ≡ self.now.levels) }
     {
-        let room = self.group.len(); // the code of a group takes less than a byte a key if its keys are spread evenly
-        let mut bits = self.bits.try_clone_with_room(alloc, room)?;
+        self.finish_in(alloc, Vec::new(alloc))
+    }
+
+    /// The same, with the code in place of the bytes of `room`. If there are as many as
+    /// [`MarkedTrieBuilder::room_for_code`] says, the code needs no new memory, and none that was not used before.
+    pub fn finish_in(&self, alloc: Global, room: Vec<u8>) -> Result<MarkedTrie, AllocError>
+        ensures made { IfOk result (λ made. (keys : List (List ℕ)) → IsBuildingOf keys self.now
+            → IsMadeOf keys made) }
+        ensures depth { IfOk result (λ made. made.depth ≡ 0) }
+        ensures groups { IfOk result (λ made. made.groups ≡ 8) }
+        ensures levels { IfOk result (λ made. made.levels ≡ self.now.levels) }
+    {
+        let more = self.group.len();
+        let mut bits = self.bits.copy_into(room, more)?;
         let mut marks = Vec::with_capacity(alloc, (1 << self.levels) + 1)?;
         marks.extend_from_slice(&self.marks)?;
         write_groups(

@@ -211,7 +211,7 @@ fn merge_stores<D: Disk>(
     let digest = digest_of(rt, alloc, disk, &sorted);
     let outcome = run_steps(&mut merge, &stores, &sorted, &digest, disk, tries);
     same(rt, &merge.is_done(&sorted), &true);
-    (outcome, done(rt, merge.finish(alloc)))
+    (outcome, done(rt, merge.finish(alloc, Vec::new(alloc))))
 }
 
 // Merges with four entries, in 30 tries: the outcome of the steps, and how many entries the new

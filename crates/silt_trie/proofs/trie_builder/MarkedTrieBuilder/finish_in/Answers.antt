@@ -1,7 +1,7 @@
 use Rattle.std.proofs.Common.{◌++◌, ap, ◌∙◌}
 use Rattle.silt_trie.proofs.Above.{building_of}
 use Rattle.silt_trie.proofs.Built.{finished}
-use Rattle.silt_trie.proofs.trie_builder.MarkedTrieBuilder.finish.Goals as goal
+use Rattle.silt_trie.proofs.trie_builder.MarkedTrieBuilder.finish_in.Goals as goal
 
 pub returns-clause-made : goal.returns-clause-made
 returns-clause-made c =
