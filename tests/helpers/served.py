@@ -20,8 +20,10 @@ from watch import WatchedCase
 SMALL = "2 2 4 2 2 8"
 # A store that takes some thousand puts.
 ROOMY = "2 16 64 8 16 4000"
-# The descriptors of a server without connections: three streams, the store's file, the listener.
-DESCRIPTORS = 5
+# The descriptors of a server before it listens: three streams and the store's file.
+UNHEARD = 4
+# And those of a server without connections: the listener, and the file once more for early syncs.
+DESCRIPTORS = UNHEARD + 2
 # The number of sessions that a server has at once.
 MOST_SESSIONS = 64
 # What a connection reads for which there is no place, without its line feed.

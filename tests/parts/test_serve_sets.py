@@ -1,5 +1,6 @@
 """A server of a set: each line goes to the shard of its key, and a flush to all of them."""
 import hashlib
+import itertools
 import os
 import threading
 import time
@@ -226,6 +227,51 @@ class Work(SetCase):
         )
         server.kill()
         self.assertEqual(self.held(), {key_of(it): values[it] for it in values})
+
+
+class Mergers(SetCase):
+    """How many shards are merged at a time."""
+
+    # Logs of two hundred rows, and entries of which a merge writes many pieces.
+    geometry = "400 64 200 3 4 20000"
+
+    def merges(self, calls):
+        """The first and the last call of each merge, as places in the record. A merger alone reads the
+        hash regions of an open store. Its merge ends with the write of a slot of the manifest."""
+        geometry = Geometry(*map(int, self.geometry.split()))
+        begun, ended = {}, []
+        for place, call in enumerate(calls):
+            if call.name == "pread" and geometry.hash_at(0) <= call.at < geometry.sorted_at(0):
+                begun.setdefault(call.thread, place)
+            if call.name == "pwrite" and call.at < geometry.gates_at(0) and call.thread in begun:
+                ended.append((begun.pop(call.thread), place))
+        return ended
+
+    def most_at_once(self, *options):
+        """How many shards were merged at once at most, of a set that was loaded with these options."""
+        server = self.serve_set(
+            "--merge-at", 1, "--sessions", 1, "--pipeline", *options, *self.patient,
+            env=watching(self, log="record"),
+        )
+        client = self.client(server)
+        for first in range(0, 6000, 200):
+            lines = [f"put =k{it} {it:0800x}" for it in range(first, first + 200)]
+            self.assertEqual({it.split()[0] for it in client.ask(*lines)}, {"accepted"})
+        client.close()
+        self.assertEqual(server.ended().status, 0)
+        merges = self.merges(read_record(self.path("record")))
+        self.assertGreater(len(merges), 4 * self.count)
+        steps = sorted([(first, 1) for first, _ in merges] + [(last, -1) for _, last in merges])
+        return max(itertools.accumulate(step for _, step in steps))
+
+    def test_as_many_as_are_asked_for(self):
+        for most in (1, 2):
+            with self.subTest(most=most):
+                self.assertLessEqual(self.most_at_once("--mergers", most), most)
+
+    def test_all_at_once(self):
+        self.assertGreater(self.most_at_once(), 2)
+        self.assertGreater(self.most_at_once("--mergers", 64), 2)
 
 
 class Faults(SetCase):

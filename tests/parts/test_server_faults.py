@@ -6,7 +6,17 @@ import subprocess
 import unittest
 
 from harness import TIME_LIMIT, without_note
-from served import CONVERTER, DESCRIPTORS, MERGER, MOST_SESSIONS, ROOMY, SMALL, ServedCase, digits
+from served import (
+    CONVERTER,
+    DESCRIPTORS,
+    MERGER,
+    MOST_SESSIONS,
+    ROOMY,
+    SMALL,
+    UNHEARD,
+    ServedCase,
+    digits,
+)
 from watch import read_record, watching
 
 FIVE_PUTS = [f"put {digits(it)} {it:04}" for it in range(1, 6)]
@@ -150,7 +160,7 @@ class Limits(ServedCase):
 
     def test_no_descriptor_for_the_listener(self):
         def limit():
-            resource.setrlimit(resource.RLIMIT_NOFILE, (DESCRIPTORS - 1, DESCRIPTORS - 1))
+            resource.setrlimit(resource.RLIMIT_NOFILE, (UNHEARD, UNHEARD))
 
         ended = self.begin("store", 0, preexec_fn=limit).ended()
         self.assertEqual((ended.status, ended.out), (1, "opened\nnetwork fault\n"), ended)

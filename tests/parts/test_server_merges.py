@@ -1,7 +1,9 @@
 """When a merge begins, of a server and of background work without one: with how many hash
 stores."""
 from harness import Ended
+from model import Geometry
 from served import ServedCase
+from watch import read_record, watching
 
 # Logs of four rows. So each further put of a key of its own freezes a log after four.
 EIGHT = "2 2 4 4 8 400"
@@ -64,6 +66,47 @@ class Merges(ServedCase):
                 hashes, entries = self.served(24, "--merge-at", at)
                 self.assertLess(hashes, at)
                 self.assertGreater(entries, 4 * 8)
+
+
+class EarlySyncs(ServedCase):
+    """A merger syncs what it wrote, with no lock held: so the sync at its end is short."""
+
+    # Long values, and a log whose rows are fourteen million bytes.
+    NUMBERS = "4096 1024 3500 2 2 6000"
+    # The most that a merge writes between two syncs, and what the buffers of a disk hold.
+    BYTES, BUFFERS = 8 << 20, 3 << 16
+
+    def test_no_sync_of_a_merge_has_much_to_write(self):
+        self.store(self.NUMBERS)
+        server = self.serve(
+            "--merge-at", 1, "--pipeline", "--sessions", 1, env=watching(self, log="record")
+        )
+        client = self.client(server)
+        value = "5a" * 4096
+        for first in range(0, 3502, 103):
+            lines = [f"put =key/{it} {value}" for it in range(first, first + 103)]
+            self.assertEqual({it.split()[0] for it in client.ask(*lines)}, {"accepted"})
+        client.close()
+        self.assertEqual(server.ended().status, 0)
+        geometry = Geometry(*map(int, self.NUMBERS.split()))
+
+        def writes_entries(call):
+            return call.name == "pwrite" and call.at >= geometry.sorted_at(0)
+
+        calls = read_record(self.path("record"))
+        merger = next(it.thread for it in calls if writes_entries(it))
+        of_merger = [it for it in calls if it.thread == merger]
+        self.assertGreater(
+            sum(it.result for it in of_merger if writes_entries(it)), 3000 * geometry.entry_length
+        )
+        written, most = 0, 0
+        for call in of_merger:
+            if call.name == "fdatasync":
+                written = 0
+            elif writes_entries(call):
+                written += call.result
+            most = max(most, written)
+        self.assertLessEqual(most, self.BYTES + self.BUFFERS)
 
 
 class Tends(ServedCase):

@@ -45,6 +45,7 @@ PORT  a port of this machine, at most 65535; 0 lets the system choose
 --password-file PATH  serve --resp: asks clients for the password in the first line of this file
 --clients N       serves at most N connections at once, 1 to 1024; 64 if left out
 --shards M        serve: serves the M shards in the files FILE.0, FILE.1 .. as one store; not with --audit
+--mergers G       serve --shards: merges at most G shards at a time; any number if left out
 """
 
 # The values and the options of each job.
@@ -58,7 +59,7 @@ JOBS = {
     "script": ("V B CAP NL NH S", ""),
     "serve": (
         "FILE PORT",
-        "--audit --sessions --idle --wait --merge-at --pipeline --resp --bind --password-file --clients --shards",
+        "--audit --sessions --idle --wait --merge-at --pipeline --resp --bind --password-file --clients --shards --mergers",
     ),
 }
 # What the help of a job with an input says of its lines.
@@ -216,6 +217,13 @@ COMPLAINTS = {
     "serve disk 0 --shards 2 --shards 2": "--shards is given twice",
     "serve disk 0 --audit 5 --shards 4": RECORD_OF_SET,
     "serve disk 0 --shards 64 --resp --audit=0": RECORD_OF_SET,
+    "serve disk 0 --mergers 1": "--mergers needs --shards",
+    "serve disk 0 --shards 2 --mergers": "--mergers needs a number behind it",
+    "serve disk 0 --shards 2 --mergers 0": "--mergers cannot be '0': at least one shard is merged at a time",
+    "serve disk 0 --shards 2 --mergers=one": f"--mergers cannot be 'one': {NO_DIGITS}",
+    "serve disk 0 --shards 2 --mergers 4294967296": f"--mergers cannot be '4294967296': {TOO_LARGE}",
+    "serve disk 0 --shards 2 --mergers 1 --mergers 1": "--mergers is given twice",
+    "tend disk --shards 2 --mergers 1": "'--mergers' is no option here",
     "run disk --bind 127.0.0.1": "'--bind' is no option here",
 }
 

@@ -29,10 +29,12 @@
 #![tactic(auto)]
 
 mod clash;
+mod early_sync;
 mod file_identity;
 mod file_systems;
 mod listener;
 mod merge_gate;
+mod merge_places;
 mod mounts;
 mod password;
 mod program;

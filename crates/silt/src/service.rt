@@ -11,6 +11,7 @@ ghost use Rattle.silt_words.specs.Jobs.{named_access};
 
 use crate::listener::{Entrance, PatientListener, enter, tell_no_entrance};
 use crate::merge_gate::MergeGate;
+use crate::merge_places::MergePlaces;
 use crate::standard_streams::StandardStreams;
 use silt_device::DiskSource;
 use silt_disk::Disk;
@@ -211,7 +212,8 @@ fn serve_store<
     };
     let limits = limits_of(service, entrance.password);
     let listener = PatientListener::new(rt, entrance.listener, entrance.socket);
-    let gate = MergeGate::new(rt, service.file, None, &core, service.merge_at);
+    let places = MergePlaces::new(1);
+    let gate = MergeGate::new(rt, service.file, None, &core, service.merge_at, &places);
     let server = Server {
         rt,
         alloc: rt.alloc(),

@@ -1,5 +1,5 @@
 // The server on the files of a set.
-ghost use Rattle.std.specs.Prelude.{◌≡◌, ◌≤◌, All, IfOk, is_some, length, map, vec_len, Some};
+ghost use Rattle.std.specs.Prelude.{◌≡◌, ◌≤◌, All, IfOk, is_some, length, map, unwrap_or, vec_len, Some};
 ghost use Rattle.std.specs.List.{range_with_len};
 ghost use Rattle.silt_disk.specs.Layout.{Shape};
 ghost use Rattle.silt_store_set.specs.CoreInvariant.{LeavesBegun};
@@ -11,6 +11,7 @@ ghost use Rattle.silt.specs.SetServices.{FailedAmong, RefusesFault, ServesDisks,
 
 use crate::listener::{Entrance, PatientListener};
 use crate::merge_gate::MergeGate;
+use crate::merge_places::MergePlaces;
 use crate::service::{are_short, entrance_of, limits_of, listener_fault, status_served};
 use crate::standard_streams::StandardStreams;
 use silt_device::DiskSources;
@@ -201,7 +202,8 @@ fn serve_entered<
     ensures left { All (λ disk. (shape : Shape) × LeavesBegun (D.content disk) shape) result.0.items }
 {
     let alloc = rt.alloc();
-    let Ok(gates) = gates_of(rt, service, cores.as_slice()) else {
+    let places = MergePlaces::new(places_of(service, cores.len()));
+    let Ok(gates) = gates_of(rt, service, cores.as_slice(), &places) else {
         let why = Why::Refused(Refusal::NoMemory, None);
         return (Vec::new(alloc), Ended::refuse(alloc, why, writer));
     };
@@ -227,12 +229,21 @@ fn serve_entered<
     (disks, ended)
 }
 
-// The gates of the workers of these stores, which are the shards of a set.
-fn gates_of<'a, D: Disk, H: AllocGlobal + StandardStreams>(
+// How many of so many shards may be merged at a time: all, if no number is asked for.
+fn places_of(service: &Service<'_>, shards: usize) -> u32
+    requires { shards ≤ 64 }
+    ensures { result ≡ unwrap_or service.now.mergers shards }
+{
+    service.mergers.unwrap_or(shards as u32)
+}
+
+// The gates of the workers of these stores, which are the shards of a set, with these places for mergers.
+fn gates_of<'a, 'p, D: Disk, H: AllocGlobal + Wait + StandardStreams>(
     rt: &'a H,
     service: &Service<'a>,
     cores: &[Core<D>],
-) -> Result<Vec<MergeGate<'a, H>>, AllocError>
+    places: &'p MergePlaces,
+) -> Result<Vec<MergeGate<'a, 'p, H>>, AllocError>
     requires { length cores.now ≤ 64 }
     ensures count { IfOk result (λ gates. vec_len gates ≡ length cores.now) }
     ensures shards { IfOk result (λ gates. map (λ gate. gate.shard) gates.items ≡ map Some (range_with_len 0 (length cores.now))) }
@@ -241,14 +252,15 @@ fn gates_of<'a, D: Disk, H: AllocGlobal + StandardStreams>(
     let mut gates = Vec::with_capacity(rt.alloc(), cores.len())?;
     for core in cores {
         let shard = gates.len() as u32;
-        let gate = MergeGate::new(rt, service.file, Some(shard), core, service.merge_at);
+        let merge_at = service.merge_at;
+        let gate = MergeGate::new(rt, service.file, Some(shard), core, merge_at, places);
         gates.push_reserved(gate);
     }
     Ok(gates)
 }
 
 // Whether a merge of one of the stores was refused.
-fn are_noted<H: AllocGlobal + StandardStreams>(gates: &[MergeGate<'_, H>]) -> bool {
+fn are_noted<H: AllocGlobal + Wait + StandardStreams>(gates: &[MergeGate<'_, '_, H>]) -> bool {
     for gate in gates {
         if gate.is_noted() {
             return true;

@@ -97,6 +97,9 @@ pub trait StandardStreams {
         ensures start { IfOk result (λ count. begins self.now path.now (take count buffer.new)) }
         ensures len { length buffer.new ≡ length buffer.old };
 
+    /// Another handle of the file at this path, if it can be opened once more.
+    fn open_beside(&self, path: &str) -> Option<File>;
+
     /// The standard error.
     fn errors(&self) -> Stderr;
 }
@@ -143,6 +146,10 @@ impl StandardStreams for HostRuntime {
     fn read_start(&self, path: &str, buffer: &mut [u8]) -> io::Result<usize> {
         let mut file = File::open(self, path)?;
         fill_from(&mut file, buffer)
+    }
+
+    fn open_beside(&self, path: &str) -> Option<File> {
+        File::open(self, path).ok()
     }
 
     fn errors(&self) -> Stderr {

@@ -67,9 +67,9 @@ plan_app = with_option (with_option (with_value (with_value (new_app (codes "pla
 
 abbrev pub serve_app : App
 serve_app =
-    with_option (with_option (with_option (with_option (with_flag (with_flag (with_option (with_option (with_option (with_option (with_option (with_value (with_file (new_app (codes "serve"))) (codes "PORT"))
+    with_option (with_option (with_option (with_option (with_option (with_flag (with_flag (with_option (with_option (with_option (with_option (with_option (with_value (with_file (new_app (codes "serve"))) (codes "PORT"))
     (codes "audit")) (codes "sessions")) (codes "idle")) (codes "wait")) (codes "merge-at")) (codes "pipeline")) (codes "resp"))
-    (codes "bind")) (codes "password-file")) (codes "clients")) (codes "shards")
+    (codes "bind")) (codes "password-file")) (codes "clients")) (codes "shards")) (codes "mergers")
 
 -- the program
 abbrev pub silt : App
@@ -141,6 +141,12 @@ shards_in rows = option_and_then (λ given. if makes_set given then Some given e
 abbrev pub audit_in : List Row → Option (Option ℕ)
 audit_in rows =
     option_and_then (λ audit. option_and_then (λ shards. if is_some audit && is_some shards then None else Some audit) (shards_in rows)) (option_in rows (codes "audit"))
+
+-- how many shards of a set may be merged at a time: at least one, and only of a set
+abbrev pub mergers_in : List Row → Option (Option ℕ)
+mergers_in rows =
+    option_and_then (λ mergers. option_and_then (λ shards. if is_some mergers && not (is_some shards) then None else Some mergers) (shards_in rows))
+    (count_in rows (codes "mergers"))
 
 -- whether an option without a value is given
 abbrev pub flag_in : List Row → Text → Bool
@@ -234,10 +240,11 @@ access_in rows =
 -- how a file is to be served
 abbrev pub service_in : List Row → Option NamedService
 service_in rows =
-    option_and_then (λ file. option_and_then (λ port. option_and_then (λ access. option_and_then (λ audit. option_and_then (λ sessions. option_and_then (λ idle. option_and_then (λ wait. option_and_then (λ shards. option_map (λ merge_at.
+    option_and_then (λ file. option_and_then (λ port. option_and_then (λ access. option_and_then (λ audit. option_and_then (λ sessions. option_and_then (λ idle. option_and_then (λ wait. option_and_then (λ shards. option_and_then (λ mergers. option_map (λ merge_at.
     record {
       file = file;
       shards = shards;
+      mergers = mergers;
       port = port;
       access = access;
       audit = audit;
@@ -248,7 +255,7 @@ service_in rows =
       pipeline = flag_in rows (codes "pipeline");
       resp = flag_in rows (codes "resp");
     })
-    (count_in rows (codes "merge-at"))) (shards_in rows)) (option_in rows (codes "wait"))) (limit_in rows (codes "idle"))) (limit_in rows (codes "sessions"))) (audit_in rows)) (access_in rows)) (port_in rows)) (file_in rows)
+    (count_in rows (codes "merge-at"))) (mergers_in rows)) (shards_in rows)) (option_in rows (codes "wait"))) (limit_in rows (codes "idle"))) (limit_in rows (codes "sessions"))) (audit_in rows)) (access_in rows)) (port_in rows)) (file_in rows)
 
 -- what a store is to be planned for
 abbrev pub request_in : List Row → Option PlanRequest

@@ -28,6 +28,7 @@ named_access access = record {
 pub record NamedService : Type 0 where
   pub file : List ℕ
   pub shards : Option ℕ
+  pub mergers : Option ℕ
   pub port : ℕ
   pub access : NamedAccess
   pub audit : Option ℕ
@@ -43,6 +44,7 @@ abbrev pub named_service : Service → NamedService
 named_service service = record {
   file = service.file.now;
   shards = service.shards;
+  mergers = service.mergers;
   port = service.port;
   access = named_access service.access;
   audit = service.audit;

@@ -130,7 +130,8 @@ fn serve<'a>(alloc: Global) -> Result<Command<'a>, AllocError>
     let with_bind = add_option(with_resp, alloc, "bind");
     let with_password = add_option(with_bind, alloc, "password-file");
     let with_clients = add_option(with_password, alloc, "clients");
-    add_option(with_clients, alloc, "shards")
+    let with_shards = add_option(with_clients, alloc, "shards");
+    add_option(with_shards, alloc, "mergers")
 }
 
 // The command with one more below it, if that one was made.

@@ -15,7 +15,7 @@ pub struct Choice {
 }
 
 /// The most options that a job has.
-pub const MOST_OPTIONS: usize = 11;
+pub const MOST_OPTIONS: usize = 12;
 
 /// What follows most options.
 const NUMBER: &str = "a number";
@@ -95,6 +95,13 @@ const SERVE_SHARDS: Choice = Choice {
     operand: Some(NUMBER),
     needs: None,
     line: "--shards M        serve: serves the M shards in the files FILE.0, FILE.1 .. as one store; not with --audit",
+};
+
+const MERGERS: Choice = Choice {
+    name: "--mergers",
+    operand: Some(NUMBER),
+    needs: Some("--shards"),
+    line: "--mergers G       serve --shards: merges at most G shards at a time; any number if left out",
 };
 
 const TEND: Choice = Choice {
@@ -289,6 +296,7 @@ const FORMS: [Form; 8] = [
             PASSWORD_FILE,
             CLIENTS,
             SERVE_SHARDS,
+            MERGERS,
         ],
         input: &[EVENTS, FACTS],
     },

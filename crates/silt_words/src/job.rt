@@ -51,6 +51,8 @@ pub struct Service<'a> {
     pub file: &'a str,
     /// The number of shards, 2 to 64, if a set is to be served.
     pub shards: Option<u32>,
+    /// How many shards of a set, at least one, may be merged at a time. None if the option is left out.
+    pub mergers: Option<u32>,
     /// The port to listen on. For 0 the system chooses one.
     pub port: u16,
     pub access: Access<'a>,

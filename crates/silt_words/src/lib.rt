@@ -5,9 +5,9 @@
 //! digits, and at most 4,294,967,295; a port is at most 65,535.
 //!
 //! Options are `--force` and `--sparse` of `format`, `--tend` and `--strict` of `run`, `--merge-at K` of `run`, `tend` and
-//! `serve`, `--memory BYTES` of `plan`, `--shards M` of `format`, `run`, `tend`, `check`, `dump` and `plan`, and `--audit N`,
+//! `serve`, `--memory BYTES` of `plan`, `--shards M` of all but `script`, and `--audit N`,
 //! `--sessions M`, `--idle SECONDS`, `--wait SECONDS`, `--pipeline`, `--resp`, `--bind ADDRESS`,
-//! `--password-file PATH` and `--clients N` of `serve`. Each is given at most once, before,
+//! `--password-file PATH`, `--clients N` and, beside `--shards`, `--mergers G` of `serve`. Each is given at most once, before,
 //! between or after the values, and `--audit=N` is the same as two words. No other word of more than one character may
 //! begin with a hyphen, but after the first word `--` every word is a value. Without `--sessions`, or with 0, the server
 //! serves any number of sessions. Without `--idle`, or with 0, it closes no silent connection. With `--wait 0` no command

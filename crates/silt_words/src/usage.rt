@@ -87,6 +87,9 @@ fn why_no_number(name: &str, word: &str) -> &'static str {
         if name == "--merge-at" && number_of(word.as_bytes()) == Some(0) {
             return "a merge is of at least one hash store";
         }
+        if name == "--mergers" && number_of(word.as_bytes()) == Some(0) {
+            return "at least one shard is merged at a time";
+        }
         if name == "--shards" {
             return "a set has 2 to 64 shards";
         }
@@ -316,7 +319,7 @@ fn is_value(name: &str, word: &str) -> bool {
         "--shards" => number_of(word.as_bytes()).is_some_and(|shards| FEWEST_SHARDS <= shards
             && shards <= MOST_SHARDS),
         "PORT" => number_of(word.as_bytes()).is_some_and(|port| port <= 65_535),
-        "--merge-at" => number_of(word.as_bytes()).is_some_and(|stores| stores > 0),
+        "--merge-at" | "--mergers" => number_of(word.as_bytes()).is_some_and(|count| count > 0),
         _ => number_of(word.as_bytes()).is_some(),
     }
 }

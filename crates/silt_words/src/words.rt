@@ -3,7 +3,7 @@ ghost use Rattle.std.specs.Prelude.{◌≡◌, Some, None, MatchResult, codes, m
 ghost use Rattle.clap.specs.Words.{first_of, found_of, rows_of, subcommand_rows_of};
 ghost use Rattle.silt_words.specs.Commands.{access_in, address_given, clients_in, count_in, file_in, flag_in, format_options_in, job_in, job_met, job_named};
 ghost use Rattle.silt_words.specs.Commands.{audit_in, check_in, dump_in, format_in, plan_in, run_in, shards_in, tend_in};
-ghost use Rattle.silt_words.specs.Commands.{limit_in, may_listen, number_in, numbers_in, option_in, port_in, request_in, run_options_in, service_in};
+ghost use Rattle.silt_words.specs.Commands.{limit_in, may_listen, mergers_in, number_in, numbers_in, option_in, port_in, request_in, run_options_in, service_in};
 ghost use Rattle.silt_words.specs.Jobs.{named, named_access, named_service, on_set};
 ghost use Rattle.silt_words.specs.declared.job.WordsError.TheVariants.{Usage};
 
@@ -283,6 +283,18 @@ fn audit_of(matches: &ArgMatches<'_>) -> Option<Option<u32>>
     Some(audit)
 }
 
+// How many shards of a set may be merged at a time. One store has no such number.
+fn mergers_of(matches: &ArgMatches<'_>) -> Option<Option<u32>>
+    ensures { result ≡ mergers_in (rows_of (found_of matches.now)) }
+{
+    let mergers = count_at(matches, "mergers")?;
+    let shards = shards_of(matches)?;
+    if mergers.is_some() && shards.is_none() {
+        return None;
+    }
+    Some(mergers)
+}
+
 fn service_of<'a>(matches: &ArgMatches<'a>) -> Option<Service<'a>>
     ensures { option_map named_service result ≡ service_in (rows_of (found_of matches.now)) }
 {
@@ -295,6 +307,7 @@ fn service_of<'a>(matches: &ArgMatches<'a>) -> Option<Service<'a>>
         sessions: limit_at(matches, "sessions")?,
         idle: limit_at(matches, "idle")?,
         wait: option_at(matches, "wait")?,
+        mergers: mergers_of(matches)?,
         merge_at: merge_at_of(matches)?,
         pipeline: is_given(matches, "pipeline"),
         resp: is_given(matches, "resp"),

@@ -18,4 +18,5 @@ returns c =
     let stands10 = one_more _ _ (λ old arg new adds. adds.globals) _ _ c.add_option-with_bind.ensures stands9 in
     let stands11 = one_more _ _ (λ old arg new adds. adds.globals) _ _ c.add_option-with_password.ensures stands10 in
     let stands12 = one_more _ _ (λ old arg new adds. adds.globals) _ _ c.add_option-with_clients.ensures stands11 in
-    joins_as _ (λ old sub new adds. adds.shape) _ (one_more _ _ (λ old arg new adds. adds.globals) _ _ c.add_option.ensures stands12)
+    let stands13 = one_more _ _ (λ old arg new adds. adds.globals) _ _ c.add_option-with_shards.ensures stands12 in
+    joins_as _ (λ old sub new adds. adds.shape) _ (one_more _ _ (λ old arg new adds. adds.globals) _ _ c.add_option.ensures stands13)
