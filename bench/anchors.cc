@@ -3,7 +3,8 @@
 // reopening. It prints one line of numbers, separated by tabs, behind one of their names.
 //
 // build: g++ -O2 -std=c++17 anchors.cc -o anchors -lrocksdb -lleveldb -llmdb -lpthread
-// run:   ./anchors STORE FOLDER N V G GETS      STORE is rocksdb, leveldb or lmdb; FOLDER/STORE is made, and taken away at the end
+// run:   ./anchors STORE FOLDER N V G GETS [THREADS]      STORE is rocksdb, leveldb or lmdb; FOLDER/STORE is made, and taken away at the end;
+//        THREADS threads put, each its share of the keys with groups of its own (one, if left out; lmdb has one)
 #include <leveldb/db.h>
 #include <leveldb/filter_policy.h>
 #include <lmdb.h>
@@ -209,28 +210,49 @@ static double microseconds_at(std::vector<float> &times, double part) {
     return *at;
 }
 
-int main(int count, char **words) {
-    if (count != 7) return 2;
-    std::string name = words[1], folder = std::string(words[2]) + "/" + name;
-    uint64_t keys = atoll(words[3]), length = atoll(words[4]), group = atoll(words[5]), gets = atoll(words[6]);
-    auto store = store_named(name);
-    if (!store || keys == 0 || group == 0) return 2;
-    std::filesystem::remove_all(folder);
-    store->open(folder);
-    std::vector<float> puts, flushes;  // microseconds
+// Puts each `threads`-th key from this number on, with a sync behind each group. It notes how many microseconds each put took that synced nothing.
+static void put_share(Store &store, uint64_t first, uint64_t threads, uint64_t keys, uint64_t length, uint64_t group, std::vector<float> &puts) {
     char key[20];
-    auto start = Clock::now(), last = start;
-    for (uint64_t number = 0; number < keys; number++) {
-        bool sync = (number + 1) % group == 0 || number + 1 == keys;
+    uint64_t done = 0;
+    auto last = Clock::now();
+    for (uint64_t number = first; number < keys; number += threads) {
+        bool sync = ++done % group == 0 || number + threads >= keys;
         key_of(number, key);
-        store->put(key, std::string(length, byte_of(number)), sync);
+        store.put(key, std::string(length, byte_of(number)), sync);
         auto now = Clock::now();
-        (sync ? flushes : puts).push_back(std::chrono::duration<float, std::micro>(now - last).count());
+        if (!sync) puts.push_back(std::chrono::duration<float, std::micro>(now - last).count());
         last = now;
     }
+}
+
+// Puts all keys by so many threads. Returns how many microseconds each put took that synced nothing.
+static std::vector<float> put_all(Store &store, uint64_t keys, uint64_t length, uint64_t group, uint64_t threads) {
+    std::vector<std::vector<float>> puts(threads);
+    std::vector<std::thread> all;
+    for (uint64_t thread = 0; thread < threads; thread++)
+        all.emplace_back([&, thread] { put_share(store, thread, threads, keys, length, group, puts[thread]); });
+    for (auto &thread : all) thread.join();
+    std::vector<float> together;
+    for (auto &some : puts) {
+        together.insert(together.end(), some.begin(), some.end());
+        std::vector<float>().swap(some);
+    }
+    return together;
+}
+
+int main(int count, char **words) {
+    if (count != 7 && count != 8) return 2;
+    std::string name = words[1], folder = std::string(words[2]) + "/" + name;
+    uint64_t keys = atoll(words[3]), length = atoll(words[4]), group = atoll(words[5]), gets = atoll(words[6]);
+    uint64_t threads = count == 8 ? atoll(words[7]) : 1;
+    auto store = store_named(name);
+    if (!store || keys == 0 || group == 0 || threads == 0 || (name == "lmdb" && threads != 1)) return 2;
+    std::filesystem::remove_all(folder);
+    store->open(folder);
+    auto start = Clock::now();
+    std::vector<float> puts = put_all(*store, keys, length, group, threads);
     store->finish();
     double put_rate = keys / seconds_since(start);
-    std::vector<float>().swap(flushes);
     double late = microseconds_at(puts, 0.999), longest = microseconds_at(puts, 1);
     std::vector<float>().swap(puts);
     double one = gets_a_second(*store, keys, gets, 1, 0, true), four = gets_a_second(*store, keys, gets, 4, 0, true);

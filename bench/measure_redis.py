@@ -3,9 +3,11 @@
 
     bench/measure_redis.py [--program PATH] [--folder FOLDER] [--proxy]
 
-With --proxy each of the two is behind a nutcracker of its own. redis appends each command to its file and syncs it before the reply (appendfsync always), as silt does. Both set and
-get 64 bytes under 100,000 names. Of each row three runs are made by turns, and the middle one is printed. On Debian it
-wants redis-server, redis-tools and, with --proxy, nutcracker. Nothing else is to run meanwhile.
+There are three stores of silt: the one that `plan` gives for the names, one with larger logs, and a set of four shards that `plan`
+gives. redis appends each command to its file and syncs it before the reply (appendfsync always), as silt does. All set and get 64
+bytes under 100,000 names. Of each row three runs are made by turns, and the middle one is printed. With --proxy each server is
+behind a nutcracker of its own. On Debian it wants redis-server, redis-tools and, with --proxy, nutcracker. Nothing else is to run
+meanwhile.
 """
 import argparse
 import contextlib
@@ -25,6 +27,8 @@ LARGE = [VALUE_LEN, 8_192, 28_672, 3, 8, NAMES + 11 * 28_672]
 # Connections, commands that each sends at once, and commands in all.
 LOADS = [(1, 1, 1_500), (8, 1, 8_000), (64, 1, 50_000), (8, 50, 200_000), (64, 50, 300_000)]
 RUNS = 3
+SHARDS = 4
+STORES = ["planned", "large logs", f"{SHARDS} shards", "redis"]
 # The configuration of a proxy before one server.
 PROXY = """one:
   listen: 127.0.0.1:{front}
@@ -43,17 +47,17 @@ def free_port():
         return listener.getsockname()[1]
 
 
-def planned(program):
+def planned(program, *options):
     """The six numbers that `plan` gives."""
-    words = [program, "plan", str(NAMES), str(VALUE_LEN)]
+    words = [program, "plan", str(NAMES), str(VALUE_LEN), *options]
     said = subprocess.run(words, capture_output=True, text=True, check=True).stdout
     return said.splitlines()[0].split()
 
 
-def silt_words(program, path, numbers, port):
+def silt_words(program, path, numbers, port, *options):
     """The words that serve a new store."""
-    subprocess.run([program, "format", path, *map(str, numbers)], check=True, stdout=subprocess.DEVNULL)
-    return [program, "serve", path, str(port), "--resp"]
+    subprocess.run([program, "format", path, *map(str, numbers), *options], check=True, stdout=subprocess.DEVNULL)
+    return [program, "serve", path, str(port), "--resp", *options]
 
 
 def redis_words(folder, port):
@@ -104,16 +108,18 @@ def main():
     words.add_argument("--folder")
     words.add_argument("--proxy", action="store_true")
     words = words.parse_args()
-    heads = (f"{kind}/s {it}" for kind in ("SET", "GET") for it in ("planned", "large logs", "redis", "to redis"))
+    heads = [f"{kind}/s {it}" for kind in ("SET", "GET") for it in (*STORES, "to redis")]
     print(f"| connections | at once | {' | '.join(heads)} |")
-    print("|---" * 10 + "|")
+    print("|---" * (2 + len(heads)) + "|")
     with tempfile.TemporaryDirectory(dir=words.folder) as folder:
         folder = pathlib.Path(folder)
-        ports = [free_port() for _ in range(3)]
+        ports = [free_port() for _ in STORES]
+        set_of = ["--shards", str(SHARDS)]
         servers = [
             silt_words(words.program, folder / "planned", planned(words.program), ports[0]),
             silt_words(words.program, folder / "large", LARGE, ports[1]),
-            redis_words(folder, ports[2]),
+            silt_words(words.program, folder / "set", planned(words.program, *set_of), ports[2], *set_of),
+            redis_words(folder, ports[3]),
         ]
         with contextlib.ExitStack() as running:
             for server, port in zip(servers, ports):
@@ -123,9 +129,9 @@ def main():
                 runs = [[measured(port, load) for port in ports] for _ in range(RUNS)]
                 row = [load[0], load[1]]
                 for kind in range(2):
-                    rates = [statistics.median(run[server][kind] for run in runs) for server in range(3)]
+                    rates = [statistics.median(run[server][kind] for run in runs) for server in range(len(STORES))]
                     row += [f"{it:,.0f}" for it in rates]
-                    row.append(f"{rates[0] / rates[2]:.2f} and {rates[1] / rates[2]:.2f}")
+                    row.append(", ".join(f"{it / rates[-1]:.2f}" for it in rates[:-1]))
                 print(f"| {' | '.join(map(str, row))} |", flush=True)
 
 

@@ -1,6 +1,6 @@
 // Why a job of the bench ends early.
 
-use std::alloc::AllocError;
+use std::alloc::{AllocError, AllocFailed};
 use std::fmt;
 use std::io::{self, ErrorKind};
 
@@ -68,6 +68,12 @@ impl From<io::Error> for BenchError {
 
 impl From<AllocError> for BenchError {
     fn from(_error: AllocError) -> BenchError {
+        BenchError::NoMemory
+    }
+}
+
+impl<T: Drop> From<AllocFailed<T>> for BenchError {
+    fn from(_error: AllocFailed<T>) -> BenchError {
         BenchError::NoMemory
     }
 }

@@ -4,8 +4,8 @@ ghost use Rattle.std.specs.Prelude.{◌≡◌};
 use crate::background::Background;
 use crate::error::BenchError;
 use crate::figures::Thousandths;
-use crate::job::Plan;
-use crate::looks::{Looks, count_reads, looks_by_four, looks_by_one};
+use crate::job::{Part, Plan};
+use crate::looks::{Looks, Stores, count_reads, looks_by_four, looks_by_one};
 use crate::read_counter::CountingDisk;
 use crate::store::{Blanks, new_store, seated};
 use crate::turns::Turns;
@@ -76,6 +76,7 @@ pub fn grow_small<R: Threads + Wait + Clock + Print + Sync>(
         .ok_or(BenchError::Words)?;
     let plan = Plan {
         geometry,
+        part: Part::ALL,
         keys: 2000,
         group: 100,
         gets: 400,
@@ -151,17 +152,18 @@ fn print_state<D: Disk, N: DeskId + Send + Sync, R: Threads + Wait + Clock + Pri
     stores: u64,
 ) -> Result<(), BenchError> {
     let gets = growth.plan.gets;
+    let store = Stores::One(shared);
     let present = Looks::present(keys, gets);
-    let made = count_reads(rt, shared, reads, present)?;
-    let made_absent = count_reads(rt, shared, reads, Looks::absent(keys, gets))?;
+    let made = count_reads(rt, &store, reads, present)?;
+    let made_absent = count_reads(rt, &store, reads, Looks::absent(keys, gets))?;
     let each = Thousandths::of(made, gets);
     let each_absent = Thousandths::of(made_absent, gets);
     print!(rt; "{stores}\t{each}\t{each_absent}")?;
     match growth.detail {
         Detail::Reads => println!(rt; "")?,
         Detail::Rates => {
-            let one = looks_by_one(rt, shared, present)?;
-            let four = looks_by_four(rt, shared, present)?;
+            let one = looks_by_one(rt, &store, present)?;
+            let four = looks_by_four(rt, &store, present)?;
             println!(rt; "\t{one}\t{four}")?;
         }
     }

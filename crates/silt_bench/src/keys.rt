@@ -3,6 +3,7 @@
 ghost use Rattle.std.specs.Prelude.{◌≡◌, ◌<◌, ◌%◌};
 
 use silt_frame::Key;
+use silt_shards::{LEAST_SHARDS, shard_of};
 
 // Spreads the bits of a number.
 fn mix(number: u64) -> u64 {
@@ -22,6 +23,16 @@ pub fn key_of(number: u64) -> Key {
     bytes[8..16].copy_from_slice(&second);
     bytes[16..20].copy_from_slice(&third[0..4]);
     Key(bytes)
+}
+
+/// The number of the store that has a key, of so many stores: its shard in a set, or the only store.
+pub fn store_of(key: &Key, stores: u32) -> usize
+    ensures { 0 < stores → result < stores }
+{
+    if stores < LEAST_SHARDS {
+        return 0;
+    }
+    shard_of(stores, key) as usize
 }
 
 /// The byte that the value of a number is made of.

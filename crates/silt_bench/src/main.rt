@@ -5,6 +5,9 @@
 //!   thread and on four, and opens the store again. WORK is `turns`, on one thread between the groups, or `workers`, on two
 //!   threads beside the writer. By turns, a merge begins when there are STORES hash stores. It prints one line of names and
 //!   one line of numbers.
+//! - `silt_bench set PATH WORK V B CAP NL NH S KEYS GROUP GETS STORES SHARDS` does that with so many stores of this
+//!   geometry, the shards of a set, in the files PATH.0, PATH.1 and so on. Each shard has threads of its own that fill
+//!   it, and puts the keys that are routed to it. It counts no reads.
 //! - `silt_bench growth PATH V B CAP NL NH S KEYS GROUP GETS` prints a line for each number of hash stores before a
 //!   sorted store.
 //! - `silt_bench index KEYS GETS` measures only the index of a sorted store.
@@ -25,6 +28,7 @@ mod looks;
 mod measurement;
 mod pauses;
 mod read_counter;
+mod set;
 mod store;
 mod turns;
 mod workers;
@@ -35,6 +39,7 @@ use growth::{Detail, grow, grow_small};
 use index::{index_agrees, measure_index};
 use job::{Job, Plan, Work, job_of, path_of};
 use measurement::measure;
+use set::measure_set;
 use silt_device::{FileDisk, FileSystem};
 use std::alloc::Global;
 use std::env::{self, Env};
@@ -62,6 +67,7 @@ fn run<
     let words = env::args(rt)?.collect::<Vec<String>>(alloc)?;
     match (job_of(words.as_slice()), path_of(words.as_slice())) {
         (Some(Job::Store(work, plan)), Some(path)) => measure_file(rt, alloc, path, &plan, work),
+        (Some(Job::Set(work, plan)), Some(path)) => measure_files(rt, alloc, path, &plan, work),
         (Some(Job::Growth(plan)), Some(path)) => grow_file(rt, alloc, path, &plan),
         (Some(Job::Index { keys, gets }), _) => measure_index(rt, alloc, keys, gets),
         (Some(Job::Counts), _) => print_counts(rt, alloc),
@@ -75,6 +81,29 @@ fn measure_file<
 >(rt: &R, alloc: Global, path: &str, plan: &Plan, work: Work) -> Result<(), BenchError> {
     let disk = FileDisk::create(rt, path, plan.geometry.size())?;
     measure(rt, alloc, disk, plan, work)
+}
+
+// Measures a set in files.
+fn measure_files<
+    R: Threads + Wait + Clock + Print + FileSystem<File = File> + Files + AllocGlobal + Sync,
+>(rt: &R, alloc: Global, path: &str, plan: &Plan, work: Work) -> Result<(), BenchError> {
+    let disks = set_files(rt, alloc, path, plan)?;
+    measure_set(rt, alloc, disks, plan, work)
+}
+
+// The new files of a set's shards.
+fn set_files<R: FileSystem<File = File> + AllocGlobal>(
+    rt: &R,
+    alloc: Global,
+    path: &str,
+    plan: &Plan,
+) -> Result<Vec<FileDisk>, BenchError> {
+    let mut disks = Vec::new(alloc);
+    for shard in 0..plan.part.shards {
+        let name = format!(in alloc; "{path}.{shard}")?;
+        disks.push(FileDisk::create(rt, name.as_str(), plan.geometry.size())?)?;
+    }
+    Ok(disks)
 }
 
 // Prints what gets of a store in a file cost while hash stores grow in number.

@@ -5,7 +5,7 @@ use crate::background::Background;
 use crate::error::BenchError;
 use crate::figures::{Memory, Thousandths, a_second, memory_of_process};
 use crate::job::{Plan, Work};
-use crate::looks::{Looks, count_reads, looks_by_four, looks_by_one};
+use crate::looks::{Looks, Stores, count_reads, looks_by_four, looks_by_one};
 use crate::pauses::Lap;
 use crate::read_counter::CountingDisk;
 use crate::store::{Blanks, new_store, open_store, seated};
@@ -32,10 +32,10 @@ pub const NAMES: &str =
 /// The most looks that are counted.
 const COUNTED: u64 = 100_000;
 
-/// What was measured while threads shared the store.
+/// What was measured while threads shared the store, or the shards of a set.
 #[derive(Clone, Copy)]
-struct Seen {
-    filled: Filled,
+pub struct Seen {
+    pub filled: Filled,
     gets_by_one: u64,
     gets_by_four: u64,
     absent_by_one: u64,
@@ -99,12 +99,24 @@ fn fill_and_look<D: Disk, N: DeskId + Send + Sync, R: Threads + Wait + Clock + F
     plan: &Plan,
     work: Work,
 ) -> Result<Seen, BenchError> {
+    let filled = fill_planned(rt, alloc, shared, seats, plan, work)?;
+    look(rt, alloc, &Stores::One(shared), plan, filled)
+}
+
+/// Fills a store as planned, by those who have the seats of its desk.
+pub fn fill_planned<D: Disk, N: DeskId + Send + Sync, R: Threads + Wait + Clock + Sync>(
+    rt: &R,
+    alloc: Global,
+    shared: &Shared<D, Count, N>,
+    seats: Vec<Seat<N>>,
+    plan: &Plan,
+    work: Work,
+) -> Result<Filled, BenchError> {
     let seats = three_of(seats).ok_or(BenchError::NoMemory)?;
-    let filled = match work {
-        Work::Turns => fill_by_turns(rt, alloc, shared, seats, plan)?,
-        Work::Workers => fill_beside(rt, alloc, shared, seats, plan)?,
-    };
-    look(rt, alloc, shared, plan, filled)
+    match work {
+        Work::Turns => fill_by_turns(rt, alloc, shared, seats, plan),
+        Work::Workers => fill_beside(rt, alloc, shared, seats, plan),
+    }
 }
 
 // The three seats of a desk.
@@ -125,16 +137,16 @@ fn fill_by_turns<D: Disk, N: DeskId, R: Wait + Clock>(
     plan: &Plan,
 ) -> Result<Filled, BenchError> {
     let (seat, _second, _third) = seats;
-    let background = Background::Turns(Turns::new(plan.stores, plan.keys));
+    let background = Background::Turns(Turns::new(plan.stores, plan.keys_of_part()));
     let mut writer = Writer::new(alloc, seat, background, plan)?;
     fill_all(rt, alloc, shared, &mut writer, plan.keys)
 }
 
-// Measures looks at a store that is filled.
-fn look<D: Disk, N: DeskId + Send + Sync, R: Threads + Wait + Clock + Files + Sync>(
+/// Measures looks at stores that are filled.
+pub fn look<D: Disk, N: DeskId + Send + Sync, R: Threads + Wait + Clock + Files + Sync>(
     rt: &R,
     alloc: Global,
-    shared: &Shared<D, Count, N>,
+    stores: &Stores<'_, Shared<D, Count, N>>,
     plan: &Plan,
     filled: Filled,
 ) -> Result<Seen, BenchError> {
@@ -142,10 +154,10 @@ fn look<D: Disk, N: DeskId + Send + Sync, R: Threads + Wait + Clock + Files + Sy
     let absent = Looks::absent(plan.keys, plan.gets);
     Ok(Seen {
         filled,
-        gets_by_one: looks_by_one(rt, shared, present)?,
-        gets_by_four: looks_by_four(rt, shared, present)?,
-        absent_by_one: looks_by_one(rt, shared, absent)?,
-        absent_by_four: looks_by_four(rt, shared, absent)?,
+        gets_by_one: looks_by_one(rt, stores, present)?,
+        gets_by_four: looks_by_four(rt, stores, present)?,
+        absent_by_one: looks_by_one(rt, stores, absent)?,
+        absent_by_four: looks_by_four(rt, stores, absent)?,
         memory: memory_of_process(rt, alloc),
     })
 }
@@ -204,11 +216,12 @@ fn count_looks<D: Disk, N: DeskId, R: Wait>(
     opening: u64,
 ) -> Result<Counted, BenchError> {
     let looks = plan.gets.min(COUNTED);
+    let store = Stores::One(shared);
     Ok(Counted {
         opening,
         looks,
-        gets: count_reads(rt, shared, reads, Looks::present(plan.keys, looks))?,
-        absent: count_reads(rt, shared, reads, Looks::absent(plan.keys, looks))?,
+        gets: count_reads(rt, &store, reads, Looks::present(plan.keys, looks))?,
+        absent: count_reads(rt, &store, reads, Looks::absent(plan.keys, looks))?,
     })
 }
 
@@ -220,26 +233,30 @@ fn print_numbers<R: Print>(
     open: u64,
     counted: &Counted,
 ) -> Result<(), BenchError> {
+    let gets = Thousandths::of(counted.gets, counted.looks);
+    let absent = Thousandths::of(counted.absent, counted.looks);
+    println!(rt; "{NAMES}")?;
+    print_seen(rt, plan, seen, open)?;
+    print!(rt; "\t{gets}\t{absent}\t{}", counted.opening)?;
+    print_pauses(rt, &seen.filled)
+}
+
+/// Prints the numbers from that of the keys to that of the peak.
+pub fn print_seen<R: Print>(rt: &R, plan: &Plan, seen: &Seen, open: u64) -> Result<(), BenchError> {
     let keys = plan.keys;
     let value_len = plan.geometry.value_len();
     let puts = a_second(keys, seen.filled.nanos);
     let open = Thousandths(open / 1000);
-    let gets = Thousandths::of(counted.gets, counted.looks);
-    let absent = Thousandths::of(counted.absent, counted.looks);
-    println!(rt; "{NAMES}")?;
-    print!(rt;
-        "{keys}\t{value_len}\t{puts}\t{}\t{}",
-        seen.gets_by_one, seen.gets_by_four
-    )?;
-    print!(rt; "\t{}\t{}\t{open}", seen.absent_by_one, seen.absent_by_four)?;
-    print!(rt;
-        "\t{}\t{}\t{gets}\t{absent}\t{}",
-        seen.memory.resident, seen.memory.most, counted.opening
-    )?;
-    print!(rt; "\t{}\t{}", seen.filled.put_late, seen.filled.put_longest)?;
-    println!(rt;
-        "\t{}\t{}",
-        seen.filled.flush_middle, seen.filled.flush_longest
-    )?;
+    print!(rt; "{keys}\t{value_len}\t{puts}")?;
+    print!(rt; "\t{}\t{}", seen.gets_by_one, seen.gets_by_four)?;
+    print!(rt; "\t{}\t{}", seen.absent_by_one, seen.absent_by_four)?;
+    print!(rt; "\t{open}\t{}\t{}", seen.memory.resident, seen.memory.most)?;
+    Ok(())
+}
+
+/// Prints the numbers of single calls, which end the line.
+pub fn print_pauses<R: Print>(rt: &R, filled: &Filled) -> Result<(), BenchError> {
+    print!(rt; "\t{}\t{}", filled.put_late, filled.put_longest)?;
+    println!(rt; "\t{}\t{}", filled.flush_middle, filled.flush_longest)?;
     Ok(())
 }

@@ -1,5 +1,6 @@
 // The store that is measured.
-ghost use Rattle.std.specs.Prelude.{◌≡◌};
+ghost use Rattle.std.specs.Prelude.{◌≡◌, false};
+ghost use Rattle.silt_inbox.specs.Books.{has_books};
 
 use crate::error::{BenchError, Call};
 use silt_desk::{Count, Desk, DeskId, Seat};
@@ -45,6 +46,19 @@ impl Blanks {
             calls: Blank::new(3),
             accepted: Blank::new(3),
         }
+    }
+}
+
+/// A store at a desk with three seats and no books, as each shard of a set has one.
+pub fn seated_in_set<D: Disk, N: DeskId>(
+    alloc: Global,
+    core: Core<D>,
+) -> Result<(Desk<D, Count, N>, Vec<Seat<N>>), BenchError>
+    requires books { has_books N.seats ≡ false }
+{
+    match Desk::unbooked(alloc, core, Count::new(), 3) {
+        Ok(made) => Ok(made),
+        Err(_) => Err(BenchError::NoMemory),
     }
 }
 

@@ -3,7 +3,7 @@ ghost use Rattle.std.specs.Prelude.{◌≡◌, length};
 
 use crate::background::Background;
 use crate::error::{BenchError, Call};
-use crate::job::Plan;
+use crate::job::{Part, Plan};
 use crate::keys::{byte_of, key_of};
 use crate::pauses::{Lap, Pauses};
 use silt_desk::{Count, Desk, DeskId, Seat, Shared};
@@ -32,6 +32,30 @@ pub struct Filled {
     pub flush_longest: u64,
 }
 
+impl Filled {
+    /// No calls, in this many nanoseconds.
+    pub fn none(nanos: u64) -> Filled {
+        Filled {
+            nanos,
+            put_late: 0,
+            put_longest: 0,
+            flush_middle: 0,
+            flush_longest: 0,
+        }
+    }
+
+    /// These nanoseconds, and of each other number the greater one of the two.
+    pub fn with(&self, other: &Filled) -> Filled {
+        Filled {
+            nanos: self.nanos,
+            put_late: self.put_late.max(other.put_late),
+            put_longest: self.put_longest.max(other.put_longest),
+            flush_middle: self.flush_middle.max(other.flush_middle),
+            flush_longest: self.flush_longest.max(other.flush_longest),
+        }
+    }
+}
+
 /// The writer of a store, and how the background work is done.
 #[derive(Drop)]
 pub struct Writer<N: DeskId> {
@@ -39,6 +63,8 @@ pub struct Writer<N: DeskId> {
     pub background: Background,
     pub puts: Pauses,
     pub flushes: Pauses,
+    // Which of the keys are put.
+    part: Part,
     // How many puts are flushed together.
     group: u64,
     // The value of the next put.
@@ -59,9 +85,15 @@ impl<N: DeskId> Writer<N> {
             background,
             puts: Pauses::new(),
             flushes: Pauses::new(),
+            part: plan.part,
             group: plan.group.max(1),
             value,
         })
+    }
+
+    // How many keys of all shards there are for each group of this one.
+    fn numbers_a_group(&self) -> u64 {
+        self.group.saturating_mul(u64::from(self.part.shards))
     }
 
     // The times of a fill that took this many nanoseconds in all.
@@ -92,9 +124,9 @@ pub fn fill_all<D: Disk, N: DeskId, R: Wait + Clock>(
     Ok(writer.filled(lap.turn(rt)?))
 }
 
-/// Puts the keys of the numbers from `first` up to `end`, in groups, with a flush and some
-/// background work after each. If this thread does that work, its time counts in the pause of the
-/// next put.
+/// Puts those of the keys of the numbers from `first` up to `end` that the store has, in groups, with
+/// a flush and some background work after each. If this thread does that work, its time counts in the
+/// pause of the next put.
 pub fn fill<D: Disk, N: DeskId, R: Wait + Clock>(
     rt: &R,
     alloc: Global,
@@ -104,17 +136,20 @@ pub fn fill<D: Disk, N: DeskId, R: Wait + Clock>(
     end: u64,
 ) -> Result<(), BenchError> {
     let mut lap = Lap::new(rt)?;
-    for at in (first..end).step_by((writer.group as usize).max(1)) {
-        let next = at.saturating_add(writer.group).min(end);
-        put_group(rt, alloc, shared, writer, at..next, &mut lap)?;
+    let numbers = writer.numbers_a_group();
+    for at in (first..end).step_by((numbers as usize).max(1)) {
+        let next = at.saturating_add(numbers).min(end);
+        let puts = put_group(rt, alloc, shared, writer, at..next, &mut lap)?;
         flush_once(&mut *shared.write(rt), alloc, &mut writer.seat)?;
         writer.flushes.note(lap.turn(rt)?);
-        writer.background.go_on(rt, alloc, shared, &mut writer.seat, next.saturating_sub(at))?;
+        writer
+            .background
+            .go_on(rt, alloc, shared, &mut writer.seat, puts)?;
     }
     Ok(())
 }
 
-// Puts the keys of these numbers.
+// Puts those of the keys of these numbers that the store has. Returns how many they are.
 fn put_group<D: Disk, N: DeskId, R: Wait + Clock>(
     rt: &R,
     alloc: Global,
@@ -122,13 +157,18 @@ fn put_group<D: Disk, N: DeskId, R: Wait + Clock>(
     writer: &mut Writer<N>,
     numbers: Range<u64>,
     lap: &mut Lap,
-) -> Result<(), BenchError> {
+) -> Result<u64, BenchError> {
+    let mut puts = 0u64;
     for number in numbers {
-        writer.value.fill(byte_of(number));
-        put_patiently(rt, alloc, shared, writer, &key_of(number))?;
-        writer.puts.note(lap.turn(rt)?);
+        let key = key_of(number);
+        if writer.part.has(&key) {
+            writer.value.fill(byte_of(number));
+            put_patiently(rt, alloc, shared, writer, &key)?;
+            writer.puts.note(lap.turn(rt)?);
+            puts = puts.saturating_add(1);
+        }
     }
-    Ok(())
+    Ok(puts)
 }
 
 // Puts the writer's value. While the store has no room for it, waits for the background work.
