@@ -27,6 +27,8 @@ LARGE = [VALUE_LEN, 8_192, 28_672, 3, 8, NAMES + 11 * 28_672]
 # Connections, commands that each sends at once, and commands in all.
 LOADS = [(1, 1, 1_500), (8, 1, 8_000), (64, 1, 50_000), (8, 50, 200_000), (64, 50, 300_000)]
 RUNS = 3
+# Twice as many as redis-benchmark has: it opens the next ones while those of the last load are being closed.
+CLIENTS = "130"
 SHARDS = 4
 STORES = ["planned", "large logs", f"{SHARDS} shards", "redis"]
 # The configuration of a proxy before one server.
@@ -57,7 +59,7 @@ def planned(program, *options):
 def silt_words(program, path, numbers, port, *options):
     """The words that serve a new store."""
     subprocess.run([program, "format", path, *map(str, numbers), *options], check=True, stdout=subprocess.DEVNULL)
-    return [program, "serve", path, str(port), "--resp", *options]
+    return [program, "serve", path, str(port), "--resp", "--clients", CLIENTS, *options]
 
 
 def redis_words(folder, port):
@@ -97,7 +99,7 @@ def measured(port, load):
     connections, at_once, count = load
     words = ["redis-benchmark", "-p", port, "-t", "set,get", "-n", count, "-r", NAMES, "-d", LENGTH]
     words += ["-c", connections, "-P", at_once, "--csv"]
-    said = subprocess.run(list(map(str, words)), capture_output=True, text=True, check=True).stdout
+    said = subprocess.run(list(map(str, words)), stdout=subprocess.PIPE, text=True, check=True).stdout
     rows = [it.replace('"', "").split(",") for it in said.splitlines()[1:]]
     return [float(row[1]) for row in rows]
 

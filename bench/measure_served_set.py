@@ -21,6 +21,8 @@ BATCH = 1000
 GETS = 1_000_000
 # How many seconds the workers rest before all work is taken for done.
 REST = 0.5
+# How many seconds a put waits for room at most.
+PATIENCE = "600"
 HEADS = ["shards", "mergers", "puts/s", "puts/s to the end of all work", "gets/s", "opening, ms", "resident at most", "behind the load",
          "behind an opening", "bytes on disk a key"]
 
@@ -43,7 +45,7 @@ class Served:
     def __init__(self, program, path, options):
         self.port, start = free_port(), time.monotonic()
         self.process = subprocess.Popen(
-            [program, "serve", path, str(self.port), "--pipeline", *options], stdout=subprocess.PIPE, text=True
+            [program, "serve", path, str(self.port), "--pipeline", "--wait", PATIENCE, *options], stdout=subprocess.PIPE, text=True
         )
         while not (line := self.process.stdout.readline()).startswith("listening"):
             if not line:
@@ -85,7 +87,7 @@ def options_of(shards, mergers):
 def loaded(load, server, kind, keys, words):
     """Replies a second."""
     shape = [server.port, kind, words.connections, keys, words.value, BATCH]
-    return float(subprocess.run([load, *map(str, shape)], check=True, capture_output=True, text=True).stdout)
+    return float(subprocess.run([load, *map(str, shape)], check=True, stdout=subprocess.PIPE, text=True).stdout)
 
 
 def measured(load, words, folder, shards, mergers):

@@ -35,7 +35,7 @@ LEFT_OUT = {
     r"^rt\b|^\./build\b|\brt (check|test|try|ci)\b": "builds and proves, which takes long",
     r"^(nice .*)?tests/run\b|^\./gate\b": "runs this suite",
     r"\bstrace\b": "needs the system's trace, and the document shortens its lines",
-    r"\bbench/run\b|measure_(server|redis)\b": "measures how fast something is",
+    r"\bbench/run\b|measure_(server|redis|sets|served_set)\b": "measures how fast something is",
     r"_tests_tests\b": "needs the test programs of crates",
     r"--bind 10\.": "needs an address of a network",
     r"^git\b": "works on the repository",
