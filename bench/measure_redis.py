@@ -15,6 +15,7 @@ import pathlib
 import socket
 import statistics
 import subprocess
+import sys
 import tempfile
 import time
 
@@ -99,8 +100,10 @@ def measured(port, load):
     connections, at_once, count = load
     words = ["redis-benchmark", "-p", port, "-t", "set,get", "-n", count, "-r", NAMES, "-d", LENGTH]
     words += ["-c", connections, "-P", at_once, "--csv"]
-    said = subprocess.run(list(map(str, words)), stdout=subprocess.PIPE, text=True, check=True).stdout
-    rows = [it.replace('"', "").split(",") for it in said.splitlines()[1:]]
+    done = subprocess.run(list(map(str, words)), capture_output=True, text=True)
+    if done.returncode != 0:
+        sys.exit(f"redis-benchmark: {done.stderr}")
+    rows = [it.replace('"', "").split(",") for it in done.stdout.splitlines()[1:]]
     return [float(row[1]) for row in rows]
 
 
