@@ -248,19 +248,20 @@ class Mergers(SetCase):
         return ended
 
     def most_at_once(self, *options):
-        """How many shards were merged at once at most, of a set that was loaded with these options."""
+        """How many shards were merged at once at most, of a set that was loaded with these options. Slow
+        syncs make each merge long."""
         server = self.serve_set(
             "--merge-at", 1, "--sessions", 1, "--pipeline", *options, *self.patient,
-            env=watching(self, log="record"),
+            env=watching(self, log="record", slow="fdatasync:9+:10"),
         )
         client = self.client(server)
-        for first in range(0, 6000, 200):
+        for first in range(0, 4000, 200):
             lines = [f"put =k{it} {it:0800x}" for it in range(first, first + 200)]
             self.assertEqual({it.split()[0] for it in client.ask(*lines)}, {"accepted"})
         client.close()
         self.assertEqual(server.ended().status, 0)
         merges = self.merges(read_record(self.path("record")))
-        self.assertGreater(len(merges), 4 * self.count)
+        self.assertGreater(len(merges), 2 * self.count)
         steps = sorted([(first, 1) for first, _ in merges] + [(last, -1) for _, last in merges])
         return max(itertools.accumulate(step for _, step in steps))
 
@@ -269,9 +270,9 @@ class Mergers(SetCase):
             with self.subTest(most=most):
                 self.assertLessEqual(self.most_at_once("--mergers", most), most)
 
-    def test_all_at_once(self):
-        self.assertGreater(self.most_at_once(), 2)
-        self.assertGreater(self.most_at_once("--mergers", 64), 2)
+    def test_several_at_once(self):
+        self.assertGreater(self.most_at_once(), 1)
+        self.assertGreater(self.most_at_once("--mergers", 64), 1)
 
 
 class Faults(SetCase):
