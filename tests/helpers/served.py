@@ -31,9 +31,12 @@ BUSY = f"busy: {MOST_SESSIONS} connections are served already"
 # A wait for room, in seconds, that no test lives to see the end of.
 FOREVER = 10 * TIME_LIMIT
 # The threads of a server, by the order of their starts.
-MERGER = 1
-CONVERTER = 2
-FIRST_SESSION = 5
+CARE = 1
+MERGER = 2
+CONVERTER = 3
+WRITER = 4
+REPLIER = 5
+FIRST_SESSION = 6
 # The number of the system call in which a thread waits for another one.
 FUTEX = "202"
 # The longest line, without its line feed.
@@ -183,9 +186,10 @@ class Server:
         it has handed its lines to the writer."""
         folder = pathlib.Path(f"/proc/{self.process.pid}/task")
         tasks = sorted(int(it.name) for it in folder.iterdir())
-        if thread >= len(tasks):
+        place = thread - CARE  # the thread of the care ends at once
+        if place >= len(tasks):
             return False  # it has not started
-        return (folder / str(tasks[thread]) / "syscall").read_text().split()[0] == FUTEX
+        return (folder / str(tasks[place]) / "syscall").read_text().split()[0] == FUTEX
 
     def send_signal(self, number):
         self.process.send_signal(number)

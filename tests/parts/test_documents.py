@@ -42,8 +42,9 @@ LEFT_OUT = {
     r"^tests/(power|unit)\b": "runs virtual machines",
     r"^apt-get\b": "installs packages",
 }
-if not shutil.which("redis-cli"):
-    LEFT_OUT[r"\bredis-cli\b"] = "needs Debian's package redis-tools"
+for tool, package in {"redis-cli": "redis-tools", "curl": "curl"}.items():
+    if not shutil.which(tool):
+        LEFT_OUT[rf"\b{tool}\b"] = f"needs Debian's package {package}"
 # The status of a command whose pipe was closed by the next one.
 CLOSED_PIPE = str(128 + signal.SIGPIPE)
 # The shell's part in front of a document's commands.
@@ -201,9 +202,11 @@ class Documents(Shell):
     """The commands of the documents."""
 
     def with_free_ports(self, commands):
-        """The same commands, with a free port in place of each port of a server."""
+        """The same commands, with a free port in place of each port of a server and of its page."""
         ports = {
-            it for command in commands for it in re.findall(r"\bserve \S+ ([1-9]\d*)", command.text)
+            it
+            for command in commands
+            for it in re.findall(r"(?:\bserve \S+|--metrics) ([1-9]\d*)", command.text)
         }
         for port in ports:
             free = str(free_port())
@@ -237,11 +240,13 @@ class Documents(Shell):
         return "\n".join([*script, "kill $(jobs -p) 2>/dev/null", "true"])
 
     def due(self, command):
-        """A regular expression of a command's output."""
+        """A regular expression of a command's output. A server that a later command ends prints its
+        calls then."""
         example = re.search(r"< (examples/\w+)\.txt$", command.text)
         if not command.shown and example:
             return re.escape(self.path(example.group(1) + ".out").read_text())
-        return pattern_of(command.shown) if command.shown else r"(?s:.*)"
+        last = r"(?:calls \d+\n)?" if command.text.endswith("&") else ""
+        return pattern_of(command.shown) + last if command.shown else r"(?s:.*)"
 
     def check_document(self, name):
         """Runs the commands of a document. Returns how many were run."""

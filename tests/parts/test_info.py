@@ -19,8 +19,30 @@ NAMES = (
     "converted_slots",
     "merge_steps",
 )
+# What a server counts besides, in the order of the lines.
+TIMES = ("128us", "256us", "512us", "1ms", "2ms", "4ms", "8ms", "16ms", "32ms", "65ms", "131ms", "262ms", "longer")
+COUNTS = (
+    "uptime",
+    "connections",
+    "open_connections",
+    "refused_connections",
+    "gets",
+    "puts",
+    "deletes",
+    "swaps",
+    "flushes",
+    *(f"refused_{it}" for it in range(1, 12)),
+    "batches",
+    *(f"batches_{it}" for it in TIMES),
+    "last_failure",
+    "findings",
+    "scrubs",
+    "backups",
+)
 # A store of SMALL that holds nothing. Its S is 8.
 EMPTY = dict.fromkeys(NAMES, 0) | {"stores": 1, "capacity": 8}
+# What a connection reads for which a server of two clients has no place.
+BUSY_OF_2 = "busy: 2 connections are served already"
 # Four rows fill a log. The fifth put freezes it.
 FIVE = [f"put =key/{it} {it:04x}" for it in range(5)]
 # A table of two buckets has eight slots. A step writes one, and the last step names the hash store.
@@ -106,6 +128,13 @@ class Runs(ServedCase):
 
 
 class Served(ServedCase):
+    def info(self, client):
+        """The facts and the counts that the next replies of a served store say."""
+        lines = list(iter(client.reply, "end"))
+        self.assertEqual([it.split()[0] for it in lines], [*NAMES, *COUNTS])
+        said = {name: int(number) for name, number in map(str.split, lines)}
+        return {it: said[it] for it in NAMES}, {it: said[it] for it in COUNTS}
+
     def test_before_and_behind_commands(self):
         self.store(SMALL)
         for options in ((), ("--pipeline",)):
@@ -114,14 +143,13 @@ class Served(ServedCase):
                 server = self.serve("--sessions", 1, *options)
                 client = self.client(server)
                 client.send("put =a 0001", "info", "put =b 0002", "get =a", "info")
-                want = [
-                    "accepted 1",
-                    *lines_of(EMPTY | {"commands": 1, "charge": 1}),
-                    "accepted 2",
-                    "value 0001",
-                    *lines_of(EMPTY | {"commands": 2, "charge": 2}),
-                ]
-                self.assertEqual(client.replies(len(want)), want)
+                self.assertEqual(client.reply(), "accepted 1")
+                self.assertEqual(self.info(client)[0], EMPTY | {"commands": 1, "charge": 1})
+                self.assertEqual(client.replies(2), ["accepted 2", "value 0001"])
+                facts, counts = self.info(client)
+                self.assertEqual(facts, EMPTY | {"commands": 2, "charge": 2})
+                self.assertEqual((counts["puts"], counts["gets"], counts["batches"]), (2, 1, 2))
+                self.assertEqual(sum(counts[f"batches_{it}"] for it in TIMES), 2)
                 client.close()
                 self.assertEqual(server.ended().status, 0)
 
@@ -130,24 +158,46 @@ class Served(ServedCase):
         server = self.serve("--merge-at", 1, *self.patient)
         client = self.client(server)
         self.assertEqual(client.ask(*FIVE)[-1], "accepted 5")
-        want = lines_of(
-            EMPTY | {"commands": 5, "charge": 5, "generation": 3, "sorted_entries": 4}
-        )
+        want = EMPTY | {"commands": 5, "charge": 5, "generation": 3, "sorted_entries": 4}
 
         def is_merged():
             client.send("info")
-            return client.replies(len(want)) == want
+            return self.info(client)[0] == want
 
         self.wait_until(is_merged, "the merge")
 
     def test_a_failed_store_still_says_so(self):
         self.store(SMALL)
-        server = self.serve(env=watching(self, fail="fdatasync:2:EIO"))
+        server = self.serve("--stay", env=watching(self, fail="fdatasync:2:EIO"))
         client = self.client(server)
         replies = client.ask("put =a 0001", "put =b 0002")
-        self.assertNotIn("accepted 2", replies)
+        self.assertEqual(replies, ["unsettled 1", "refused 9 Failed"])
         client.send("info")
-        self.assertIn("failed 1", client.replies(len(NAMES) + 1))
+        facts, counts = self.info(client)
+        self.assertEqual((facts["failed"], counts["refused_9"]), (1, 1))
+        self.assertGreaterEqual(counts["last_failure"], 1)
+
+    def test_what_it_counts(self):
+        self.store(SMALL)
+        server = self.serve("--pipeline", "--clients", 2)
+        client = self.client(server)
+        lines = ["put =a 0001", "get =a", "swap =a 0001 0002", "swap =a 0001 0003", "delete =a"]
+        client.ask(*lines, "delete =b", "get =b", "get =c", "flush", "convert", "bad")
+        other = self.served_client(server)
+        self.wait_until(lambda: self.client(server).rest() == [BUSY_OF_2], "a connection too many")
+        client.send("info")
+        counts = self.info(client)[1]
+        want = {"puts": 1, "gets": 4, "swaps": 2, "deletes": 2, "flushes": 1, "last_failure": 0}
+        self.assertEqual({it: counts[it] for it in want}, want)
+        self.assertEqual((counts["connections"], counts["open_connections"]), (2, 2))
+        self.assertGreaterEqual(counts["refused_connections"], 1)
+        other.close()
+
+        def is_closed():
+            client.send("info")
+            return self.info(client)[1]["open_connections"] == 1
+
+        self.wait_until(is_closed, "the end of a session")
 
 
 if __name__ == "__main__":

@@ -7,8 +7,9 @@ import subprocess
 import unittest
 
 from harness import PROGRAM, TOP, Case
+from served import free_port
 
-JOBS = ["plan", "format", "run", "tend", "check", "dump", "script", "serve"]
+JOBS = ["plan", "format", "run", "tend", "check", "dump", "script", "serve", "stop", "info"]
 PACKAGED = [
     "lib/systemd/system/silt@.service",
     "usr/bin/silt",
@@ -78,7 +79,7 @@ class Completion(Packaging):
 
     def test_jobs(self):
         self.assertEqual(self.completed(""), sorted([*JOBS, "--help", "--version"]))
-        self.assertEqual(self.completed("s"), ["script", "serve"])
+        self.assertEqual(self.completed("s"), ["script", "serve", "stop"])
 
     def test_options(self):
         for job in JOBS:
@@ -102,6 +103,20 @@ class Unit(Packaging):
         unit = unit.replace("/usr/bin/silt", str(PROGRAM.resolve()))
         self.path("silt@one.service").write_text(unit)
         self.ran("systemd-analyze", "verify", "--man=no", self.path("silt@one.service"))
+
+    def test_it_ends_the_server_in_order(self):
+        """By the port, or by what the configuration says in its place."""
+        unit = (TOP / "packaging/silt@.service").read_text()
+        stop = re.search(r"^ExecStop=-/bin/sh -c '(.*)'$", unit, re.M)[1].replace("$$", "$")
+        self.assertIn("\nRestart=on-failure\n", unit)
+        stop = stop.replace("/usr/bin/silt", str(PROGRAM.resolve()))
+        port = free_port()
+        said = f"silt: nothing listens at 127.0.0.1:{port}\n"
+        for environment in ({"PORT": str(port)}, {"PORT": "1", "STOP": f"127.0.0.1:{port}"}):
+            ran = subprocess.run(
+                ["sh", "-c", stop], env=environment, capture_output=True, text=True
+            )
+            self.assertEqual((ran.returncode, ran.stdout, ran.stderr), (1, "network fault\n", said))
 
     def test_its_options_and_numbers_are_good(self):
         """The program takes what the example says."""

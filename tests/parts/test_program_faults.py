@@ -16,7 +16,7 @@ class FailedStores(ServedCase):
 
     def test_a_server_says_so_once(self):
         """The first failed write is reported as soon as it fails, and the last one at the end."""
-        server = self.serve("--sessions", 1, env=self.env)
+        server = self.serve("--sessions", 1, "--stay", env=self.env)
         client = self.client(server)
         self.assertEqual(client.ask("put =a 0102"), ["unsettled 1"])
         note = f"silt: {WRITE}; the store takes nothing more until it is opened again\n"
@@ -25,7 +25,7 @@ class FailedStores(ServedCase):
         self.assertEqual(server.errors(), note)
         client.close()
         ended = server.ended()
-        self.assertEqual((ended.status, ended.err), (0, note + f"silt: store: {WRITE}\n"))
+        self.assertEqual((ended.status, ended.err), (1, note + f"silt: store: {WRITE}\n"))
 
     def test_a_run_says_so_at_its_end(self):
         ended = self.silt("run", "store", text="put =a 0102\nflush\nflush\n", env=self.env)

@@ -337,15 +337,15 @@ class Gets(RespCase):
         self.server.kill()
         self.store(WIDE)
 
-    def exchange(self, words, env=None):
+    def exchange(self, words, env=None, status=0):
         """The replies to these commands, sent in one write, and the calls that the server made."""
-        server = self.serve("--sessions", 1, env=env)
+        server = self.serve("--sessions", 1, "--stay", env=env)
         client = self.resp_client(server)
         client.send(b"".join(command(*it) for it in words))
         replies = client.replies(len(words))
         client.close()
         ended = server.ended()
-        self.assertEqual(ended.status, 0, ended)
+        self.assertEqual(ended.status, status, ended)
         return replies, int(ended.lines[-1].removeprefix("calls "))
 
     def check_flushes(self, words, least, most):
@@ -378,7 +378,9 @@ class Gets(RespCase):
 
     def test_a_refused_flush(self):
         words = [[b"SET", b"a", b"1"], [b"GET", b"b"], [b"GET", b"a"]]
-        replies, _ = self.exchange(words, env=watching(self, fail="fdatasync:2:EIO"))
+        replies, _ = self.exchange(
+            words, env=watching(self, fail="fdatasync:2:EIO"), status=1
+        )
         unsettled = b"-UNSETTLED the flush was refused, a crash may lose this\r\n"
         self.assertEqual(replies, [unsettled, NULL, b"-MISCONF 9 Failed\r\n"])
 

@@ -147,7 +147,7 @@ info = r.info()
 assert (info["redis_version"], info["loading"], info["stores"], info["failed"]) == ("7.0.0", 0, 1, 0), info
 assert r.mset({"d": 1, "e": 2}) is True and r.set("d", 3, nx=True) is None
 assert r.info()["commands"] == info["commands"] + 2
-assert r.info("store").keys() == info.keys() - {"redis_version", "silt_version", "loading"}
+assert r.info("store").keys() | r.info("stats").keys() == info.keys() - {"redis_version", "silt_version", "loading"}
 assert r.info("server") == {"redis_version": "7.0.0", "silt_version": "0.1.0", "loading": 0}
 assert r.info("clients") == {}
 for call, begin in [(lambda: r.expire("p1", 10), "unknown command"), (lambda: r.set("p1", 1, ex=10), "syntax error"),

@@ -133,8 +133,7 @@ class Lines(SetCase):
         replies = client.ask("put =a 00000001", "put =b 00000002", "put =a 00000003")
         self.assertEqual({it.split()[0] for it in replies}, {"accepted"})
         client.send("info")
-        told = dict(it.split() for it in client.replies(11))
-        self.assertEqual(client.reply(), "end")
+        told = dict(it.split() for it in iter(client.reply, "end"))
         want = {"stores": 4, "failed": 0, "commands": 3, "charge": 3, "capacity": 4 * 20_000}
         self.assertEqual({it: int(told[it]) for it in want}, want)
 
@@ -217,8 +216,7 @@ class Work(SetCase):
 
         def is_done():
             client.send("info")
-            told = dict(it.split() for it in client.replies(11))
-            self.assertEqual(client.reply(), "end")
+            told = dict(it.split() for it in iter(client.reply, "end"))
             return told["frozen_logs"] == told["hash_stores"] == "0"
 
         self.wait_until(is_done, "the merges of all shards")
@@ -280,7 +278,9 @@ class Faults(SetCase):
 
     def test_a_failed_sync_fails_one_shard(self):
         """Each opening makes one sync, and the put of the first shard has the next."""
-        server = self.serve_set("--sessions", 1, env=watching(self, fail="fdatasync:3:EIO"))
+        server = self.serve_set(
+            "--sessions", 1, "--stay", env=watching(self, fail="fdatasync:3:EIO")
+        )
         client = self.client(server)
         first, second = names_of(0, 2, 3), names_of(1, 2, 20)
         self.assertEqual(client.ask(f"put ={first[0]} 00000001"), ["unsettled 1"])
@@ -298,10 +298,10 @@ class Faults(SetCase):
         self.assertEqual(client.ask("flush"), ["refused 9 Failed"])
         self.assertEqual(client.ask(f"get ={second[0]}"), ["value 00000002"])
         client.send("info")
-        self.assertEqual(client.replies(12)[:2], ["stores 2", "failed 1"])
+        self.assertEqual(list(iter(client.reply, "end"))[:2], ["stores 2", "failed 1"])
         client.close()
         ended = server.ended()
-        self.assertEqual((ended.status, ended.err), (0, note + f"silt: store.0: a sync: {IO}\n"))
+        self.assertEqual((ended.status, ended.err), (1, note + f"silt: store.0: a sync: {IO}\n"))
         self.assertEqual(
             {it: "00000002" for it in map(key_of, second)},
             {key: value for key, value in self.held().items() if key != key_of(first[0])},

@@ -7,13 +7,17 @@ import unittest
 
 from harness import TIME_LIMIT, without_note
 from served import (
+    CARE,
     CONVERTER,
     DESCRIPTORS,
+    FIRST_SESSION,
     MERGER,
     MOST_SESSIONS,
+    REPLIER,
     ROOMY,
     SMALL,
     UNHEARD,
+    WRITER,
     ServedCase,
     digits,
 )
@@ -51,7 +55,7 @@ class Flushes(ServedCase):
 
     def check_failure(self, fault, words, found):
         """The flush of a put fails with this fault, and the store takes nothing more."""
-        server = self.serve("--sessions", 1, env=watching(self, fail=fault))
+        server = self.serve("--sessions", 1, "--stay", env=watching(self, fail=fault))
         client = self.client(server)
         self.assertEqual(client.ask("put =abc 0102"), ["unsettled 1"])
         note = f"silt: {words}; the store takes nothing more until it is opened again\n"
@@ -63,7 +67,7 @@ class Flushes(ServedCase):
         )
         client.close()
         ended = server.ended()
-        self.assertEqual((ended.status, ended.err), (0, note + f"silt: store: {words}\n"), ended)
+        self.assertEqual((ended.status, ended.err), (1, note + f"silt: store: {words}\n"), ended)
         self.check_whole()
         self.assertIn(self.found("=abc")[0], found)
         self.assertEqual(self.found("=pear"), ["absent"])
@@ -71,7 +75,7 @@ class Flushes(ServedCase):
     def test_the_flush_of_a_swap_fails(self):
         """Sync 1 is the opening's, and the put has two. The reply to a swap that differs waits for
         no sync of its own."""
-        server = self.serve("--sessions", 1, env=watching(self, fail="fdatasync:4:EIO"))
+        server = self.serve("--sessions", 1, "--stay", env=watching(self, fail="fdatasync:4:EIO"))
         client = self.client(server)
         lines = ["put =abc 0102", "swap =abc 0000 0304", "swap =abc 0102 0304"]
         self.assertEqual(
@@ -79,7 +83,7 @@ class Flushes(ServedCase):
         )
         self.assertEqual(client.ask(*lines[1:], "flush"), ["refused 9 Failed"] * 3)
         client.close()
-        self.assertEqual(server.ended().status, 0)
+        self.assertEqual(server.ended().status, 1)
         self.check_whole()
         self.assertIn(self.found("=abc")[0], {"value 0102", "value 0304"})
 
@@ -100,7 +104,7 @@ class Flushes(ServedCase):
 
     def test_many_clients_of_a_flush_that_fails(self):
         self.store(ROOMY, name="roomy")
-        server = self.serve(name="roomy", env=watching(self, fail="fdatasync:2+:EIO"))
+        server = self.serve("--stay", name="roomy", env=watching(self, fail="fdatasync:2+:EIO"))
         clients = self.clients(server, 8)
         for number, client in enumerate(clients):
             client.send(f"put =client/{number} 0001", "flush")
@@ -136,7 +140,7 @@ class Limits(ServedCase):
             signal.signal(signal.SIGXFSZ, signal.SIG_IGN if is_signal_ignored else signal.SIG_DFL)
             resource.setrlimit(resource.RLIMIT_FSIZE, (16384, 16384))
 
-        server = self.serve("--sessions", 1, preexec_fn=limit, restore_signals=False)
+        server = self.serve("--sessions", 1, "--stay", preexec_fn=limit, restore_signals=False)
         return server, self.client(server)
 
     def test_a_file_that_may_not_be_so_long(self):
@@ -146,7 +150,7 @@ class Limits(ServedCase):
         client.close()
         ended = server.ended()
         self.assertIn("silt: store: a write at 16384: File too large (os error 27)\n", ended.err)
-        self.assertEqual(ended.status, 0)
+        self.assertEqual(ended.status, 1)
         self.check_whole()
         self.assertEqual(self.found("=abc", "=pear"), ["absent"] * 2)
 
@@ -297,16 +301,16 @@ class Accepting(ServedCase):
 
 
 class Threads(ServedCase):
-    """A thread that cannot be started. The first is the merger's, then come the converter's, the
-    writer's, the replier's, and those of the sessions."""
+    """A thread that cannot be started. The first is that of the care, then come the merger's, the
+    converter's, the writer's, the replier's, and those of the sessions."""
 
     def setUp(self):
         super().setUp()
         self.store(SMALL)
 
     def test_threads_of_sessions(self):
-        first = 5
-        faults = [f"thread:{it}:EAGAIN" for it in range(first, first + MOST_SESSIONS)]
+        sessions = range(FIRST_SESSION, FIRST_SESSION + MOST_SESSIONS)
+        faults = [f"thread:{it}:EAGAIN" for it in sessions]
         server = self.serve("--sessions", 2, env=watching(self, fail=faults))
         for _ in range(MOST_SESSIONS):
             client = self.client(server)
@@ -328,20 +332,16 @@ class Threads(ServedCase):
         )
         self.check_whole()
 
-    def test_the_thread_of_the_writer(self):
-        self.check_refused("thread:3:EAGAIN")
-
-    def test_the_thread_of_the_merger(self):
-        self.check_refused("thread:1:EAGAIN")
-
-    def test_the_thread_of_the_converter(self):
-        self.check_refused("thread:2:EAGAIN")
+    def test_a_thread_that_no_server_can_do_without(self):
+        for thread in (CARE, MERGER, CONVERTER, WRITER):
+            with self.subTest(thread):
+                self.check_refused(f"thread:{thread}:EAGAIN")
 
     def test_no_thread_at_all(self):
         self.check_refused("thread:1+:EAGAIN")
 
     def test_the_thread_of_the_replier(self):
-        server = self.serve("--sessions", 1, env=watching(self, fail="thread:4:EAGAIN"))
+        server = self.serve("--sessions", 1, env=watching(self, fail=f"thread:{REPLIER}:EAGAIN"))
         client = self.client(server)
         self.assertEqual(client.ask(*FIVE_PUTS), [f"accepted {it}" for it in range(1, 6)])
         client.close()

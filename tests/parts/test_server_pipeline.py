@@ -265,7 +265,7 @@ class Flushes(PipelineCase):
     def check_failure(self, fault, words):
         """The flush of a batch fails with this fault, and the store takes nothing more."""
         self.store(WIDE)
-        server = self.serve("--sessions", 1, env=watching(self, fail=fault))
+        server = self.serve("--sessions", 1, "--stay", env=watching(self, fail=fault))
         client = self.client(server)
         late = ["refused 20 BadLine", "refused 9 Failed"]
         unsettled = ["unsettled 1", "unsettled 2", "differs", "unsettled 3", "refused 5 Device"]
@@ -273,7 +273,7 @@ class Flushes(PipelineCase):
         self.assertEqual(client.ask(*self.lines), ["refused 9 Failed"] * 5 + late)
         client.close()
         ended = server.ended()
-        self.assertEqual(ended.status, 0, ended)
+        self.assertEqual(ended.status, 1, ended)
         self.assertIn(f"silt: {words}; the store takes nothing more", ended.err)
         self.check_whole()
         beginnings = [["absent", "absent"], ["value 0001", "absent"], ["value 0001", "value 0002"]]
@@ -283,7 +283,7 @@ class Flushes(PipelineCase):
         self.check_failure("fdatasync:2:EIO", "a sync: Input/output error (os error 5)")
 
     def test_batches_behind_a_flush_that_fails(self):
-        server = self.serve("--sessions", 1, env=watching(self, fail="fdatasync:2+:EIO"))
+        server = self.serve("--sessions", 1, "--stay", env=watching(self, fail="fdatasync:2+:EIO"))
         lines = [
             "swap =a 0000 0001",
             "put =a 0001",
@@ -297,7 +297,7 @@ class Flushes(PipelineCase):
             ["differs", "unsettled 1", "unsettled 2", "refused 5 Device"] + ["refused 9 Failed"] * 3
         )
         self.assertEqual(self.client(server).exchange(lines), due)
-        self.assertEqual(server.ended().status, 0)
+        self.assertEqual(server.ended().status, 1)
 
     def test_the_sync_of_the_commit_bytes_fails(self):
         self.check_failure("fdatasync:3:ENOSPC", "a sync: No space left on device (os error 28)")

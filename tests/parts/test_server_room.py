@@ -194,9 +194,9 @@ class Final(RoomCase):
 
     def test_a_failed_store(self):
         self.store(TIGHT)
-        server = self.serve("--sessions", 1, env=watching(self, fail="fdatasync:2+:EIO"))
+        server = self.serve("--sessions", 1, "--stay", env=watching(self, fail="fdatasync:2+:EIO"))
         replies = self.load(server, [*puts(40), "get =key/0"])
-        self.assertEqual(server.ended().status, 0)
+        self.assertEqual(server.ended().status, 1)
         self.assertEqual({it.split()[0] for it in replies}, {"unsettled", "refused"})
         self.assertEqual(replies[-2:], [FAILED] * 2)
 
@@ -211,7 +211,7 @@ class Workers(RoomCase):
         take."""
         self.path("store").unlink(missing_ok=True)
         self.store(geometry)
-        self.server = self.serve("--sessions", 2, env=watching(self, fail=list(faults)))
+        self.server = self.serve("--sessions", 2, "--stay", env=watching(self, fail=list(faults)))
         return self.load(self.server, puts(60))
 
     def check_values(self, replies, found):

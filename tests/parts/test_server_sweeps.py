@@ -201,7 +201,7 @@ class Sweeps(ServedCase):
         """A server with this fault, a client of it, and what the next run finds."""
         self.silt("format", "store", *SMALL.split(), "--force")
         server = self.begin(
-            "store", 0, "--sessions", 1, *self.options, env=watching(self, fail=fault)
+            "store", 0, "--sessions", 1, "--stay", *self.options, env=watching(self, fail=fault)
         )
         replies = self.judge()
         if (server.line(1) or "").startswith("listening"):
@@ -253,7 +253,7 @@ class Sweeps(ServedCase):
 
     def check_end(self, ended, replies):
         """The server ended well, or with a reason, and reported each failure of the store."""
-        if ended.status == 1:
+        if ended.status == 1 and "takes nothing more" not in ended.err:
             reasons = {
                 "refused 5 Device",
                 "refused 6 NoMemory",
@@ -262,7 +262,7 @@ class Sweeps(ServedCase):
             }
             self.assertTrue(reasons.intersection(ended.lines + ended.err.splitlines()), ended)
             return
-        self.assertEqual(ended.status, 0, ended)
+        self.assertEqual(ended.status, int("takes nothing more" in ended.err), ended)
         self.assertTrue(re.fullmatch(REPORT, ended.err), ended)
         if replies.has_failed:
             self.assertIn("takes nothing more", ended.err)

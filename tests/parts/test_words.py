@@ -10,6 +10,8 @@ silt dump FILE [--shards M]                   prints a line for each key that pu
 silt plan KEYS V [OPTION]...                  prints the six numbers of a store for so many keys
 silt script V B CAP NL NH S                   runs the lives of the standard input in memory
 silt serve FILE PORT [OPTION]...              replies to the lines of a port's connections
+silt stop ADDRESS [OPTION]...                 ends a server in order, and waits until it has ended
+silt info ADDRESS [OPTION]...                 prints the numbers of a server, a line each
 
 FILE  the file of the store
 V     bytes of a value, 1 to 4096
@@ -20,6 +22,7 @@ NH    hash regions, 1 to 16
 S     put rows of the store, and entries of a sorted region, 1 to 16777216
 KEYS  keys that have values at one time
 PORT  a port of this machine, at most 65535; 0 lets the system choose
+ADDRESS  where a server is: a port of this machine, or an IP address and a port, as 10.0.0.1:7379 or [::1]:7379
 
 --force           formats a file that holds keys or other data; they are lost
 --sparse          gives the file its length alone, and does not write all of it
@@ -46,6 +49,12 @@ PORT  a port of this machine, at most 65535; 0 lets the system choose
 --clients N       serves at most N connections at once, 1 to 1024; 64 if left out
 --shards M        serve: serves the M shards in the files FILE.0, FILE.1 .. as one store; not with --audit
 --mergers G       serve --shards: merges at most G shards at a time; any number if left out
+--stay            goes on to serve if a write or a sync failed, and refuses what changes; else the server ends
+--scrub HOURS     reads the whole store each HOURS hours, 1 to 8760, and reports what is damaged
+--scrub-rate MB   serve --scrub: reads at most MB megabytes a second, 1 to 10000
+--metrics PORT    a page of numbers for Prometheus at this port of this machine; 0 lets the system choose
+--password-file PATH  stop: sends the password in the first line of this file
+--password-file PATH  info: sends the password in the first line of this file
 """
 
 # The values and the options of each job.
@@ -59,8 +68,10 @@ JOBS = {
     "script": ("V B CAP NL NH S", ""),
     "serve": (
         "FILE PORT",
-        "--audit --sessions --idle --wait --merge-at --pipeline --resp --bind --password-file --clients --shards --mergers",
+        "--audit --sessions --idle --wait --merge-at --pipeline --resp --bind --password-file --clients --shards --mergers --stay --scrub --scrub-rate --metrics",
     ),
+    "stop": ("ADDRESS", "--password-file"),
+    "info": ("ADDRESS", "--password-file"),
 }
 # What the help of a job with an input says of its lines.
 LINES = """put KEY VALUE     sets the value of a key
@@ -70,12 +81,13 @@ get KEY           prints the value of a key
 flush             makes all accepted commands safe from crashes
 """
 FACTS = "info              prints the numbers of the store, a line each\n"
+SHUTDOWN = "shutdown          ends the server once all that wait have their replies\n"
 STEPS = "convert, merge    does one step of background work\n"
 STOPS = "stop K FILL       crashes the life before it at its K-th write or sync\n"
 HELP_OF_LINES = {
     "run": LINES + FACTS + STEPS,
     "script": LINES + STEPS + STOPS,
-    "serve": LINES + FACTS,
+    "serve": LINES + FACTS + SHUTDOWN,
 }
 MORE = """KEY is 40 hexadecimal digits, or = and a name. VALUE, OLD and NEW have two hexadecimal digits a byte.
 docs/program.md has these lines, and the replies to them.
@@ -88,6 +100,11 @@ SEPARATED = "a number is written without separators"
 # Why a word is no address, and no number of clients.
 NO_ADDRESS = "an address is written in digits, as 10.0.0.1"
 CLIENTS = "a server has 1 to 1024 clients at once"
+# Why a word says not where a server is.
+NO_CONTACT = "it is a port, or an IP address and a port, as 10.0.0.1:7379 or [::1]:7379"
+# Why a number of hours or of megabytes is none.
+HOURS = "a store is scrubbed each 1 to 8760 hours"
+RATE = "a scrub reads 1 to 10000 megabytes a second"
 # What is wrong with an address that other machines reach.
 UNGUARDED = "--bind {} needs --password-file: other machines reach this address"
 # Of a set there is no record.
@@ -225,6 +242,35 @@ COMPLAINTS = {
     "serve disk 0 --shards 2 --mergers 1 --mergers 1": "--mergers is given twice",
     "tend disk --shards 2 --mergers 1": "'--mergers' is no option here",
     "run disk --bind 127.0.0.1": "'--bind' is no option here",
+    "serve disk 0 --stay --stay": "--stay is given twice",
+    "serve disk 0 --stay=1": "'--stay=1' is no option here",
+    "run disk --stay": "'--stay' is no option here",
+    "serve disk 0 --scrub": "--scrub needs a number behind it",
+    "serve disk 0 --scrub 0": f"--scrub cannot be '0': {HOURS}",
+    "serve disk 0 --scrub 8761": f"--scrub cannot be '8761': {HOURS}",
+    "serve disk 0 --scrub 1h": f"--scrub cannot be '1h': {NO_DIGITS}",
+    "serve disk 0 --scrub 1 --scrub=1": "--scrub is given twice",
+    "serve disk 0 --scrub-rate 1": "--scrub-rate needs --scrub",
+    "serve disk 0 --scrub 1 --scrub-rate 0": f"--scrub-rate cannot be '0': {RATE}",
+    "serve disk 0 --scrub 1 --scrub-rate 10001": f"--scrub-rate cannot be '10001': {RATE}",
+    "serve disk 0 --scrub 1 --scrub-rate=2.5": f"--scrub-rate cannot be '2.5': {SEPARATED}",
+    "serve disk 0 --metrics": "--metrics needs a number behind it",
+    "serve disk 0 --metrics 65536": "--metrics cannot be '65536': a port is at most 65535",
+    "serve disk 0 --metrics x": f"--metrics cannot be 'x': {NO_DIGITS}",
+    "run disk --metrics 0": "'--metrics' is no option here",
+    "stop": "ADDRESS is missing",
+    "info": "ADDRESS is missing",
+    "stop 7379 7380": "'7380' is one word too many",
+    "stop 0": f"ADDRESS cannot be '0': {NO_CONTACT}",
+    "stop 65536": f"ADDRESS cannot be '65536': {NO_CONTACT}",
+    "stop ": f"ADDRESS cannot be '': {NO_CONTACT}",
+    "info localhost": f"ADDRESS cannot be 'localhost': {NO_CONTACT}",
+    "info localhost:7379": f"ADDRESS cannot be 'localhost:7379': {NO_CONTACT}",
+    "info 10.0.0.1": f"ADDRESS cannot be '10.0.0.1': {NO_CONTACT}",
+    "stop 7379 --password-file": "--password-file needs a file behind it",
+    "stop 7379 --password-file a --password-file b": "--password-file is given twice",
+    "info 7379 --resp": "'--resp' is no option here",
+    "stop 7379 --sessions 1": "'--sessions' is no option here",
 }
 
 
@@ -238,7 +284,8 @@ def form_of(job):
     options = [
         line
         for line in options
-        if not line.startswith(("--merge-at", "--shards")) or line.split()[2].rstrip(":") == job
+        if not line.startswith(("--merge-at", "--shards", "--password-file"))
+        or line.split()[2].rstrip(":") == job
     ]
     named, chosen = (
         [line for line in part if line.split()[0] in names.split()]
@@ -283,6 +330,8 @@ class Words(Case):
             "plan": "1000 2",
             "script": "2 2 4 2 2 8",
             "serve": "disk 0",
+            "stop": "7379",
+            "info": "7379",
         }
         for option in ("--strict", "--wait", "--tend", "--force"):
             for job in JOBS:

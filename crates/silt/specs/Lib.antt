@@ -1,4 +1,5 @@
 pub mod Clashes
+pub mod Clients
 pub mod Mounts
 pub mod Passwords
 pub mod Programs

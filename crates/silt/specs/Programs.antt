@@ -4,9 +4,9 @@ use Rattle.silt_disk.specs.declared.disk.Disk.{Ghosts}
 use Rattle.silt_device.specs.declared.source.DiskSource.{Ghosts as SourceOf}
 use Rattle.silt_event.specs.declared.refusal.Refusal.TheVariants.{NoMemory as OutOfMemory}
 use Rattle.silt_words.specs.Commands.{job_named}
-use Rattle.silt_words.specs.Jobs.{job_file, job_shards, named}
+use Rattle.silt_words.specs.Jobs.{job_file, job_shards, named, named_contact}
 use Rattle.silt_words.specs.declared.job.Job.{Job}
-use Rattle.silt_words.specs.declared.job.Job.TheVariants.{Format, Script, Run, Tend, Check, Dump, Set, Plan, PlanSet, Serve}
+use Rattle.silt_words.specs.declared.job.Job.TheVariants.{Format, Script, Run, Tend, Check, Dump, Set, Plan, PlanSet, Serve, Stop, Info}
 use Rattle.silt_words.specs.declared.job.FormatOptions.{FormatOptions}
 use Rattle.silt_words.specs.declared.job.Numbers.{Numbers}
 use Rattle.silt_words.specs.declared.job.Service.{Service}
@@ -32,10 +32,12 @@ use Rattle.silt_jobs.specs.declared.streams.StreamError.{StreamError}
 use Rattle.silt_jobs.specs.declared.tally.Tally.{Tally}
 use Rattle.silt_jobs.specs.declared.urgent.Urgent.{Urgent}
 use Rattle.silt.specs.Clashes.{RefusesClash}
+use Rattle.silt.specs.Clients.{AsksServer}
 use Rattle.silt.specs.Services.{ServesFile}
 use Rattle.silt.specs.SetServices.{ServesSet}
 use Rattle.silt.specs.Streams.{IsApart, IsClash}
 use Rattle.silt.specs.declared.clash.Clash.{Clash}
+use Rattle.silt.specs.declared.client_text.Call.TheVariants as call
 use Rattle.silt.specs.declared.standard_streams.SameStreams.{SameStreams}
 
 -- the words name this job
@@ -96,6 +98,10 @@ module _ {S D E F W N : Type 0} (facts : Ghosts D F) (Failed : D → Failures �
   DoesOne (PlanSet shards request) reading ended remaining left before after = PlansSet shards request ended (contents before) (contents after)
   DoesOne (Serve service) reading ended remaining left before after =
       DoesServe facts Failed disks source service (told old new) (new ≡ old) service.shards ended (contents before) (contents after)
+  DoesOne (Stop contact) reading ended remaining left before after =
+      AsksServer (told old new) (new ≡ old) call.Stop (named_contact contact) ended (contents before) (contents after)
+  DoesOne (Info contact) reading ended remaining left before after =
+      AsksServer (told old new) (new ≡ old) call.Info (named_contact contact) ended (contents before) (contents after)
   DoesOne (Set job) reading ended remaining left before after = ⊥
 
   -- this job on the files of a set was done or refused

@@ -22,7 +22,7 @@ use Rattle.silt_jobs.specs.declared.failures.Failures.{Failures}
 use Rattle.silt_jobs.specs.declared.urgent.Urgent.{Urgent}
 use Rattle.silt_jobs.specs.declared.urgent.Urgent.TheVariants.{NoAddress, NoPassword, NoPort}
 use Rattle.silt.specs.declared.listener.NoEntrance.{NoEntrance}
-use Rattle.silt.specs.declared.listener.NoEntrance.TheVariants.{Password, Address, Socket}
+use Rattle.silt.specs.declared.listener.NoEntrance.TheVariants.{Password, Address, Socket, Page}
 
 -- what a server and its clients send each other
 abbrev pub protocol_of : Bool → Bool → Protocol
@@ -52,17 +52,19 @@ abbrev pub IsNoAddress : NamedAccess → NoEntrance → Type 0
 IsNoAddress access (Address text) = address_text access ≡ text.now
 IsNoAddress access other = ⊥
 
--- why a service cannot be entered: its password's file, its address, or a socket at its port
+-- why a service cannot be entered: its password's file, its address, or a socket at its port or at that of its page
 abbrev pub IsNoEntrance : Service → NoEntrance → Type 0
 IsNoEntrance service (Password file error) = (named_access service.access).password_file ≡ Some file.now
 IsNoEntrance service (Address text) = address_text (named_access service.access) ≡ text.now
 IsNoEntrance service (Socket socket error) = socket_port socket ≡ service.port
+IsNoEntrance service (Page socket error) = Some (socket_port socket) ≡ service.metrics
 
 -- this is told of the password's file, of the address, or of the store's file
 abbrev pub TellsWhy : (List ℕ → Urgent → Type 0) → List ℕ → NoEntrance → Type 0
 TellsWhy Told file (Password path error) = Told path.now (NoPassword error)
 TellsWhy Told file (Address text) = Told text.now NoAddress
 TellsWhy Told file (Socket socket error) = Told file (NoPort socket error)
+TellsWhy Told file (Page socket error) = Told file (NoPort socket error)
 
 -- if the server can be entered, nothing is told, and else why it cannot
 abbrev pub TellsEntrance : (List ℕ → Urgent → Type 0) → Type 0 → Service → Bool → Type 0
@@ -75,7 +77,7 @@ EndsServe facts audit new before after = IsServed (facts.content new) before aft
 
 module _ {D F : Type 0} (facts : Ghosts D F) where
   -- A server of an opened store ended with this status: it had a listener and served to the end, with nothing to say; or the line says why
-  -- it did not, or it did, and a merge was refused meanwhile.
+  -- it did not, or it did, and meanwhile the store failed or a merge was refused.
   abbrev pub ServesStore : Option ℕ → Bool → Type 0 → CoreState D → ℕ → D → Option (List ℕ) → Option (List ℕ) → Type 0
   ServesStore audit bound Quiet core status new before after =
       ((status ≡ 0) × (bound ≡ true) × Quiet × EndsServe facts audit new before after)

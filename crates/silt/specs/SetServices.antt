@@ -51,7 +51,7 @@ RefusesFault {E} {F} shard cause ended before after = (why : Why E F) × IsWhy c
 
 module _ {D F : Type 0} (facts : Ghosts D F) where
   -- A server of so many opened stores ended with this status and left these disks: it served to the end, with nothing to say; or the line says
-  -- why it did not, or it did, and a merge was refused meanwhile.
+  -- why it did not, or it did, and meanwhile a store failed or a merge was refused.
   abbrev pub EndsSet : Type 0 → ℕ → ℕ → List D → Option (List ℕ) → Option (List ℕ) → Type 0
   EndsSet Quiet count status left before after =
       ((status ≡ 0) × Quiet × ServesSetAt (λ port. Unit {0}) facts count left before after)

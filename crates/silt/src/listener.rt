@@ -10,25 +10,31 @@ use crate::password::read_password;
 use crate::standard_streams::StandardStreams;
 use silt_jobs::{StreamError, Tells, Urgent};
 use silt_server::Listens;
+use silt_session::Board;
 use silt_words::{Access, Service};
-use std::net::{IpAddr, Net, SocketAddr, TcpListener, TcpStream};
+use std::io::ErrorKind;
+use std::net::{IpAddr, Ipv4Addr, Ipv6Addr, Net, SocketAddr, TcpListener, TcpStream};
 use std::sync::{OnceLock, Wait};
 use std::time::{Clock, Duration};
 use std::{io, thread};
 
-/// The address to listen on if none is given.
-const THIS_MACHINE: &str = "127.0.0.1";
+/// The address of this machine: to listen on if none is given, and to ask.
+pub const THIS_MACHINE: &str = "127.0.0.1";
 
 /// How many milliseconds a server waits before it accepts again, where an accept asks for a pause.
 const PAUSE: u64 = 10;
 
-/// Where a server is entered: the listener of its connections and the socket of that, and the digest of the password that it asks
-/// for, if it asks for one.
+/// How many milliseconds a connection that wakes the listener may take.
+const WAKE: u64 = 1_000;
+
+/// Where a server is entered: the listener of its connections and the socket of that, the digest of the password that it asks for, if
+/// it asks for one, and the listener of its page of metrics, if it has one.
 #[derive(Drop)]
 pub struct Entrance {
     pub listener: TcpListener,
     pub socket: SocketAddr,
     pub password: Option<[u8; 20]>,
+    pub page: Option<TcpListener>,
 }
 
 /// Why a service cannot be entered.
@@ -40,6 +46,8 @@ pub enum NoEntrance<'a> {
     Address(&'a str),
     /// The system gives no listener on this socket.
     Socket(SocketAddr, StreamError),
+    /// The system gives no listener on this socket for the page of metrics.
+    Page(SocketAddr, StreamError),
 }
 
 // The digest of the password that a service asks for.
@@ -72,6 +80,40 @@ fn socket_of<'a>(service: &Service<'a>) -> Result<SocketAddr, NoEntrance<'a>>
     }
 }
 
+// The socket of the page of metrics: this machine alone reaches it.
+fn page_socket(port: u16) -> SocketAddr
+    ensures { socket_port result ≡ port }
+{
+    SocketAddr::new(IpAddr::V4(Ipv4Addr::LOCALHOST), port)
+}
+
+// A listener on this socket, whose accepts do not wait.
+fn bind_page<H: Net<Listener = TcpListener, Stream = TcpStream>>(
+    rt: &H,
+    socket: SocketAddr,
+) -> io::Result<TcpListener> {
+    let page = TcpListener::bind(rt, socket)?;
+    page.set_nonblocking(true)?;
+    Ok(page)
+}
+
+// The listener of the page of metrics, if a service has one.
+fn page_of<'a, H: Net<Listener = TcpListener, Stream = TcpStream>>(
+    rt: &H,
+    service: &Service<'a>,
+) -> Result<Option<TcpListener>, NoEntrance<'a>>
+    ensures none { IfErr result (IsNoEntrance service.now) }
+{
+    let Some(port) = service.metrics else {
+        return Ok(None);
+    };
+    let socket = page_socket(port);
+    match bind_page(rt, socket) {
+        Ok(page) => Ok(Some(page)),
+        Err(error) => Err(NoEntrance::Page(socket, StreamError { error })),
+    }
+}
+
 /// Makes the entrance of a service: reads the password, if there is to be one, and listens. If it cannot, returns why.
 pub fn enter<'a, H: Net<Listener = TcpListener, Stream = TcpStream> + StandardStreams>(
     rt: &H,
@@ -82,11 +124,13 @@ pub fn enter<'a, H: Net<Listener = TcpListener, Stream = TcpStream> + StandardSt
 {
     let password = password_of(rt, &service.access)?;
     let socket = socket_of(service)?;
+    let page = page_of(rt, service)?;
     match TcpListener::bind(rt, socket) {
         Ok(listener) => Ok(Entrance {
             listener,
             socket,
             password,
+            page,
         }),
         Err(error) => Err(NoEntrance::Socket(socket, StreamError { error })),
     }
@@ -99,7 +143,9 @@ pub fn tell_no_entrance<T: Tells>(file: &str, why: NoEntrance<'_>, people: &mut 
     match why {
         NoEntrance::Password(path, error) => people.tell(path, &Urgent::NoPassword(error)),
         NoEntrance::Address(text) => people.tell(text, &Urgent::NoAddress),
-        NoEntrance::Socket(socket, error) => people.tell(file, &Urgent::NoPort(socket, error)),
+        NoEntrance::Socket(socket, error) | NoEntrance::Page(socket, error) => {
+            people.tell(file, &Urgent::NoPort(socket, error));
+        }
     }
 }
 
@@ -113,6 +159,8 @@ enum Cure {
     NotedPause,
     /// No further accept: the listener is none.
     End,
+    /// No further accept: the server is to end.
+    Leave,
 }
 
 // What an accept asks for that failed so.
@@ -125,22 +173,30 @@ fn cure_of(error: &io::Error) -> Cure {
     }
 }
 
-/// A listener on a socket that accepts again if an accept fails for a cause that may pass. It keeps the error of another kind.
+/// A listener on a socket that accepts again if an accept fails for a cause that may pass. It keeps the error of another kind. It
+/// gives no further connection once its server is to end.
 #[derive(Drop)]
 pub struct PatientListener<'a, H> {
     rt: &'a H,
     listener: TcpListener,
     socket: SocketAddr,
+    board: &'a Board,
     failure: OnceLock<io::Error>,
 }
 
 impl<'a, H: Clock + Wait + StandardStreams> PatientListener<'a, H> {
-    /// The connections of this listener on this socket.
-    pub fn new(rt: &'a H, listener: TcpListener, socket: SocketAddr) -> PatientListener<'a, H> {
+    /// The connections of an entrance, until this board says that the server is to end.
+    pub fn new(
+        rt: &'a H,
+        listener: TcpListener,
+        socket: SocketAddr,
+        board: &'a Board,
+    ) -> PatientListener<'a, H> {
         PatientListener {
             rt,
             listener,
             socket,
+            board,
             failure: OnceLock::new(),
         }
     }
@@ -150,11 +206,45 @@ impl<'a, H: Clock + Wait + StandardStreams> PatientListener<'a, H> {
         self.failure.get().copied()
     }
 
+    /// The socket by which this machine reaches it, if the system tells it.
+    pub fn own_socket(&self) -> Option<SocketAddr> {
+        match self.listener.local_addr() {
+            Ok(socket) => Some(own_address(socket)),
+            Err(_) => None,
+        }
+    }
+
     // Tells people that an accept failed.
     fn note(&self, error: io::Error) {
         let urgent = Urgent::NotAccepting(self.socket, StreamError { error });
         self.rt.errors().tell("", &urgent);
     }
+
+    // What an accept asks for that failed so. None is asked for once the server is to end.
+    fn cure_of(&self, error: &io::Error) -> Cure {
+        if self.board.is_ending() {
+            return Cure::Leave;
+        }
+        cure_of(error)
+    }
+}
+
+// The address by which this machine reaches a socket that it listens on.
+fn own_address(socket: SocketAddr) -> SocketAddr {
+    let address = match socket.ip() {
+        IpAddr::V4(address) if address.is_unspecified() => IpAddr::V4(Ipv4Addr::LOCALHOST),
+        IpAddr::V6(address) if address.is_unspecified() => IpAddr::V6(Ipv6Addr::LOCALHOST),
+        address => address,
+    };
+    SocketAddr::new(address, socket.port())
+}
+
+/// Ends the wait of this machine's listener on this socket, by a connection of the server to itself.
+pub fn wake<H: Net<Listener = TcpListener, Stream = TcpStream> + Clock>(
+    rt: &H,
+    socket: SocketAddr,
+) {
+    drop(TcpStream::connect_timeout(rt, &socket, Duration::from_millis(WAKE)));
 }
 
 // Waits before the next accept.
@@ -162,7 +252,8 @@ fn pause<H: Clock + Wait>(rt: &H) {
     thread::sleep(rt, Duration::from_millis(PAUSE));
 }
 
-impl<H: Clock + Wait + StandardStreams> Listens for PatientListener<'_, H> {
+impl<H: Net<Listener = TcpListener, Stream = TcpStream> + Clock + Wait + StandardStreams> Listens
+    for PatientListener<'_, H> {
     ghost has_port = { λ listener port. Unit {0} };
 
     fn port(&self) -> io::Result<u16> {
@@ -176,7 +267,7 @@ impl<H: Clock + Wait + StandardStreams> Listens for PatientListener<'_, H> {
                 Ok(stream) => return Ok(stream),
                 Err(error) => error,
             };
-            match cure_of(&error) {
+            match self.cure_of(&error) {
                 Cure::Next => {}
                 Cure::Pause => pause(self.rt),
                 Cure::NotedPause => {
@@ -190,8 +281,15 @@ impl<H: Clock + Wait + StandardStreams> Listens for PatientListener<'_, H> {
                     let _ = self.failure.try_set(error);
                     return Err(error);
                 }
+                Cure::Leave => return Err(io::Error::from(ErrorKind::Interrupted)),
             }
         }
         unreachable!()
+    }
+
+    fn wake(&self) {
+        if let Some(socket) = self.own_socket() {
+            wake(self.rt, socket);
+        }
     }
 }

@@ -18,7 +18,10 @@
 //!   sync of the life before it. The next life opens what the crash leaves.
 //! - `silt serve FILE PORT [--audit N] [--sessions M] [--idle SECONDS] [--wait SECONDS] [--merge-at K] [--pipeline] [--resp]`
 //!   serves the store in a file to the connections of a port of this machine. With `--pipeline` the commands that a
-//!   connection sent together are done with one flush.
+//!   connection sent together are done with one flush. A line `shutdown` ends it in order, and so does a failed write or sync,
+//!   with status 1, unless it has `--stay`.
+//! - `silt stop ADDRESS [--password-file PATH]` ends a server in order, and waits until nothing listens at its port.
+//! - `silt info ADDRESS [--password-file PATH]` prints what a server says of itself.
 //!
 //! Before all else it opens `/dev/null` on each standard descriptor that is closed. A job whose file is a standard stream is
 //! refused.
@@ -28,7 +31,10 @@
 //! known.
 #![tactic(auto)]
 
+mod care;
 mod clash;
+mod client;
+mod client_text;
 mod early_sync;
 mod file_identity;
 mod file_systems;

@@ -3,16 +3,21 @@ ghost use Rattle.std.specs.Prelude.{◌≡◌};
 ghost use Rattle.silt.specs.Services.{least_merged};
 
 use crate::early_sync::EarlySync;
+use crate::listener::wake;
 use crate::merge_places::MergePlaces;
 use crate::standard_streams::StandardStreams;
 use silt_desk::{Gate, Spot};
 use silt_disk::{Disk, Geometry};
 use silt_event::Place;
 use silt_jobs::{Tells, Urgent, merge_damage_at, shard_path};
+use silt_session::Board;
 use silt_store_set::Core;
+use silt_words::Service;
 use std::alloc::AllocError;
+use std::net::{Net, SocketAddr, TcpListener, TcpStream};
 use std::sync::atomic::{AtomicBool, Ordering};
 use std::sync::{OnceLock, Wait};
+use std::time::Clock;
 
 // Of how many hash stores a merge begins, if a store has this many regions for them: half of them, but at least one, if
 // no number is asked for.
@@ -43,62 +48,95 @@ fn early_sync_of<H: AllocGlobal + StandardStreams>(
     }
 }
 
-/// The gate of one store's workers. Its merger works while it has one of the places for mergers, begins a merge of so many hash stores,
-/// and syncs early what it wrote. The first damage that it finds is told of at once.
+/// What the gates of one server share: what its service asks for, where its listener waits, and the places for mergers.
 #[derive(Drop)]
-pub struct MergeGate<'a, 'p, H> {
+pub struct GateParts {
+    /// Of how many hash stores a merge begins, if a number is asked for.
+    merge_at: Option<u32>,
+    /// Whether the server goes on if a store has failed.
+    stays: bool,
+    /// The socket of its listener, if the system tells it.
+    socket: Option<SocketAddr>,
+    places: MergePlaces,
+    // Whether a store has failed.
+    has_failed: OnceLock<()>,
+}
+
+impl GateParts {
+    /// What the gates of a server of this service share, with a listener on this socket and so many places for mergers.
+    pub fn new(service: &Service<'_>, socket: Option<SocketAddr>, places: u32) -> GateParts
+        ensures merge_at { result.merge_at ≡ service.now.merge_at }
+        ensures stays { result.stays ≡ service.now.stay }
+        ensures socket { result.socket ≡ socket }
+    {
+        GateParts {
+            merge_at: service.merge_at,
+            stays: service.stay,
+            socket,
+            places: MergePlaces::new(places),
+            has_failed: OnceLock::new(),
+        }
+    }
+}
+
+/// The gate of one store's workers. Its merger works while it has one of the places for mergers, begins a merge of so many hash stores,
+/// and syncs early what it wrote. The first damage that it finds is told of at once. It is closed once the server is to end. If the
+/// store has failed, the server ends, unless it stays.
+#[derive(Drop)]
+pub struct MergeGate<'a, 'f, 'b, 'p, H> {
     rt: &'a H,
     /// The name of the store's file, or of its set.
-    file: &'a str,
+    file: &'f str,
+    board: &'b Board,
+    parts: &'p GateParts,
     /// Which shard of the set the store is, if it is of one.
     shard: Option<u32>,
     geometry: Geometry,
     least: u32,
-    places: &'p MergePlaces,
     // Whether the merger has a place.
     has_place: AtomicBool,
     early: EarlySync,
     is_noted: OnceLock<()>,
 }
 
-impl<'a, 'p, H: AllocGlobal + Wait + StandardStreams> MergeGate<'a, 'p, H> {
-    /// The gate of a store, which is that shard of the set of this name, if of one. A merge begins of so many hash stores, if a number
-    /// is asked for.
+impl<'a, 'f, 'b, 'p, H: AllocGlobal + Wait + StandardStreams> MergeGate<'a, 'f, 'b, 'p, H> {
+    /// The gate of a store of this file, or of that shard of the set of this name.
     pub fn new<D: Disk>(
         rt: &'a H,
-        file: &'a str,
+        file: &'f str,
+        board: &'b Board,
+        parts: &'p GateParts,
         shard: Option<u32>,
         core: &Core<D>,
-        merge_at: Option<u32>,
-        places: &'p MergePlaces,
-    ) -> MergeGate<'a, 'p, H>
+    ) -> MergeGate<'a, 'f, 'b, 'p, H>
         ensures file { result.file.now ≡ file.entry.now }
         ensures shard { result.shard ≡ shard }
-        ensures least { result.least ≡ least_merged merge_at core.now.shape.hashes }
+        ensures least { result.least ≡ least_merged parts.entry.now.merge_at core.now.shape.hashes }
     {
         let geometry = core.geometry();
         MergeGate {
             rt,
             file,
+            board,
+            parts,
             shard,
             geometry,
-            least: least_merged(merge_at, geometry.hashes()),
-            places,
+            least: least_merged(parts.merge_at, geometry.hashes()),
             has_place: AtomicBool::new(false),
             early: early_sync_of(rt, file, shard, geometry.entry_len()),
             is_noted: OnceLock::new(),
         }
     }
 
-    /// Whether damage was found.
+    /// Whether damage was found, or a store of the server has failed.
     pub fn is_noted(&self) -> bool {
-        self.is_noted.get().is_some()
+        self.is_noted.get().is_some() || self.parts.has_failed.get().is_some()
     }
 
     // Waits for a place, unless the merger has one.
     fn take_place(&self) {
         if !self.has_place.load(Ordering::Relaxed) {
-            self.places.take(self.rt);
+            self.parts.places.take(self.rt);
             self.has_place.store(true, Ordering::Relaxed);
         }
     }
@@ -106,7 +144,7 @@ impl<'a, 'p, H: AllocGlobal + Wait + StandardStreams> MergeGate<'a, 'p, H> {
     // Frees the merger's place, if it has one.
     fn leave_place(&self) {
         if self.has_place.swap(false, Ordering::Relaxed) {
-            self.places.leave(self.rt);
+            self.parts.places.leave(self.rt);
         }
     }
 
@@ -120,7 +158,13 @@ impl<'a, 'p, H: AllocGlobal + Wait + StandardStreams> MergeGate<'a, 'p, H> {
     }
 }
 
-impl<H: AllocGlobal + Wait + StandardStreams> Gate for MergeGate<'_, '_, H> {
+impl<
+    H: Net<Listener = TcpListener, Stream = TcpStream>
+        + AllocGlobal
+        + Clock
+        + Wait
+        + StandardStreams,
+> Gate for MergeGate<'_, '_, '_, '_, H> {
     fn pass(&self, spot: Spot) {
         if spot == Spot::Merger {
             self.take_place();
@@ -150,5 +194,21 @@ impl<H: AllocGlobal + Wait + StandardStreams> Gate for MergeGate<'_, '_, H> {
             let at = merge_damage_at(&self.geometry, place);
             self.tell(&Urgent::Unmerged(self.rt.alloc(), place, at));
         }
+    }
+
+    // People are told of the first store that has failed. The listener may wait for a connection: so it is woken.
+    fn failed(&self, _spot: Spot) {
+        if self.parts.has_failed.try_set(()).is_err() || self.parts.stays {
+            return;
+        }
+        self.tell(&Urgent::EndsServer);
+        self.board.end();
+        if let Some(socket) = self.parts.socket {
+            wake(self.rt, socket);
+        }
+    }
+
+    fn is_closed(&self) -> bool {
+        self.board.is_ending()
     }
 }

@@ -4,6 +4,8 @@ ghost use Rattle.silt_jobs.specs.Ended.{HasFailed};
 ghost use Rattle.silt.specs.Programs.{Answers, DoesJob, DoesServe, DoesSetJob, EndsJob, FormatsNamed, RefusesWords};
 
 use crate::clash::{clash_of, refuse_clash};
+use crate::client::ask_server;
+use crate::client_text::Call;
 use crate::random_bytes::random_set;
 use crate::service::serve_file;
 use crate::set_service::serve_set;
@@ -159,6 +161,12 @@ where
             Ends::of(alloc, write_set_plan(alloc, shards, &request, writer))
         }
         Job::Serve(service) => Ends::of(alloc, serve(rt, source, &service, writer, people)),
+        Job::Stop(contact) => {
+            Ends::of(alloc, ask_server(rt, Call::Stop, &contact, writer, people))
+        }
+        Job::Info(contact) => {
+            Ends::of(alloc, ask_server(rt, Call::Info, &contact, writer, people))
+        }
     }
 }
 

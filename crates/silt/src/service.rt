@@ -9,9 +9,9 @@ ghost use Rattle.silt.specs.Services.{EndsServe, ServesDisk, ServesFile, ServesO
 ghost use Rattle.silt.specs.Passwords.{HasPassword};
 ghost use Rattle.silt_words.specs.Jobs.{named_access};
 
+use crate::care::Care;
 use crate::listener::{Entrance, PatientListener, enter, tell_no_entrance};
-use crate::merge_gate::MergeGate;
-use crate::merge_places::MergePlaces;
+use crate::merge_gate::{GateParts, MergeGate};
 use crate::standard_streams::StandardStreams;
 use silt_device::DiskSource;
 use silt_disk::Disk;
@@ -21,7 +21,9 @@ use silt_jobs::{
 };
 use silt_resp::LENGTH_LEN;
 use silt_server::{Limits, Protocol, Server, refuse_network};
+use silt_session::Board;
 use silt_store_set::Core;
+use silt_view::Viewed;
 use silt_words::Service;
 use std::io::{self, Write};
 use std::net::{Net, SocketAddr, TcpListener, TcpStream};
@@ -33,8 +35,8 @@ use std::time::Clock;
 const CLIENTS: u32 = 64;
 
 /// Serves the store on the disk of a path to the connections of a port. Returns the disk, and how the job
-/// ended, with the status 0 after the last session, and 1 if the disk or the store is not opened, the network fails, or a
-/// merge was refused.
+/// ended, with the status 0 after the last session or if a client ended the server, and 1 if the disk or the store is not
+/// opened, the network fails, the store has failed, or a merge was refused.
 pub fn serve_file<
     S: DiskSource,
     H: Net<Listener = TcpListener, Stream = TcpStream>
@@ -183,7 +185,7 @@ pub fn are_short(value_len: u32, resp: bool) -> bool
 // listener failed, if the server failed.
 fn serve_store<
     E: Drop,
-    D: Disk,
+    D: Viewed,
     H: Net<Listener = TcpListener, Stream = TcpStream>
         + AllocGlobal
         + Clock
@@ -211,15 +213,18 @@ fn serve_store<
         return (disk, status, None);
     };
     let limits = limits_of(service, entrance.password);
-    let listener = PatientListener::new(rt, entrance.listener, entrance.socket);
-    let places = MergePlaces::new(1);
-    let gate = MergeGate::new(rt, service.file, None, &core, service.merge_at, &places);
+    let board = Board::new(rt, false);
+    let listener = PatientListener::new(rt, entrance.listener, entrance.socket, &board);
+    let parts = GateParts::new(service, listener.own_socket(), 1);
+    let gate = MergeGate::new(rt, service.file, &board, &parts, None, &core);
     let server = Server {
         rt,
         alloc: rt.alloc(),
         listener: &listener,
         limits,
         gate: &gate,
+        board: &board,
+        care: &Care::new(rt, &board, service, entrance.page),
     };
     let (disk, status) = server.serve(core, writer);
     let why = listener_fault(entrance.socket, listener.failure(), &status);
@@ -227,13 +232,13 @@ fn serve_store<
     (disk, status, why)
 }
 
-/// The status of a server with this status: 1 if a merge was refused.
-pub fn status_served(status: io::Result<u8>, is_unmerged: bool) -> io::Result<u8>
-    ensures done { result ≡ Ok 0 → (status ≡ Ok 0) × (is_unmerged ≡ false) }
-    ensures printed { IfOk result (λ ended. IsOkAnd status (λ served. (ended ≡ served) ⊎ ((served ≡ 0) × (ended ≡ 1) × (is_unmerged ≡ true)))) }
+/// The status of a server with this status: 1 if it is noted that a store has failed or a merge was refused.
+pub fn status_served(status: io::Result<u8>, is_noted: bool) -> io::Result<u8>
+    ensures done { result ≡ Ok 0 → (status ≡ Ok 0) × (is_noted ≡ false) }
+    ensures printed { IfOk result (λ ended. IsOkAnd status (λ served. (ended ≡ served) ⊎ ((served ≡ 0) × (ended ≡ 1) × (is_noted ≡ true)))) }
 {
     match status {
-        Ok(0) if is_unmerged => Ok(1),
+        Ok(0) if is_noted => Ok(1),
         ended => ended,
     }
 }

@@ -9,9 +9,9 @@ ghost use Rattle.silt_jobs.specs.Ended.{HasFailed};
 ghost use Rattle.silt.specs.Services.{least_merged};
 ghost use Rattle.silt.specs.SetServices.{FailedAmong, RefusesFault, ServesDisks, ServesEntered, ServesSet, ServesShards};
 
+use crate::care::Care;
 use crate::listener::{Entrance, PatientListener};
-use crate::merge_gate::MergeGate;
-use crate::merge_places::MergePlaces;
+use crate::merge_gate::{GateParts, MergeGate};
 use crate::service::{are_short, entrance_of, limits_of, listener_fault, status_served};
 use crate::standard_streams::StandardStreams;
 use silt_device::DiskSources;
@@ -21,6 +21,7 @@ use silt_jobs::{
     value_len_of, why_of,
 };
 use silt_server::{SetServer, refuse_set_network};
+use silt_session::Board;
 use silt_shards::{SetFault, open_shards_beside};
 use silt_store_set::{Core, Refusal};
 use silt_words::Service;
@@ -33,8 +34,8 @@ use std::time::Clock;
 
 /// Serves the stores in the files of a set, as one store, to the connections of a port. It opens all files before it binds the port, and
 /// then compares their marks and opens the stores. Returns the disks that were served, in the order of their shards, and how the job
-/// ended, with the status 0 after the last session, and 1 if a disk or a store is not opened or is not the shard that is due, the
-/// network fails, or a merge was refused. A set has no record of its calls.
+/// ended, with the status 0 after the last session or if a client ended the server, and 1 if a disk or a store is not opened or is
+/// not the shard that is due, the network fails, a store has failed, or a merge was refused. A set has no record of its calls.
 pub fn serve_set<
     S: DiskSources,
     H: Net<Listener = TcpListener, Stream = TcpStream>
@@ -202,19 +203,22 @@ fn serve_entered<
     ensures left { All (λ disk. (shape : Shape) × LeavesBegun (D.content disk) shape) result.0.items }
 {
     let alloc = rt.alloc();
-    let places = MergePlaces::new(places_of(service, cores.len()));
-    let Ok(gates) = gates_of(rt, service, cores.as_slice(), &places) else {
+    let board = Board::new(rt, false);
+    let listener = PatientListener::new(rt, entrance.listener, entrance.socket, &board);
+    let places = places_of(service, cores.len());
+    let parts = GateParts::new(service, listener.own_socket(), places);
+    let Ok(gates) = gates_of(rt, service.file, &board, &parts, cores.as_slice()) else {
         let why = Why::Refused(Refusal::NoMemory, None);
         return (Vec::new(alloc), Ended::refuse(alloc, why, writer));
     };
-    let limits = limits_of(service, entrance.password);
-    let listener = PatientListener::new(rt, entrance.listener, entrance.socket);
     let server = SetServer {
         rt,
         alloc,
         listener: &listener,
-        limits,
+        limits: limits_of(service, entrance.password),
         gates: gates.as_slice(),
+        board: &board,
+        care: &Care::new(rt, &board, service, entrance.page),
     };
     let (disks, status) = server.serve(cores, writer);
     let why = listener_fault(entrance.socket, listener.failure(), &status);
@@ -237,30 +241,32 @@ fn places_of(service: &Service<'_>, shards: usize) -> u32
     service.mergers.unwrap_or(shards as u32)
 }
 
-// The gates of the workers of these stores, which are the shards of a set, with these places for mergers.
-fn gates_of<'a, 'p, D: Disk, H: AllocGlobal + Wait + StandardStreams>(
+// The gates of the workers of these stores, which are the shards of a set.
+fn gates_of<'a, 'f, 'b, 'p, D: Disk, H: AllocGlobal + Wait + StandardStreams>(
     rt: &'a H,
-    service: &Service<'a>,
+    file: &'f str,
+    board: &'b Board,
+    parts: &'p GateParts,
     cores: &[Core<D>],
-    places: &'p MergePlaces,
-) -> Result<Vec<MergeGate<'a, 'p, H>>, AllocError>
+) -> Result<Vec<MergeGate<'a, 'f, 'b, 'p, H>>, AllocError>
     requires { length cores.now ≤ 64 }
     ensures count { IfOk result (λ gates. vec_len gates ≡ length cores.now) }
     ensures shards { IfOk result (λ gates. map (λ gate. gate.shard) gates.items ≡ map Some (range_with_len 0 (length cores.now))) }
-    ensures least { IfOk result (λ gates. map (λ gate. gate.least) gates.items ≡ map (λ core. least_merged service.now.merge_at core.shape.hashes) cores.now) }
+    ensures least { IfOk result (λ gates. map (λ gate. gate.least) gates.items ≡ map (λ core. least_merged parts.entry.now.merge_at core.shape.hashes) cores.now) }
 {
     let mut gates = Vec::with_capacity(rt.alloc(), cores.len())?;
     for core in cores {
         let shard = gates.len() as u32;
-        let merge_at = service.merge_at;
-        let gate = MergeGate::new(rt, service.file, Some(shard), core, merge_at, places);
+        let gate = MergeGate::new(rt, file, board, parts, Some(shard), core);
         gates.push_reserved(gate);
     }
     Ok(gates)
 }
 
-// Whether a merge of one of the stores was refused.
-fn are_noted<H: AllocGlobal + Wait + StandardStreams>(gates: &[MergeGate<'_, '_, H>]) -> bool {
+// Whether a merge of one of the stores was refused, or a store has failed.
+fn are_noted<H: AllocGlobal + Wait + StandardStreams>(
+    gates: &[MergeGate<'_, '_, '_, '_, H>],
+) -> bool {
     for gate in gates {
         if gate.is_noted() {
             return true;

@@ -1,2 +1,3 @@
+mod Looking
 pub mod Serving
 pub mod Shares

@@ -8,3 +8,4 @@ pub mod Shifts
 pub mod TraceLaws
 pub mod Traces
 pub mod Turns
+pub mod Views

@@ -1,5 +1,5 @@
 // A store with its trace, whose callers have seats.
-ghost use Rattle.std.specs.Prelude.{◌≡◌, ◌≢◌, ℕ, ◌+◌, ◌≤◌, ◌<◌, ◌%◌, ◌^◌, [], Some, None, Ok, true, false, not, IsTrue, length, is_some, IfOk, IfErr, IfSome, OnOk, MatchResult, vec_len, vec_capacity, slice_get};
+ghost use Rattle.std.specs.Prelude.{◌≡◌, ◌≢◌, ℕ, ◌+◌, ◌≤◌, ◌<◌, ◌%◌, ◌^◌, [], Some, None, Ok, true, false, not, IsTrue, length, is_some, IfOk, IfErr, IfSome, OnOk, MatchResult, vec_len, vec_capacity, slice_get, slice_range};
 ghost use Rattle.std.specs.Option.{option_map};
 ghost use Rattle.silt_event.specs.Events.{Step, plain};
 ghost use Rattle.silt_desk.specs.DeskState.{Notes};
@@ -15,6 +15,7 @@ use crate::worker::Due;
 use silt_disk::{Disk, Geometry};
 use silt_event::{Facts, Progress, Refusal};
 use silt_frame::Key;
+use silt_manifest::{Body, Digests};
 use silt_store_set::{Core, LentBytes, Look};
 use std::alloc::Global;
 use std::marker::Model;
@@ -23,7 +24,7 @@ use std::sync::ledger::Blank;
 /// A store with the trace of its calls. Contracts see the two.
 #[derive(Drop)]
 pub struct Desk<D: Disk, T: Trace, N: DeskId> {
-    core: Core<D>,
+    pub(crate) core: Core<D>,
     trace: T,
     ledgers: Ledgers<N>,
 }
@@ -119,7 +120,9 @@ impl<D: Disk, T: Trace, N: DeskId> Desk<D, T, N> {
     ghost use Rattle.silt_store_set.specs.CoreState.{Does, map_of, may_merge, wants_convert, wants_merge};
     ghost use Rattle.silt_store_set.specs.Replies.{change_reply, flush_reply, found_of, get_reply, progress_reply, swap_reply};
     ghost use Rattle.silt_event.specs.declared.event.Event.TheVariants.{Put, Delete, Swap, Get, Flush, Convert, Merge};
-    ghost use Rattle.silt_store_set.specs.Facts.{facts_of};
+    ghost use Rattle.silt_store_set.specs.Facts.{NamesDigests, facts_of};
+    ghost use Rattle.silt_disk.specs.Layout.{device_size};
+    ghost use Rattle.silt_disk.specs.declared.disk.Call.TheVariants as DiskCall;
     ghost use Rattle.silt_desk.specs.DeskState.{Serves};
     ghost use Rattle.silt_desk.specs.Seeing.{seen};
 
@@ -200,6 +203,26 @@ impl<D: Disk, T: Trace, N: DeskId> Desk<D, T, N> {
         ensures { result ≡ facts_of self.now.core }
     {
         self.core.facts()
+    }
+
+    /// Which regions the current manifest record names, and the digests of the stores in them: of the hash stores, the newest
+    /// first, and of the sorted store.
+    pub fn named(&self) -> (Body, Digests)
+        ensures body { result.0 ≡ self.now.core.body }
+        ensures digests { self.now.core.failed ≡ false
+            → NamesDigests (D.content self.now.core.disk) self.now.core.shape self.now.core.body result.1 }
+    {
+        self.core.named()
+    }
+
+    /// Reads bytes of the device from `at` on. After a fault the buffer may hold any bytes.
+    pub fn read_at(&self, at: u64, buf: &mut [u8]) -> Result<(), D::Fault>
+        requires { at + length buf.old ≤ device_size self.now.core.shape }
+        ensures bytes { IsTrue (D.content self.now.core.disk).honest
+            → OnOk result (buf.new ≡ slice_range (D.content self.now.core.disk).shown at (at + length buf.old)) }
+        ensures fault { IfErr result (λ fault. D.gave self.now.core.disk fault DiskCall.Read at (length buf.old)) }
+    {
+        self.core.read_at(at, buf)
     }
 
     /// States what is true of the store at every moment, and does nothing: the possible crash images of its device,

@@ -24,6 +24,7 @@ mod shared;
 mod shift_gate;
 mod threads;
 mod trace;
+mod view;
 mod wakes;
 mod worker;
 
@@ -40,8 +41,10 @@ pub use silt_inbox::{
     Queue, Taker, answered_law,
 };
 pub use silt_store_set::{LentBytes, Look};
+pub use silt_view::{ReadFault, View, Viewed};
 pub use threads::join_over;
 pub use trace::{NotPrepared, Room, Trace};
+pub use view::DeskView;
 pub use wakes::{Wakes, wake};
 pub use worker::{
     Due, Gate, Hears, OpenGate, Spot, Turn, Wake, WorkerEnds, convert_once, converter, merge_once,

@@ -76,6 +76,16 @@ pub trait Gate {
     fn damaged(&self, spot: Spot, place: Place) {
         let _ = (spot, place);
     }
+
+    /// The worker's call is refused, because a write or a sync of the store failed.
+    fn failed(&self, spot: Spot) {
+        let _ = spot;
+    }
+
+    /// Whether no further step is to be begun: the worker waits until it is told to end.
+    fn is_closed(&self) -> bool {
+        false
+    }
 }
 
 /// A gate that is always open: a worker that passes it waits only for the store.
@@ -99,6 +109,8 @@ pub enum Turn {
     Pause,
     /// There is nothing to do before a message, because this part of the device is damaged.
     Damaged(Place),
+    /// There is nothing to do before a message, because a write or a sync of the store failed.
+    Failed,
 }
 
 // What the result of a step asks of a worker. A failed store and a damaged part refuse each later step too.
@@ -110,7 +122,7 @@ fn turn_after<F: Drop>(answer: Result<Progress, Refusal<F>>) -> Turn
         Ok(Progress::Finished) => Turn::WakeOther,
         Ok(Progress::Idle | Progress::Waiting) => Turn::Wait,
         Err(Refusal::Damaged(place)) => Turn::Damaged(place),
-        Err(Refusal::Failed) => Turn::Wait,
+        Err(Refusal::Failed) => Turn::Failed,
         Err(_) => Turn::Pause,
     }
 }
@@ -247,6 +259,11 @@ fn rest<G: Gate, W: Hears, R: Wait + Clock>(
             gate.rest(spot);
             ends.wakes.goes_on(rt)
         }
+        Turn::Failed => {
+            gate.failed(spot);
+            gate.rest(spot);
+            ends.wakes.goes_on(rt)
+        }
     }
 }
 
@@ -264,12 +281,33 @@ pub fn converter<D: Disk, T: Trace, N: DeskId, G: Gate, W: Hears, R: Wait + Cloc
 {
     for _ in rt.forever() {
         gate.pass(Spot::Converter);
-        let turn = convert_once(&mut *shared.write(rt), alloc, &mut seat);
+        let turn = match gate.is_closed() {
+            true => Turn::Wait,
+            false => convert_once(&mut *shared.write(rt), alloc, &mut seat),
+        };
         if !rest(rt, turn, Spot::Converter, gate, &ends) {
             return seat;
         }
     }
     unreachable!()
+}
+
+// Does a turn of merging under a guard of its own, unless the gate is closed.
+fn merge_turn<D: Disk, T: Trace, N: DeskId, G: Gate, R: Wait>(
+    rt: &R,
+    alloc: Global,
+    shared: &Shared<D, T, N>,
+    seat: &mut Seat<N>,
+    gate: &G,
+    lent: &mut Option<LentBytes>,
+) -> Turn
+    ensures { seat.new.number ≡ seat.old.number }
+{
+    if gate.is_closed() {
+        return Turn::Wait;
+    }
+    let least = gate.merges_at();
+    merge_ahead(&mut *shared.write(rt), alloc, seat, least, lent)
 }
 
 /// Does steps of merging, each under a guard of its own, until it hears that it is to end. Gives its seat back. Between two
@@ -288,8 +326,7 @@ pub fn merger<D: Disk, T: Trace, N: DeskId, G: Gate, W: Hears, R: Wait + Clock>(
     let mut lent = LentBytes::new(alloc).ok();
     for _ in rt.forever() {
         gate.pass(Spot::Merger);
-        let least = gate.merges_at();
-        let turn = merge_ahead(&mut *shared.write(rt), alloc, &mut seat, least, &mut lent);
+        let turn = merge_turn(rt, alloc, shared, &mut seat, gate, &mut lent);
         hash_lent(&mut lent);
         if !rest(rt, turn, Spot::Merger, gate, &ends) {
             return seat;

@@ -30,8 +30,8 @@ pub fn digests_with(first: Option<Digest>, stores: &[HashStore], sorted: Digest)
 }
 
 impl Engine {
-    // The digests of the stores as they are.
-    pub(crate) fn own_digests(&self) -> Digests
+    /// The digests of the stores as they are: of the hash stores, the newest first, and of the sorted store.
+    pub fn own_digests(&self) -> Digests
         ensures { result ≡ own_digests self.now }
     {
         let _sound = self.manifest.current(); // so there are no more hash stores than regions

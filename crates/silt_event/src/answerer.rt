@@ -1,10 +1,11 @@
 // A type that replies to events.
-ghost use Rattle.std.specs.Prelude.{◌≡◌, ◌≤◌, ◌+◌, ◌++◌, ℕ, All, List, Option, vec_capacity, vec_len};
+ghost use Rattle.std.specs.Prelude.{◌≡◌, ◌≤◌, ◌+◌, ◌++◌, ℕ, All, List, vec_capacity, vec_len};
+ghost use Rattle.silt_event.specs.declared.admin.Admin.{Admin as AdminOf};
+ghost use Rattle.silt_event.specs.declared.admin.AdminReply.{AdminReply as AdminReplyOf};
 ghost use Rattle.silt_event.specs.declared.event.Event.{Event as EventOf};
-ghost use Rattle.silt_event.specs.declared.facts.Facts.{Facts as FactsOf};
 ghost use Rattle.silt_event.specs.Events.{AnswersEach, HasValueOf, PlainReply};
 
-use crate::{Event, Facts, Reply};
+use crate::{Admin, AdminReply, Event, Reply};
 use std::alloc::Global;
 
 /// A type that replies to events: a store, or a layer in front of one.
@@ -15,8 +16,8 @@ pub trait Answerer {
     /// The answerer before and after a reply, the event and the reply.
     ghost answers: { Self → Self → EventOf → PlainReply → Type 0 };
 
-    /// The answerer, and the facts that it gives of its store, or that it gives none.
-    ghost informs: { Self → Option FactsOf → Type 0 };
+    /// The answerer, an admin command and the reply to it.
+    ghost administers: { Self → AdminOf → AdminReplyOf → Type 0 };
 
     /// Replies to one event. The caller makes sure that a put's value has the answerer's value length.
     fn answer(&mut self, alloc: Global, event: Event) -> Reply<()>
@@ -38,8 +39,8 @@ pub trait Answerer {
         }
     }
 
-    /// The facts of its store at this moment. A layer in front of a store passes on those of the store, and gives none if it
-    /// cannot reach the store.
-    fn facts(&self) -> Option<Facts>
-        ensures { informs self.now result };
+    /// Replies to an admin command, and stays as it is. The facts are those of its store at this moment. A layer in front of a store
+    /// passes them on, and says that they are not served if it cannot reach the store.
+    fn administer(&self, admin: Admin) -> AdminReply
+        ensures { administers self.now admin result };
 }

@@ -3,7 +3,8 @@
 //! An [`Event`] is a call, and a [`Reply`] its result. If a call is refused, the reply holds a [`Refusal`]. A [`Finding`] says what
 //! is wrong with a device, and a [`Place`] says where. A step of background work returns its [`Progress`]. A life is a run from
 //! opening to crash or close: it returns a [`LifeReply`]. A look at a device returns a [`Report`]. An [`Answerer`] replies to
-//! events one after the other: it is a store, or a layer in front of one. It also gives the store's [`Facts`].
+//! events one after the other: it is a store, or a layer in front of one. It also replies to an [`Admin`] command: it gives the store's
+//! [`Facts`], and what a server counted ([`Counts`]).
 //!
 //! `specs/` has the definitions that all promises are made of. `Commands` has maps and the commands that change them. `Rows` says
 //! which command a row of a device is, and so which map rows make. `Events` says which replies to events are those of a map, which
@@ -11,7 +12,9 @@
 //! store, whatever the store is made of, needs only this crate.
 #![tactic(auto)]
 
+mod admin;
 mod answerer;
+mod counts;
 mod damage;
 mod event;
 mod facts;
@@ -22,7 +25,9 @@ mod refusal;
 mod reply;
 mod report;
 
+pub use admin::{Admin, AdminReply};
 pub use answerer::Answerer;
+pub use counts::{COUNTS, Counter, Counts};
 pub use damage::Finding;
 pub use event::{Event, bytes_of};
 pub use facts::Facts;

@@ -5,10 +5,10 @@ use Rattle.std.proofs.lemmas.List.Elements.{All-map}
 use Rattle.silt_disk.specs.declared.disk.Disk.{Ghosts}
 use Rattle.silt_shards.specs.Sets.{AreAlike, value_len_of}
 use Rattle.silt_store_set.specs.CoreState.{CoreState, DoesPlain}
-use Rattle.silt_store_set.specs.Facts.{GivesFacts}
+use Rattle.silt_store_set.specs.Facts.{AdministersCore}
 use Rattle.silt_wire.specs.declared.sessions.SessionEnd.{SessionEnd}
 use Rattle.silt_words.specs.declared.job.RunOptions.{RunOptions}
-use Rattle.silt_jobs.specs.BackgroundWork.{GivesTended, PlainRefusal, TendedState, TendsThenDoes}
+use Rattle.silt_jobs.specs.BackgroundWork.{AdministersTended, PlainRefusal, TendedState, TendsThenDoes}
 use Rattle.silt_jobs.specs.SetFiles.{AnswersCores, AnswersPlain, AnswersTended, EndsSession, EndsSo, OpensSession, first_refusal, set_value_len, tending_each}
 use Rattle.silt_jobs.specs.declared.ended.Ended.{Ended}
 use Rattle.silt_jobs.specs.declared.ended.Found.{Found}
@@ -42,12 +42,12 @@ module _ {D F W : Type 0} (facts : Ghosts D F) (contents : W → Option (List �
   -- stores that do background work replied to the lines as a set
   pub tended_stores : {E : Type 0} (stores last : List (TendedState D)) (value_len : ℕ) (remaining left : Option (List ℕ)) (before answered after : W) (session : SetSession) (ended : Ended E F)
       → session.refusal ≡ first_refusal last → session.value_len ≡ value_len
-      → IfOk session.end (λ it. OpensSession (TendsThenDoes facts) GivesTended contents it value_len stores last remaining left before answered)
+      → IfOk session.end (λ it. OpensSession (TendsThenDoes facts) AdministersTended contents it value_len stores last remaining left before answered)
       → EndsSession contents kept_error kept_tally options reading session ended answered after
       → AnswersTended facts contents kept_error kept_tally options reading value_len stores ended remaining left before after
   tended_stores stores last value_len remaining left before answered after session ended refused same opens ends = (
     ends.0,
-    ends_so (λ it to mid. OpensSession (TendsThenDoes facts) GivesTended contents it value_len stores to remaining left before mid) first_refusal value_len last answered after session.end ended.status ended.found opens
+    ends_so (λ it to mid. OpensSession (TendsThenDoes facts) AdministersTended contents it value_len stores to remaining left before mid) first_refusal value_len last answered after session.end ended.status ended.found opens
         (subst (λ n. IfOk ended.status (λ number. (it : SessionEnd) × (session.end ≡ Ok it) × EndsSo contents kept_error kept_tally options reading it (first_refusal last) n number ended.found answered after)) same
         (subst (λ r. IfOk ended.status (λ number. (it : SessionEnd) × (session.end ≡ Ok it) × EndsSo contents kept_error kept_tally options reading it r session.value_len number ended.found answered after)) refused ends.2)),
   )
@@ -55,7 +55,7 @@ module _ {D F W : Type 0} (facts : Ghosts D F) (contents : W → Option (List �
   -- stores that do no background work replied to the lines as a set
   pub plain_cores : {E : Type 0} (cores last : List (CoreState D)) (value_len : ℕ) (remaining left : Option (List ℕ)) (before answered after : W) (session : SetSession) (ended : Ended E F)
       → options.tend ≡ false → value_len ≡ set_value_len cores → session.refusal ≡ None → session.value_len ≡ value_len
-      → IfOk session.end (λ it. OpensSession (DoesPlain facts) GivesFacts contents it value_len cores last remaining left before answered)
+      → IfOk session.end (λ it. OpensSession (DoesPlain facts) AdministersCore contents it value_len cores last remaining left before answered)
       → EndsSession contents kept_error kept_tally options reading session ended answered after
       → AnswersCores facts contents kept_error kept_tally options reading cores ended remaining left before after
   plain_cores cores last value_len remaining left before answered after session ended plain len none same opens ends =
@@ -63,7 +63,7 @@ module _ {D F W : Type 0} (facts : Ghosts D F) (contents : W → Option (List �
       (AnswersPlain facts contents kept_error kept_tally options reading (set_value_len cores) cores ended remaining left before after)) (sym plain)
       (subst (λ n. AnswersPlain facts contents kept_error kept_tally options reading n cores ended remaining left before after) len (
         ends.0,
-        ends_so (λ it to mid. OpensSession (DoesPlain facts) GivesFacts contents it value_len cores to remaining left before mid) (λ _. None) value_len last answered after session.end ended.status ended.found opens
+        ends_so (λ it to mid. OpensSession (DoesPlain facts) AdministersCore contents it value_len cores to remaining left before mid) (λ _. None) value_len last answered after session.end ended.status ended.found opens
             (subst (λ n. IfOk ended.status (λ number. (it : SessionEnd) × (session.end ≡ Ok it) × EndsSo contents kept_error kept_tally options reading it None n number ended.found answered after)) same
             (subst (λ r. IfOk ended.status (λ number. (it : SessionEnd) × (session.end ≡ Ok it) × EndsSo contents kept_error kept_tally options reading it r session.value_len number ended.found answered after)) none ends.2)),
       )))

@@ -3,7 +3,8 @@ use Rattle.std.specs.Prelude.{◌≡◌, ◌≢◌, ◌⊎◌, ◌+◌, ◌<◌,
 use Rattle.silt_disk.specs.declared.disk.Disk.{Ghosts}
 use Rattle.silt_event.specs.Events.{PlainReply, plain_refusal}
 use Rattle.silt_event.specs.declared.event.Event.{Event}
-use Rattle.silt_event.specs.declared.facts.Facts.{Facts}
+use Rattle.silt_event.specs.declared.admin.Admin.{Admin}
+use Rattle.silt_event.specs.declared.admin.AdminReply.{AdminReply}
 use Rattle.silt_event.specs.declared.event.Event.TheVariants.{Convert, Merge}
 use Rattle.silt_event.specs.declared.progress.Progress.{Progress}
 use Rattle.silt_event.specs.declared.progress.Progress.TheVariants.{Idle, Waiting}
@@ -11,7 +12,7 @@ use Rattle.silt_event.specs.declared.refusal.Refusal.{Refusal}
 use Rattle.silt_event.specs.declared.refusal.Refusal.TheVariants.{NoRoom, Spent}
 use Rattle.silt_event.specs.declared.reply.Reply.{Reply}
 use Rattle.silt_event.specs.declared.reply.Reply.TheVariants.{Refused}
-use Rattle.silt_store_set.specs.Facts.{GivesFacts}
+use Rattle.silt_store_set.specs.Facts.{AdministersCore}
 use Rattle.silt_store_set.specs.CoreState.{CoreState, Does, DoesPlain, awaits_region, convert_due, is_convert, is_merge, is_refused, may_merge, wants_convert, wants_merge}
 use Rattle.silt_jobs.specs.declared.background_work.Steps.{Steps}
 
@@ -115,9 +116,9 @@ pub record TendsThenDoes {D F : Type 0} (facts : Ghosts D F) (old new : TendedSt
   pub refusal : new.refusal ≡ mid.refusal
   pub room : mid.refusal ≡ None → reply ≢ Refused NoRoom
 
--- such a store gives the facts of the store in it
-abbrev pub GivesTended : {D : Type 0} → TendedState D → Option Facts → Type 0
-GivesTended tending facts = GivesFacts tending.core facts
+-- such a store replies to admin commands as the store in it
+abbrev pub AdministersTended : {D : Type 0} → TendedState D → Admin → AdminReply → Type 0
+AdministersTended tending = AdministersCore tending.core
 
 -- ---- all of it
 

@@ -8,7 +8,7 @@ use Rattle.silt_jobs.specs.Scripts.{reply_line}
 use Rattle.silt_jobs.specs.declared.ended.Ended.{Ended}
 use Rattle.silt_jobs.specs.declared.ended.Ends.{Ends}
 use Rattle.silt_jobs.specs.declared.ended.Why.{Why}
-use Rattle.silt_jobs.specs.declared.ended.Why.TheVariants.{NoDisk, Refused, Holds, IsStream, FewRegions, ShortValues, OutOfLimits, NoPlan, NoSetPlan, NotListening, NoRandom, NotDue, NoJob}
+use Rattle.silt_jobs.specs.declared.ended.Why.TheVariants.{NoDisk, Refused, Holds, IsStream, FewRegions, ShortValues, OutOfLimits, NoPlan, NoSetPlan, NotListening, NoReply, NotAsked, NoRandom, NotDue, NoJob}
 use Rattle.silt_jobs.specs.declared.failure.Failure.{Failure}
 use Rattle.silt_jobs.specs.declared.failures.Failures.{Failures}
 
@@ -33,6 +33,8 @@ module _ {E F : Type 0} where
   why_line (NoPlan request) = codes "no plan\n"
   why_line (NoSetPlan shards request) = codes "no plan\n"
   why_line (NotListening socket error) = codes "network fault\n"
+  why_line (NoReply socket error) = codes "network fault\n"
+  why_line NotAsked = codes "network fault\n"
   why_line (NoRandom error) = codes "refused 5 Device\n"
   why_line (NotDue fault) = codes "refused 2 BadGeometry\n"
   why_line NoJob = codes "usage\n"

@@ -16,7 +16,7 @@ use Rattle.silt_recovery.specs.declared.fault.OpenError.{OpenError}
 use Rattle.silt_image.specs.Meaning.{StandsFor}
 use Rattle.silt_event.specs.Queries.{AnswersQuery}
 use Rattle.silt_store_set.specs.CoreState.{CoreState, DoesPlain}
-use Rattle.silt_store_set.specs.Facts.{GivesFacts}
+use Rattle.silt_store_set.specs.Facts.{AdministersCore}
 use Rattle.silt_recovery.specs.Errors.{refusal_of_formatting, refusal_of_opening}
 use Rattle.silt_event.specs.declared.refusal.Refusal.{Refusal}
 use Rattle.silt_event.specs.declared.reply.Reply.TheVariants.{Refused}
@@ -26,7 +26,7 @@ use Rattle.silt_wire.specs.declared.sessions.SessionEnd.{SessionEnd}
 use Rattle.silt_wire.specs.declared.sessions.SessionEnd.TheVariants.{End, NoMemory, ReadFault, WriteFault}
 use Rattle.silt_words.specs.declared.job.Numbers.{Numbers}
 use Rattle.silt_words.specs.declared.job.RunOptions.{RunOptions}
-use Rattle.silt_jobs.specs.BackgroundWork.{GivesTended, PlainRefusal, StopsAt, TendsAll, TendsThenDoes, due_at_once}
+use Rattle.silt_jobs.specs.BackgroundWork.{AdministersTended, PlainRefusal, StopsAt, TendsAll, TendsThenDoes, due_at_once}
 use Rattle.silt_jobs.specs.Damage.{HasShape, LacksShape}
 use Rattle.silt_jobs.specs.Ended.{IsDone, Refuses, RefusesSo, none_failed}
 use Rattle.silt_jobs.specs.Numbers.{shape_asked}
@@ -73,10 +73,10 @@ module _ {D F : Type 0} (facts : Ghosts D F) where
   abbrev pub AnswersLines : RunOptions → SessionEnd → Option PlainRefusal → CoreState D → CoreState D → Option (List ℕ) → Option (List ℕ) → Option (List ℕ) → Option (List ℕ) → Type 0
   AnswersLines options end refusal old new remaining left before after =
       MatchBool options.tend
-      ((least : Option ℕ) × Ends (AnswersQuery (TendsThenDoes facts) GivesTended) end old.shape.value_len
+      ((least : Option ℕ) × Ends (AnswersQuery (TendsThenDoes facts) AdministersTended) end old.shape.value_len
       (record { answerer = record { core = old; least = options.merge_at; refusal = None }; remaining = remaining; contents = before })
       (record { answerer = record { core = new; least = least; refusal = refusal }; remaining = left; contents = after }))
-      ((refusal ≡ None) × Ends (AnswersQuery (DoesPlain facts) GivesFacts) end old.shape.value_len
+      ((refusal ≡ None) × Ends (AnswersQuery (DoesPlain facts) AdministersCore) end old.shape.value_len
       (record { answerer = old; remaining = remaining; contents = before })
       (record { answerer = new; remaining = left; contents = after }))
 

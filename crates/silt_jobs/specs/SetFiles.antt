@@ -20,16 +20,17 @@ use Rattle.silt_shards.specs.Sets.{SetDoes, value_len_of}
 use Rattle.silt_shards.specs.declared.fault.SetCause.{SetCause}
 use Rattle.silt_shards.specs.declared.mark.Marking.TheVariants.{Marked}
 use Rattle.silt_event.specs.Queries.{AnswersQuery}
-use Rattle.silt_event.specs.declared.facts.Facts.{Facts}
-use Rattle.silt_shards.specs.SetFacts.{SetInforms}
+use Rattle.silt_event.specs.declared.admin.Admin.{Admin}
+use Rattle.silt_event.specs.declared.admin.AdminReply.{AdminReply}
+use Rattle.silt_shards.specs.SetFacts.{AdministersSet}
 use Rattle.silt_store_set.specs.CoreState.{CoreState, DoesPlain, Opens}
-use Rattle.silt_store_set.specs.Facts.{GivesFacts}
+use Rattle.silt_store_set.specs.Facts.{AdministersCore}
 use Rattle.silt_wire.specs.Sessions.{Ends}
 use Rattle.silt_wire.specs.declared.sessions.SessionEnd.{SessionEnd}
 use Rattle.silt_words.specs.declared.job.FormatOptions.{FormatOptions}
 use Rattle.silt_words.specs.declared.job.Numbers.{Numbers}
 use Rattle.silt_words.specs.declared.job.RunOptions.{RunOptions}
-use Rattle.silt_jobs.specs.BackgroundWork.{GivesTended, PlainRefusal, TendedState, TendsThenDoes}
+use Rattle.silt_jobs.specs.BackgroundWork.{AdministersTended, PlainRefusal, TendedState, TendsThenDoes}
 use Rattle.silt_jobs.specs.Ended.{Refuses, none_failed}
 use Rattle.silt_jobs.specs.Files.{FormatsFile, sized_by}
 use Rattle.silt_jobs.specs.Jobs.{PrintsUntended, run_status, session_error}
@@ -160,9 +161,9 @@ abbrev pub set_value_len : {D : Type 0} → List (CoreState D) → ℕ
 set_value_len cores = value_len_of (λ core. core.shape.value_len) cores
 
 -- `opened` was written, and the session of these answerers as a set with the reader and the writer had this end
-abbrev pub OpensSession : {A W : Type 0} → (A → A → Event → PlainReply → Type 0) → (A → Option Facts → Type 0) → (W → Option (List ℕ)) → SessionEnd → ℕ → List A → List A → Option (List ℕ) → Option (List ℕ) → W → W → Type 0
-OpensSession answers informs contents end value_len old new remaining left before after =
-    (opened : Option (List ℕ)) × Appends (contents before) opened (codes "opened\n") × Ends (AnswersQuery (SetDoes answers) (SetInforms informs)) end value_len
+abbrev pub OpensSession : {A W : Type 0} → (A → A → Event → PlainReply → Type 0) → (A → Admin → AdminReply → Type 0) → (W → Option (List ℕ)) → SessionEnd → ℕ → List A → List A → Option (List ℕ) → Option (List ℕ) → W → W → Type 0
+OpensSession answers administers contents end value_len old new remaining left before after =
+    (opened : Option (List ℕ)) × Appends (contents before) opened (codes "opened\n") × Ends (AnswersQuery (SetDoes answers) (AdministersSet administers)) end value_len
     (record { answerer = old; remaining = remaining; contents = opened }) (record { answerer = new; remaining = left; contents = contents after })
 
 -- the shards have fewer hash regions than the hash stores of which a merge is to begin
@@ -194,14 +195,14 @@ module _ {D E F W : Type 0} (facts : Ghosts D F) (contents : W → Option (List 
   abbrev pub AnswersTended : ℕ → List (TendedState D) → Ended E F → Option (List ℕ) → Option (List ℕ) → W → W → Type 0
   AnswersTended value_len stores ended remaining left before after =
       (ended.why ≡ None) × IfOk ended.status (λ status. (end : SessionEnd) × (last : List (TendedState D)) × (answered : W)
-      × OpensSession (TendsThenDoes facts) GivesTended contents end value_len stores last remaining left before answered
+      × OpensSession (TendsThenDoes facts) AdministersTended contents end value_len stores last remaining left before answered
       × EndsSo contents kept_error kept_tally options reading end (first_refusal last) value_len status ended.found answered after)
 
   -- stores replied as a set to the lines, and the job ended so
   abbrev pub AnswersPlain : ℕ → List (CoreState D) → Ended E F → Option (List ℕ) → Option (List ℕ) → W → W → Type 0
   AnswersPlain value_len cores ended remaining left before after =
       (ended.why ≡ None) × IfOk ended.status (λ status. (end : SessionEnd) × (last : List (CoreState D)) × (answered : W)
-      × OpensSession (DoesPlain facts) GivesFacts contents end value_len cores last remaining left before answered
+      × OpensSession (DoesPlain facts) AdministersCore contents end value_len cores last remaining left before answered
       × EndsSo contents kept_error kept_tally options reading end None value_len status ended.found answered after)
 
   -- One life of a set of opened stores. If it tends, each store does the background work that is due before its lines. Or memory ran out before.

@@ -1,9 +1,9 @@
 // Background work without workers: between the lines of a session, or all at once.
 ghost use Rattle.std.specs.Prelude.{◌≡◌, ◌&&◌, not, IfErr, IfOk};
-ghost use Rattle.silt_jobs.specs.BackgroundWork.{GivesTended, StopsAt, TendsAll, TendsDue, TendsPlain, TendsThenDoes, begins, due_at_once, error_of, is_idle, is_paused, merges};
+ghost use Rattle.silt_jobs.specs.BackgroundWork.{AdministersTended, StopsAt, TendsAll, TendsDue, TendsPlain, TendsThenDoes, begins, due_at_once, error_of, is_idle, is_paused, merges};
 
 use silt_disk::Disk;
-use silt_event::{Answerer, Event, Facts, Reply};
+use silt_event::{Admin, AdminReply, Answerer, Event, Reply};
 use silt_store_set::{Core, Progress, Refusal, Served};
 use std::alloc::Global;
 use std::marker::Model;
@@ -181,7 +181,7 @@ impl<D: Tended> Answerer for Tending<D> {
 
     ghost answers = { TendsThenDoes D.Disk };
 
-    ghost informs = { GivesTended };
+    ghost administers = { AdministersTended };
 
     fn answer(&mut self, alloc: Global, event: Event) -> Reply<()> {
         if self.refusal.is_some() {
@@ -191,7 +191,10 @@ impl<D: Tended> Answerer for Tending<D> {
         D::answer_on(&mut self.core, alloc, &event)
     }
 
-    fn facts(&self) -> Option<Facts> {
-        Some(D::facts_on(&self.core))
+    fn administer(&self, admin: Admin) -> AdminReply {
+        match admin {
+            Admin::Info => AdminReply::Info(D::facts_on(&self.core), None),
+            _ => AdminReply::NotServed,
+        }
     }
 }

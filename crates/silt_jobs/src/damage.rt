@@ -110,8 +110,8 @@ pub fn merge_damage_at(geometry: &Geometry, place: Place) -> Option<u64>
     }
 }
 
-// The offset of a part of a disk with this geometry, and with the sorted store in this region.
-fn offset_of(geometry: &Geometry, sorted: u32, place: Place) -> Option<u64>
+/// The offset of a part of a disk with this geometry, and with the sorted store in this region.
+pub fn offset_of(geometry: &Geometry, sorted: u32, place: Place) -> Option<u64>
     requires { sorted < 2 }
     ensures { result ≡ offset_of geometry.now sorted place }
 {

@@ -13,6 +13,7 @@ use silt_wire::SessionEnd;
 use silt_words::{VERSION, asks_version, complaint_of, forms_for};
 use std::fmt::{self, Display};
 use std::io::{self, ErrorKind, Write};
+use std::net::SocketAddr;
 
 /// The number of the refusal of a value of another length.
 const BAD_VALUE: usize = 22;
@@ -181,10 +182,18 @@ fn write_unfit<E, F, W: Write>(file: FileName<'_>, why: &Why<E, F>, out: &mut W)
         Why::NoSetPlan(shards, request) => {
             writeln!(out, "silt: {}", set_obstacle_of(*shards, request))
         }
-        Why::NotListening(socket, StreamError { error }) => {
-            writeln!(out, "silt: {socket}: {error}")
-        }
+        Why::NotListening(socket, error) => writeln!(out, "silt: {socket}: {}", error.error),
+        Why::NoReply(socket, error) => write_no_reply(*socket, *error, out),
         _ => Ok(()),
+    }
+}
+
+// Writes why a server gave no reply.
+fn write_no_reply<W: Write>(socket: SocketAddr, why: StreamError, out: &mut W) -> io::Result<()> {
+    let StreamError { error } = why;
+    match error.kind() {
+        ErrorKind::ConnectionRefused => writeln!(out, "silt: nothing listens at {socket}"),
+        _ => writeln!(out, "silt: {socket}: {error}"),
     }
 }
 

@@ -41,6 +41,10 @@ pub enum Why<E, F> {
     NoSetPlan(u32, PlanRequest),
     /// The listener on this socket failed.
     NotListening(SocketAddr, StreamError),
+    /// The server at this socket cannot be reached, gave no reply that can be taken, or did not end.
+    NoReply(SocketAddr, StreamError),
+    /// A server was not asked. People were told why.
+    NotAsked,
     /// The system gave no random bytes to name a set.
     NoRandom(StreamError),
     /// The file is not what is due: a shard of a set, or a store of its own.
@@ -161,7 +165,9 @@ fn write_why<E, F: Drop, W: Write>(alloc: Global, why: &Why<E, F>, writer: &mut 
             write_line(b"refused 2 BadGeometry\n", 1, writer)
         }
         Why::NoPlan(_) | Why::NoSetPlan(..) => write_line(b"no plan\n", 1, writer),
-        Why::NotListening(..) => write_line(b"network fault\n", 1, writer),
+        Why::NotListening(..) | Why::NoReply(..) | Why::NotAsked => {
+            write_line(b"network fault\n", 1, writer)
+        }
         Why::NoJob => write_line(b"usage\n", 2, writer),
     }
 }

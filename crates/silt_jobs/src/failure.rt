@@ -2,7 +2,8 @@
 ghost use Rattle.std.specs.Prelude.{◌≡◌, Option};
 ghost use Rattle.silt_jobs.specs.declared.failure.Failure.{Failure as FailureOf};
 
-use silt_disk::{CallAt, Disk};
+use silt_disk::CallAt;
+use silt_view::Viewed;
 use std::{fmt, io};
 
 /// A failed call of a disk, and the system's error.
@@ -20,8 +21,8 @@ impl fmt::Display for Failure {
     }
 }
 
-/// A disk that keeps its first failed read, and its last failed write or sync.
-pub trait Watched: Disk {
+/// A disk that keeps its first failed read, and its last failed write or sync. Its stores can be viewed.
+pub trait Watched: Viewed {
     /// The last write or sync that failed, if one did.
     ghost last_failure: { Self → Option FailureOf };
 

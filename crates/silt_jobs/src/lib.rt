@@ -42,7 +42,7 @@ mod urgent;
 mod watched_file;
 
 pub use background_work::Tended;
-pub use damage::merge_damage_at;
+pub use damage::{merge_damage_at, offset_of};
 pub use dump::dump_file;
 pub use end_lines::{RANDOM_DEVICE, Subject, print_ends, print_of};
 pub use ended::{Ended, Ends, Found, Session, Why};
@@ -53,6 +53,7 @@ pub use held_data::{HeldStore, Holding};
 pub use input_lines::InputLines;
 pub use merge_at::{has_few_regions, refuse_few_regions};
 pub use not_opened::{NotOpened, open_store, why_of};
+pub use output::write_out;
 pub use plan::write_plan;
 pub use plan_cost::{PlanCost, Remedy};
 pub use progress::{AfterProgress, Progress};

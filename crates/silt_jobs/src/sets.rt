@@ -425,7 +425,7 @@ fn answer_set<A: Answerer + Drop, R: Read, W: Write>(
     requires count { IsShardCount (vec_len shards) }
     requires alike { AreAlike A.value_len shards.items }
     requires value { value_len_of A.value_len shards.items ≡ value_len }
-    ensures { IfOk result.1 (λ end. OpensSession A.answers A.informs W.contents end value_len shards.items result.0.items
+    ensures { IfOk result.1 (λ end. OpensSession A.answers A.administers W.contents end value_len shards.items result.0.items
         (R.remaining reader.old) (R.remaining reader.new) writer.old writer.new) }
 {
     match write_out(b"opened\n", writer) {

@@ -6,6 +6,7 @@ use crate::failure::Failure;
 use crate::held_data::HeldStore;
 use crate::progress::AfterProgress;
 use crate::streams::StreamError;
+use silt_care::Finding;
 use silt_store_set::{Place, Refusal};
 use silt_wire::print_refusal;
 use std::alloc::Global;
@@ -19,9 +20,13 @@ pub enum Urgent {
     Overwrites(HeldStore),
     /// This call failed, and with it the store, or the store of the shard of this number.
     FailedStore(Failure, Option<u32>),
-    /// The file gives the server no password.
+    /// The store has failed, and so its server ends.
+    EndsServer,
+    /// A scrub found this, of a part that begins at this offset, if that is known. The text needs memory.
+    Scrubbed(Global, Finding, Option<u64>),
+    /// The file gives no password.
     NoPassword(StreamError),
-    /// The text that the server is to listen on is no IP address.
+    /// The text is no IP address.
     NoAddress,
     /// The server cannot listen on this socket.
     NoPort(SocketAddr, StreamError),
@@ -71,6 +76,8 @@ fn write_urgent<W: Write>(file: &str, urgent: &Urgent, out: &mut W) -> io::Resul
             out,
             "silt: shard {shard}: {failure}; it takes nothing more until it is opened again"
         ),
+        Urgent::Scrubbed(alloc, finding, at) => write_scrubbed(*alloc, file, *finding, *at, out),
+        Urgent::EndsServer => writeln!(out, "silt: {file}: the store has failed; the server ends"),
         Urgent::NoPassword(StreamError { error }) => writeln!(out, "silt: {file}: {error}"),
         Urgent::NoAddress => writeln!(out, "silt: {file}: it is no IP address"),
         Urgent::NoPort(address, StreamError { error }) => {
@@ -81,6 +88,44 @@ fn write_urgent<W: Write>(file: &str, urgent: &Urgent, out: &mut W) -> io::Resul
             "silt: {address}: a connection is not accepted: {error}; the server tries again"
         ),
         Urgent::Unmerged(alloc, place, at) => write_unmerged(*alloc, file, *place, *at, out),
+    }
+}
+
+// Writes what a scrub found of a part. It names a damaged part as a refusal does, if there is memory for its text.
+fn write_scrubbed<W: Write>(
+    alloc: Global,
+    file: &str,
+    finding: Finding,
+    at: Option<u64>,
+    out: &mut W,
+) -> io::Result<()> {
+    let place = match finding {
+        Finding::Damaged(place) => place,
+        Finding::Unread(place) => return write_unread(file, place, at, out),
+    };
+    write!(out, "silt: {file}: a scrub is ")?;
+    match print_refusal(alloc, &Refusal::<()>::Damaged(place)) {
+        Ok(label) => out.write_all(label.as_bytes())?,
+        Err(_) => out.write_all(b"refused")?,
+    }
+    write_place(place, at, out)
+}
+
+// Writes which region a scrub cannot read, and where it begins, if that is known.
+fn write_unread<W: Write>(
+    file: &str,
+    place: Place,
+    at: Option<u64>,
+    out: &mut W,
+) -> io::Result<()> {
+    write!(out, "silt: {file}: a scrub cannot read ")?;
+    match place {
+        Place::HashDigest(region) => write!(out, "hash region {region}")?,
+        _ => out.write_all(b"the sorted region")?,
+    }
+    match at {
+        Some(at) => writeln!(out, ", at byte {at}"),
+        None => writeln!(out),
     }
 }
 

@@ -8,9 +8,11 @@ use crate::failure::{Failure, Watched};
 use crate::progress::Progress;
 use crate::urgent::{Tells, Urgent};
 use silt_device::{DiskSource, DiskSources, FileDisk};
-use silt_disk::Disk;
+use silt_disk::{Disk, Geometry};
 use silt_event::{Event, Facts, Reply};
+use silt_manifest::{Body, Digests};
 use silt_store_set::{Core, Refusal, Served};
+use silt_view::{ReadFault, Viewed, read_within};
 use std::alloc::Global;
 use std::io::Stderr;
 use std::sync::OnceLock;
@@ -160,6 +162,24 @@ impl Served for WatchedFile<'_> {
 
     fn facts_on(core: &Core<Self>) -> Facts {
         core.facts()
+    }
+}
+
+impl Viewed for WatchedFile<'_> {
+    fn geometry_in(core: &Core<Self>) -> Geometry {
+        core.geometry()
+    }
+
+    fn facts_in(core: &Core<Self>) -> Facts {
+        core.facts()
+    }
+
+    fn named_in(core: &Core<Self>) -> (Body, Digests) {
+        core.named()
+    }
+
+    fn read_in(core: &Core<Self>, at: u64, buf: &mut [u8]) -> Result<(), ReadFault<Self::Fault>> {
+        read_within(core, at, buf)
     }
 }
 

@@ -9,7 +9,8 @@ use Rattle.std.proofs.lemmas.Grind.{flat_map-append}
 use Rattle.std.proofs.lemmas.List.{drop-append-le, drop-map, length-drop, length-map, take_all, take-append-le, take-map}
 use Rattle.std.proofs.Math.Seq.{take-add}
 use Rattle.silt_event.specs.declared.event.Event.{Event}
-use Rattle.silt_event.specs.declared.facts.Facts.{Facts}
+use Rattle.silt_event.specs.declared.admin.Admin.{Admin}
+use Rattle.silt_event.specs.declared.admin.AdminReply.{AdminReply}
 use Rattle.silt_event.specs.Events.{AnswersEach, PlainReply}
 use Rattle.silt_event.specs.Queries.{Answer, AnswersQuery, Query, does, replies as replied}
 use Rattle.silt_wire.specs.Sessions.{IsBeginning}
@@ -21,9 +22,9 @@ use Rattle.silt_resp.specs.declared.session.RespEnd.{RespEnd}
 use Rattle.silt_resp.specs.declared.session.RespEnd.TheVariants.{End, Closed, ReadFault, WriteFault, NoMemory}
 use Rattle.silt_resp.specs.declared.batch.Batch.{Batch}
 use Rattle.silt_resp.specs.declared.batch.Due.{Due}
-use Rattle.silt_resp.specs.declared.asked.Sections.{Sections}
+use Rattle.silt_resp.specs.declared.asked.Tail.{Tail}
 use Rattle.silt_resp.specs.Batches.{HoldsAsked, Part, due_seen, part_len, part_of, part_text, part_texts, tail_answers, tail_parts, tail_queries}
-use Rattle.silt_resp.specs.Commands.{Asked, asked_for, asks, asks_info, says, visitor_after}
+use Rattle.silt_resp.specs.Commands.{Asked, asked_for, asks, asks_admin, says, visitor_after}
 use Rattle.silt_resp.specs.Sessions.{AnswersCommands, AnswersSomeCommands, Client, EndsWith, IsCommandsEnd, IsLast, ServesCommands, ServesSomeCommands, all_queries, asked_queries, replies_in, asked_after, asked_each, client_after, asked_text, asked_texts, visitor_behind}
 use Rattle.silt_resp.specs.Stream.{Command, closed, commands_after, stream_after}
 use Rattle.silt_resp.proofs.Runs.{closed_run}
@@ -125,7 +126,7 @@ part_texts-asked (asks events form ∷ asked) rs =
     let n = length events in
     ap (λ t. asked_text (asks events form) (take n rs) ++ t) (part_texts-asked asked (drop n rs))
     ∙ ap (λ k. asked_text (asks events form) (take k rs) ++ asked_texts asked (drop k rs)) (sym (length-map events does))
-part_texts-asked (asks_info sections ∷ asked) rs = ap (λ t. asked_text (asks_info sections) (take 1 rs) ++ t) (part_texts-asked asked (drop 1 rs))
+part_texts-asked (asks_admin tail ∷ asked) rs = ap (λ t. asked_text (asks_admin tail) (take 1 rs) ++ t) (part_texts-asked asked (drop 1 rs))
 
 -- ---- how many answers are due
 
@@ -146,11 +147,11 @@ parts_len-asked (asks events form ∷ asked) =
     let sizes = length-append (map does events) (all_queries asked) in
     let same = length-map events does in
     omega (arith, rest, sizes, same)
-parts_len-asked (asks_info sections ∷ asked) = let rest = parts_len-asked asked in omega (arith, rest)
+parts_len-asked (asks_admin tail ∷ asked) = let rest = parts_len-asked asked in omega (arith, rest)
 
-tail_len : (tail : Option Sections) → parts_len (tail_parts tail) ≡ length (tail_queries tail)
+tail_len : (tail : Option Tail) → parts_len (tail_parts tail) ≡ length (tail_queries tail)
 tail_len None = refl
-tail_len (Some sections) = refl
+tail_len (Some tail) = refl
 
 -- the texts of two lists of parts
 part_texts-append : (ps qs : List Part) (rs ss : List Answer) → length rs ≡ parts_len ps → part_texts (ps ++ qs) (rs ++ ss) ≡ part_texts ps rs ++ part_texts qs ss
@@ -280,22 +281,22 @@ module _ {A : Type 0} (answers : A → A → Query → Answer → Type 0) where
 
 -- ---- a batch
 
-module _ {A : Type 0} (answers : A → A → Event → PlainReply → Type 0) (informs : A → Option Facts → Type 0) (batch : Batch) where
-  -- all answers to a batch: the replies to its events, and the facts if they are asked for
-  abbrev batch_answers : List PlainReply → Option Facts → List Answer
-  batch_answers rs facts = map replied rs ++ tail_answers batch.tail facts
+module _ {A : Type 0} (answers : A → A → Event → PlainReply → Type 0) (administers : A → Admin → AdminReply → Type 0) (batch : Batch) where
+  -- all answers to a batch: the replies to its events, and that to its admin command if there is one
+  abbrev batch_answers : List PlainReply → AdminReply → List Answer
+  batch_answers rs said = map replied rs ++ tail_answers batch.tail said
 
   -- what the events of a batch have as texts, and what its end has
   abbrev event_texts : List PlainReply → List ℕ
   event_texts rs = part_texts (map due_seen batch.dues.items) (map replied rs)
 
-  batch_each : (asked : List Asked) (a b : A) (rs : List PlainReply) (facts : Option Facts) → HoldsAsked batch asked → AnswersEach answers a batch.events.items rs b
-      → AnswersEach (AnswersQuery answers informs) b (tail_queries batch.tail) (tail_answers batch.tail facts) b
-      → AnswersEach (AnswersQuery answers informs) a (all_queries asked) (batch_answers rs facts) b
-  batch_each asked a b rs facts h each tail =
-      subst (λ qs. AnswersEach (AnswersQuery answers informs) a qs (batch_answers rs facts) b) h.queries
-      (each-append (AnswersQuery answers informs) a b b (map does batch.events.items) (tail_queries batch.tail) (map replied rs) (tail_answers batch.tail facts)
-      (each-queries answers informs a b batch.events.items rs each) tail)
+  batch_each : (asked : List Asked) (a b : A) (rs : List PlainReply) (said : AdminReply) → HoldsAsked batch asked → AnswersEach answers a batch.events.items rs b
+      → AnswersEach (AnswersQuery answers administers) b (tail_queries batch.tail) (tail_answers batch.tail said) b
+      → AnswersEach (AnswersQuery answers administers) a (all_queries asked) (batch_answers rs said) b
+  batch_each asked a b rs said h each tail =
+      subst (λ qs. AnswersEach (AnswersQuery answers administers) a qs (batch_answers rs said) b) h.queries
+      (each-append (AnswersQuery answers administers) a b b (map does batch.events.items) (tail_queries batch.tail) (map replied rs) (tail_answers batch.tail said)
+      (each-queries answers administers a b batch.events.items rs each) tail)
 
   -- each reply to an event is due
   batch_len : (asked : List Asked) (a b : A) (rs : List PlainReply) → HoldsAsked batch asked → AnswersEach answers a batch.events.items rs b
@@ -305,42 +306,42 @@ module _ {A : Type 0} (answers : A → A → Event → PlainReply → Type 0) (i
       let sum = parts_len-append (map due_seen batch.dues.items) (tail_parts batch.tail) in
       let all = ap parts_len h.parts ∙ parts_len-asked asked ∙ ap length (sym h.queries) in
       let sizes = length-append (map does batch.events.items) (tail_queries batch.tail) in
-      let each_len = each-length (AnswersQuery answers informs) a b (map does batch.events.items) (map replied rs) (each-queries answers informs a b batch.events.items rs each) in
+      let each_len = each-length (AnswersQuery answers administers) a b (map does batch.events.items) (map replied rs) (each-queries answers administers a b batch.events.items rs each) in
       omega (arith, tail, sum, all, sizes, each_len)
 
-  batch_texts : (asked : List Asked) (a b : A) (rs : List PlainReply) (facts : Option Facts) → HoldsAsked batch asked → AnswersEach answers a batch.events.items rs b
-      → event_texts rs ++ part_texts (tail_parts batch.tail) (tail_answers batch.tail facts) ≡ asked_texts asked (batch_answers rs facts)
-  batch_texts asked a b rs facts h each =
-      sym (part_texts-append (map due_seen batch.dues.items) (tail_parts batch.tail) (map replied rs) (tail_answers batch.tail facts) (batch_len asked a b rs h each))
-      ∙ ap (λ ps. part_texts ps (batch_answers rs facts)) h.parts ∙ part_texts-asked asked (batch_answers rs facts)
+  batch_texts : (asked : List Asked) (a b : A) (rs : List PlainReply) (said : AdminReply) → HoldsAsked batch asked → AnswersEach answers a batch.events.items rs b
+      → event_texts rs ++ part_texts (tail_parts batch.tail) (tail_answers batch.tail said) ≡ asked_texts asked (batch_answers rs said)
+  batch_texts asked a b rs said h each =
+      sym (part_texts-append (map due_seen batch.dues.items) (tail_parts batch.tail) (map replied rs) (tail_answers batch.tail said) (batch_len asked a b rs h each))
+      ∙ ap (λ ps. part_texts ps (batch_answers rs said)) h.parts ∙ part_texts-asked asked (batch_answers rs said)
 
-  pub all-batch : (asked : List Asked) (a b : A) (rs : List PlainReply) (facts : Option Facts) (text mid more : List ℕ) → HoldsAsked batch asked
+  pub all-batch : (asked : List Asked) (a b : A) (rs : List PlainReply) (said : AdminReply) (text mid more : List ℕ) → HoldsAsked batch asked
       → AnswersEach answers a batch.events.items rs b
-      → AnswersEach (AnswersQuery answers informs) b (tail_queries batch.tail) (tail_answers batch.tail facts) b
+      → AnswersEach (AnswersQuery answers administers) b (tail_queries batch.tail) (tail_answers batch.tail said) b
       → mid ≡ text ++ part_texts (map due_seen batch.dues.items) (map replied rs)
-      → more ≡ mid ++ part_texts (tail_parts batch.tail) (tail_answers batch.tail facts)
-      → AnswersCommands (AnswersQuery answers informs) asked a b (Some text) (Some more)
-  all-batch asked a b rs facts text mid more h each tail e f =
-      let last = part_texts (tail_parts batch.tail) (tail_answers batch.tail facts) in (
-        batch_answers rs facts,
-        batch_each asked a b rs facts h each tail,
-        f ∙ ap (λ l. l ++ last) e ∙ append_assoc text (event_texts rs) last ∙ ap (λ l. text ++ l) (batch_texts asked a b rs facts h each),
+      → more ≡ mid ++ part_texts (tail_parts batch.tail) (tail_answers batch.tail said)
+      → AnswersCommands (AnswersQuery answers administers) asked a b (Some text) (Some more)
+  all-batch asked a b rs said text mid more h each tail e f =
+      let last = part_texts (tail_parts batch.tail) (tail_answers batch.tail said) in (
+        batch_answers rs said,
+        batch_each asked a b rs said h each tail,
+        f ∙ ap (λ l. l ++ last) e ∙ append_assoc text (event_texts rs) last ∙ ap (λ l. text ++ l) (batch_texts asked a b rs said h each),
       )
 
   -- the texts of the first replies are there
-  pub some-batch : (asked : List Asked) (a b : A) (rs : List PlainReply) (facts : Option Facts) (text more : List ℕ) → HoldsAsked batch asked
+  pub some-batch : (asked : List Asked) (a b : A) (rs : List PlainReply) (said : AdminReply) (text more : List ℕ) → HoldsAsked batch asked
       → AnswersEach answers a batch.events.items rs b
-      → AnswersEach (AnswersQuery answers informs) b (tail_queries batch.tail) (tail_answers batch.tail facts) b
+      → AnswersEach (AnswersQuery answers administers) b (tail_queries batch.tail) (tail_answers batch.tail said) b
       → (out : List ℕ) × IsBeginning out (part_texts (map due_seen batch.dues.items) (map replied rs)) × (more ≡ text ++ out)
-      → AnswersSomeCommands (AnswersQuery answers informs) asked a b (Some text) (Some more)
-  some-batch asked a b rs facts text more h each tail cut =
-      let last = part_texts (tail_parts batch.tail) (tail_answers batch.tail facts) in (
+      → AnswersSomeCommands (AnswersQuery answers administers) asked a b (Some text) (Some more)
+  some-batch asked a b rs said text more h each tail cut =
+      let last = part_texts (tail_parts batch.tail) (tail_answers batch.tail said) in (
         asked,
-        batch_answers rs facts,
+        batch_answers rs said,
         cut.0,
         IsBeginning-all asked,
-        batch_each asked a b rs facts h each tail,
-        subst (λ t. IsBeginning cut.0 t) (batch_texts asked a b rs facts h each) (begins-more cut.0 (event_texts rs) last cut.1),
+        batch_each asked a b rs said h each tail,
+        subst (λ t. IsBeginning cut.0 t) (batch_texts asked a b rs said h each) (begins-more cut.0 (event_texts rs) last cut.1),
         cut.2,
       )
 

@@ -1,10 +1,10 @@
 -- What was gathered of a client's bytes.
 use Rattle.std.specs.Prelude.{◌≡◌, ℕ, Bool, List, [], ◌∷◌, ◌++◌, All, MatchBool, Option, Some, None, length, map, take, drop}
-use Rattle.silt_event.specs.declared.facts.Facts.{Facts}
+use Rattle.silt_event.specs.declared.admin.AdminReply.{AdminReply}
 use Rattle.silt_event.specs.Events.{HasValueOf}
-use Rattle.silt_event.specs.Queries.{Answer, Query, asks_facts, does, gives_facts}
+use Rattle.silt_event.specs.Queries.{Answer, Query, admin, does, says as told}
 use Rattle.silt_wire.specs.Sessions.{IsBeginning}
-use Rattle.silt_resp.specs.declared.asked.Sections.{Sections}
+use Rattle.silt_resp.specs.declared.asked.Tail.{Tail}
 use Rattle.silt_resp.specs.declared.batch.Batch.{Batch}
 use Rattle.silt_resp.specs.declared.batch.Due.{Due}
 use Rattle.silt_resp.specs.declared.batch.Due.TheVariants.{Text, Replies}
@@ -12,9 +12,9 @@ use Rattle.silt_resp.specs.declared.session.Talk.{Talk}
 use Rattle.silt_resp.specs.declared.settings.Settings.{Settings}
 use Rattle.silt_resp.specs.declared.texts.Form.{Form}
 use Rattle.silt_resp.specs.Buffers.{HoldsStream}
-use Rattle.silt_resp.specs.Commands.{Asked, asked_for, asks, asks_info, says, visitor_after}
-use Rattle.silt_resp.specs.Info.{info_text}
-use Rattle.silt_resp.specs.Sessions.{Client, all_queries, asked_after, asked_queries, client_after, facts_in, replies_in}
+use Rattle.silt_resp.specs.Commands.{Asked, asked_for, asks, asks_admin, says, tail_command, visitor_after}
+use Rattle.silt_resp.specs.Info.{admin_text}
+use Rattle.silt_resp.specs.Sessions.{Client, all_queries, admin_in, asked_after, asked_queries, client_after, replies_in}
 use Rattle.silt_resp.specs.Stream.{Command, closed, closes, start, stream_after}
 use Rattle.silt_resp.specs.Texts.{text_of}
 
@@ -24,11 +24,11 @@ HasLengths value_len batch = All (HasValueOf value_len) batch.events.items
 
 -- ---- replies that are due
 
--- a reply that is due: this text; one of this form, made of so many replies to events; or these sections of facts
+-- a reply that is due: this text; one of this form, made of so many replies to events; or that to an admin command
 pub data Part : Type 0 where
   text : List ℕ → Part
   replies : Form → ℕ → Part
-  info : Sections → Part
+  ends : Tail → Part
 
 abbrev pub due_seen : Due → Part
 due_seen (Text bytes) = text bytes.items
@@ -37,18 +37,18 @@ due_seen (Replies form count) = replies form count
 abbrev pub part_of : Asked → Part
 part_of (says bytes) = text bytes
 part_of (asks events form) = replies form (length events)
-part_of (asks_info sections) = info sections
+part_of (asks_admin tail) = ends tail
 
 -- how many answers it is made of
 abbrev pub part_len : Part → ℕ
 part_len (text bytes) = 0
 part_len (replies form count) = count
-part_len (info sections) = 1
+part_len (ends tail) = 1
 
 abbrev pub part_text : Part → List Answer → List ℕ
 part_text (text bytes) given = bytes
 part_text (replies form count) given = text_of form (replies_in given)
-part_text (info sections) given = info_text sections (facts_in given)
+part_text (ends tail) given = admin_text tail (admin_in given)
 
 abbrev pub part_texts : List Part → List Answer → List ℕ
 part_texts [] given = []
@@ -56,21 +56,21 @@ part_texts (part ∷ parts) given = part_text part (take (part_len part) given) 
 
 -- ---- a batch
 
--- An INFO ends a batch: its facts are those of the moment when the events before it are done.
+-- An admin command ends a batch: its reply is that of the moment when the events before it are done.
 -- what it asks for, if there is one
-abbrev pub tail_queries : Option Sections → List Query
+abbrev pub tail_queries : Option Tail → List Query
 tail_queries None = []
-tail_queries (Some sections) = asks_facts ∷ []
+tail_queries (Some tail) = admin (tail_command tail) ∷ []
 
--- what it is answered, if these are the facts
-abbrev pub tail_answers : Option Sections → Option Facts → List Answer
-tail_answers None facts = []
-tail_answers (Some sections) facts = gives_facts facts ∷ []
+-- what it is answered, if this is the reply
+abbrev pub tail_answers : Option Tail → AdminReply → List Answer
+tail_answers None reply = []
+tail_answers (Some tail) reply = told reply ∷ []
 
 -- the reply that is due to it
-abbrev pub tail_parts : Option Sections → List Part
+abbrev pub tail_parts : Option Tail → List Part
 tail_parts None = []
-tail_parts (Some sections) = info sections ∷ []
+tail_parts (Some tail) = ends tail ∷ []
 
 abbrev pub batch_queries : Batch → List Query
 batch_queries batch = map does batch.events.items ++ tail_queries batch.tail

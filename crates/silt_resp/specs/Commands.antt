@@ -11,8 +11,11 @@ use Rattle.silt_resp.specs.declared.fault.CommandFault.TheVariants.{LongValue, M
 use Rattle.silt_resp.specs.declared.settings.Settings.{Settings}
 use Rattle.silt_resp.specs.declared.settings.Visitor.{Visitor}
 use Rattle.silt_resp.specs.declared.table.CommandName.{CommandName}
-use Rattle.silt_resp.specs.declared.table.CommandName.TheVariants.{Get, Strlen, Mget, Exists, Touch, Set, Setnx, Delifeq, Mset, Del, Unlink, Ping, Echo, Quit, Select, Auth, Hello, Client, Command as CommandList, Config, Cluster, Info}
-use Rattle.silt_resp.specs.declared.asked.Sections.{Sections}
+use Rattle.silt_resp.specs.declared.table.CommandName.TheVariants.{Get, Strlen, Mget, Exists, Touch, Set, Setnx, Delifeq, Mset, Del, Unlink, Ping, Echo, Quit, Select, Auth, Hello, Client, Command as CommandList, Config, Cluster, Info, Shutdown as ShutdownName, Bgsave}
+use Rattle.silt_event.specs.declared.admin.Admin.{Admin}
+use Rattle.silt_event.specs.declared.admin.Admin.TheVariants as admin_case
+use Rattle.silt_resp.specs.declared.asked.Tail.{Tail}
+use Rattle.silt_resp.specs.declared.asked.Tail.TheVariants as tail_case
 use Rattle.silt_resp.specs.declared.texts.Form.{Form}
 use Rattle.silt_resp.specs.declared.texts.Form.TheVariants.{Value, Len, Stored, Swapped, Changed, Values, Counted}
 use Rattle.silt_resp.specs.Arguments.{and_then, has_word, key_at, keys_named, puts_named, value_at}
@@ -22,16 +25,22 @@ use Rattle.silt_resp.specs.Stream.{Command, Word, broken, complete, long, longes
 use Rattle.silt_resp.specs.Table.{first_command, takes}
 use Rattle.silt_resp.specs.Texts.{error_text, marked_line, null_text, number_text, ok_text, string_text}
 
--- what a command asks for: a reply that needs no store; events of which one reply of this form is made; or these sections of facts
+-- what a command asks for: a reply that needs no store; events of which one reply of this form is made; or an admin command
 pub data Asked : Type 0 where
   says : List ℕ → Asked
   asks : List Event → Form → Asked
-  asks_info : Sections → Asked
+  asks_admin : Tail → Asked
 
 abbrev pub asked_events : Asked → List Event
 asked_events (says text) = []
 asked_events (asks events form) = events
-asked_events (asks_info sections) = []
+asked_events (asks_admin tail) = []
+
+-- what an admin command asks of the answerer
+abbrev pub tail_command : Tail → Admin
+tail_command (tail_case.Info sections) = admin_case.Info
+tail_command tail_case.Shutdown = admin_case.Shutdown
+tail_command tail_case.Backup = admin_case.Backup
 
 -- each value of its events has the length of the store's values
 abbrev pub FitsValues : ℕ → Asked → Type 0
@@ -201,6 +210,27 @@ abbrev pub config_made : List Word → Result Asked CommandFault
 config_made args =
     if is_subcommand args (codes "get") 2 then Ok (says (parameters args)) else Err BadSubcommand
 
+-- ---- admin commands
+
+-- whether these words may follow SHUTDOWN; none of them changes what it does
+abbrev pub takes_shutdown : List Word → Bool
+takes_shutdown args =
+    (length args == 0)
+    || ((length args == 1)
+    && (has_word args 0 (codes "save") || (has_word args 0 (codes "nosave") || (has_word args 0 (codes "now") || has_word args 0 (codes "force")))))
+
+-- the server ends
+abbrev pub shutdown_made : List Word → Result Asked CommandFault
+shutdown_made args = if takes_shutdown args then Ok (asks_admin tail_case.Shutdown) else Err BadSyntax
+
+-- whether these words may follow BGSAVE
+abbrev pub takes_backup : List Word → Bool
+takes_backup args = (length args == 0) || ((length args == 1) && has_word args 0 (codes "schedule"))
+
+-- the server writes a backup
+abbrev pub backup_made : List Word → Result Asked CommandFault
+backup_made args = if takes_backup args then Ok (asks_admin tail_case.Backup) else Err BadSyntax
+
 -- ---- all commands
 
 -- what a command makes of the words behind its name
@@ -226,7 +256,9 @@ made settings visitor Client args = client_made visitor args
 made settings visitor CommandList args = command_made args
 made settings visitor Config args = config_made args
 made settings visitor Cluster args = Err NoCluster
-made settings visitor Info args = Ok (asks_info (sections_named args))
+made settings visitor Info args = Ok (asks_admin (tail_case.Info (sections_named args)))
+made settings visitor ShutdownName args = shutdown_made args
+made settings visitor Bgsave args = backup_made args
 
 -- whether a command is done for a visitor who is not let in
 abbrev pub is_free : CommandName → Bool

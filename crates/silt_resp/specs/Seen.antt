@@ -4,8 +4,8 @@ use Rattle.silt_resp.specs.declared.command.Command.TheVariants.{Complete, ManyW
 use Rattle.silt_resp.specs.declared.command.Word.{Word}
 use Rattle.silt_resp.specs.declared.command.Word.TheVariants.{Whole, Long}
 use Rattle.silt_resp.specs.declared.asked.Asked.{Asked}
-use Rattle.silt_resp.specs.declared.asked.Asked.TheVariants.{Text, Events, Info}
-use Rattle.silt_resp.specs.Commands.{Asked as AskedOf, asks, asks_info, says}
+use Rattle.silt_resp.specs.declared.asked.Asked.TheVariants.{Text, Events, Admin}
+use Rattle.silt_resp.specs.Commands.{Asked as AskedOf, asks, asks_admin, says}
 use Rattle.silt_resp.specs.Stream.{Command as CommandOf, Word as WordOf, broken, complete, long, many_bytes, many_words, whole}
 
 -- the word that this is
@@ -24,4 +24,4 @@ command_seen (Broken fault) = broken fault
 abbrev pub asked_seen : Asked → AskedOf
 asked_seen (Text text) = says text.items
 asked_seen (Events events form) = asks events.items form
-asked_seen (Info sections) = asks_info sections
+asked_seen (Admin tail) = asks_admin tail

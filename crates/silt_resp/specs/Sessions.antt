@@ -1,18 +1,19 @@
 -- What a session with a client reads, does and writes.
-use Rattle.std.specs.Prelude.{◌≡◌, ◌≢◌, ℕ, List, [], ◌∷◌, ◌++◌, length, map, take, drop, Option, None}
+use Rattle.std.specs.Prelude.{◌≡◌, ◌≢◌, ℕ, List, [], ◌∷◌, ◌++◌, length, map, take, drop, Option}
 use Rattle.std.specs.Io.KnownBytes.{Appends, Consumes, IsAtEnd}
 use Rattle.std.specs.List.{flat_map}
-use Rattle.silt_event.specs.declared.facts.Facts.{Facts}
+use Rattle.silt_event.specs.declared.admin.AdminReply.{AdminReply}
+use Rattle.silt_event.specs.declared.admin.AdminReply.TheVariants as admin_case
 use Rattle.silt_event.specs.Events.{AnswersEach, PlainReply}
-use Rattle.silt_event.specs.Queries.{Answer, Query, asks_facts, does, gives_facts, replies as replied}
+use Rattle.silt_event.specs.Queries.{Answer, Query, admin, does, replies as replied, says as told}
 use Rattle.silt_wire.specs.Sessions.{IsBeginning, SessionState}
 use Rattle.silt_resp.specs.declared.fault.ProtocolFault.{ProtocolFault}
 use Rattle.silt_resp.specs.declared.settings.Settings.{Settings}
 use Rattle.silt_resp.specs.declared.settings.Visitor.{Visitor}
 use Rattle.silt_resp.specs.declared.session.RespEnd.{RespEnd}
 use Rattle.silt_resp.specs.declared.session.RespEnd.TheVariants.{End, Closed, ReadFault, WriteFault, NoMemory}
-use Rattle.silt_resp.specs.Commands.{Asked, asked_for, asks, asks_info, broken_text, says, visitor_after, visitor_at_first}
-use Rattle.silt_resp.specs.Info.{info_text}
+use Rattle.silt_resp.specs.Commands.{Asked, asked_for, asks, asks_admin, broken_text, says, tail_command, visitor_after, visitor_at_first}
+use Rattle.silt_resp.specs.Info.{admin_text}
 use Rattle.silt_resp.specs.Stream.{Command, Stream, closed, commands_after, start, stream_after}
 use Rattle.silt_resp.specs.Texts.{text_of}
 
@@ -55,7 +56,7 @@ client_after settings client bytes = record {
 abbrev pub asked_queries : Asked → List Query
 asked_queries (says text) = []
 asked_queries (asks events form) = map does events
-asked_queries (asks_info sections) = asks_facts ∷ []
+asked_queries (asks_admin tail) = admin (tail_command tail) ∷ []
 
 -- what all commands ask of it
 abbrev pub all_queries : List Asked → List Query
@@ -65,18 +66,18 @@ all_queries asked = flat_map asked_queries asked
 abbrev pub replies_in : List Answer → List PlainReply
 replies_in [] = []
 replies_in (replied reply ∷ answers) = reply ∷ replies_in answers
-replies_in (gives_facts facts ∷ answers) = replies_in answers
+replies_in (told reply ∷ answers) = replies_in answers
 
--- the facts that the first answer gives
-abbrev pub facts_in : List Answer → Option Facts
-facts_in (gives_facts facts ∷ answers) = facts
-facts_in answers = None
+-- the reply to an admin command, the first of these answers
+abbrev pub admin_in : List Answer → AdminReply
+admin_in (told reply ∷ answers) = reply
+admin_in answers = admin_case.NotServed
 
 -- the reply to a command, of the answers to what it asks
 abbrev pub asked_text : Asked → List Answer → List ℕ
 asked_text (says text) given = text
 asked_text (asks events form) given = text_of form (replies_in given)
-asked_text (asks_info sections) given = info_text sections (facts_in given)
+asked_text (asks_admin tail) given = admin_text tail (admin_in given)
 
 -- the replies to commands, of the answers to all that they ask: each takes as many as it asks for
 abbrev pub asked_texts : List Asked → List Answer → List ℕ
@@ -104,7 +105,7 @@ WritesAtMostFault before after =
 
 -- ---- what an answerer does
 
--- Below, `answers` says how an answerer answers queries: `AnswersQuery A.answers A.informs` of an `A: Answerer`.
+-- Below, `answers` says how an answerer answers queries: `AnswersQuery A.answers A.administers` of an `A: Answerer`.
 
 module _ {A : Type 0} (answers : A → A → Query → Answer → Type 0) where
   -- all commands were done, and exactly their replies were written

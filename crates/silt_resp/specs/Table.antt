@@ -3,7 +3,7 @@ use Rattle.std.specs.Prelude.{ℕ, Bool, ◌&&◌, nat_le, List, [], ◌∷◌, 
 use Rattle.std.specs.List.{find}
 use Rattle.std.specs.Str.{str_eq_ignore_ascii_case}
 use Rattle.silt_resp.specs.declared.table.CommandName.{CommandName}
-use Rattle.silt_resp.specs.declared.table.CommandName.TheVariants.{Get, Strlen, Mget, Exists, Touch, Set, Setnx, Delifeq, Mset, Del, Unlink, Ping, Echo, Quit, Select, Auth, Hello, Client, Command, Config, Cluster, Info}
+use Rattle.silt_resp.specs.declared.table.CommandName.TheVariants.{Get, Strlen, Mget, Exists, Touch, Set, Setnx, Delifeq, Mset, Del, Unlink, Ping, Echo, Quit, Select, Auth, Hello, Client, Command, Config, Cluster, Info, Shutdown, Bgsave}
 use Rattle.silt_resp.specs.Stream.{Word, whole, long}
 
 -- a command's name in lower case, and the fewest and the most words that may follow it
@@ -42,12 +42,14 @@ command_row Command = row (codes "command") 0 many
 command_row Config = row (codes "config") 1 many
 command_row Cluster = row (codes "cluster") 1 many
 command_row Info = row (codes "info") 0 many
+command_row Shutdown = row (codes "shutdown") 0 many
+command_row Bgsave = row (codes "bgsave") 0 many
 
 -- all commands
 abbrev pub all_commands : List CommandName
 all_commands =
     Get ∷ Strlen ∷ Mget ∷ Exists ∷ Touch ∷ Set ∷ Setnx ∷ Delifeq ∷ Mset ∷ Del ∷ Unlink ∷ Ping ∷ Echo ∷ Quit ∷ Select ∷ Auth ∷ Hello ∷ Client ∷ Command
-    ∷ Config ∷ Cluster ∷ Info ∷ []
+    ∷ Config ∷ Cluster ∷ Info ∷ Shutdown ∷ Bgsave ∷ []
 
 -- the command with this name, in either case
 abbrev pub command_named : List ℕ → Option CommandName

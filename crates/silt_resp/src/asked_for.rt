@@ -9,10 +9,11 @@ ghost use Rattle.silt_resp.specs.Table.{first_command};
 ghost use Rattle.silt_resp.specs.Seen.{asked_seen, command_seen};
 ghost use Rattle.silt_resp.specs.Texts.{error_text};
 
-use crate::asked::{Asked, line};
+use crate::asked::{Asked, Tail, line};
 use crate::command::{Command, Word, Words};
 use crate::connection_commands::{
-    auth, auth_verdict, client, command, config, echo, hello, hello_verdict, ok, ping, select,
+    auth, auth_verdict, backup, client, command, config, echo, hello, hello_verdict, ok, ping,
+    select, shutdown,
 };
 use crate::fault::{CommandFault, ProtocolFault};
 use crate::info::sections_named;
@@ -66,7 +67,9 @@ fn made(
         CommandName::Command => command(alloc, args),
         CommandName::Config => config(alloc, args),
         CommandName::Cluster => Err(CommandFault::NoCluster),
-        CommandName::Info => Ok(Asked::Info(sections_named(args))),
+        CommandName::Info => Ok(Asked::Admin(Tail::Info(sections_named(args)))),
+        CommandName::Shutdown => shutdown(args),
+        CommandName::Bgsave => backup(args),
     }
 }
 

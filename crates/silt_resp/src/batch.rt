@@ -8,10 +8,10 @@ ghost use Rattle.silt_resp.specs.Commands.{Asked as AskedOf, FitsValues};
 ghost use Rattle.silt_resp.specs.Seen.{asked_seen};
 ghost use Rattle.silt_resp.specs.Sessions.{AnswersCommands, AnswersSomeCommands};
 
-use crate::asked::{Asked, Sections};
-use crate::info::push_info;
+use crate::asked::{Asked, Tail};
+use crate::info::push_admin;
 use crate::texts::{Form, push_text};
-use silt_event::{Answerer, Event, Facts, Reply};
+use silt_event::{AdminReply, Answerer, Event, Reply};
 use std::alloc::{AllocError, Global};
 
 /// How many bytes of possible replies are enough for a batch.
@@ -32,13 +32,13 @@ pub enum Due {
     Replies(Form, usize),
 }
 
-/// Commands in order: all their events, the replies that are due to them, and the INFO that ends them.
+/// Commands in order: all their events, the replies that are due to them, and the admin command that ends them.
 #[derive(Drop)]
 pub struct Batch {
     pub events: Vec<Event>,
     pub dues: Vec<Due>,
-    /// What the last command asks for, if it is an INFO: facts of the moment when the events before it are done.
-    pub tail: Option<Sections>,
+    /// The last command, if it is an admin command: it is done when the events before it are.
+    pub tail: Option<Tail>,
     /// How many bytes the replies may have.
     pub possible_text: usize,
 }
@@ -82,7 +82,7 @@ impl Batch {
         }
     }
 
-    /// Whether it takes no more commands: it ends with an INFO, or the possible replies are long enough, so that memory stays
+    /// Whether it takes no more commands: it ends with an admin command, or the possible replies are long enough, so that memory stays
     /// bounded.
     pub(crate) fn is_full(&self) -> bool
         ensures { result ≡ false → self.now.tail ≡ None }
@@ -102,8 +102,8 @@ impl Batch {
         match asked {
             Asked::Text(text) => self.push_due(Due::Text(text), value_len),
             Asked::Events(events, form) => self.push_events(events, form, value_len),
-            Asked::Info(sections) => {
-                self.tail = Some(sections);
+            Asked::Admin(tail) => {
+                self.tail = Some(tail);
                 Ok(())
             }
         }
@@ -159,9 +159,9 @@ impl Batch {
         requires { HasLengths (A.value_len answerer.old) self }
         ensures stays { A.value_len answerer.new ≡ A.value_len answerer.old }
         ensures all { OnOk result ((asked : List AskedOf) → HoldsAsked self asked
-            → AnswersCommands (AnswersQuery A.answers A.informs) asked answerer.old answerer.new (Some texts.old.items) (Some texts.new.items)) }
+            → AnswersCommands (AnswersQuery A.answers A.administers) asked answerer.old answerer.new (Some texts.old.items) (Some texts.new.items)) }
         ensures some { OnErr result ((asked : List AskedOf) → HoldsAsked self asked
-            → AnswersSomeCommands (AnswersQuery A.answers A.informs) asked answerer.old answerer.new (Some texts.old.items) (Some texts.new.items)) }
+            → AnswersSomeCommands (AnswersQuery A.answers A.administers) asked answerer.old answerer.new (Some texts.old.items) (Some texts.new.items)) }
     {
         let Batch {
             events,
@@ -171,34 +171,34 @@ impl Batch {
         } = self;
         let mut replies = Vec::with_capacity(alloc, events.len())?;
         answer_events(alloc, events, &mut replies, answerer);
-        let facts = asked_facts(tail, answerer);
+        let reply = administered(tail, answerer);
         push_dues(alloc, &dues, &replies, texts)?;
-        push_tail(alloc, tail, facts, texts)
+        push_tail(alloc, tail, reply, texts)
     }
 }
 
-// The facts, if they are asked for.
-fn asked_facts<A: Answerer>(tail: Option<Sections>, answerer: &A) -> Option<Facts>
-    ensures { AnswersEach (AnswersQuery A.answers A.informs) answerer.now (tail_queries tail) (tail_answers tail result) answerer.now }
+// The reply to the admin command, if there is one.
+fn administered<A: Answerer>(tail: Option<Tail>, answerer: &A) -> AdminReply
+    ensures { AnswersEach (AnswersQuery A.answers A.administers) answerer.now (tail_queries tail) (tail_answers tail result) answerer.now }
 {
     match tail {
-        Some(_) => answerer.facts(),
-        None => None,
+        Some(tail) => answerer.administer(tail.command()),
+        None => AdminReply::NotServed,
     }
 }
 
-// Appends the reply to an INFO, if there is one. On an error nothing changes.
+// Appends the reply to an admin command, if there is one. On an error nothing changes.
 fn push_tail(
     alloc: Global,
-    tail: Option<Sections>,
-    facts: Option<Facts>,
+    tail: Option<Tail>,
+    reply: AdminReply,
     texts: &mut Vec<u8>,
 ) -> Result<(), AllocError>
-    ensures ok { OnOk result (texts.new.items ≡ texts.old.items ++ part_texts (tail_parts tail) (tail_answers tail facts)) }
+    ensures ok { OnOk result (texts.new.items ≡ texts.old.items ++ part_texts (tail_parts tail) (tail_answers tail reply)) }
     ensures err { OnErr result (texts.new.items ≡ texts.old.items) }
 {
     match tail {
-        Some(sections) => push_info(alloc, sections, facts, texts),
+        Some(tail) => push_admin(alloc, tail, reply, texts),
         None => Ok(()),
     }
 }

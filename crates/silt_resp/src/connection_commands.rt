@@ -4,13 +4,13 @@ ghost use Rattle.std.specs.Option.{option_map};
 ghost use Rattle.std.specs.Str.{bytes_eq};
 ghost use Rattle.sha1.specs.Sha1.{sha1};
 ghost use Rattle.silt_resp.specs.Arguments.{Gives};
-ghost use Rattle.silt_resp.specs.Commands.{FitsValues, auth_made, auth_verdict, client_made, command_made, config_made, echoed, has_login, has_no_login, has_version};
-ghost use Rattle.silt_resp.specs.Commands.{hello_made, hello_text, hello_verdict, is_subcommand, pair_text, parameters, password_verdict, ping_made, says, select_made, user_verdict};
+ghost use Rattle.silt_resp.specs.Commands.{FitsValues, auth_made, auth_verdict, backup_made, client_made, command_made, config_made, echoed, has_login, has_no_login, has_version};
+ghost use Rattle.silt_resp.specs.Commands.{hello_made, hello_text, hello_verdict, is_subcommand, pair_text, parameters, password_verdict, ping_made, says, select_made, shutdown_made, takes_backup, takes_shutdown, user_verdict};
 ghost use Rattle.silt_resp.specs.Seen.{asked_seen, word_seen};
 ghost use Rattle.silt_resp.specs.Texts.{number_text, ok_text};
 
 use crate::arguments::has_word;
-use crate::asked::{Asked, line};
+use crate::asked::{Asked, Tail, line};
 use crate::command::{Word, Words};
 use crate::fault::CommandFault;
 use crate::settings::{Settings, Visitor};
@@ -304,4 +304,51 @@ pub(crate) fn config(alloc: Global, args: &Words<'_>) -> Result<Asked, CommandFa
     let mut out = Vec::new(alloc);
     push_parameters(alloc, &mut out, args)?;
     Ok(Asked::Text(out))
+}
+
+// Whether these words may follow `SHUTDOWN`. None of them changes what it does.
+fn takes_shutdown(args: &Words<'_>) -> bool
+    ensures { result ≡ takes_shutdown args.now }
+{
+    match args.len() {
+        0 => true,
+        1 => {
+            has_word(args, 0, b"save")
+                || has_word(args, 0, b"nosave")
+                || has_word(args, 0, b"now")
+                || has_word(args, 0, b"force")
+        }
+        _ => false,
+    }
+}
+
+/// That the server ends.
+pub(crate) fn shutdown(args: &Words<'_>) -> Result<Asked, CommandFault>
+    ensures { Gives asked_seen (shutdown_made args.now) result }
+{
+    if takes_shutdown(args) {
+        return Ok(Asked::Admin(Tail::Shutdown));
+    }
+    Err(CommandFault::BadSyntax)
+}
+
+// Whether these words may follow `BGSAVE`.
+fn takes_backup(args: &Words<'_>) -> bool
+    ensures { result ≡ takes_backup args.now }
+{
+    match args.len() {
+        0 => true,
+        1 => has_word(args, 0, b"schedule"),
+        _ => false,
+    }
+}
+
+/// That the server writes a backup.
+pub(crate) fn backup(args: &Words<'_>) -> Result<Asked, CommandFault>
+    ensures { Gives asked_seen (backup_made args.now) result }
+{
+    if takes_backup(args) {
+        return Ok(Asked::Admin(Tail::Backup));
+    }
+    Err(CommandFault::BadSyntax)
 }

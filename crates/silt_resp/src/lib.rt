@@ -6,9 +6,8 @@
 //! what a client encodes is read (`resp_law`). A command comes as an array of words with their lengths in front, or as a line of
 //! words between spaces. Words, commands and lines that are too long cost no memory.
 //!
-//! What a command asks for is `asked_for` of `specs/Commands`: events and the [`Form`] of their one reply, a text, or sections of
-//! the store's facts (`specs/Info`). `specs/Table` has
-//! the commands and how many words each takes. `push_text` appends the one reply, made of the store's replies to the events.
+//! What a command asks for is `asked_for` of `specs/Commands`: events and the [`Form`] of their one reply, a text, or an admin
+//! command (INFO, SHUTDOWN, BGSAVE), whose reply is in `specs/Info`. `specs/Table` has the commands and how many words each takes. `push_text` appends the one reply, made of the store's replies to the events.
 //!
 //! `resp_session` reads commands from any reader, hands their events to a store, or another `Answerer`, and writes one reply for
 //! each command to any writer. [`Settings`] has what it has to know.

@@ -208,9 +208,9 @@ fn take_part<A: Answerer>(
     ensures behind { IfOk result (λ gathered. (client : Client) → HoldsClient talk.old client
         → IsBehind settings.now client (take gathered.count bytes.now) gathered.closes talk.new) }
     ensures all { IfOk result (λ gathered. (client : Client) → HoldsClient talk.old client
-        → ServesCommands (AnswersQuery A.answers A.informs) settings.now client (take gathered.count bytes.now)
+        → ServesCommands (AnswersQuery A.answers A.administers) settings.now client (take gathered.count bytes.now)
         answerer.old answerer.new (Some texts.old.items) (Some texts.new.items)) }
-    ensures some { OnErr result ((client : Client) → HoldsClient talk.old client → ServesSomeCommands (AnswersQuery A.answers A.informs) settings.now client bytes.now
+    ensures some { OnErr result ((client : Client) → HoldsClient talk.old client → ServesSomeCommands (AnswersQuery A.answers A.administers) settings.now client bytes.now
         answerer.old answerer.new (Some texts.old.items) (Some texts.new.items)) }
 {
     let mut batch = Batch::new(alloc);
@@ -235,10 +235,10 @@ fn answer_part<A: Answerer, W: Write>(
     ensures holds { IfOk result (λ count. (client : Client) → HoldsClient talk.old client
         → HoldsClient talk.new (client_after settings.now client (take count bytes.now))) }
     ensures all { IfOk result (λ count. (client : Client) → HoldsClient talk.old client
-        → ServesCommands (AnswersQuery A.answers A.informs) settings.now client (take count bytes.now)
+        → ServesCommands (AnswersQuery A.answers A.administers) settings.now client (take count bytes.now)
         answerer.old answerer.new (W.contents writer.old) (W.contents writer.new)) }
     ensures ends { IfErr result (λ end. (client : Client) → HoldsClient talk.old client
-        → EndsWith (AnswersQuery A.answers A.informs) end settings.now client bytes.now
+        → EndsWith (AnswersQuery A.answers A.administers) end settings.now client bytes.now
         answerer.old answerer.new (W.contents writer.old) (W.contents writer.new)) }
     ensures cut { IfErr result IsCommandsEnd }
 {
@@ -271,10 +271,10 @@ fn answer_read<A: Answerer, W: Write>(
     ensures stays { A.value_len answerer.new ≡ settings.now.value_len }
     ensures holds { OnOk result ((client : Client) → HoldsClient talk.old client
         → HoldsClient talk.new (client_after settings.now client bytes.now)) }
-    ensures all { OnOk result ((client : Client) → HoldsClient talk.old client → ServesCommands (AnswersQuery A.answers A.informs) settings.now client bytes.now
+    ensures all { OnOk result ((client : Client) → HoldsClient talk.old client → ServesCommands (AnswersQuery A.answers A.administers) settings.now client bytes.now
         answerer.old answerer.new (W.contents writer.old) (W.contents writer.new)) }
     ensures ends { IfErr result (λ end. (client : Client) → HoldsClient talk.old client
-        → EndsWith (AnswersQuery A.answers A.informs) end settings.now client bytes.now
+        → EndsWith (AnswersQuery A.answers A.administers) end settings.now client bytes.now
         answerer.old answerer.new (W.contents writer.old) (W.contents writer.new)) }
     ensures cut { IfErr result IsCommandsEnd }
 {
@@ -297,7 +297,7 @@ fn session_over<A: Answerer, R: Read, W: Write>(
 ) -> RespEnd
     requires len { A.value_len answerer.old ≡ settings.now.value_len }
     requires room { 0 < length buffer.old }
-    ensures { RespEnds (AnswersQuery A.answers A.informs) result settings.now (new_client settings.now)
+    ensures { RespEnds (AnswersQuery A.answers A.administers) result settings.now (new_client settings.now)
         (record { answerer = answerer.old; remaining = R.remaining reader.old; contents = W.contents writer.old })
         (record { answerer = answerer.new; remaining = R.remaining reader.new; contents = W.contents writer.new }) }
 {
@@ -325,8 +325,8 @@ fn session_over<A: Answerer, R: Read, W: Write>(
 
 /// Does the commands of a client until the reader has no more bytes or a command closes the session, and
 /// writes one reply for each. It reads into this buffer. It hands over the events of all commands of one read in one call, and
-/// writes the replies before it reads again. It divides a read only behind an INFO, whose facts are those of its moment, and when
-/// the replies may have 65,536 bytes. A command that has not ended is not done. An interrupted read or write is tried again.
+/// writes the replies before it reads again. It divides a read only behind an admin command, whose reply is that of its moment, and
+/// when the replies may have 65,536 bytes. A command that has not ended is not done. An interrupted read or write is tried again.
 ///
 /// It ends at the first line of an HTTP request, and does nothing.
 ///
@@ -344,7 +344,7 @@ pub fn resp_session<A: Answerer, R: Read + Drop, W: Write>(
     // An empty buffer would look like the end of the reader.
     requires room { 0 < length buffer.old }
     ensures ends { (given : Option (List ℕ)) × (left : Option (List ℕ)) × Guards (R.remaining reader) given
-        × RespEnds (AnswersQuery A.answers A.informs) result settings.now (new_client settings.now)
+        × RespEnds (AnswersQuery A.answers A.administers) result settings.now (new_client settings.now)
         (record { answerer = answerer.old; remaining = given; contents = W.contents writer.old })
         (record { answerer = answerer.new; remaining = left; contents = W.contents writer.new }) }
 

@@ -49,10 +49,12 @@ pub enum CommandName {
     Config,
     Cluster,
     Info,
+    Shutdown,
+    Bgsave,
 }
 
 /// All commands.
-const COMMANDS: [CommandName; 22] = [
+const COMMANDS: [CommandName; 24] = [
     CommandName::Get,
     CommandName::Strlen,
     CommandName::Mget,
@@ -75,6 +77,8 @@ const COMMANDS: [CommandName; 22] = [
     CommandName::Config,
     CommandName::Cluster,
     CommandName::Info,
+    CommandName::Shutdown,
+    CommandName::Bgsave,
 ];
 
 impl CommandName {
@@ -111,6 +115,8 @@ impl CommandName {
             CommandName::Config => Row::new("config", 1, MANY),
             CommandName::Cluster => Row::new("cluster", 1, MANY),
             CommandName::Info => Row::new("info", 0, MANY),
+            CommandName::Shutdown => Row::new("shutdown", 0, MANY),
+            CommandName::Bgsave => Row::new("bgsave", 0, MANY),
         }
     }
 

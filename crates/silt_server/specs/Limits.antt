@@ -1,12 +1,7 @@
--- How long a server waits for a client, and what it flushes together.
-use Rattle.std.specs.Prelude.{◌==◌, ◌*◌, ℕ, Bool, true, false, Option, Some, None, if◌then◌else◌}
+-- What a server flushes together.
+use Rattle.std.specs.Prelude.{Bool, true, false}
 use Rattle.silt_server.specs.declared.limits.Protocol.{Protocol}
 use Rattle.silt_server.specs.declared.limits.Protocol.TheVariants.{Lines, Resp}
-
--- this many seconds in nanoseconds; no limit if there are none
-abbrev pub longest_silence : Option ℕ → Option ℕ
-longest_silence None = None
-longest_silence (Some seconds) = if seconds == 0 then None else Some (seconds * 1000000000)
 
 -- all commands of one read are flushed together
 abbrev pub pipelines : Protocol → Bool

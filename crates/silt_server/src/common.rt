@@ -2,22 +2,26 @@
 ghost use Rattle.std.specs.Prelude.{◌≡◌};
 
 use crate::admission::{Door, accept_clients};
-use crate::connection::answer_client;
+use crate::care::Cares;
+use crate::connection::Connection;
 use crate::counting_listener::Listens;
 use crate::limits::Limits;
-use crate::threads::{Ended, Parts, run_beside};
+use crate::threads::{Ended, Parts, care_beside, run_beside};
 use crate::workers::{Worker, Workers, WriterParts};
 use crossbeam_channel::Sender;
-use silt_desk::{DeskId, Gate, Seat, Shared, Trace, WorkerEnds, converter, merger};
+use silt_desk::{
+    DeskId, DeskView, Gate, Seat, Shared, Trace, Viewed, WorkerEnds, converter, merger,
+};
 use silt_disk::Disk;
 use silt_event::{Event, Facts, Reply};
 use silt_inbox::{Inbox, InboxId, Taker};
 use silt_session::{
-    AskBy, Job, JobLog, LogId, RoomGate, RoomWait, Session, SessionSlot, Unanswered, Workplace,
-    WriterLink,
+    AskBy, Asking, Board, Job, JobLog, LogId, RoomGate, RoomWait, Session, SessionSlot, Unanswered,
+    Workplace, WriterLink,
 };
 use std::alloc::Global;
 use std::io;
+use std::net::TcpStream;
 use std::sync::{Mutex, Wait};
 use std::thread::Threads;
 use std::time::Clock;
@@ -34,6 +38,7 @@ pub struct Serving<'a, S, J: Drop, N: InboxId + LogId, G, R> {
     pub value_len: usize,
     pub limits: Limits,
     pub gate: &'a G,
+    pub board: &'a Board,
 }
 
 /// What one of the workers needs, or the writer.
@@ -83,7 +88,7 @@ fn parts_of<D: Disk, T: Trace, N: DeskId + InboxId + LogId>(
     }
 }
 
-impl<D: Disk, T: Trace, N: DeskId + InboxId + LogId, G: Gate, R: Wait + Clock> Serving<
+impl<D: Viewed, T: Trace, N: DeskId + InboxId + LogId, G: Gate, R: Wait + Clock> Serving<
     '_,
     Shared<D, T, N>,
     Job<D, T, N>,
@@ -96,8 +101,10 @@ impl<D: Disk, T: Trace, N: DeskId + InboxId + LogId, G: Gate, R: Wait + Clock> S
     fn convert(&self, worker: Worker<N>) -> Seat<N>
         ensures { result.number ≡ worker.seat.number }
     {
+        let view = self.view();
         let gate = RoomGate {
             rt: self.rt,
+            view: &view,
             gate: self.gate,
             room: worker.room,
         };
@@ -113,8 +120,10 @@ impl<D: Disk, T: Trace, N: DeskId + InboxId + LogId, G: Gate, R: Wait + Clock> S
     fn merge(&self, worker: Worker<N>) -> Seat<N>
         ensures { result.number ≡ worker.seat.number }
     {
+        let view = self.view();
         let gate = RoomGate {
             rt: self.rt,
+            view: &view,
             gate: self.gate,
             room: worker.room,
         };
@@ -141,6 +150,7 @@ impl<D: Disk, T: Trace, N: DeskId + InboxId + LogId, G: Gate, R: Wait + Clock> S
             shared: self.desk,
             gate: self.gate,
             room: &room,
+            board: self.board,
         };
         let (seat, _) = at.serve_all(parts.seat, self.inbox, taker, parts.replier);
         seat
@@ -178,6 +188,30 @@ impl<D: Disk, T: Trace, N: DeskId + InboxId + LogId, G: Gate, R: Wait + Clock> S
         }
     }
 
+    /// A view of the store.
+    pub fn view(&self) -> DeskView<'_, D, T, N, R> {
+        DeskView {
+            rt: self.rt,
+            desk: self.desk,
+        }
+    }
+
+    // Replies to the connection of this number, with events asked this way.
+    fn answer<A: Asking>(&self, number: usize, stream: &TcpStream, asking: A)
+        requires { A.can_ask asking }
+    {
+        let connection = Connection {
+            rt: self.rt,
+            alloc: self.alloc,
+            board: self.board,
+            limits: self.limits,
+            value_len: self.value_len,
+            number,
+            stream,
+        };
+        connection.answer(asking);
+    }
+
     // Runs the session in the slot of this number, and then frees the slot.
     fn serve_slot(&self, number: usize) {
         let Some(slot) = self.slots.get(number) else {
@@ -196,30 +230,24 @@ impl<D: Disk, T: Trace, N: DeskId + InboxId + LogId, G: Gate, R: Wait + Clock> S
                 all: &all,
                 facts: &facts,
             };
-            answer_client(
-                self.alloc,
-                asking,
-                self.value_len,
-                self.limits,
-                u32::try_from(number).unwrap_or(u32::MAX),
-                &stream,
-            );
+            self.answer(number, &stream, asking);
         }
         slot.lock(self.rt).leave();
     }
 }
 
 impl<
-    D: Disk,
+    D: Viewed,
     T: Trace + Send + Sync,
     N: DeskId + InboxId + LogId + Send + Sync,
     G: Gate + Sync,
     R: Threads + Wait + Clock + Sync,
 > Serving<'_, Shared<D, T, N>, Job<D, T, N>, N, G, R> {
     // Serves the connections of a listener, and then closes the inbox.
-    fn serve_sessions<L: Listens>(&self, listener: &L) -> io::Result<()> {
+    fn serve_sessions<L: Listens + Sync>(&self, listener: &L) -> io::Result<()> {
         let door = Door {
             alloc: self.alloc,
+            board: self.board,
             limits: self.limits,
             slots: self.slots,
         };
@@ -239,9 +267,30 @@ impl<
         }
     }
 
-    /// Runs the workers, the writer and the replier beside the sessions of a listener's connections, until these have ended
-    /// and all their requests are done. None if a worker or the writer has no thread.
-    pub fn run<L: Listens>(
+    /// Runs the workers, the writer, the replier and the care beside the sessions of a listener's connections, until these have
+    /// ended and all their requests are done. None if a worker, the writer or the care has no thread.
+    pub fn run<L: Listens + Sync, C: Cares>(
+        &self,
+        listener: &L,
+        care: &C,
+        workers: Workers<D, T, N>,
+        taker: Taker<N>,
+    ) -> Option<Served<N>> {
+        care_beside(
+            self.rt,
+            self.board,
+            self,
+            &|serving: &Serving<'_, Shared<D, T, N>, Job<D, T, N>, N, G, R>| {
+                care.care(&[serving.view()])
+            },
+            |serving: &Serving<'_, Shared<D, T, N>, Job<D, T, N>, N, G, R>| -> Option<Served<N>> {
+                serving.run_crew(listener, workers, taker)
+            },
+        )
+    }
+
+    // Runs the workers, the writer and the replier beside the sessions.
+    fn run_crew<L: Listens + Sync>(
         &self,
         listener: &L,
         workers: Workers<D, T, N>,

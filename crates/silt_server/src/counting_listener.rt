@@ -15,6 +15,9 @@ pub trait Listens {
 
     /// Waits for a connection.
     fn wait(&self) -> io::Result<TcpStream>;
+
+    /// Has a wait that goes on return.
+    fn wake(&self);
 }
 
 impl Listens for TcpListener {
@@ -28,6 +31,9 @@ impl Listens for TcpListener {
         let (stream, _) = self.accept()?;
         Ok(stream)
     }
+
+    /// Does nothing, since it takes a network to connect: the wait returns at the next connection.
+    fn wake(&self) {}
 }
 
 /// A listener, and how many connections it accepted.

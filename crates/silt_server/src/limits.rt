@@ -1,11 +1,6 @@
 // The limits of a server.
-ghost use Rattle.std.specs.Prelude.{◌≡◌, option_map};
-ghost use Rattle.std.specs.Duration.{as_nanos};
-ghost use Rattle.silt_server.specs.Limits.{longest_silence, pipelines, settles_gets};
-
-use std::io;
-use std::net::TcpStream;
-use std::time::Duration;
+ghost use Rattle.std.specs.Prelude.{◌≡◌};
+ghost use Rattle.silt_server.specs.Limits.{pipelines, settles_gets};
 
 /// How many sessions there can be at once: each has a slot.
 pub const MOST_SESSIONS: u64 = 1024;
@@ -53,25 +48,4 @@ pub struct Limits {
     /// How many seconds a command waits for room at most. 0: not at all.
     pub wait: u32,
     pub protocol: Protocol,
-}
-
-// The longest wait for a client. None is no limit.
-fn longest_silence(idle: Option<u32>) -> Option<Duration>
-    ensures { option_map as_nanos result ≡ longest_silence idle }
-{
-    match idle {
-        None | Some(0) => None,
-        Some(seconds) => Some(Duration::from_secs(u64::from(seconds))),
-    }
-}
-
-/// Limits how long each read and each write of a connection waits for its client.
-///
-/// # Errors
-///
-/// The system's.
-pub fn limit_silence(stream: &TcpStream, idle: Option<u32>) -> io::Result<()> {
-    let longest = longest_silence(idle);
-    stream.set_read_timeout(longest)?;
-    stream.set_write_timeout(longest)
 }

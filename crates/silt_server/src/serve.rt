@@ -9,16 +9,17 @@ ghost use Rattle.silt_wire.specs.Statuses.{IsStatus};
 ghost use Rattle.silt_server.specs.Serving.{BreaksServing, ServesAt, ServesKept, PrintsCalls, PrintsNotServed};
 ghost use Rattle.silt_server.specs.Serving.{PrintsServed, WritesHead, head_text, network_text, no_memory_text};
 
+use crate::care::Cares;
 use crate::common::{Served, Serving};
 use crate::counting_listener::Listens;
 use crate::limits::{Limits, MOST_SESSIONS};
 use crate::workers::Workers;
 use crate::written::{refuse, write_calls, write_listening, write_network_fault, write_opened};
-use silt_desk::{Count, Desk, DeskId, Gate, Kept, Seat, Shared, Trace};
+use silt_desk::{Count, Desk, DeskId, Gate, Kept, Seat, Shared, Trace, Viewed};
 use silt_disk::Disk;
 use silt_event::Refusal;
 use silt_inbox::{Inbox, InboxId, Taker};
-use silt_session::{Job, JobLog, LogId, LogStart, SessionSlot, slots_of};
+use silt_session::{Board, Job, JobLog, LogId, LogStart, SessionSlot, slots_of};
 use silt_store_set::Core;
 use std::alloc::{AllocError, Global};
 use std::io::{self, Write};
@@ -31,18 +32,27 @@ use std::time::Clock;
 /// How many seats the workers have.
 pub(crate) const WORKERS: u64 = 3;
 
-/// A server of one store: where its connections come from, its limits, and the gate that its workers pass.
+/// A server of one store: where its connections come from, its limits, the gate that its workers pass, the board of its threads, and
+/// the care beside the sessions.
 #[derive(Drop)]
-pub struct Server<'a, L, G, R> {
+pub struct Server<'a, L, G, C, R> {
     pub rt: &'a R,
     pub alloc: Global,
     pub listener: &'a L,
     pub limits: Limits,
     pub gate: &'a G,
+    pub board: &'a Board,
+    pub care: &'a C,
 }
 
-impl<L: Listens, G: Gate + Sync, R: Threads + Wait + Clock + Sync> Server<'_, L, G, R> {
-    /// Serves a store to the connections of the listener, within the limits.
+impl<L: Listens + Sync, G: Gate + Sync, C: Cares, R: Threads + Wait + Clock + Sync> Server<
+    '_,
+    L,
+    G,
+    C,
+    R,
+> {
+    /// Serves a store to the connections of the listener, within the limits, until the board says that the server is to end.
     ///
     /// Writes `opened` and `listening` with the listener's port. After the last session, the converter ends when it has no
     /// step to do, and then the merger. A log that waits for a hash region may stay frozen. Then it writes `calls` with the
@@ -53,7 +63,7 @@ impl<L: Listens, G: Gate + Sync, R: Threads + Wait + Clock + Sync> Server<'_, L,
     /// # Errors
     ///
     /// The writer's, and out of memory for the text of a line.
-    pub fn serve<D: Disk, W: Write>(&self, core: Core<D>, out: &mut W) -> (D, io::Result<u8>)
+    pub fn serve<D: Viewed, W: Write>(&self, core: Core<D>, out: &mut W) -> (D, io::Result<u8>)
         ensures served { result.1 ≡ Ok 0 → ServesAt (L.has_port self.now.listener.now) (D.content result.0) (W.contents out.old) (W.contents out.new) }
         ensures kept { result.1 ≡ Ok 0 → IfSome self.now.limits.audit (λ _. ServesKept D.Disk (L.has_port self.now.listener.now) result.0 (W.contents out.old) (W.contents out.new)) }
         ensures printed { IfOk result.1 (IsStatus (PrintsNotServed D.Disk (L.has_port self.now.listener.now) core result.0 (W.contents out.old) (W.contents out.new))) }
@@ -69,7 +79,7 @@ impl<L: Listens, G: Gate + Sync, R: Threads + Wait + Clock + Sync> Server<'_, L,
     }
 
     // Serves a store, and records at most this many calls.
-    fn serve_kept<D: Disk, W: Write>(
+    fn serve_kept<D: Viewed, W: Write>(
         &self,
         core: Core<D>,
         most: u64,
@@ -94,7 +104,7 @@ impl<L: Listens, G: Gate + Sync, R: Threads + Wait + Clock + Sync> Server<'_, L,
 
     // Serves a store with a trace of its calls.
     fn serve_traced<
-        D: Disk,
+        D: Viewed,
         T: Trace + Send + Sync,
         N: DeskId + InboxId + LogId + Send + Sync,
         W: Write,
@@ -138,7 +148,7 @@ impl<L: Listens, G: Gate + Sync, R: Threads + Wait + Clock + Sync> Server<'_, L,
     /// Serves the store of a desk to the connections of the listener, within the limits, and gives the desk back with the
     /// status: its trace has every call that a session made.
     pub fn serve_desk<
-        D: Disk,
+        D: Viewed,
         T: Trace + Send + Sync,
         N: DeskId + InboxId + LogId + Send + Sync,
         W: Write,
@@ -162,7 +172,7 @@ impl<L: Listens, G: Gate + Sync, R: Threads + Wait + Clock + Sync> Server<'_, L,
 
     // Serves the store of a desk once the head is written, and writes the last lines.
     fn serve_begun<
-        D: Disk,
+        D: Viewed,
         T: Trace + Send + Sync,
         N: DeskId + InboxId + LogId + Send + Sync,
         W: Write,
@@ -183,9 +193,9 @@ impl<L: Listens, G: Gate + Sync, R: Threads + Wait + Clock + Sync> Server<'_, L,
         (desk, status)
     }
 
-    // Runs the workers and the replier beside the sessions, until these have ended and all their requests are done. Values
-    // have so many bytes. None if a worker or the writer has no thread.
-    fn run_threads<D: Disk, T: Trace + Send + Sync, N: DeskId + InboxId + LogId + Send + Sync>(
+    // Runs the workers, the replier and the care beside the sessions, until these have ended and all their requests are done.
+    // Values have so many bytes. None if a worker, the writer or the care has no thread.
+    fn run_threads<D: Viewed, T: Trace + Send + Sync, N: DeskId + InboxId + LogId + Send + Sync>(
         &self,
         desk: &Shared<D, T, N>,
         state: ServerState<D, T, N>,
@@ -208,8 +218,9 @@ impl<L: Listens, G: Gate + Sync, R: Threads + Wait + Clock + Sync> Server<'_, L,
             value_len,
             limits: self.limits,
             gate: self.gate,
+            board: self.board,
         };
-        serving.run(self.listener, workers, taker)
+        serving.run(self.listener, self.care, workers, taker)
     }
 }
 

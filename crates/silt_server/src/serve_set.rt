@@ -8,6 +8,7 @@ ghost use Rattle.silt_shards.specs.Routing.{IsShardCount};
 ghost use Rattle.silt_wire.specs.Statuses.{IsStatus};
 ghost use Rattle.silt_server.specs.Serving.{BreaksServing, CountsEach, PrintsAllCalls, PrintsAllServed, ServesSetAt, network_text, no_memory_text};
 
+use crate::care::Cares;
 use crate::common::Serving;
 use crate::counting_listener::Listens;
 use crate::limits::{Limits, MOST_SESSIONS};
@@ -16,11 +17,11 @@ use crate::serving_set::{ServingSet, ShardPart};
 use crate::workers::Workers;
 use crate::written::{refuse, write_calls, write_network_fault};
 use crossbeam_channel::{Receiver, Sender};
-use silt_desk::{Count, Desk, DeskId, Gate, Seat, Shared, Trace};
+use silt_desk::{Count, Desk, DeskId, Gate, Seat, Shared, Trace, Viewed};
 use silt_disk::Disk;
 use silt_event::Refusal;
 use silt_inbox::{Inbox, InboxId, Taker};
-use silt_session::{Job, JobLog, LogId, LogStart, SessionSlot, slots_of};
+use silt_session::{Board, Job, JobLog, LogId, LogStart, SessionSlot, slots_of};
 use silt_store_set::Core;
 use std::alloc::Global;
 use std::io::{self, Write};
@@ -29,14 +30,17 @@ use std::sync::{Mutex, RwLock, Wait};
 use std::thread::Threads;
 use std::time::Clock;
 
-/// A server of the stores of a set: where its connections come from, its limits, and the gates that the workers of each shard pass.
+/// A server of the stores of a set: where its connections come from, its limits, the gates that the workers of each shard pass, the
+/// board of its threads, and the care beside the sessions.
 #[derive(Drop)]
-pub struct SetServer<'a, L, G, R> {
+pub struct SetServer<'a, L, G, C, R> {
     pub rt: &'a R,
     pub alloc: Global,
     pub listener: &'a L,
     pub limits: Limits,
     pub gates: &'a [G],
+    pub board: &'a Board,
+    pub care: &'a C,
 }
 
 /// One shard: its store under its lock, what lies between the connections and that, and the length of its values.
@@ -184,7 +188,13 @@ impl<D: Disk, N: DeskId + InboxId + LogId> Shards<D, Count, N> {
     }
 }
 
-impl<L: Listens, G: Gate + Sync, R: Threads + Wait + Clock + Sync> SetServer<'_, L, G, R> {
+impl<L: Listens + Sync, G: Gate + Sync, C: Cares, R: Threads + Wait + Clock + Sync> SetServer<
+    '_,
+    L,
+    G,
+    C,
+    R,
+> {
     /// Serves the stores of a set, in the order of their shards, to the connections of the listener, within the limits. A key's lines go
     /// to its own shard, and a flush to all shards. Each shard's workers pass the gate at its place.
     ///
@@ -197,7 +207,7 @@ impl<L: Listens, G: Gate + Sync, R: Threads + Wait + Clock + Sync> SetServer<'_,
     /// # Errors
     ///
     /// The writer's, and out of memory for the text of a line.
-    pub fn serve<D: Disk, W: Write>(
+    pub fn serve<D: Viewed, W: Write>(
         &self,
         cores: Vec<Core<D>>,
         out: &mut W,
@@ -327,9 +337,15 @@ fn make<D: Disk, N: DeskId + InboxId + LogId>(
     Some((made, room))
 }
 
-impl<L: Listens, G: Gate + Sync, R: Threads + Wait + Clock + Sync> SetServer<'_, L, G, R> {
+impl<L: Listens + Sync, G: Gate + Sync, C: Cares, R: Threads + Wait + Clock + Sync> SetServer<
+    '_,
+    L,
+    G,
+    C,
+    R,
+> {
     // Serves the stores, with the log of this name.
-    fn serve_named<D: Disk, N: DeskId + InboxId + LogId + Send + Sync, W: Write>(
+    fn serve_named<D: Viewed, N: DeskId + InboxId + LogId + Send + Sync, W: Write>(
         &self,
         cores: Vec<Core<D>>,
         log: LogStart,
@@ -355,7 +371,7 @@ impl<L: Listens, G: Gate + Sync, R: Threads + Wait + Clock + Sync> SetServer<'_,
 
     // Serves the shards, and gives their disks back.
     fn serve_made<
-        D: Disk,
+        D: Viewed,
         T: Trace + Send + Sync,
         N: DeskId + InboxId + LogId + Send + Sync,
         W: Write,
@@ -382,7 +398,7 @@ impl<L: Listens, G: Gate + Sync, R: Threads + Wait + Clock + Sync> SetServer<'_,
 
     // Writes the head, serves the shards, and writes the last lines. Gives the desks of the shards back.
     fn serve_shards<
-        D: Disk,
+        D: Viewed,
         T: Trace + Send + Sync,
         N: DeskId + InboxId + LogId + Send + Sync,
         W: Write,
@@ -412,7 +428,7 @@ impl<L: Listens, G: Gate + Sync, R: Threads + Wait + Clock + Sync> SetServer<'_,
 
     // Serves the shards once the head is written, and writes the last lines. Gives the desks of the shards back.
     fn serve_begun<
-        D: Disk,
+        D: Viewed,
         T: Trace + Send + Sync,
         N: DeskId + InboxId + LogId + Send + Sync,
         W: Write,
@@ -439,7 +455,7 @@ impl<L: Listens, G: Gate + Sync, R: Threads + Wait + Clock + Sync> SetServer<'_,
 
     // Runs the threads of the shards beside the sessions, until these have ended and all their requests are done. None if out of memory,
     // or if a worker or a writer has no thread.
-    fn run<D: Disk, T: Trace + Send + Sync, N: DeskId + InboxId + LogId + Send + Sync>(
+    fn run<D: Viewed, T: Trace + Send + Sync, N: DeskId + InboxId + LogId + Send + Sync>(
         &self,
         shards: &[Shard<D, T, N>],
         crews: Vec<Crew<D, T, N>>,
@@ -475,13 +491,14 @@ impl<L: Listens, G: Gate + Sync, R: Threads + Wait + Clock + Sync> SetServer<'_,
                 value_len: shard.value_len,
                 limits: self.limits,
                 gate,
+                board: self.board,
             });
         }
         Some(servings)
     }
 
     // Runs the threads of shards that share this.
-    fn run_set<D: Disk, T: Trace + Send + Sync, N: DeskId + InboxId + LogId + Send + Sync>(
+    fn run_set<D: Viewed, T: Trace + Send + Sync, N: DeskId + InboxId + LogId + Send + Sync>(
         &self,
         servings: &[Serving<'_, Shared<D, T, N>, Job<D, T, N>, N, G, R>],
         parts: Vec<ShardPart<D, T, N>>,
@@ -491,8 +508,9 @@ impl<L: Listens, G: Gate + Sync, R: Threads + Wait + Clock + Sync> SetServer<'_,
     {
         let set = ServingSet {
             alloc: self.alloc,
+            board: self.board,
             shards: servings,
         };
-        set.run(self.rt, self.listener, parts, heard)
+        set.run(self.rt, self.listener, self.care, parts, heard)
     }
 }

@@ -3,21 +3,21 @@ ghost use Rattle.std.specs.Prelude.{◌≡◌, All, IfSome, length, true, vec_le
 ghost use Rattle.silt_shards.specs.Routing.{IsShardCount};
 
 use crate::admission::{Door, accept_clients};
+use crate::care::Cares;
 use crate::common::Serving;
-use crate::connection::answer_client;
+use crate::connection::Connection;
 use crate::counting_listener::Listens;
-use crate::threads::run_shards;
+use crate::threads::{care_beside, run_shards};
 use crate::workers::Workers;
 use crossbeam_channel::{Receiver, Sender};
-use silt_desk::{DeskId, Gate, Shared, Trace};
+use silt_desk::{DeskId, DeskView, Gate, Shared, Trace, Viewed};
 use silt_disk::Disk;
 use silt_event::{Event, Facts, Reply};
 use silt_inbox::{InboxId, Taker};
-use silt_session::{AskAheadBy, AskedEvents, Job, LogId, Session, SetAsking, Unanswered};
+use silt_session::{AskAheadBy, AskedEvents, Board, Job, LogId, Session, SetAsking, Unanswered};
 use std::alloc::Global;
 use std::io;
 use std::marker::PhantomData;
-use std::net::TcpStream;
 use std::sync::Wait;
 use std::thread::Threads;
 use std::time::Clock;
@@ -26,6 +26,7 @@ use std::time::Clock;
 #[derive(Drop)]
 pub struct ServingSet<'a, S> {
     pub alloc: Global,
+    pub board: &'a Board,
     pub shards: &'a [S],
     ghost count: { IsShardCount (length shards.now) },
 }
@@ -43,28 +44,8 @@ impl<D: Disk, T: Trace, N: DeskId + InboxId + LogId, G: Gate, R: Wait + Clock> S
     '_,
     Serving<'_, Shared<D, T, N>, Job<D, T, N>, N, G, R>,
 > {
-    // The sessions of the slot of this number, one at each shard, in their order. Their gets show only what a crash keeps. None if out of
-    // memory.
-    fn sessions(&self, number: usize) -> Option<Vec<Session<'_, D, T, N, R>>>
-        ensures count { IfSome result (λ sessions. vec_len sessions ≡ length self.now.shards.now) }
-        ensures settle { IfSome result (λ sessions. All (λ session. session.settles_gets ≡ true) sessions.items) }
-    {
-        let mut sessions = Vec::with_capacity(self.alloc, self.shards.len()).ok()?;
-        for shard in self.shards {
-            let slot = shard.slots.get(number)?;
-            sessions.push_reserved(shard.session(slot, true));
-        }
-        Some(sessions)
-    }
-
-    // Replies to the connection of the slot of this number by sessions at all shards.
-    fn answer(
-        &self,
-        sessions: &[Session<'_, D, T, N, R>],
-        number: usize,
-        first: &Serving<'_, Shared<D, T, N>, Job<D, T, N>, N, G, R>,
-        stream: &TcpStream,
-    )
+    // Replies to a connection by sessions at all shards.
+    fn answer(&self, sessions: &[Session<'_, D, T, N, R>], connection: &Connection<'_, R>)
         requires { IsShardCount (length sessions.now) }
     {
         let Ok(mut shards) = Vec::with_capacity(self.alloc, sessions.len()) else {
@@ -87,14 +68,26 @@ impl<D: Disk, T: Trace, N: DeskId + InboxId + LogId, G: Gate, R: Wait + Clock> S
             alloc: self.alloc,
             shards: shards.as_slice(),
         };
-        answer_client(
-            self.alloc,
-            asking,
-            first.value_len,
-            first.limits,
-            u32::try_from(number).unwrap_or(u32::MAX),
-            stream,
-        );
+        connection.answer(asking);
+    }
+}
+
+impl<D: Viewed, T: Trace, N: DeskId + InboxId + LogId, G: Gate, R: Wait + Clock> ServingSet<
+    '_,
+    Serving<'_, Shared<D, T, N>, Job<D, T, N>, N, G, R>,
+> {
+    // The sessions of the slot of this number, one at each shard, in their order. Their gets show only what a crash keeps. None if out of
+    // memory.
+    fn sessions(&self, number: usize) -> Option<Vec<Session<'_, D, T, N, R>>>
+        ensures count { IfSome result (λ sessions. vec_len sessions ≡ length self.now.shards.now) }
+        ensures settle { IfSome result (λ sessions. All (λ session. session.settles_gets ≡ true) sessions.items) }
+    {
+        let mut sessions = Vec::with_capacity(self.alloc, self.shards.len()).ok()?;
+        for shard in self.shards {
+            let slot = shard.slots.get(number)?;
+            sessions.push_reserved(shard.session(slot, true));
+        }
+        Some(sessions)
     }
 
     // Runs the session in the slot of this number, and then frees the slot. The first shard's slots are those of the connections.
@@ -108,10 +101,39 @@ impl<D: Disk, T: Trace, N: DeskId + InboxId + LogId, G: Gate, R: Wait + Clock> S
         let stream = slot.lock(first.rt).connection();
         if let Some(stream) = stream {
             if let Some(sessions) = self.sessions(number) {
-                self.answer(sessions.as_slice(), number, first, &stream);
+                let connection = Connection {
+                    rt: first.rt,
+                    alloc: first.alloc,
+                    board: first.board,
+                    limits: first.limits,
+                    value_len: first.value_len,
+                    number,
+                    stream: &stream,
+                };
+                self.answer(sessions.as_slice(), &connection);
             }
         }
         slot.lock(first.rt).leave();
+    }
+
+    // A view of each shard's store, in their order. None if out of memory.
+    fn views(&self) -> Option<Vec<DeskView<'_, D, T, N, R>>> {
+        let mut views = Vec::with_capacity(self.alloc, self.shards.len()).ok()?;
+        for shard in self.shards {
+            views.push_reserved(shard.view());
+        }
+        Some(views)
+    }
+
+    // Does the care beside the sessions of a listener's connections. If out of memory for the views of the stores, the server ends.
+    fn take_care<L: Listens, C: Cares>(&self, listener: &L, care: &C) {
+        match self.views() {
+            Some(views) => care.care(views.as_slice()),
+            None => {
+                self.board.end();
+                listener.wake();
+            }
+        }
     }
 
     // Closes the inbox of each shard.
@@ -123,7 +145,7 @@ impl<D: Disk, T: Trace, N: DeskId + InboxId + LogId, G: Gate, R: Wait + Clock> S
 }
 
 impl<
-    D: Disk,
+    D: Viewed,
     T: Trace + Send + Sync,
     N: DeskId + InboxId + LogId + Send + Sync,
     G: Gate + Sync,
@@ -143,12 +165,13 @@ impl<
     }
 
     // Serves the connections of a listener.
-    fn serve_sessions<L: Listens>(&self, rt: &R, listener: &L) -> io::Result<()> {
+    fn serve_sessions<L: Listens + Sync>(&self, rt: &R, listener: &L) -> io::Result<()> {
         let Some(first) = self.shards.first() else {
             return Ok(());
         };
         let door = Door {
             alloc: self.alloc,
+            board: self.board,
             limits: first.limits,
             slots: first.slots,
         };
@@ -168,9 +191,31 @@ impl<
         }
     }
 
-    /// Runs the shards beside the sessions of a listener's connections, until these have ended and all their requests are done. None if
-    /// a worker or a writer has no thread.
-    pub fn run<L: Listens>(
+    /// Runs the shards and the care beside the sessions of a listener's connections, until these have ended and all their requests are
+    /// done. None if a worker, a writer or the care has no thread.
+    pub fn run<L: Listens + Sync, C: Cares>(
+        &self,
+        rt: &R,
+        listener: &L,
+        care: &C,
+        parts: Vec<ShardPart<D, T, N>>,
+        heard: Receiver<bool>,
+    ) -> Option<io::Result<()>> {
+        care_beside(
+            rt,
+            self.board,
+            self,
+            &|set: &ServingSet<'_, Serving<'_, Shared<D, T, N>, Job<D, T, N>, N, G, R>>| {
+                set.take_care(listener, care)
+            },
+            |set: &ServingSet<'_, Serving<'_, Shared<D, T, N>, Job<D, T, N>, N, G, R>>| -> Option<
+                io::Result<()>,
+            > { set.run_all(rt, listener, parts, heard) },
+        )
+    }
+
+    // Runs the shards beside the sessions.
+    fn run_all<L: Listens + Sync>(
         &self,
         rt: &R,
         listener: &L,

@@ -4,7 +4,7 @@ ghost use Rattle.std.specs.Prelude.{◌≡◌};
 use crossbeam_channel::Receiver;
 use silt_desk::{Trace, Wake, Wakes};
 use silt_disk::Disk;
-use silt_session::{Job, LogId, send_batches};
+use silt_session::{Board, Job, LogId, send_batches};
 use std::sync::Wait;
 use std::thread::Threads;
 use std::{io, thread};
@@ -95,6 +95,35 @@ fn both<
             Some((ended, done?))
         },
     )
+}
+
+/// Does the care in a thread of its own beside the second job, which is told of behind it: so the care can end. None if the care has no
+/// thread, and then neither is done, or if the second one gives none.
+pub fn care_beside<S: Sync, Y, A: Fn(&S) + Sync, B: FnOnce(&S) -> Option<Y>, R: Threads + Wait>(
+    rt: &R,
+    board: &Board,
+    shared: &S,
+    care: &A,
+    second: B,
+) -> Option<Y>
+    requires care { A.IsAlwaysCallable care.now }
+    requires second { B.IsAlwaysCallable second }
+{
+    let (_, done) = both(
+        rt,
+        shared,
+        move |shared: &S|
+            requires { A.IsAlwaysCallable care.now }
+        { care(shared) },
+        move |shared: &S| -> Option<Y>
+            requires { B.IsAlwaysCallable second }
+        {
+            let done = second(shared);
+            board.sessions_ended();
+            done
+        },
+    )?;
+    Some(done)
 }
 
 /// What came back from the threads: from the merger, the converter and the writer, and from the sessions.

@@ -2,6 +2,7 @@
 //
 // What needs no Rust of a server is in the suite from outside.
 
+mod ends;
 mod gets;
 mod held;
 mod looks;
@@ -11,13 +12,16 @@ mod record;
 mod replies;
 mod room;
 mod swaps;
+mod ticks;
 mod work;
 
 use silt_desk::Gate;
-use silt_device::{Disk, Geometry, MemDisk};
+use silt_device::{Geometry, MemDisk};
 use silt_fixtures::{formatted_with, opened_on};
-use silt_server::{Limits, Protocol, Server};
+use silt_server::{Limits, NoCare, Protocol, Server};
+use silt_session::Board;
 use silt_store_set::Core;
+use silt_view::Viewed;
 use std::alloc::Global;
 use std::io::{self, Read, Write};
 use std::net::{Net, SocketAddr, TcpListener, TcpStream};
@@ -30,6 +34,16 @@ use std::time::{Clock, Duration};
 trait Clients: Sync {
     /// Asks at this address, and appends the replies.
     fn ask(&self, addr: SocketAddr, got: &mut Vec<u8>) -> io::Result<()>;
+}
+
+// Two ends of one connection.
+fn both_ends<R: Net<Listener = TcpListener, Stream = TcpStream>>(
+    rt: &R,
+) -> io::Result<(TcpStream, TcpStream)> {
+    let listener = TcpListener::bind(rt, ("127.0.0.1", 0u16))?;
+    let near = TcpStream::connect(rt, listener.local_addr()?)?;
+    let (far, _) = listener.accept()?;
+    Ok((near, far))
 }
 
 // Limits of this many sessions and recorded calls. A silent connection is never ended.
@@ -62,7 +76,7 @@ fn ask_at<C: Clients>(listener: &TcpListener, clients: &C, got: &mut Vec<u8>) {
 
 // Serves a store within these limits in one thread, and lets clients ask in another, until both are
 // done. Returns the store's disk and the status.
-fn serve_beside<D: Disk, G: Gate + Sync, C: Clients, R: Threads + Wait + Clock + Sync>(
+fn serve_beside<D: Viewed, G: Gate + Sync, C: Clients, R: Threads + Wait + Clock + Sync>(
     rt: &R,
     alloc: Global,
     listener: &TcpListener,
@@ -82,6 +96,8 @@ fn serve_beside<D: Disk, G: Gate + Sync, C: Clients, R: Threads + Wait + Clock +
                 listener,
                 limits,
                 gate,
+                board: &Board::new(rt, false),
+                care: &NoCare,
             };
             server.serve(core, written)
         },
@@ -93,7 +109,7 @@ fn serve_beside<D: Disk, G: Gate + Sync, C: Clients, R: Threads + Wait + Clock +
 // Whether the clients of a server get these replies, and the server ends well. It serves the store
 // on this disk in so many sessions.
 fn is_served<
-    D: Disk,
+    D: Viewed,
     G: Gate + Sync,
     C: Clients,
     R: Net<Listener = TcpListener, Stream = TcpStream> + Threads + Wait + Clock + Sync,
@@ -112,7 +128,7 @@ fn is_served<
 
 // The same within these limits.
 fn is_served_within<
-    D: Disk,
+    D: Viewed,
     G: Gate + Sync,
     C: Clients,
     R: Net<Listener = TcpListener, Stream = TcpStream> + Threads + Wait + Clock + Sync,

@@ -255,17 +255,13 @@ module _ {D F : Type 0} (facts : Ghosts D F) where
     and_left false b is = absurd (cc)
 
     -- one call and what was found of the work behind it
-    pub tried_once : (old new : DeskState D T) (seat after : SeatState) (request : Request) (answer : Option Answer) (due : Option Due)
-        → Performs facts trace old new seat after request answer → MayMakeRoom new answer due → TriesOnce facts trace seat request answer due after
-    tried_once old new seat after request answer None does none = (old, new, does, none)
-    tried_once old new seat after request answer (Some work) does may =
+    pub tried_once : (least : ℕ) (old new : DeskState D T) (seat after : SeatState) (request : Request) (answer : Option Answer) (due : Option Due)
+        → Performs facts trace old new seat after request answer → MayMakeRoom least new answer due → TriesOnce facts trace seat request answer due after
+    tried_once least old new seat after request answer None does none = (old, new, does, none)
+    tried_once least old new seat after request answer (Some work) does may =
         let is = lacks_is answer (and_left (lacks_room answer) (wants_convert new.core || wants_merge new.core) may.0) in
         let refused = subst (λ (a : Option Answer). Performs facts trace old new seat after request a) is does in
         (is, (old, new, refused, performs_none old new seat after request refused, subst (λ (a : Option Answer). may_get_room new a ≡ true) is may.0))
-
--- the work that there is to do decides whether a request that is refused for want of room may get it
-pub work_decides : {D T : Type 0} (desk : DeskState D T) (due : Due) → IsDueAt desk due → may_get_room desk (Some (Err NoRoom)) ≡ (due.converts || due.merges)
-work_decides desk due is = ap (λ (b : Bool). b || wants_merge desk.core) (sym is.0) ∙ ap (λ (b : Bool). due.converts || b) (sym is.1)
 
 -- ---- the jobs of a batch
 
@@ -324,19 +320,19 @@ module _ {D F T N : Type 0} (facts : Ghosts D F) (trace : TraceOf T) (seconds : 
       subst (λ (l : List (Job D T N F)). PerformsAll facts trace seconds is_over start l done (writer_at seat batch)) whole so_far
 
   -- a batch from its first job to its last flush
-  pub batch_served : (batch after : Batch D T N F) (jobs done new : List (Job D T N F)) (seat mid end : SeatState) (flushed : Flushed) (before then : DeskState D T) (due : Due)
+  pub batch_served : (least : ℕ) (batch after : Batch D T N F) (jobs done new : List (Job D T N F)) (seat mid end : SeatState) (flushed : Flushed) (before then : DeskState D T) (due : Due)
       → batch.jobs.items ≡ jobs → length jobs ≤ batch.left
       → PerformsAll facts trace seconds is_over (writer_at seat batch) (left_in batch) done (writer_at mid after) → after.left ≡ 0
-      → Flushes facts trace before then mid end flushed → IsDueAt then due → RepliesToAll flushed after.jobs.items new
+      → Flushes facts trace before then mid end flushed → IsDueAt least then due → RepliesToAll flushed after.jobs.items new
       → ServesBatch facts trace seconds is_over seat jobs new end due
-  batch_served batch after jobs done new seat mid end flushed before then due is over all none flushes work replies =
+  batch_served least batch after jobs done new seat mid end flushed before then due is over all none flushes work replies =
       let long : length batch.jobs.items ≤ batch.left = omega (arith, over, ap length is) in
       let no_done : done_in batch ≡ [] = drop_of_length-le batch.jobs.items long in
       let whole : left_in batch ≡ jobs = take_all batch.left batch.jobs.items long ∙ is in
       let from = subst (λ (l : List (Job D T N F)). PerformsAll facts trace seconds is_over (record { seat = seat; done = l }) (left_in batch) done (writer_at mid after)) no_done all in
       let does = subst (λ (l : List (Job D T N F)). PerformsAll facts trace seconds is_over (record { seat = seat; done = [] }) l done (writer_at mid after)) whole from in
       let last : after.jobs.items ≡ done_in after = ap (λ (n : ℕ). drop n after.jobs.items) (sym none) in
-      (done, writer_at mid after, flushed, before, then, does, flushes, work, subst (λ (l : List (Job D T N F)). RepliesToAll flushed l new) last replies)
+      (done, writer_at mid after, flushed, before, then, does, flushes, (least, work), subst (λ (l : List (Job D T N F)). RepliesToAll flushed l new) last replies)
 
 -- ---- the requests of a job stay
 

@@ -4,7 +4,7 @@ use Rattle.std.specs.List.{AllZip}
 use Rattle.silt_disk.specs.declared.disk.Disk.{Ghosts}
 use Rattle.silt_inbox.specs.Books.{counted}
 use Rattle.silt_event.specs.declared.refusal.Refusal.TheVariants.{NoRoom}
-use Rattle.silt_store_set.specs.CoreState.{wants_convert, wants_merge}
+use Rattle.silt_store_set.specs.CoreState.{may_merge, wants_convert, wants_merge}
 use Rattle.silt_desk.specs.DeskState.{DeskState}
 use Rattle.silt_desk.specs.Seats.{SeatState}
 use Rattle.silt_desk.specs.declared.trace.Trace.{Ghosts as TraceOf}
@@ -34,9 +34,10 @@ RepliesToJob flushed old new =
 abbrev pub RepliesToAll : {D T N F : Type 0} → Flushed → List (Job D T N F) → List (Job D T N F) → Type 0
 RepliesToAll flushed old new = AllZip (RepliesToJob flushed) old new
 
--- the background work that there is to do at this desk
-abbrev pub IsDueAt : {D T : Type 0} → DeskState D T → Due → Type 0
-IsDueAt desk due = (due.converts ≡ wants_convert desk.core) × (due.merges ≡ wants_merge desk.core)
+-- the background work that there is to do at this desk, if a merge begins with at least so many hash stores
+abbrev pub IsDueAt : {D T : Type 0} → ℕ → DeskState D T → Due → Type 0
+IsDueAt least desk due =
+    (due.converts ≡ wants_convert desk.core) × (due.merges ≡ wants_merge desk.core) × (due.begins ≡ may_merge desk.core least)
 
 -- whether this result is a refusal for want of room
 abbrev pub lacks_room : Option Answer → Bool
@@ -48,8 +49,8 @@ abbrev pub may_get_room : {D T : Type 0} → DeskState D T → Option Answer →
 may_get_room desk answer = lacks_room answer && (wants_convert desk.core || wants_merge desk.core)
 
 -- the background work that may make room for a request with this result, or none
-abbrev pub MayMakeRoom : {D T : Type 0} → DeskState D T → Option Answer → Option Due → Type 0
-MayMakeRoom desk answer due = MatchOption due (may_get_room desk answer ≡ false) (λ work. (may_get_room desk answer ≡ true) × IsDueAt desk work)
+abbrev pub MayMakeRoom : {D T : Type 0} → ℕ → DeskState D T → Option Answer → Option Due → Type 0
+MayMakeRoom least desk answer due = MatchOption due (may_get_room desk answer ≡ false) (λ work. (may_get_room desk answer ≡ true) × IsDueAt least desk work)
 
 -- ---- the jobs of a batch
 
@@ -159,7 +160,7 @@ module _ {D F T : Type 0} (facts : Ghosts D F) (trace : TraceOf T) where
         (done : List (Job D T N F)) × (mid : WriterState D T N F) × (flushed : Flushed) × (before : DeskState D T) × (then : DeskState D T)
         × PerformsAll (record { seat = seat; done = [] }) old done mid
         × Flushes facts trace before then mid.seat after flushed
-        × IsDueAt then due
+        × ((least : ℕ) × IsDueAt least then due)
         × RepliesToAll flushed mid.done new
 
     -- the desk does batch after batch from the seat, and this many jobs are taken in all, if they are counted

@@ -9,3 +9,4 @@ pub mod Asked
 pub mod Handing
 pub mod Unanswered
 pub mod SetAnswers
+pub mod Silences

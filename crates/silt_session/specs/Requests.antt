@@ -1,10 +1,11 @@
 -- Requests to the writer, and their replies.
-use Rattle.std.specs.Prelude.{◌≡◌, ℕ, nat_le, if◌then◌else◌, Option, Some, None, Result, Ok, Err, List, map}
+use Rattle.std.specs.Prelude.{◌≡◌, ℕ, Bool, true, false, nat_le, if◌then◌else◌, Option, Some, None, Result, Ok, Err, List, map}
 use Rattle.silt_frame.specs.declared.key.Key.{Key}
 use Rattle.silt_event.specs.Events.{PlainReply}
 use Rattle.silt_event.specs.declared.event.Event.{Event}
 use Rattle.silt_event.specs.declared.event.Event.TheVariants as event
 use Rattle.silt_event.specs.declared.refusal.Refusal.{Refusal}
+use Rattle.silt_event.specs.declared.refusal.Refusal.TheVariants as refusal_case
 use Rattle.silt_event.specs.declared.reply.Reply.TheVariants.{Accepted, Acknowledged, Differs, Refused, Unsettled}
 use Rattle.silt_session.specs.declared.job.Request.{Request}
 use Rattle.silt_session.specs.declared.job.Request.TheVariants.{Put, Delete, Swap, Flush}
@@ -42,6 +43,12 @@ IsNoRequest (event.Get key) = Unit {0}
 IsNoRequest event.Convert = Unit {0}
 IsNoRequest event.Merge = Unit {0}
 IsNoRequest event = ⊥
+
+-- the refusal says that the device failed, in this call or in an earlier one
+abbrev pub is_failure : Refusal (Unit {0}) → Bool
+is_failure (refusal_case.Device fault) = true
+is_failure refusal_case.Failed = true
+is_failure other = false
 
 -- the reply to a flush with this result
 abbrev pub acknowledged : Flushed → PlainReply

@@ -3,6 +3,10 @@ use Rattle.std.specs.Prelude.{◌≡◌, ◌⊎◌, ℕ, ◌≤◌, Bool, true, 
 use Rattle.silt_disk.specs.declared.disk.Disk.{Ghosts}
 use Rattle.silt_frame.specs.declared.key.Key.{Key}
 use Rattle.silt_event.specs.Events.{PlainReply, Step, plain}
+use Rattle.silt_event.specs.declared.admin.Admin.{Admin}
+use Rattle.silt_event.specs.declared.admin.Admin.TheVariants as admin_case
+use Rattle.silt_event.specs.declared.admin.AdminReply.{AdminReply}
+use Rattle.silt_event.specs.declared.admin.AdminReply.TheVariants as reply_case
 use Rattle.silt_event.specs.declared.event.Event.{Event}
 use Rattle.silt_event.specs.declared.facts.Facts.{Facts}
 use Rattle.silt_event.specs.declared.event.Event.TheVariants.{Get, Convert, Merge}
@@ -78,7 +82,9 @@ module _ {A : Type 0} where
   AnswersClient gives old new event reply =
       ((new.is_lost ≡ true) × (reply ≡ NotServed)) ⊎ ((reply ≡ Refused NoMemory) ⊎ gives old.asking event reply)
 
-  -- a client gives the facts that are given to it, and none if its session is lost
-  abbrev pub InformsClient : (A → Facts → Type 0) → ClientState A → Option Facts → Type 0
-  InformsClient informs client None = client.is_lost ≡ true
-  InformsClient informs client (Some facts) = (client.is_lost ≡ false) × informs client.asking facts
+  -- a client gives the facts that are given to it, and none if its session is lost; it passes on each other order
+  abbrev pub AdministersClient : (A → Facts → Type 0) → ClientState A → Admin → AdminReply → Type 0
+  AdministersClient informs client admin_case.Info (reply_case.Info facts counts) = (client.is_lost ≡ false) × informs client.asking facts
+  AdministersClient informs client admin_case.Info reply = (client.is_lost ≡ true) × (reply ≡ reply_case.NotServed)
+  AdministersClient informs client admin_case.Shutdown reply = reply ≡ reply_case.Begun
+  AdministersClient informs client admin_case.Backup reply = (reply ≡ reply_case.Begun) ⊎ ((reply ≡ reply_case.UnderWay) ⊎ (reply ≡ reply_case.NotServed))

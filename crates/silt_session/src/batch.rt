@@ -5,24 +5,26 @@ ghost use Rattle.silt_session.specs.Origins.{Flushes, Performs};
 ghost use Rattle.silt_session.specs.Requests.{compared};
 ghost use Rattle.silt_session.specs.declared.job.Job.{Job as JobOf};
 
+use crate::board::Board;
 use crate::held::{Batch, reply_to_all};
 use crate::job::{Job, Request, Tasks};
 use crate::job_log::LogId;
 use crate::room::{HearsRoom, RoomWait};
+use crate::tally::is_failure;
 use crate::task::{Answer, Task};
 use silt_desk::{Desk, DeskId, Due, Gate, Seat, Shared, Spot, Trace, plain};
 use silt_disk::Disk;
 use silt_event::{Refusal, bytes_of};
 use std::alloc::Global;
 use std::sync::Wait;
-use std::time::Clock;
+use std::time::{Clock, Instant};
 
 /// The most tries of a request that is refused for want of room, between its first and its last one. Each message to the
 /// writer follows work that was finished or refused, so one or two do. With this limit a worker whose step is refused again
 /// and again does not fill the record.
 const TRIES_BETWEEN: u32 = 6;
 
-/// Where the writer works: the desk, the gate before each call, and how it waits for room.
+/// Where the writer works: the desk, the gate before each call, how it waits for room, and the board on which it counts.
 #[derive(Drop)]
 pub struct Workplace<'a, D: Disk, T: Trace, N: DeskId, G: Gate, H: HearsRoom, R> {
     pub rt: &'a R,
@@ -30,6 +32,7 @@ pub struct Workplace<'a, D: Disk, T: Trace, N: DeskId, G: Gate, H: HearsRoom, R>
     pub shared: &'a Shared<D, T, N>,
     pub gate: &'a G,
     pub room: &'a RoomWait<H>,
+    pub board: &'a Board,
 }
 
 // The result of a command that compares nothing.
@@ -93,7 +96,7 @@ fn flush<D: Disk, T: Trace, N: DeskId>(
     least: u32,
 ) -> (Result<u64, Refusal<()>>, Due)
     ensures flushes { Flushes D.Disk T.Trace desk.old desk.new seat.old seat.new result.0 }
-    ensures due { IsDueAt desk.new result.1 }
+    ensures due { IsDueAt least desk.new result.1 }
 {
     let flushed = plain(&desk.flush(alloc, seat));
     (flushed, desk.due(least))
@@ -106,7 +109,7 @@ fn work_for_room<D: Disk, T: Trace, N: DeskId>(
     answer: &Option<Answer>,
     least: u32,
 ) -> Option<Due>
-    ensures { MayMakeRoom desk.now answer.now result }
+    ensures { MayMakeRoom least desk.now answer.now result }
 {
     match answer {
         Some(Err(Refusal::NoRoom)) => {
@@ -161,6 +164,25 @@ impl<D: Disk, T: Trace, N: DeskId + LogId, G: Gate, H: HearsRoom, R: Wait + Cloc
         )
     }
 
+    // Waits for a message that there may be room, until this moment. If the gate is closed it does not wait, as if one came.
+    fn hears_room(&self, until: Option<Instant>) -> bool
+        ensures { result ≡ false → H.has_ended self.now.room.now.heard }
+    {
+        for _second in 0..self.room.seconds {
+            if self.gate.is_closed() {
+                return true;
+            }
+            if self
+                .room
+                .heard
+                .comes(self.rt, self.room.soon(self.rt, until))
+            {
+                return true;
+            }
+        }
+        self.gate.is_closed() || self.room.heard.comes(self.rt, until)
+    }
+
     // Does a request that was refused for want of room once more, as soon as a worker may have made room, and again if it
     // is still refused for that. Returns the last result.
     fn try_again(&self, seat: &mut Seat<N>, request: &Request) -> Option<Answer>
@@ -169,7 +191,7 @@ impl<D: Disk, T: Trace, N: DeskId + LogId, G: Gate, H: HearsRoom, R: Wait + Cloc
         let until = self.room.deadline(self.rt);
         for _tried in 0..TRIES_BETWEEN {
             self.gate.rest(Spot::Writer);
-            let came = self.room.heard.comes(self.rt, until);
+            let came = self.hears_room(until);
             let (answer, due) = self.try_request(seat, request);
             let Some(due) = due else {
                 return answer;
@@ -182,7 +204,7 @@ impl<D: Disk, T: Trace, N: DeskId + LogId, G: Gate, H: HearsRoom, R: Wait + Cloc
             let begins = due.begins && !due.converts;
             self.room.wakes.go(self.rt, Due { begins, ..due });
         }
-        let _ = self.room.heard.comes(self.rt, until);
+        let _ = self.hears_room(until);
         let (answer, _) = self.try_request(seat, request);
         answer
     }
@@ -269,6 +291,15 @@ impl<D: Disk, T: Trace, N: DeskId + LogId, G: Gate, H: HearsRoom, R: Wait + Cloc
         }
     }
 
+    // Tells people if a flush is refused because the store has failed.
+    fn note_flush(&self, flushed: &Result<u64, Refusal<()>>) {
+        if let Err(refusal) = flushed {
+            if is_failure(refusal) {
+                self.gate.failed(Spot::Writer);
+            }
+        }
+    }
+
     /// Does the tasks of each job at the desk, in order, each call under a guard of its own. Then it flushes once and gives
     /// each task its reply; that of an accepted command depends on the flush. It allocates no memory of its own. Returns
     /// the jobs whose replies are not sent yet, and which background work there is to do after the flush.
@@ -290,6 +321,7 @@ impl<D: Disk, T: Trace, N: DeskId + LogId, G: Gate, H: HearsRoom, R: Wait + Cloc
         let (flushed, due) = flush(&mut *self.shared.write(self.rt), self.alloc, seat, least);
         let mut jobs = batch.into_jobs();
         reply_to_all(&mut jobs, &flushed);
+        self.note_flush(&flushed);
         (jobs, due)
     }
 }

@@ -5,11 +5,14 @@ ghost use Rattle.silt_event.specs.declared.event.Event.{Event as EventOf};
 ghost use Rattle.silt_event.specs.declared.facts.Facts.{Facts as FactsOf};
 ghost use Rattle.silt_event.specs.Events.{PlainReply};
 
+use crate::board::Board;
+use crate::tally::Tally;
 use crate::unanswered::Unanswered;
-use silt_event::{Answerer, Event, Facts, Reply};
+use silt_event::{Admin, AdminReply, Answerer, Event, Facts, Reply};
 use std::alloc::Global;
 use std::marker::Model;
 use std::sync::atomic::{AtomicU64, Ordering};
+use std::time::Clock;
 
 /// Gives replies to events, as long as replies come.
 pub trait Asking: Drop {
@@ -92,15 +95,17 @@ impl<
 /// gets the reply of a step that is not served, and the session's outlet is cut, so that none of these replies is sent.
 /// Contracts see how events are sent, and whether the session is lost.
 #[derive(Drop)]
-pub struct Client<'a, A: Asking> {
+pub struct Client<'a, A: Asking, R> {
     value_len: usize,
     asking: A,
     pipelines: bool,
     is_lost: bool,
     cut: &'a AtomicU64,
+    rt: &'a R,
+    board: &'a Board,
 }
 
-impl<'a, A: Asking> Model for Client<'a, A> {
+impl<'a, A: Asking, R> Model for Client<'a, A, R> {
     ghost use Rattle.silt_session.specs.Sessions.{ClientState};
 
     ghost Value = { ClientState A };
@@ -120,13 +125,20 @@ fn append(replies: &mut Vec<Reply<()>>, given: Vec<Reply<()>>)
     }
 }
 
-impl<'a, A: Asking> Client<'a, A> {
+impl<'a, A: Asking, R: Clock> Client<'a, A, R> {
     ghost use Rattle.silt_event.specs.Events.{AnswersEach};
     ghost use Rattle.silt_session.specs.Sessions.{AnswersClient, IsWithout};
 
     /// A client that sends events this way: all that are asked at once together if it pipelines, and else one by one.
     /// Its values have `value_len` bytes.
-    pub fn new(value_len: usize, asking: A, pipelines: bool, cut: &'a AtomicU64) -> Client<'a, A>
+    pub fn new(
+        value_len: usize,
+        asking: A,
+        pipelines: bool,
+        cut: &'a AtomicU64,
+        rt: &'a R,
+        board: &'a Board,
+    ) -> Client<'a, A, R>
         requires { A.can_ask asking }
         ensures { (result.value_len ≡ value_len) × (result.asking ≡ asking) × (result.is_lost ≡ false) }
     {
@@ -136,6 +148,8 @@ impl<'a, A: Asking> Client<'a, A> {
             pipelines,
             is_lost: false,
             cut,
+            rt,
+            board,
         }
     }
 
@@ -153,6 +167,23 @@ impl<'a, A: Asking> Client<'a, A> {
         }
     }
 
+    // Asks one event.
+    fn ask(&mut self, event: Event) -> Reply<()>
+        ensures stays { self.new.value_len ≡ self.old.value_len }
+        ensures answers { AnswersClient A.gives self.old self.new event result }
+    {
+        if self.is_lost {
+            return Unanswered::Lost.reply();
+        }
+        match self.asking.ask(event) {
+            Ok(reply) => reply,
+            Err(lack) => {
+                self.note(lack);
+                lack.reply()
+            }
+        }
+    }
+
     // Asks events at once, and appends their replies.
     fn ask_all(&mut self, events: Vec<Event>, replies: &mut Vec<Reply<()>>)
         requires { vec_len replies.old + vec_len events ≤ vec_capacity replies.old }
@@ -167,36 +198,40 @@ impl<'a, A: Asking> Client<'a, A> {
             Unanswered::Lost.reply_to(count, replies);
             return;
         }
+        let mut tally = Tally::new();
+        tally.events(events.as_slice());
         match self.asking.ask_all(events) {
-            Ok(given) => append(replies, given),
+            Ok(given) => {
+                tally.replies(given.as_slice());
+                tally.post(self.rt, self.board);
+                append(replies, given);
+            }
             Err(lack) => {
                 self.note(lack);
+                tally.reply(&lack.reply(), count as u64);
+                tally.post(self.rt, self.board);
                 lack.reply_to(count, replies);
             }
         }
     }
 }
 
-impl<A: Asking> Answerer for Client<'_, A> {
-    ghost use Rattle.silt_session.specs.Sessions.{AnswersClient, InformsClient};
+impl<A: Asking, R: Clock> Answerer for Client<'_, A, R> {
+    ghost use Rattle.silt_session.specs.Sessions.{AdministersClient, AnswersClient};
 
     ghost value_len = { λ client. client.value_len };
 
     ghost answers = { AnswersClient A.gives };
 
-    ghost informs = { InformsClient A.informs };
+    ghost administers = { AdministersClient A.informs };
 
     fn answer(&mut self, _alloc: Global, event: Event) -> Reply<()> {
-        if self.is_lost {
-            return Unanswered::Lost.reply();
-        }
-        match self.asking.ask(event) {
-            Ok(reply) => reply,
-            Err(lack) => {
-                self.note(lack);
-                lack.reply()
-            }
-        }
+        let mut tally = Tally::new();
+        tally.event(&event);
+        let reply = self.ask(event);
+        tally.reply(&reply, 1);
+        tally.post(self.rt, self.board);
+        reply
     }
 
     fn answer_all(&mut self, alloc: Global, events: Vec<Event>, replies: &mut Vec<Reply<()>>) {
@@ -209,10 +244,15 @@ impl<A: Asking> Answerer for Client<'_, A> {
         }
     }
 
-    fn facts(&self) -> Option<Facts> {
-        if self.is_lost {
-            return None;
+    fn administer(&self, admin: Admin) -> AdminReply {
+        match admin {
+            Admin::Info if self.is_lost => AdminReply::NotServed,
+            Admin::Info => AdminReply::Info(self.asking.facts(), Some(self.board.counts(self.rt))),
+            Admin::Shutdown => {
+                self.board.end();
+                AdminReply::Begun
+            }
+            Admin::Backup => self.board.order_backup(),
         }
-        Some(self.asking.facts())
     }
 }

@@ -13,6 +13,11 @@
 //! shards. Events that come at once are handed over to all shards before the replies of one are waited for ([`Session::begin`],
 //! [`Session::finish`]), so the shards flush side by side; then the replies are put into the order of the events.
 //!
+//! What the threads of a server tell each other besides jobs is on its [`Board`]: that it is to end, and what they counted. A connection
+//! is read by an [`Inlet`] and written by an [`Outlet`]. Both wait for a second at most and then look at the board, so each session
+//! ends soon after its server is told to end, and what it has read gets its replies first. The writer says at its gate if the store has
+//! failed, and waits for no room once that gate is closed. Nothing is proved of the board.
+//!
 //! The contract of [`Workplace::serve_batch`] states the replies to a batch of jobs, and that of [`Session::answer_all`] that each
 //! reply comes from its own request: a [`Task`] keeps which calls its reply comes from, and a [`Ticket`] says whose job it is.
 //! Nothing is proved of whether messages arrive.
@@ -21,8 +26,10 @@
 mod answers;
 mod asked;
 mod batch;
+mod board;
 mod client;
 mod held;
+mod inlet;
 mod job;
 mod job_log;
 mod key_marks;
@@ -34,6 +41,7 @@ mod room;
 mod session;
 mod session_slots;
 mod set;
+mod tally;
 mod task;
 mod ticket;
 mod unanswered;
@@ -41,7 +49,9 @@ mod work;
 
 pub use asked::AskedEvents;
 pub use batch::Workplace;
+pub use board::Board;
 pub use client::{AskBy, Asking, Client};
+pub use inlet::{Inlet, end_gently, wait_by_ticks};
 pub use job::{Awaited, Job, Request, Tasks};
 pub use job_log::{JobLog, LogId, LogStart, LogView};
 pub use outlet::Outlet;

@@ -2,7 +2,7 @@
 ghost use Rattle.std.specs.Prelude.{◌≡◌, false};
 
 use crossbeam_channel::{Receiver, Sender};
-use silt_desk::{Gate, Spot, Wake, Wakes, wake};
+use silt_desk::{Gate, Spot, View, Wake, Wakes, wake};
 use silt_event::Place;
 use std::alloc::{AllocError, Global};
 use std::sync::Wait;
@@ -57,23 +57,34 @@ impl<H: HearsRoom> RoomWait<H> {
         let seconds = Duration::from_secs(u64::from(self.seconds));
         Instant::now(rt).ok()?.checked_add(seconds)
     }
+
+    /// A second from now, or this moment if it comes before. None if there is none, or if the clock cannot say.
+    pub(crate) fn soon<R: Clock>(&self, rt: &R, until: Option<Instant>) -> Option<Instant> {
+        let second = Instant::now(rt).ok()?.checked_add(Duration::from_secs(1))?;
+        Some(until?.min(second))
+    }
 }
 
 /// A gate that also tells the writer when a worker may have made room: it has finished a conversion, or it rests. Each
-/// message follows the guard under which the worker did its last step, so a try behind the message sees the step.
+/// message follows the guard under which the worker did its last step, so a try behind the message sees the step. If the
+/// store has failed when a worker rests, the gate hears of it: a failed store has no step that could be refused.
 #[derive(Drop)]
-pub struct RoomGate<'a, G: Gate, R: Wait> {
+pub struct RoomGate<'a, V: View, G: Gate, R: Wait> {
     pub rt: &'a R,
+    pub view: &'a V,
     pub gate: &'a G,
     pub room: Sender<Wake>,
 }
 
-impl<G: Gate, R: Wait> Gate for RoomGate<'_, G, R> {
+impl<V: View, G: Gate, R: Wait> Gate for RoomGate<'_, V, G, R> {
     fn pass(&self, spot: Spot) {
         self.gate.pass(spot);
     }
 
     fn rest(&self, spot: Spot) {
+        if self.view.facts().failed > 0 {
+            self.gate.failed(spot);
+        }
         self.gate.rest(spot);
         wake(self.rt, &self.room);
     }
@@ -91,5 +102,13 @@ impl<G: Gate, R: Wait> Gate for RoomGate<'_, G, R> {
 
     fn damaged(&self, spot: Spot, place: Place) {
         self.gate.damaged(spot, place);
+    }
+
+    fn failed(&self, spot: Spot) {
+        self.gate.failed(spot);
+    }
+
+    fn is_closed(&self) -> bool {
+        self.gate.is_closed()
     }
 }

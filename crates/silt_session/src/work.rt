@@ -12,9 +12,18 @@ use crate::room::HearsRoom;
 use crossbeam_channel::Sender;
 use silt_desk::{DeskId, Gate, Seat, Trace};
 use silt_disk::Disk;
+use silt_event::Counter;
 use silt_inbox::{Inbox, InboxId, Taker};
 use std::sync::Wait;
-use std::time::Clock;
+use std::time::{Clock, Instant};
+
+/// How many microseconds a batch takes at most that counts as one of the shortest.
+const SHORTEST: u128 = 128;
+
+// How often the shortest time has to be doubled to be longer than this.
+fn power_of(micros: u128) -> u32 {
+    u128::BITS - (micros / SHORTEST).leading_zeros()
+}
 
 /// The source of the writer's jobs.
 pub trait Jobs<D: Disk, T: Trace, N: InboxId + LogId> {
@@ -42,6 +51,15 @@ impl<
     H: HearsRoom,
     R: Wait + Clock,
 > Workplace<'_, D, T, N, G, H, R> {
+    // Counts a batch that began at this moment, and how long it took.
+    fn count_batch(&self, began: Option<Instant>) {
+        self.board.count(Counter::Batches, 1);
+        if let (Some(began), Ok(now)) = (began, Instant::now(self.rt)) {
+            let micros = now.saturating_duration_since(began).as_micros();
+            self.board.count(Counter::BatchTimes(power_of(micros)), 1);
+        }
+    }
+
     /// Takes all jobs that wait, does their tasks, each call under a guard of its own, flushes once and then replies, until
     /// there are no more. It hands the replies of many jobs to the replier, so that it can go on with the next batch.
     /// After each batch it wakes the converter and the merger if they have work. A command that is refused for want of
@@ -61,7 +79,9 @@ impl<
             let Some(jobs) = inbox.take_all(self.rt, &mut taker) else {
                 return (seat, taker);
             };
+            let began = Instant::now(self.rt).ok();
             let (left, due) = self.serve_batch(&mut seat, jobs);
+            self.count_batch(began);
             send_replies(self.rt, &replier, left);
             self.room.wakes.go(self.rt, due);
         }

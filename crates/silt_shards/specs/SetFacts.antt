@@ -1,6 +1,11 @@
 -- The facts of a set of shards.
 use Rattle.std.specs.Prelude.{◌≡◌, ◌+◌, ◌⊎◌, List, [], ◌∷◌, Option, Some, None}
+use Rattle.silt_event.specs.declared.admin.Admin.{Admin}
+use Rattle.silt_event.specs.declared.admin.Admin.TheVariants as admin_case
+use Rattle.silt_event.specs.declared.admin.AdminReply.{AdminReply}
+use Rattle.silt_event.specs.declared.admin.AdminReply.TheVariants.{Info, NotServed}
 use Rattle.silt_event.specs.declared.facts.Facts.{Facts}
+use Rattle.silt_event.specs.Queries.{facts_said}
 use Rattle.silt_shards.specs.Sets.{as_count}
 
 -- the facts of no store
@@ -45,3 +50,14 @@ module _ {A : Type 0} (informs : A → Option Facts → Type 0) where
   -- the facts of a set are the sums of its shards'
   abbrev pub SetInforms : List A → Option Facts → Type 0
   SetInforms shards facts = AddsFacts no_facts shards facts
+
+module _ {A : Type 0} (administers : A → Admin → AdminReply → Type 0) where
+  -- an answerer gives these facts, or gives none
+  abbrev pub Informs : A → Option Facts → Type 0
+  Informs answerer facts = (reply : AdminReply) × administers answerer admin_case.Info reply × (facts_said reply ≡ facts)
+
+  -- a set gives its facts, or says that they are not served if a shard gives none; it does nothing else
+  abbrev pub AdministersSet : List A → Admin → AdminReply → Type 0
+  AdministersSet shards admin_case.Info (Info facts counts) = SetInforms Informs shards (Some facts) × (counts ≡ None)
+  AdministersSet shards admin_case.Info reply = SetInforms Informs shards None × (reply ≡ NotServed)
+  AdministersSet shards command reply = reply ≡ NotServed

@@ -2,11 +2,11 @@
 ghost use Rattle.std.specs.Prelude.{◌≡◌, ◌<◌, ◌++◌, ◌∷◌, [], List, length, vec_len};
 ghost use Rattle.silt_event.specs.Events.{HasValueOf, PlainReply};
 ghost use Rattle.silt_shards.specs.Routing.{IsShardCount};
-ghost use Rattle.silt_shards.specs.SetFacts.{SetInforms, no_facts, plus};
+ghost use Rattle.silt_shards.specs.SetFacts.{AdministersSet, Informs, SetInforms, no_facts, plus};
 ghost use Rattle.silt_shards.specs.Sets.{AreAlike, DoesAt, FlushesEach, IsSet, SetDoes, joined, value_len_of};
 
 use crate::shard_key::only_shard;
-use silt_event::{Answerer, Event, Facts, Reply};
+use silt_event::{Admin, AdminReply, Answerer, Event, Facts, Reply};
 use std::alloc::Global;
 use std::marker::Model;
 
@@ -59,11 +59,11 @@ impl<A: Answerer + Drop> StoreSet<A> {
 
     // The sums of the shards' facts, if all give some.
     fn sum_facts(&self) -> Option<Facts>
-        ensures { SetInforms A.informs self.now result }
+        ensures { SetInforms (Informs A.administers) self.now result }
     {
         let mut sum = no_facts();
         for shard in self.shards.iter() {
-            sum = plus(sum, shard.facts()?);
+            sum = plus(sum, facts_given(shard)?);
         }
         Some(sum)
     }
@@ -84,7 +84,7 @@ impl<A: Answerer + Drop> Answerer for StoreSet<A> {
 
     ghost answers = { SetDoes A.answers };
 
-    ghost informs = { SetInforms A.informs };
+    ghost administers = { AdministersSet A.administers };
 
     fn answer(&mut self, alloc: Global, event: Event) -> Reply<()> {
         let count = self.shards.len() as u32;
@@ -97,9 +97,22 @@ impl<A: Answerer + Drop> Answerer for StoreSet<A> {
         }
     }
 
-    fn facts(&self) -> Option<Facts> {
-        self.sum_facts()
+    fn administer(&self, admin: Admin) -> AdminReply {
+        match admin {
+            Admin::Info => match self.sum_facts() {
+                Some(facts) => AdminReply::Info(facts, None),
+                None => AdminReply::NotServed,
+            },
+            _ => AdminReply::NotServed,
+        }
     }
+}
+
+// The facts of a shard, if it gives some.
+fn facts_given<A: Answerer>(shard: &A) -> Option<Facts>
+    ensures { Informs A.administers shard.now result }
+{
+    shard.administer(Admin::Info).facts()
 }
 
 /// The facts of no store.

@@ -18,3 +18,4 @@ pub mod Rows
 pub mod Histories
 pub mod Livings
 pub mod Numbers
+pub mod Digests

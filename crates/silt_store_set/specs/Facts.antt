@@ -1,6 +1,16 @@
 -- The facts of a store.
-use Rattle.std.specs.Prelude.{◌≡◌, ℕ, Bool, true, false, Option, Some, None, length}
+use Rattle.std.specs.Prelude.{◌≡◌, ℕ, Bool, IsTrue, true, false, Option, Some, None, length}
+use Rattle.silt_event.specs.declared.admin.Admin.{Admin as AdminOf}
+use Rattle.silt_event.specs.declared.admin.Admin.TheVariants as admin
+use Rattle.silt_event.specs.declared.admin.AdminReply.{AdminReply}
+use Rattle.silt_event.specs.declared.admin.AdminReply.TheVariants as reply_case
 use Rattle.silt_event.specs.declared.facts.Facts.{Facts}
+use Rattle.silt_disk.specs.Disk.{Content}
+use Rattle.silt_disk.specs.Layout.{Shape}
+use Rattle.silt_image.specs.Meaning.{AreDigestsOf}
+use Rattle.silt_image.specs.Stores.{stores_named}
+use Rattle.silt_manifest.specs.declared.body.Body.{Body}
+use Rattle.silt_manifest.specs.declared.digests.Digests.{Digests}
 use Rattle.silt_store_set.specs.CoreState.{ConvertWork, CoreState, MergeWork}
 
 -- how many slots a conversion has written, if one is in progress
@@ -34,6 +44,11 @@ facts_of core = record {
   merge_steps = steps_taken core.merging;
 }
 
--- a store gives its facts
-abbrev pub GivesFacts : {D : Type 0} → CoreState D → Option Facts → Type 0
-GivesFacts core facts = facts ≡ Some (facts_of core)
+-- on a disk that obeys the crash model, these are the digests of the stores that the record names, as the disk shows them
+abbrev pub NamesDigests : Content → Shape → Body → Digests → Type 0
+NamesDigests content shape body digests = IsTrue content.honest → AreDigestsOf (Some digests) (stores_named shape body content.shown)
+
+-- a store gives its facts, counts nothing, and does nothing else
+abbrev pub AdministersCore : {D : Type 0} → CoreState D → AdminOf → AdminReply → Type 0
+AdministersCore core admin.Info reply = reply ≡ reply_case.Info (facts_of core) None
+AdministersCore core command reply = reply ≡ reply_case.NotServed

@@ -2,12 +2,12 @@
 ghost use Rattle.std.specs.Prelude.{◌≡◌};
 ghost use Rattle.silt_event.specs.Events.{HasValueOf};
 ghost use Rattle.silt_store_set.specs.CoreState.{DoesPlain};
-ghost use Rattle.silt_store_set.specs.Facts.{GivesFacts, facts_of};
+ghost use Rattle.silt_store_set.specs.Facts.{AdministersCore, facts_of};
 
 use crate::Core;
 use silt_device::{FaultDisk, FileDisk, MemDisk};
 use silt_disk::Disk;
-use silt_event::{Answerer, Event, Facts, Reply};
+use silt_event::{Admin, AdminReply, Answerer, Event, Facts, Reply};
 use std::alloc::Global;
 
 /// A disk whose stores reply to events and give their facts.
@@ -57,14 +57,17 @@ impl<D: Served> Answerer for Core<D> {
 
     ghost answers = { DoesPlain D.Disk };
 
-    ghost informs = { GivesFacts };
+    ghost administers = { AdministersCore };
 
     fn answer(&mut self, alloc: Global, event: Event) -> Reply<()> {
         D::answer_on(self, alloc, &event)
     }
 
-    fn facts(&self) -> Option<Facts> {
-        Some(D::facts_on(self))
+    fn administer(&self, admin: Admin) -> AdminReply {
+        match admin {
+            Admin::Info => AdminReply::Info(D::facts_on(self), None),
+            _ => AdminReply::NotServed,
+        }
     }
 }
 

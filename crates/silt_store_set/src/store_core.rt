@@ -1,5 +1,5 @@
 // The store on one device: what it holds in memory, and its calls.
-ghost use Rattle.std.specs.Prelude.{◌≡◌, ◌<◌, ◌≤◌, ◌↔◌, length, [], true, false, not, Some, None, Ok, All, IsTrue, IfOk, IfErr, IfSome, OnErr, MatchResult};
+ghost use Rattle.std.specs.Prelude.{◌≡◌, ◌+◌, ◌<◌, ◌≤◌, ◌↔◌, length, slice_range, [], true, false, not, Some, None, Ok, All, IsTrue, IfOk, IfErr, IfSome, OnErr, MatchResult};
 ghost use Rattle.std.specs.Option.{option_map};
 ghost use Rattle.silt_event.specs.Events.{Legal};
 ghost use Rattle.silt_disk.specs.Disk.{LeavesOnly};
@@ -14,6 +14,7 @@ use silt_engine::{ConvertError, Engine, EntriesError, MergeError, WriteError};
 use silt_event::bytes_of;
 use silt_frame::{Key, Kind, Value};
 use silt_hasher::LentBytes;
+use silt_manifest::{Body, Digests};
 use std::alloc::{AllocError, Global};
 use std::collections::BTreeMap;
 use std::marker::Model;
@@ -100,7 +101,9 @@ impl<D: Disk> Core<D> {
     ghost use Rattle.silt_frame.specs.Rows.{key_cmp};
     ghost use Rattle.silt_store_set.specs.CoreState.{CoreState, Does, Runs, Opens, EntriesCause, IsRefusedRead, StandsKept, map_of, MayWrite, may_merge, row_event, wants_convert, wants_merge};
     ghost use Rattle.silt_store_set.specs.Costs.{RunMade};
-    ghost use Rattle.silt_store_set.specs.Facts.{facts_of};
+    ghost use Rattle.silt_store_set.specs.Facts.{NamesDigests, facts_of};
+    ghost use Rattle.silt_disk.specs.Layout.{device_size};
+    ghost use Rattle.silt_disk.specs.declared.disk.Call.TheVariants as DiskCall;
     ghost use Rattle.silt_event.specs.Events.{HasValueOf, Step};
     ghost use Rattle.silt_store_set.specs.Opening.{OpeningCause, RefusalMakes};
     ghost use Rattle.silt_store_set.specs.Replies.{change_reply, flush_reply, found_of, get_reply, read_reply, progress_reply, swap_reply};
@@ -178,6 +181,25 @@ impl<D: Disk> Core<D> {
             converted_slots: self.engine.slots_converted() as u64,
             merge_steps: self.engine.merge_steps(),
         }
+    }
+
+    /// Which regions the current manifest record names, and the digests of the stores in them: of the hash stores, the newest
+    /// first, and of the sorted store. It asks nothing of the device.
+    pub fn named(&self) -> (Body, Digests)
+        ensures body { result.0 ≡ self.now.body }
+        ensures digests { self.now.failed ≡ false → NamesDigests (D.content self.now.disk) self.now.shape self.now.body result.1 }
+    {
+        (self.engine.body(), self.engine.own_digests())
+    }
+
+    /// Reads bytes of the device from `at` on. After a fault the buffer may hold any bytes.
+    pub fn read_at(&self, at: u64, buf: &mut [u8]) -> Result<(), D::Fault>
+        requires { at + length buf.old ≤ device_size self.now.shape }
+        ensures bytes { IsTrue (D.content self.now.disk).honest
+            → OnOk result (buf.new ≡ slice_range (D.content self.now.disk).shown at (at + length buf.old)) }
+        ensures fault { IfErr result (λ fault. D.gave self.now.disk fault DiskCall.Read at (length buf.old)) }
+    {
+        self.disk.read(at, buf)
     }
 
     /// States what is true of the store at every moment, and does nothing. Each possible crash image of its device

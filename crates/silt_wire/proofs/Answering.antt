@@ -5,8 +5,9 @@ use Rattle.std.proofs.lemmas.List.{append-nil, length-drop, map-append, take_all
 use Rattle.std.proofs.Math.Seq.{take-add}
 use Rattle.std.specs.Io.KnownBytes.{Appends, Consumes, Keeps}
 use Rattle.silt_event.specs.declared.event.Event.{Event}
-use Rattle.silt_event.specs.Queries.{Answer, AnswersQuery, Query, asks_facts, does, gives_facts, replies}
-use Rattle.silt_event.specs.declared.facts.Facts.{Facts}
+use Rattle.silt_event.specs.declared.admin.Admin.{Admin}
+use Rattle.silt_event.specs.declared.admin.AdminReply.{AdminReply}
+use Rattle.silt_event.specs.Queries.{Answer, AnswersQuery, Query, admin, does, replies, says}
 use Rattle.silt_wire.specs.declared.batch.Tail.{Tail}
 use Rattle.silt_wire.specs.declared.line.LineFault.{LineFault}
 use Rattle.silt_wire.specs.declared.sessions.SessionEnd.{SessionEnd}
@@ -14,7 +15,7 @@ use Rattle.silt_wire.specs.declared.sessions.SessionEnd.TheVariants.{End, ReadFa
 use Rattle.silt_wire.specs.Batches.{event_query, tail_after, tail_asked, valid}
 use Rattle.silt_wire.specs.LineBuffer.{HoldsBytes}
 use Rattle.silt_wire.specs.declared.line_buffer.LineBuffer.{LineBuffer}
-use Rattle.silt_wire.specs.Lines.{Parses, asked_by, is_blank, is_info, query_by, with_event}
+use Rattle.silt_wire.specs.Lines.{Parses, admin_of, asked_by, is_blank, query_by, query_with, with_event}
 use Rattle.silt_wire.specs.Replies.{fault_line}
 use Rattle.silt_wire.specs.Sessions.{IsBeginning, answer_lines, asks, queries_of, line_of, texts_of, AnswersAll, AnswersSome, Ends, IsCut, SessionState}
 use Rattle.silt_event.specs.Events.{AnswersEach, PlainReply}
@@ -264,10 +265,10 @@ module _ {A : Type 0} (answers : A → A → Query → Answer → Type 0) where
 
 -- ---- a batch of events
 
-module _ {A : Type 0} (answers : A → A → Event → PlainReply → Type 0) (informs : A → Option Facts → Type 0) where
+module _ {A : Type 0} (answers : A → A → Event → PlainReply → Type 0) (administers : A → Admin → AdminReply → Type 0) where
   -- replies to events are answers to queries
   pub each-queries : (a b : A) (es : List Event) (rs : List PlainReply) → AnswersEach answers a es rs b
-      → AnswersEach (AnswersQuery answers informs) a (map does es) (map replies rs) b
+      → AnswersEach (AnswersQuery answers administers) a (map does es) (map replies rs) b
   each-queries a b [] [] h = h
   each-queries a b [] (r ∷ rs) h = absurd h
   each-queries a b (e ∷ es) [] h = absurd h
@@ -281,16 +282,16 @@ module _ {A : Type 0} (answers : A → A → Event → PlainReply → Type 0) (i
   texts_of-valid a b (e ∷ es) (r ∷ rs) h = ap (λ l. line_of r ++ l) (texts_of-valid h.0 b es rs h.2)
 
   pub all-events : (a b : A) (es : List Event) (rs : List PlainReply) (text more : List ℕ) → AnswersEach answers a es rs b
-      → more ≡ text ++ flat_map line_of rs → AnswersAll (AnswersQuery answers informs) (valid es) a b (Some text) (Some more)
+      → more ≡ text ++ flat_map line_of rs → AnswersAll (AnswersQuery answers administers) (valid es) a b (Some text) (Some more)
   all-events a b es rs text more h e = (
     map replies rs,
-    subst (λ l. AnswersEach (AnswersQuery answers informs) a l (map replies rs) b) (sym (queries_of-valid es)) (each-queries a b es rs h),
+    subst (λ l. AnswersEach (AnswersQuery answers administers) a l (map replies rs) b) (sym (queries_of-valid es)) (each-queries a b es rs h),
     e ∙ ap (λ l. text ++ l) (sym (texts_of-valid a b es rs h)),
   )
 
   -- the texts of the first replies are there
   pub some-events : (a b : A) (es : List Event) (rs : List PlainReply) (text more : List ℕ) → AnswersEach answers a es rs b
-      → (out : List ℕ) × IsBeginning out (flat_map line_of rs) × (more ≡ text ++ out) → AnswersSome (AnswersQuery answers informs) (valid es) a b (Some text) (Some more)
+      → (out : List ℕ) × IsBeginning out (flat_map line_of rs) × (more ≡ text ++ out) → AnswersSome (AnswersQuery answers administers) (valid es) a b (Some text) (Some more)
   some-events a b es rs text more h cut = (
     map does es,
     map replies rs,
@@ -301,19 +302,19 @@ module _ {A : Type 0} (answers : A → A → Event → PlainReply → Type 0) (i
     cut.2,
   )
 
-  -- the facts of this moment are given, and nothing changes
-  pub all-facts : (a : A) (facts : Option Facts) (text more : List ℕ) → informs a facts → more ≡ text ++ answer_lines (gives_facts facts)
-      → AnswersAll (AnswersQuery answers informs) (Ok asks_facts ∷ []) a a (Some text) (Some more)
-  all-facts a facts text more h e = (gives_facts facts ∷ [], (a, (h, refl), refl), e ∙ ap (λ l. text ++ l) (sym (append-nil (answer_lines (gives_facts facts)))))
+  -- an admin command has its reply, and nothing changes
+  pub all-admin : (a : A) (command : Admin) (reply : AdminReply) (text more : List ℕ) → administers a command reply → more ≡ text ++ answer_lines (says reply)
+      → AnswersAll (AnswersQuery answers administers) (Ok (admin command) ∷ []) a a (Some text) (Some more)
+  all-admin a command reply text more h e = (says reply ∷ [], (a, (h, refl), refl), e ∙ ap (λ l. text ++ l) (sym (append-nil (answer_lines (says reply)))))
 
 -- if memory did not run out, a line was parsed as what it asks for
 pub asked-event : (asked : Result Event LineFault) (event : Event) → Parses asked (Ok event) → Ok (does event) ≡ with_event asked
 asked-event asked event (inl h) = ap with_event h
 asked-event asked event (inr h) = absurd (cc)
 
--- a line that asks for no facts asks for its event
-pub query-event : (v : ℕ) (line : List ℕ) (query : Result Query LineFault) → is_info line ≡ false → query ≡ with_event (asked_by v line) → query ≡ query_by v line
-query-event v line query none is = is ∙ ap (λ b. cond b (Ok asks_facts) (with_event (asked_by v line))) (sym none)
+-- a line without an admin command asks for its event
+pub query-event : (v : ℕ) (line : List ℕ) (query : Result Query LineFault) → admin_of line ≡ None → query ≡ with_event (asked_by v line) → query ≡ query_by v line
+query-event v line query none is = is ∙ ap (λ o. query_with o (asked_by v line)) (sym none)
 
 -- ---- results
 

@@ -1,4 +1,5 @@
 pub mod Answering
+pub mod Counted
 pub mod Cuts
 pub mod Digits
 pub mod Http

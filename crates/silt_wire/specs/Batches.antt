@@ -2,10 +2,10 @@
 use Rattle.std.specs.Prelude.{◌≡◌, ◌≤◌, ◌+◌, ℕ, List, [], ◌∷◌, All, map, Option, Some, None, Result, Ok, Err, vec_capacity, vec_len}
 use Rattle.silt_event.specs.declared.event.Event.{Event}
 use Rattle.silt_event.specs.Events.{HasValueOf}
-use Rattle.silt_event.specs.Queries.{Query, asks_facts, does}
+use Rattle.silt_event.specs.Queries.{Query, admin, does}
 use Rattle.silt_wire.specs.declared.batch.Batch.{Batch}
 use Rattle.silt_wire.specs.declared.batch.Tail.{Tail}
-use Rattle.silt_wire.specs.declared.batch.Tail.TheVariants.{Facts, Fault}
+use Rattle.silt_wire.specs.declared.batch.Tail.TheVariants.{Admin, Fault}
 use Rattle.silt_wire.specs.declared.line.LineFault.{LineFault}
 
 -- the values of the events have this length, and there is room for a reply to each event
@@ -28,7 +28,7 @@ requests batch = valid batch.events.items
 -- what a line that ends a batch asks for
 abbrev pub tail_asked : Tail → Result Query LineFault
 tail_asked (Fault fault) = Err fault
-tail_asked Facts = Ok asks_facts
+tail_asked (Admin command) = Ok (admin command)
 
 -- the line after the events, if there is one
 abbrev pub tail_after : Option Tail → List (Result Query LineFault)

@@ -10,7 +10,9 @@ use Rattle.sha1.specs.Sha1.{sha1}
 use Rattle.silt_frame.specs.declared.key.Key.{Key}
 use Rattle.silt_event.specs.declared.event.Event.{Event}
 use Rattle.silt_event.specs.declared.event.Event.TheVariants.{Put, Delete, Swap, Flush, Get, Convert, Merge}
-use Rattle.silt_event.specs.Queries.{Query, asks_facts, does}
+use Rattle.silt_event.specs.declared.admin.Admin.{Admin as AdminOf}
+use Rattle.silt_event.specs.declared.admin.Admin.TheVariants.{Info, Shutdown, Backup}
+use Rattle.silt_event.specs.Queries.{Query, admin, does}
 use Rattle.silt_wire.specs.declared.line.LineFault.{LineFault}
 use Rattle.silt_wire.specs.declared.line.LineFault.TheVariants.{BadLine, BadKey, BadValue, LineTooLong, NoMemory}
 use Rattle.silt_frame.specs.Frame.{key_len}
@@ -110,18 +112,31 @@ asked_by value_len line =
 abbrev pub is_blank : List ℕ → Bool
 is_blank line = length (strip_carriage_return line) == 0
 
--- whether a line asks for the facts of the store; a session has such lines, a script has none
-abbrev pub is_info : List ℕ → Bool
-is_info line = nat_le (length line) longest_line && bytes_eq (strip_carriage_return line) (codes "info")
+-- the admin command that a word is
+abbrev pub admin_word : List ℕ → Option AdminOf
+admin_word word =
+    if bytes_eq word (codes "info") then Some Info
+    else if bytes_eq word (codes "shutdown") then Some Shutdown
+    else if bytes_eq word (codes "backup") then Some Backup
+    else None
 
--- what a line of a session asks for, if it is no question for the facts
+-- the admin command of a line; a session has such lines, a script has none
+abbrev pub admin_of : List ℕ → Option AdminOf
+admin_of line = if nat_le (length line) longest_line then admin_word (strip_carriage_return line) else None
+
+-- what a line of a session asks for, if it is no admin command
 abbrev pub with_event : Result Event LineFault → Result Query LineFault
 with_event (Ok event) = Ok (does event)
 with_event (Err fault) = Err fault
 
+-- what a line of a session asks for: its admin command, if it has one, and else its event
+abbrev pub query_with : Option AdminOf → Result Event LineFault → Result Query LineFault
+query_with (Some command) asked = Ok (admin command)
+query_with None asked = with_event asked
+
 -- what a line of a session asks for, or why it asks for nothing
 abbrev pub query_by : ℕ → List ℕ → Result Query LineFault
-query_by value_len line = if is_info line then Ok asks_facts else with_event (asked_by value_len line)
+query_by value_len line = query_with (admin_of line) (asked_by value_len line)
 
 -- only a put and a swap need memory, for their values
 abbrev pub WantsMemory : Result Event LineFault → Type 0

@@ -1,13 +1,15 @@
 -- The replies of a session, and what it writes.
-use Rattle.std.specs.Prelude.{◌≡◌, ◌==◌, ℕ, List, [], ◌∷◌, ◌++◌, Option, Some, None, Result, Ok, Err, if◌then◌else◌}
+use Rattle.std.specs.Prelude.{◌≡◌, ◌==◌, ℕ, List, [], ◌∷◌, ◌++◌, codes, Option, Result, Ok, Err, if◌then◌else◌}
 use Rattle.std.specs.Io.KnownBytes.{Appends, Consumes, IsAtEnd}
 use Rattle.silt_event.specs.declared.reply.Reply.TheVariants.{NotServed}
 use Rattle.silt_event.specs.Events.{AnswersEach, PlainReply}
-use Rattle.silt_event.specs.Queries.{Answer, Query, gives_facts, replies}
+use Rattle.silt_event.specs.declared.admin.AdminReply.{AdminReply}
+use Rattle.silt_event.specs.declared.admin.AdminReply.TheVariants as admin_case
+use Rattle.silt_event.specs.Queries.{Answer, Query, replies, says}
 use Rattle.silt_wire.specs.declared.line.LineFault.{LineFault}
 use Rattle.silt_wire.specs.declared.sessions.SessionEnd.{SessionEnd}
 use Rattle.silt_wire.specs.declared.sessions.SessionEnd.TheVariants.{End, ReadFault, WriteFault, NoMemory}
-use Rattle.silt_wire.specs.Facts.{facts_text}
+use Rattle.silt_wire.specs.Facts.{info_text}
 use Rattle.silt_wire.specs.Lines.{is_blank, query_by}
 use Rattle.silt_wire.specs.Replies.{fault_line, reply_text}
 
@@ -44,11 +46,17 @@ queries_of (Err fault ∷ more) = queries_of more
 abbrev pub line_of : PlainReply → List ℕ
 line_of reply = reply_text reply ++ 10 ∷ []
 
--- an answer as lines; facts that the answerer does not have have the line of an event that is not served
+-- the reply to an admin command as lines; what is not served has the line of an event that is not served
+abbrev pub admin_lines : AdminReply → List ℕ
+admin_lines (admin_case.Info facts counts) = info_text facts counts
+admin_lines admin_case.Begun = codes "begun\n"
+admin_lines admin_case.UnderWay = codes "under way\n"
+admin_lines admin_case.NotServed = line_of NotServed
+
+-- an answer as lines
 abbrev pub answer_lines : Answer → List ℕ
 answer_lines (replies reply) = line_of reply
-answer_lines (gives_facts (Some facts)) = facts_text facts
-answer_lines (gives_facts None) = line_of NotServed
+answer_lines (says reply) = admin_lines reply
 
 -- what is written for lines: a refusal for each invalid one, and else the next answer, as long as there is one
 abbrev pub texts_of : List (Result Query LineFault) → List Answer → List ℕ
@@ -65,7 +73,7 @@ pub record SessionState (A : Type 0) : Type 0 where
 
 -- ---- what an answerer does
 
--- Below, `answers` says how an answerer answers queries: `AnswersQuery A.answers A.informs` of an `A: Answerer`.
+-- Below, `answers` says how an answerer answers queries: `AnswersQuery A.answers A.administers` of an `A: Answerer`.
 
 module _ {A : Type 0} (answers : A → A → Query → Answer → Type 0) where
   -- the answerer answered all queries, and exactly their texts were written

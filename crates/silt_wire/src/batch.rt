@@ -1,15 +1,15 @@
 // Events that are gathered first and answered together.
 ghost use Rattle.std.specs.Prelude.{◌≡◌, ◌++◌, ◌∷◌, [], ℕ, List, Some, OnErr, OnOk, flat_map, string_bytes};
 ghost use Rattle.silt_event.specs.Events.{HasValueOf};
-ghost use Rattle.silt_event.specs.Queries.{AnswersQuery, gives_facts};
+ghost use Rattle.silt_event.specs.Queries.{AnswersQuery, says};
 ghost use Rattle.silt_wire.specs.Batches.{IsAnswerable, requests, tail_asked};
 ghost use Rattle.silt_wire.specs.Replies.{fault_line};
 ghost use Rattle.silt_wire.specs.Sessions.{AnswersAll, AnswersSome, IsBeginning, answer_lines, line_of};
 
-use crate::facts::print_facts;
+use crate::facts::print_info;
 use crate::line::LineFault;
 use crate::reply::{print_fault, print_reply};
-use silt_event::{Answerer, Event, Facts, Reply};
+use silt_event::{Admin, AdminReply, Answerer, Event, Reply};
 use std::alloc::{AllocError, Global};
 
 /// How many bytes of possible replies are enough for a batch.
@@ -32,8 +32,8 @@ pub(crate) struct Batch {
 pub enum Tail {
     /// It has no valid request.
     Fault(LineFault),
-    /// It asks for the facts of the store.
-    Facts,
+    /// It has an admin command.
+    Admin(Admin),
 }
 
 // How many bytes the reply to an event may have. Only the reply to a get has a value, in two digits for each byte.
@@ -89,9 +89,9 @@ impl Batch {
     ) -> Result<(), AllocError>
         requires { IsAnswerable (A.value_len answerer.old) self }
         ensures stays { A.value_len answerer.new ≡ A.value_len answerer.old }
-        ensures all { OnOk result (AnswersAll (AnswersQuery A.answers A.informs) (requests self)
+        ensures all { OnOk result (AnswersAll (AnswersQuery A.answers A.administers) (requests self)
             answerer.old answerer.new (Some (string_bytes texts.old)) (Some (string_bytes texts.new))) }
-        ensures some { OnErr result (AnswersSome (AnswersQuery A.answers A.informs) (requests self)
+        ensures some { OnErr result (AnswersSome (AnswersQuery A.answers A.administers) (requests self)
             answerer.old answerer.new (Some (string_bytes texts.old)) (Some (string_bytes texts.new))) }
     {
         if self.events.is_empty() {
@@ -136,13 +136,13 @@ pub(crate) fn push_tail<A: Answerer>(
     texts: &mut String,
     answerer: &A,
 ) -> Result<(), AllocError>
-    ensures ok { OnOk result (AnswersAll (AnswersQuery A.answers A.informs) (tail_asked tail ∷ [])
+    ensures ok { OnOk result (AnswersAll (AnswersQuery A.answers A.administers) (tail_asked tail ∷ [])
         answerer.now answerer.now (Some (string_bytes texts.old)) (Some (string_bytes texts.new))) }
     ensures err { OnErr result (string_bytes texts.new ≡ string_bytes texts.old) }
 {
     match tail {
         Tail::Fault(fault) => push_fault(alloc, fault, texts),
-        Tail::Facts => push_facts(alloc, answerer.facts(), texts),
+        Tail::Admin(admin) => push_admin(alloc, answerer.administer(admin), texts),
     }
 }
 
@@ -156,16 +156,18 @@ fn push_fault(alloc: Global, fault: LineFault, texts: &mut String) -> Result<(),
     texts.push_str(&line)
 }
 
-// Appends facts as lines, or that they are not served. On an error nothing changes.
-fn push_facts(alloc: Global, facts: Option<Facts>, texts: &mut String) -> Result<(), AllocError>
-    ensures ok { OnOk result (string_bytes texts.new ≡ string_bytes texts.old ++ answer_lines (gives_facts facts)) }
+// Appends the reply to an admin command as lines. On an error nothing changes.
+fn push_admin(alloc: Global, reply: AdminReply, texts: &mut String) -> Result<(), AllocError>
+    ensures ok { OnOk result (string_bytes texts.new ≡ string_bytes texts.old ++ answer_lines (says reply)) }
     ensures err { OnErr result (string_bytes texts.new ≡ string_bytes texts.old) }
 {
-    match facts {
-        Some(facts) => {
-            let text = print_facts(alloc, &facts)?;
+    match reply {
+        AdminReply::Info(facts, counts) => {
+            let text = print_info(alloc, &facts, &counts)?;
             texts.push_str(&text)
         }
-        None => push_reply(alloc, &Reply::NotServed, texts),
+        AdminReply::Begun => texts.push_str("begun\n"),
+        AdminReply::UnderWay => texts.push_str("under way\n"),
+        AdminReply::NotServed => push_reply(alloc, &Reply::NotServed, texts),
     }
 }

@@ -1,12 +1,54 @@
-// Facts to text.
+// Facts and counts to text.
 ghost use Rattle.std.specs.Prelude.{◌≡◌, ◌++◌, IfOk, OnOk, flat_map, map, string_bytes};
-ghost use Rattle.silt_wire.specs.Facts.{fact_line, fact_rows, facts_text};
+ghost use Rattle.silt_wire.specs.Facts.{count_rows, counts_rows, fact_line, fact_rows, info_text};
 
-use silt_event::Facts;
+use silt_event::{COUNTS, Counts, Facts};
 use std::alloc::{AllocError, Global};
 
 /// How many facts there are.
 const COUNT: usize = 11;
+
+/// The names of the counts, in their order.
+const COUNT_NAMES: [&str; COUNTS] = [
+    "uptime",
+    "connections",
+    "open_connections",
+    "refused_connections",
+    "gets",
+    "puts",
+    "deletes",
+    "swaps",
+    "flushes",
+    "refused_1",
+    "refused_2",
+    "refused_3",
+    "refused_4",
+    "refused_5",
+    "refused_6",
+    "refused_7",
+    "refused_8",
+    "refused_9",
+    "refused_10",
+    "refused_11",
+    "batches",
+    "batches_128us",
+    "batches_256us",
+    "batches_512us",
+    "batches_1ms",
+    "batches_2ms",
+    "batches_4ms",
+    "batches_8ms",
+    "batches_16ms",
+    "batches_32ms",
+    "batches_65ms",
+    "batches_131ms",
+    "batches_262ms",
+    "batches_longer",
+    "last_failure",
+    "findings",
+    "scrubs",
+    "backups",
+];
 
 /// The facts in the order of their texts, each a name and a number.
 pub fn fact_rows(facts: &Facts) -> [(&'static str, u64); COUNT]
@@ -49,12 +91,41 @@ fn push_rows(
     Ok(())
 }
 
-/// The text of facts: a line with a name and a number for each, and then the line `end`.
-pub fn print_facts(alloc: Global, facts: &Facts) -> Result<String, AllocError>
-    ensures { IfOk result (λ text. string_bytes text ≡ facts_text facts.now) }
+/// The counts in the order of their texts, each a name and a number.
+pub fn count_rows(alloc: Global, counts: &Counts) -> Result<Vec<(&'static str, u64)>, AllocError>
+    ensures { IfOk result (λ rows. map (λ row. (row.0.now, row.1)) rows.items ≡ count_rows counts.now) }
+{
+    let mut rows = Vec::new(alloc);
+    for (name, number) in COUNT_NAMES.iter().zip(counts.numbers.iter()) {
+        rows.push((*name, *number))?;
+    }
+    Ok(rows)
+}
+
+// Appends counts, a line each, if there are some.
+fn push_counts(alloc: Global, counts: &Option<Counts>, text: &mut String) -> Result<(), AllocError>
+    ensures { OnOk result (string_bytes text.new ≡ string_bytes text.old ++ flat_map fact_line (counts_rows counts.now)) }
+{
+    match counts {
+        Some(counts) => {
+            let rows = count_rows(alloc, counts)?;
+            push_rows(alloc, &rows, text)
+        }
+        None => Ok(()),
+    }
+}
+
+/// The text of facts and of counts: a line with a name and a number for each, and then the line `end`.
+pub fn print_info(
+    alloc: Global,
+    facts: &Facts,
+    counts: &Option<Counts>,
+) -> Result<String, AllocError>
+    ensures { IfOk result (λ text. string_bytes text ≡ info_text facts.now counts.now) }
 {
     let mut text = String::new(alloc);
     push_rows(alloc, &fact_rows(facts), &mut text)?;
+    push_counts(alloc, counts, &mut text)?;
     text.push_str("end\n")?;
     Ok(text)
 }

@@ -140,7 +140,7 @@ pub fn client_session<A: Answerer, R: Read + Drop, W: Write>(
     requires len { A.value_len answerer.old ≡ value_len }
     requires room { 0 < length buffer.old }
     ensures ends { (given : Option (List ℕ)) × (left : Option (List ℕ)) × Guards (R.remaining reader) given
-        × Ends (AnswersQuery A.answers A.informs) result value_len
+        × Ends (AnswersQuery A.answers A.administers) result value_len
         (record { answerer = answerer.old; remaining = given; contents = W.contents writer.old })
         (record { answerer = answerer.new; remaining = left; contents = W.contents writer.new }) }
     ensures http { IfSome (R.remaining reader) (λ bytes. IsHttp bytes → (answerer.new ≡ answerer.old) × Appends (W.contents writer.old) (W.contents writer.new) []) }

@@ -2,10 +2,10 @@
 ghost use Rattle.std.specs.Prelude.{◌≡◌, ◌⊎◌, ◌==◌, ◌≤◌, ◌∷◌, [], length, position, IfSome, IfNone, IfOk, IfErr};
 ghost use Rattle.std.specs.Str.Lines.{strip_carriage_return};
 ghost use Rattle.silt_event.specs.Events.{HasValueOf};
-ghost use Rattle.silt_wire.specs.Lines.{Parses, words_of, value_of, value_or_none_of, bare_event, key_event, value_event, swap_event, event_of, asked_by, is_blank, is_info, longest_line};
+ghost use Rattle.silt_wire.specs.Lines.{Parses, words_of, value_of, value_or_none_of, bare_event, key_event, value_event, swap_event, event_of, asked_by, is_blank, admin_of, admin_word, longest_line};
 
 use crate::keys::key_of;
-use silt_event::Event;
+use silt_event::{Admin, Event};
 use silt_frame::Value;
 use std::alloc::{AllocError, Global};
 use thiserror::Error;
@@ -231,11 +231,27 @@ pub fn parse_line(alloc: Global, line: &[u8], value_len: usize) -> Result<Event,
     parse_words(alloc, without_carriage_return(line), value_len)
 }
 
-/// Whether a line asks for the facts of the store: it is `info`, but for a carriage return at its end.
-pub fn is_info(line: &[u8]) -> bool
-    ensures { length line.now ≤ longest_line → result ≡ is_info line.now }
+// The admin command that a word is.
+fn admin_word(word: &[u8]) -> Option<Admin>
+    ensures { result ≡ admin_word word.now }
 {
-    without_carriage_return(line) == b"info".as_slice()
+    if word == b"info".as_slice() {
+        return Some(Admin::Info);
+    }
+    if word == b"shutdown".as_slice() {
+        return Some(Admin::Shutdown);
+    }
+    if word == b"backup".as_slice() {
+        return Some(Admin::Backup);
+    }
+    None
+}
+
+/// The admin command of a line, if it is one, but for a carriage return at its end.
+pub fn admin_of(line: &[u8]) -> Option<Admin>
+    ensures { length line.now ≤ longest_line → result ≡ admin_of line.now }
+{
+    admin_word(without_carriage_return(line))
 }
 
 /// Whether a line is empty but for a carriage return at its end.

@@ -1,11 +1,11 @@
 // The bytes of a line in progress.
 ghost use Rattle.std.specs.Prelude.{◌≡◌, ◌==◌, ◌++◌, ◌<◌, ◌≤◌, [], ℕ, List, length, position, OnOk, IfOk};
 ghost use Rattle.silt_event.specs.Events.{HasValueOf};
-ghost use Rattle.silt_wire.specs.Lines.{Parses, asked_by, is_blank, is_info};
+ghost use Rattle.silt_wire.specs.Lines.{Parses, asked_by, admin_of, is_blank};
 ghost use Rattle.silt_wire.specs.LineBuffer.{HoldsBytes, TakesPiece};
 
-use crate::line::{LONGEST_LINE, LineFault, is_blank, is_info, parse_line};
-use silt_event::Event;
+use crate::line::{LONGEST_LINE, LineFault, admin_of, is_blank, parse_line};
+use silt_event::{Admin, Event};
 use std::alloc::{AllocError, Global};
 
 /// The bytes since the last line feed, or only that they are too many for a line.
@@ -94,11 +94,14 @@ impl LineBuffer {
         !self.is_long && is_blank(&self.line)
     }
 
-    /// Whether the line asks for the facts of the store.
-    pub fn is_info(&self) -> bool
-        ensures { (line : List ℕ) → HoldsBytes self.now line → result ≡ is_info line }
+    /// The admin command of the line, if it is one.
+    pub fn admin(&self) -> Option<Admin>
+        ensures { (line : List ℕ) → HoldsBytes self.now line → result ≡ admin_of line }
     {
-        !self.is_long && is_info(&self.line)
+        if self.is_long {
+            return None;
+        }
+        admin_of(&self.line)
     }
 
     /// The event that the line asks for.

@@ -51,7 +51,7 @@ pub fn session<A: Answerer, R: Read, W: Write>(
     answerer: &mut A,
 ) -> SessionEnd
     requires { A.value_len answerer.old ≡ value_len }
-    ensures ends { Ends (AnswersQuery A.answers A.informs) result value_len
+    ensures ends { Ends (AnswersQuery A.answers A.administers) result value_len
         (record { answerer = answerer.old; remaining = R.remaining reader.old; contents = W.contents writer.old })
         (record { answerer = answerer.new; remaining = R.remaining reader.new; contents = W.contents writer.new }) }
     ensures stays { A.value_len answerer.new ≡ value_len }
@@ -74,7 +74,7 @@ pub fn session_over<A: Answerer, R: Read, W: Write>(
 
     // An empty buffer would look like the end of the reader.
     requires room { 0 < length buffer.old }
-    ensures ends { Ends (AnswersQuery A.answers A.informs) result value_len
+    ensures ends { Ends (AnswersQuery A.answers A.administers) result value_len
         (record { answerer = answerer.old; remaining = R.remaining reader.old; contents = W.contents writer.old })
         (record { answerer = answerer.new; remaining = R.remaining reader.new; contents = W.contents writer.new }) }
     ensures stays { A.value_len answerer.new ≡ value_len }
@@ -115,9 +115,9 @@ fn answer_read<A: Answerer, W: Write>(
     requires { A.value_len answerer.old ≡ value_len }
     ensures stays { A.value_len answerer.new ≡ value_len }
     ensures holds { OnOk result ((p : List ℕ) → HoldsBytes pending.old p → HoldsBytes pending.new (rest_after p bytes.now)) }
-    ensures all { OnOk result ((p : List ℕ) → HoldsBytes pending.old p → ServesAll (AnswersQuery A.answers A.informs) value_len p bytes.now
+    ensures all { OnOk result ((p : List ℕ) → HoldsBytes pending.old p → ServesAll (AnswersQuery A.answers A.administers) value_len p bytes.now
         answerer.old answerer.new (W.contents writer.old) (W.contents writer.new)) }
-    ensures some { OnErr result ((p : List ℕ) → HoldsBytes pending.old p → ServesSome (AnswersQuery A.answers A.informs) value_len p bytes.now
+    ensures some { OnErr result ((p : List ℕ) → HoldsBytes pending.old p → ServesSome (AnswersQuery A.answers A.administers) value_len p bytes.now
         answerer.old answerer.new (W.contents writer.old) (W.contents writer.new)) }
     ensures cut { IfErr result IsCut }
 {
@@ -144,9 +144,9 @@ fn answer_part<A: Answerer, W: Write>(
     ensures stays { A.value_len answerer.new ≡ value_len }
     ensures count { IfOk result (λ count. (0 < count) × (count ≤ length bytes.now)) }
     ensures holds { IfOk result (λ count. (p : List ℕ) → HoldsBytes pending.old p → HoldsBytes pending.new (rest_after p (take count bytes.now))) }
-    ensures all { IfOk result (λ count. (p : List ℕ) → HoldsBytes pending.old p → ServesAll (AnswersQuery A.answers A.informs) value_len p (take count bytes.now)
+    ensures all { IfOk result (λ count. (p : List ℕ) → HoldsBytes pending.old p → ServesAll (AnswersQuery A.answers A.administers) value_len p (take count bytes.now)
         answerer.old answerer.new (W.contents writer.old) (W.contents writer.new)) }
-    ensures some { OnErr result ((p : List ℕ) → HoldsBytes pending.old p → ServesSome (AnswersQuery A.answers A.informs) value_len p bytes.now
+    ensures some { OnErr result ((p : List ℕ) → HoldsBytes pending.old p → ServesSome (AnswersQuery A.answers A.administers) value_len p bytes.now
         answerer.old answerer.new (W.contents writer.old) (W.contents writer.new)) }
     ensures cut { IfErr result IsCut }
 {
@@ -212,9 +212,9 @@ fn take_part<A: Answerer>(
     ensures stays { A.value_len answerer.new ≡ value_len }
     ensures count { IfOk result (λ count. (0 < count) × (count ≤ length bytes.now)) }
     ensures holds { IfOk result (λ count. (p : List ℕ) → HoldsBytes pending.old p → HoldsBytes pending.new (rest_after p (take count bytes.now))) }
-    ensures all { IfOk result (λ count. (p : List ℕ) → HoldsBytes pending.old p → ServesAll (AnswersQuery A.answers A.informs) value_len p (take count bytes.now)
+    ensures all { IfOk result (λ count. (p : List ℕ) → HoldsBytes pending.old p → ServesAll (AnswersQuery A.answers A.administers) value_len p (take count bytes.now)
         answerer.old answerer.new (Some (string_bytes texts.old)) (Some (string_bytes texts.new))) }
-    ensures some { OnErr result ((p : List ℕ) → HoldsBytes pending.old p → ServesSome (AnswersQuery A.answers A.informs) value_len p bytes.now
+    ensures some { OnErr result ((p : List ℕ) → HoldsBytes pending.old p → ServesSome (AnswersQuery A.answers A.administers) value_len p bytes.now
         answerer.old answerer.new (Some (string_bytes texts.old)) (Some (string_bytes texts.new))) }
 {
     let mut batch = Batch::new(alloc);
@@ -317,8 +317,8 @@ fn gather_event(
     if pending.is_blank() {
         return Ok(None);
     }
-    if pending.is_info() {
-        return Ok(Some(Tail::Facts));
+    if let Some(admin) = pending.admin() {
+        return Ok(Some(Tail::Admin(admin)));
     }
     match pending.parse(alloc, value_len) {
         Ok(event) => {

@@ -6,8 +6,8 @@ use Rattle.clap.specs.Words.{AddsSubcommand, App, Row, Rule, Text, app_of, Kinds
 use Rattle.clap.specs.declared.builder.Command.{Command}
 use Rattle.clap.specs.declared.builder.ArgAction.TheVariants.{Set, SetTrue}
 use Rattle.silt_wire.specs.Numbers.{number_of}
-use Rattle.silt_words.specs.Addresses.{is_address, is_loopback}
-use Rattle.silt_words.specs.Jobs.{Named, NamedAccess, NamedService, format, script, run, tend, check, dump, on_set, plan, plan_set, serve}
+use Rattle.silt_words.specs.Addresses.{is_address, is_contact, is_loopback}
+use Rattle.silt_words.specs.Jobs.{Named, NamedAccess, NamedContact, NamedService, format, script, run, tend, check, dump, on_set, plan, plan_set, serve, stop, info}
 use Rattle.silt_words.specs.declared.job.FormatOptions.{FormatOptions}
 use Rattle.silt_words.specs.declared.job.Numbers.{Numbers}
 use Rattle.silt_words.specs.declared.job.PlanRequest.{PlanRequest}
@@ -67,14 +67,26 @@ plan_app = with_option (with_option (with_value (with_value (new_app (codes "pla
 
 abbrev pub serve_app : App
 serve_app =
-    with_option (with_option (with_option (with_option (with_option (with_flag (with_flag (with_option (with_option (with_option (with_option (with_option (with_value (with_file (new_app (codes "serve"))) (codes "PORT"))
+    with_option (with_option (with_option (with_flag
+    (with_option (with_option (with_option (with_option (with_option (with_flag (with_flag (with_option (with_option (with_option (with_option (with_option (with_value (with_file (new_app (codes "serve"))) (codes "PORT"))
     (codes "audit")) (codes "sessions")) (codes "idle")) (codes "wait")) (codes "merge-at")) (codes "pipeline")) (codes "resp"))
-    (codes "bind")) (codes "password-file")) (codes "clients")) (codes "shards")) (codes "mergers")
+    (codes "bind")) (codes "password-file")) (codes "clients")) (codes "shards")) (codes "mergers"))
+    (codes "stay")) (codes "scrub")) (codes "scrub-rate")) (codes "metrics")
+
+-- a command on a server that runs, by its name
+abbrev pub contact_app : Text → App
+contact_app name = with_option (with_value (new_app name) (codes "ADDRESS")) (codes "password-file")
+
+abbrev pub stop_app : App
+stop_app = contact_app (codes "stop")
+
+abbrev pub info_app : App
+info_app = contact_app (codes "info")
 
 -- the program
 abbrev pub silt : App
-silt = with_subcommand (with_subcommand (with_subcommand (with_subcommand (with_subcommand (with_subcommand (with_subcommand (with_subcommand (new_app (codes "silt"))
-    format_app.top) script_app.top) run_app.top) tend_app.top) check_app.top) dump_app.top) plan_app.top) serve_app.top
+silt = with_subcommand (with_subcommand (with_subcommand (with_subcommand (with_subcommand (with_subcommand (with_subcommand (with_subcommand (with_subcommand (with_subcommand (new_app (codes "silt"))
+    format_app.top) script_app.top) run_app.top) tend_app.top) check_app.top) dump_app.top) plan_app.top) serve_app.top) stop_app.top) info_app.top
 
 -- the command joins others as this one
 abbrev pub JoinsAs : App → Command → Type 0
@@ -123,10 +135,14 @@ limit_in rows name = option_map (option_and_then (λ limit. if limit == 0 then N
 abbrev pub count_in : List Row → Text → Option (Option ℕ)
 count_in rows name = option_and_then (λ given. if gives_zero given then None else Some given) (option_in rows name)
 
--- whether a number, if one is given, is at most 1,024
-abbrev pub is_within : Option ℕ → Bool
-is_within None = true
-is_within (Some number) = nat_le number 1024
+-- whether a number, if one is given, is at most this
+abbrev pub is_within : ℕ → Option ℕ → Bool
+is_within most None = true
+is_within most (Some number) = nat_le number most
+
+-- the number of an option that counts something, up to this: at least 1, or none if the option is not given
+abbrev pub count_within : List Row → Text → ℕ → Option (Option ℕ)
+count_within rows name most = option_and_then (λ given. if is_within most given then Some given else None) (count_in rows name)
 
 -- whether a number of shards, if one is given, is that of a set: 2 to 64
 abbrev pub makes_set : Option ℕ → Bool
@@ -227,7 +243,21 @@ may_listen resp address (Some file) = resp
 
 -- how many clients there may be at once: none if the option is not given, and at most 1,024
 abbrev pub clients_in : List Row → Option (Option ℕ)
-clients_in rows = option_and_then (λ given. if is_within given then Some given else None) (count_in rows (codes "clients"))
+clients_in rows = count_within rows (codes "clients") 1024
+
+-- after how many hours a served store is scrubbed: none if the option is not given, and at most 8,760
+abbrev pub scrub_in : List Row → Option (Option ℕ)
+scrub_in rows = count_within rows (codes "scrub") 8760
+
+-- how many megabytes a second a scrub reads at most, up to 10,000: only of a server that scrubs
+abbrev pub scrub_rate_in : List Row → Option (Option ℕ)
+scrub_rate_in rows =
+    option_and_then (λ rate. option_and_then (λ scrub. if is_some rate && not (is_some scrub) then None else Some rate) (scrub_in rows))
+    (count_within rows (codes "scrub-rate") 10000)
+
+-- the port of the page of metrics: none if the option is not given, and at most 65,535
+abbrev pub metrics_in : List Row → Option (Option ℕ)
+metrics_in rows = option_and_then (λ given. if is_within 65535 given then Some given else None) (option_in rows (codes "metrics"))
 
 -- where a server listens, and who is let in
 abbrev pub access_in : List Row → Option NamedAccess
@@ -240,7 +270,7 @@ access_in rows =
 -- how a file is to be served
 abbrev pub service_in : List Row → Option NamedService
 service_in rows =
-    option_and_then (λ file. option_and_then (λ port. option_and_then (λ access. option_and_then (λ audit. option_and_then (λ sessions. option_and_then (λ idle. option_and_then (λ wait. option_and_then (λ shards. option_and_then (λ mergers. option_map (λ merge_at.
+    option_and_then (λ file. option_and_then (λ port. option_and_then (λ access. option_and_then (λ audit. option_and_then (λ sessions. option_and_then (λ idle. option_and_then (λ wait. option_and_then (λ shards. option_and_then (λ mergers. option_and_then (λ merge_at. option_and_then (λ scrub. option_and_then (λ scrub_rate. option_map (λ metrics.
     record {
       file = file;
       shards = shards;
@@ -254,8 +284,12 @@ service_in rows =
       merge_at = merge_at;
       pipeline = flag_in rows (codes "pipeline");
       resp = flag_in rows (codes "resp");
+      stay = flag_in rows (codes "stay");
+      scrub = scrub;
+      scrub_rate = scrub_rate;
+      metrics = metrics;
     })
-    (count_in rows (codes "merge-at"))) (mergers_in rows)) (shards_in rows)) (option_in rows (codes "wait"))) (limit_in rows (codes "idle"))) (limit_in rows (codes "sessions"))) (audit_in rows)) (access_in rows)) (port_in rows)) (file_in rows)
+    (metrics_in rows)) (scrub_rate_in rows)) (scrub_in rows)) (count_in rows (codes "merge-at"))) (mergers_in rows)) (shards_in rows)) (option_in rows (codes "wait"))) (limit_in rows (codes "idle"))) (limit_in rows (codes "sessions"))) (audit_in rows)) (access_in rows)) (port_in rows)) (file_in rows)
 
 -- what a store is to be planned for
 abbrev pub request_in : List Row → Option PlanRequest
@@ -273,6 +307,16 @@ plan_or_set request (Some shards) = plan_set shards request
 abbrev pub plan_in : List Row → Option Named
 plan_in rows = option_and_then (λ request. option_map (plan_or_set request) (shards_in rows)) (request_in rows)
 
+-- where a server is, by a text that may say so
+abbrev pub contact_given : Text → Option Text
+contact_given text = if is_contact text then Some text else None
+
+-- the server that a client speaks to
+abbrev pub contact_in : List Row → Option NamedContact
+contact_in rows =
+    option_map (λ address. record { address = address; password_file = first_of (codes "password-file") rows })
+    (option_and_then contact_given (first_of (codes "ADDRESS") rows))
+
 -- the job of the command that was met
 abbrev pub job_in : Text → List Row → Option Named
 job_in name rows =
@@ -284,6 +328,8 @@ job_in name rows =
     else if bytes_eq name (codes "dump") then dump_in rows
     else if bytes_eq name (codes "plan") then plan_in rows
     else if bytes_eq name (codes "serve") then option_map serve (service_in rows)
+    else if bytes_eq name (codes "stop") then option_map stop (contact_in rows)
+    else if bytes_eq name (codes "info") then option_map info (contact_in rows)
     else None
 
 -- the job of the command that was met, if one was

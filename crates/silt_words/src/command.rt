@@ -1,7 +1,7 @@
 // The commands, as clap is given them.
 ghost use Rattle.std.specs.Prelude.{◌≡◌, IfOk, IsOkAnd, codes, false};
 ghost use Rattle.clap.specs.Words.{AddsArg, AddsSubcommand, app_of, new_app, rule_of};
-ghost use Rattle.silt_words.specs.Commands.{JoinsAs, check_app, dump_app, format_app, plan_app, run_app, script_app, serve_app, silt, tend_app};
+ghost use Rattle.silt_words.specs.Commands.{JoinsAs, check_app, contact_app, dump_app, format_app, plan_app, run_app, script_app, serve_app, silt, tend_app};
 ghost use Rattle.silt_words.specs.Commands.{flag_rule, option_rule, value_rule, with_file, with_option};
 
 use clap::{Arg, ArgAction, Command};
@@ -131,7 +131,19 @@ fn serve<'a>(alloc: Global) -> Result<Command<'a>, AllocError>
     let with_password = add_option(with_bind, alloc, "password-file");
     let with_clients = add_option(with_password, alloc, "clients");
     let with_shards = add_option(with_clients, alloc, "shards");
-    add_option(with_shards, alloc, "mergers")
+    let with_mergers = add_option(with_shards, alloc, "mergers");
+    let with_stay = add_flag(with_mergers, alloc, "stay");
+    let with_scrub = add_option(with_stay, alloc, "scrub");
+    let with_rate = add_option(with_scrub, alloc, "scrub-rate");
+    add_option(with_rate, alloc, "metrics")
+}
+
+// A command on a server that runs.
+fn on_server<'a>(alloc: Global, name: &'a str) -> Result<Command<'a>, AllocError>
+    ensures { IfOk result (JoinsAs (contact_app name.entry.now)) }
+{
+    let with_address = add_value(Ok(Command::new(alloc, name)), alloc, "ADDRESS");
+    add_option(with_address, alloc, "password-file")
 }
 
 // The command with one more below it, if that one was made.
@@ -155,5 +167,7 @@ pub fn command<'a>(alloc: Global) -> Result<Command<'a>, AllocError>
     let with_check = add_command(with_tend, on_file(alloc, "check"))?;
     let with_dump = add_command(with_check, on_file(alloc, "dump"))?;
     let with_plan = add_command(with_dump, plan(alloc))?;
-    add_command(with_plan, serve(alloc))
+    let with_serve = add_command(with_plan, serve(alloc))?;
+    let with_stop = add_command(with_serve, on_server(alloc, "stop"))?;
+    add_command(with_stop, on_server(alloc, "info"))
 }

@@ -15,7 +15,7 @@ pub struct Choice {
 }
 
 /// The most options that a job has.
-pub const MOST_OPTIONS: usize = 12;
+pub const MOST_OPTIONS: usize = 16;
 
 /// What follows most options.
 const NUMBER: &str = "a number";
@@ -209,6 +209,48 @@ const CLIENTS: Choice = Choice {
     line: "--clients N       serves at most N connections at once, 1 to 1024; 64 if left out",
 };
 
+const STAY: Choice = Choice {
+    name: "--stay",
+    operand: None,
+    needs: None,
+    line: "--stay            goes on to serve if a write or a sync failed, and refuses what changes; else the server ends",
+};
+
+const SCRUB: Choice = Choice {
+    name: "--scrub",
+    operand: Some(NUMBER),
+    needs: None,
+    line: "--scrub HOURS     reads the whole store each HOURS hours, 1 to 8760, and reports what is damaged",
+};
+
+const SCRUB_RATE: Choice = Choice {
+    name: "--scrub-rate",
+    operand: Some(NUMBER),
+    needs: Some("--scrub"),
+    line: "--scrub-rate MB   serve --scrub: reads at most MB megabytes a second, 1 to 10000",
+};
+
+const METRICS: Choice = Choice {
+    name: "--metrics",
+    operand: Some(NUMBER),
+    needs: None,
+    line: "--metrics PORT    a page of numbers for Prometheus at this port of this machine; 0 lets the system choose",
+};
+
+const STOP_PASSWORD: Choice = Choice {
+    name: "--password-file",
+    operand: Some("a file"),
+    needs: None,
+    line: "--password-file PATH  stop: sends the password in the first line of this file",
+};
+
+const INFO_PASSWORD: Choice = Choice {
+    name: "--password-file",
+    operand: Some("a file"),
+    needs: None,
+    line: "--password-file PATH  info: sends the password in the first line of this file",
+};
+
 /// The lines that every job with an input replies to.
 const EVENTS: &str = "put KEY VALUE     sets the value of a key
 delete KEY        deletes the value of a key
@@ -221,6 +263,10 @@ flush             makes all accepted commands safe from crashes
 const FACTS: &str = "info              prints the numbers of the store, a line each
 ";
 
+/// The line that ends a server.
+const SHUTDOWN: &str = "shutdown          ends the server once all that wait have their replies
+";
+
 /// The lines for background work.
 const STEPS: &str = "convert, merge    does one step of background work
 ";
@@ -230,7 +276,7 @@ const STOPS: &str = "stop K FILL       crashes the life before it at its K-th wr
 ";
 
 /// The forms of all jobs.
-const FORMS: [Form; 8] = [
+const FORMS: [Form; 10] = [
     Form {
         job: "format",
         line: "silt format FILE V B CAP NL NH S [OPTION]...  makes an empty store in a file",
@@ -297,8 +343,26 @@ const FORMS: [Form; 8] = [
             CLIENTS,
             SERVE_SHARDS,
             MERGERS,
+            STAY,
+            SCRUB,
+            SCRUB_RATE,
+            METRICS,
         ],
-        input: &[EVENTS, FACTS],
+        input: &[EVENTS, FACTS, SHUTDOWN],
+    },
+    Form {
+        job: "stop",
+        line: "silt stop ADDRESS [OPTION]...                 ends a server in order, and waits until it has ended",
+        values: &["ADDRESS"],
+        options: &[STOP_PASSWORD],
+        input: &[],
+    },
+    Form {
+        job: "info",
+        line: "silt info ADDRESS [OPTION]...                 prints the numbers of a server, a line each",
+        values: &["ADDRESS"],
+        options: &[INFO_PASSWORD],
+        input: &[],
     },
 ];
 
@@ -310,7 +374,7 @@ struct Value {
 }
 
 /// What each value may be.
-const VALUES: [Value; 9] = [
+const VALUES: [Value; 10] = [
     Value {
         name: "FILE",
         line: "FILE  the file of the store",
@@ -346,6 +410,10 @@ const VALUES: [Value; 9] = [
     Value {
         name: "PORT",
         line: "PORT  a port of this machine, at most 65535; 0 lets the system choose",
+    },
+    Value {
+        name: "ADDRESS",
+        line: "ADDRESS  where a server is: a port of this machine, or an IP address and a port, as 10.0.0.1:7379 or [::1]:7379",
     },
 ];
 

@@ -70,6 +70,23 @@ pub struct Service<'a> {
     pub pipeline: bool,
     /// Whether clients speak the protocol of Redis. If not, they send lines.
     pub resp: bool,
+    /// Whether the server goes on if a write or a sync of its store failed.
+    pub stay: bool,
+    /// After how many hours, 1 to 8,760, all that the store names is read and compared with its digests. None if it never is.
+    pub scrub: Option<u32>,
+    /// How many megabytes a second, 1 to 10,000, such a pass reads at most. None if the option is left out.
+    pub scrub_rate: Option<u32>,
+    /// The port of the page of metrics, if there is one. For 0 the system chooses one.
+    pub metrics: Option<u16>,
+}
+
+/// A server that runs, and how a client is let in.
+#[derive(Clone, Copy, Debug)]
+pub struct Contact<'a> {
+    /// A port of this machine, or an IP address in digits and a port.
+    pub address: &'a str,
+    /// The file whose first line is the password. None if no password is sent.
+    pub password_file: Option<&'a str>,
 }
 
 /// What a store, or a set of shards, is to be planned for.
@@ -153,6 +170,10 @@ pub enum Job<'a> {
     },
     /// Serves the sessions of a port with the store in a file, or with a set.
     Serve(Service<'a>),
+    /// Ends a server in order, and waits until it has ended.
+    Stop(Contact<'a>),
+    /// Prints what a server says of itself.
+    Info(Contact<'a>),
 }
 
 impl<'a> Job<'a> {
@@ -174,6 +195,8 @@ impl<'a> Job<'a> {
             Job::Script(_) => None,
             Job::Plan(_) => None,
             Job::PlanSet { .. } => None,
+            Job::Stop(_) => None,
+            Job::Info(_) => None,
         }
     }
 

@@ -1,8 +1,8 @@
 // What is wrong with words that name no job, and what people are shown then.
 
-use crate::address::{is_address, is_loopback};
+use crate::address::{is_address, is_contact, is_loopback};
 use crate::forms::{Form, Forms, MOST_OPTIONS, form_of};
-use crate::words::{FEWEST_SHARDS, MOST_CLIENTS, MOST_SHARDS};
+use crate::words::{FEWEST_SHARDS, MOST_CLIENTS, MOST_SCRUB, MOST_SCRUB_RATE, MOST_SHARDS};
 use silt_wire::number_of;
 use std::fmt;
 
@@ -75,33 +75,39 @@ fn why_no_value(name: &str, word: &str) -> &'static str {
     if name == "--bind" {
         return "an address is written in digits, as 10.0.0.1";
     }
+    if name == "ADDRESS" {
+        return "it is a port, or an IP address and a port, as 10.0.0.1:7379 or [::1]:7379";
+    }
     why_no_number(name, word)
 }
 
 // Why a word cannot be the number of this name.
 fn why_no_number(name: &str, word: &str) -> &'static str {
     if !word.is_empty() && word.bytes().all(|byte| byte.is_ascii_digit()) {
-        if name == "PORT" {
-            return "a port is at most 65535";
-        }
-        if name == "--merge-at" && number_of(word.as_bytes()) == Some(0) {
-            return "a merge is of at least one hash store";
-        }
-        if name == "--mergers" && number_of(word.as_bytes()) == Some(0) {
-            return "at least one shard is merged at a time";
-        }
-        if name == "--shards" {
-            return "a set has 2 to 64 shards";
-        }
-        if name == "--clients" {
-            return "a server has 1 to 1024 clients at once";
-        }
-        return "a number has at most ten digits, and is at most 4294967295";
+        return why_out_of_limits(name, word);
     }
     if !word.is_empty() && word.bytes().all(is_digit_or_separator) {
         return "a number is written without separators";
     }
     "a number is written in digits alone"
+}
+
+// Which limits of this name a number exceeds.
+fn why_out_of_limits(name: &str, word: &str) -> &'static str {
+    match name {
+        "PORT" | "--metrics" => "a port is at most 65535",
+        "--shards" => "a set has 2 to 64 shards",
+        "--clients" => "a server has 1 to 1024 clients at once",
+        "--scrub" => "a store is scrubbed each 1 to 8760 hours",
+        "--scrub-rate" => "a scrub reads 1 to 10000 megabytes a second",
+        "--merge-at" if number_of(word.as_bytes()) == Some(0) => {
+            "a merge is of at least one hash store"
+        }
+        "--mergers" if number_of(word.as_bytes()) == Some(0) => {
+            "at least one shard is merged at a time"
+        }
+        _ => "a number has at most ten digits, and is at most 4294967295",
+    }
 }
 
 // Whether a byte is a digit, or divides digits in a number that people write.
@@ -313,13 +319,20 @@ fn is_value(name: &str, word: &str) -> bool {
     match name {
         "FILE" | "--password-file" => true,
         "--bind" => is_address(word),
-        "--clients" => {
-            number_of(word.as_bytes()).is_some_and(|clients| 0 < clients && clients <= MOST_CLIENTS)
-        }
-        "--shards" => number_of(word.as_bytes()).is_some_and(|shards| FEWEST_SHARDS <= shards
-            && shards <= MOST_SHARDS),
-        "PORT" => number_of(word.as_bytes()).is_some_and(|port| port <= 65_535),
-        "--merge-at" | "--mergers" => number_of(word.as_bytes()).is_some_and(|count| count > 0),
-        _ => number_of(word.as_bytes()).is_some(),
+        "ADDRESS" => is_contact(word),
+        _ => number_of(word.as_bytes()).is_some_and(|number| is_number(name, number)),
+    }
+}
+
+// Whether a number may be the value of this name.
+fn is_number(name: &str, number: u32) -> bool {
+    match name {
+        "PORT" | "--metrics" => number <= 65_535,
+        "--shards" => FEWEST_SHARDS <= number && number <= MOST_SHARDS,
+        "--clients" => 0 < number && number <= MOST_CLIENTS,
+        "--scrub" => 0 < number && number <= MOST_SCRUB,
+        "--scrub-rate" => 0 < number && number <= MOST_SCRUB_RATE,
+        "--merge-at" | "--mergers" => 0 < number,
+        _ => true,
     }
 }

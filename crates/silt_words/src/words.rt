@@ -1,17 +1,18 @@
 // The words of the command line.
 ghost use Rattle.std.specs.Prelude.{◌≡◌, Some, None, MatchResult, codes, map, option_map, string_bytes};
 ghost use Rattle.clap.specs.Words.{first_of, found_of, rows_of, subcommand_rows_of};
-ghost use Rattle.silt_words.specs.Commands.{access_in, address_given, clients_in, count_in, file_in, flag_in, format_options_in, job_in, job_met, job_named};
+ghost use Rattle.silt_words.specs.Commands.{access_in, address_given, clients_in, contact_given, contact_in, count_in, count_within, file_in, flag_in, format_options_in, job_in, job_met, job_named};
 ghost use Rattle.silt_words.specs.Commands.{audit_in, check_in, dump_in, format_in, plan_in, run_in, shards_in, tend_in};
 ghost use Rattle.silt_words.specs.Commands.{limit_in, may_listen, mergers_in, number_in, numbers_in, option_in, port_in, request_in, run_options_in, service_in};
-ghost use Rattle.silt_words.specs.Jobs.{named, named_access, named_service, on_set};
+ghost use Rattle.silt_words.specs.Commands.{metrics_in, scrub_in, scrub_rate_in};
+ghost use Rattle.silt_words.specs.Jobs.{named, named_access, named_contact, named_service, on_set};
 ghost use Rattle.silt_words.specs.declared.job.WordsError.TheVariants.{Usage};
 
-use crate::address::{is_address, is_loopback};
+use crate::address::{is_address, is_contact, is_loopback};
 use crate::command::command;
 use crate::job::{
-    Access, FormatOptions, Job, Numbers, PlanRequest, RunOptions, Service, SetJob, SetWork,
-    WordsError,
+    Access, Contact, FormatOptions, Job, Numbers, PlanRequest, RunOptions, Service, SetJob,
+    SetWork, WordsError,
 };
 use clap::ArgMatches;
 use clap::error::ErrorKind;
@@ -20,6 +21,12 @@ use std::alloc::Global;
 
 /// The most clients that a server has at once.
 pub const MOST_CLIENTS: u32 = 1024;
+
+/// The most hours between two scrubs: a year.
+pub const MOST_SCRUB: u32 = 8760;
+
+/// The most megabytes a second that a scrub reads.
+pub const MOST_SCRUB_RATE: u32 = 10_000;
 
 /// The fewest and the most shards of a set.
 pub const FEWEST_SHARDS: u32 = 2;
@@ -83,6 +90,16 @@ fn count_at(matches: &ArgMatches<'_>, name: &str) -> Option<Option<u32>>
 {
     match option_at(matches, name)? {
         Some(0) => None,
+        count => Some(count),
+    }
+}
+
+// The number of an option that counts something, up to `most`.
+fn count_within(matches: &ArgMatches<'_>, name: &str, most: u32) -> Option<Option<u32>>
+    ensures { result ≡ count_within (rows_of (found_of matches.now)) name.now most }
+{
+    match count_at(matches, name)? {
+        Some(count) if count > most => None,
         count => Some(count),
     }
 }
@@ -249,10 +266,7 @@ fn may_listen(resp: bool, address: Option<&str>, password_file: Option<&str>) ->
 fn clients_of(matches: &ArgMatches<'_>) -> Option<Option<u32>>
     ensures { result ≡ clients_in (rows_of (found_of matches.now)) }
 {
-    match count_at(matches, "clients")? {
-        Some(clients) if clients > MOST_CLIENTS => None,
-        clients => Some(clients),
-    }
+    count_within(matches, "clients", MOST_CLIENTS)
 }
 
 fn access_of<'a>(matches: &ArgMatches<'a>) -> Option<Access<'a>>
@@ -295,6 +309,35 @@ fn mergers_of(matches: &ArgMatches<'_>) -> Option<Option<u32>>
     Some(mergers)
 }
 
+// After how many hours a served store is scrubbed.
+fn scrub_of(matches: &ArgMatches<'_>) -> Option<Option<u32>>
+    ensures { result ≡ scrub_in (rows_of (found_of matches.now)) }
+{
+    count_within(matches, "scrub", MOST_SCRUB)
+}
+
+// How many megabytes a second a scrub reads at most. A server that does not scrub has no such number.
+fn scrub_rate_of(matches: &ArgMatches<'_>) -> Option<Option<u32>>
+    ensures { result ≡ scrub_rate_in (rows_of (found_of matches.now)) }
+{
+    let rate = count_within(matches, "scrub-rate", MOST_SCRUB_RATE)?;
+    let scrub = scrub_of(matches)?;
+    if rate.is_some() && scrub.is_none() {
+        return None;
+    }
+    Some(rate)
+}
+
+// The port of the page of metrics, if there is to be one.
+fn metrics_of(matches: &ArgMatches<'_>) -> Option<Option<u16>>
+    ensures { result ≡ metrics_in (rows_of (found_of matches.now)) }
+{
+    match option_at(matches, "metrics")? {
+        Some(port) => Some(Some(u16::try_from(port).ok()?)),
+        None => Some(None),
+    }
+}
+
 fn service_of<'a>(matches: &ArgMatches<'a>) -> Option<Service<'a>>
     ensures { option_map named_service result ≡ service_in (rows_of (found_of matches.now)) }
 {
@@ -311,6 +354,10 @@ fn service_of<'a>(matches: &ArgMatches<'a>) -> Option<Service<'a>>
         merge_at: merge_at_of(matches)?,
         pipeline: is_given(matches, "pipeline"),
         resp: is_given(matches, "resp"),
+        stay: is_given(matches, "stay"),
+        scrub: scrub_of(matches)?,
+        scrub_rate: scrub_rate_of(matches)?,
+        metrics: metrics_of(matches)?,
     })
 }
 
@@ -335,6 +382,24 @@ fn plan_of<'a>(matches: &ArgMatches<'a>) -> Option<Job<'a>>
     }
 }
 
+// Where a server is, if a text may say so.
+fn contact_given(text: &str) -> Option<&str>
+    ensures { option_map (λ address. address.now) result ≡ contact_given text.entry.now }
+{
+    if is_contact(text) { Some(text) } else { None }
+}
+
+// The server that a client speaks to.
+fn contact_of<'a>(matches: &ArgMatches<'a>) -> Option<Contact<'a>>
+    ensures { option_map named_contact result ≡ contact_in (rows_of (found_of matches.now)) }
+{
+    let address = contact_given(text_at(matches, "ADDRESS")?)?;
+    Some(Contact {
+        address,
+        password_file: text_at(matches, "password-file"),
+    })
+}
+
 fn job_of<'a>(name: &str, matches: &ArgMatches<'a>) -> Option<Job<'a>>
     ensures { option_map named result ≡ job_in name.now (rows_of (found_of matches.now)) }
 {
@@ -347,6 +412,8 @@ fn job_of<'a>(name: &str, matches: &ArgMatches<'a>) -> Option<Job<'a>>
         "dump" => dump_of(matches),
         "plan" => plan_of(matches),
         "serve" => Some(Job::Serve(service_of(matches)?)),
+        "stop" => Some(Job::Stop(contact_of(matches)?)),
+        "info" => Some(Job::Info(contact_of(matches)?)),
         _ => None,
     }
 }

@@ -1,9 +1,11 @@
 // Sessions of Redis clients over a small store, reply by reply.
 ghost use Rattle.std.specs.Prelude.{◌≡◌, ◌<◌, ℕ, length};
+ghost use Rattle.silt_event.specs.declared.admin.Admin.{Admin as AdminOf};
+ghost use Rattle.silt_event.specs.declared.admin.AdminReply.{AdminReply as AdminReplyOf};
 ghost use Rattle.silt_event.specs.declared.event.Event.{Event as EventOf};
 ghost use Rattle.silt_event.specs.Events.{PlainReply};
 
-use silt_event::{Answerer, Event, Facts, Refusal, Reply, bytes_of};
+use silt_event::{Admin, AdminReply, Answerer, Event, Refusal, Reply, bytes_of};
 use silt_frame::{Key, Value};
 use silt_resp::{RespEnd, Settings, resp_session};
 use std::alloc::{AllocError, Global};
@@ -23,7 +25,7 @@ impl Answerer for Store {
 
     ghost answers = { λ old new event reply. Unit {0} };
 
-    ghost informs = { λ answerer facts. Unit {0} };
+    ghost administers = { λ answerer admin reply. Unit {0} };
 
     fn answer(&mut self, alloc: Global, event: Event) -> Reply<()> {
         match answered(alloc, &mut self.entries, event) {
@@ -32,8 +34,8 @@ impl Answerer for Store {
         }
     }
 
-    fn facts(&self) -> Option<Facts> {
-        None
+    fn administer(&self, _admin: Admin) -> AdminReply {
+        AdminReply::NotServed
     }
 }
 

@@ -1,10 +1,12 @@
 // Sessions over an answerer that shows in which of its calls it replied to an event: which lines are handed over
 // together.
 ghost use Rattle.std.specs.Prelude.{◌≡◌, ◌<◌, ℕ, length};
+ghost use Rattle.silt_event.specs.declared.admin.Admin.{Admin as AdminOf};
+ghost use Rattle.silt_event.specs.declared.admin.AdminReply.{AdminReply as AdminReplyOf};
 ghost use Rattle.silt_event.specs.declared.event.Event.{Event as EventOf};
 ghost use Rattle.silt_event.specs.Events.{PlainReply};
 
-use silt_event::{Answerer, Event, Facts, Reply};
+use silt_event::{Admin, AdminReply, Answerer, Event, Reply};
 use silt_wire::{SessionEnd, session_over};
 use std::alloc::Global;
 use std::io::Cursor;
@@ -23,7 +25,7 @@ impl Answerer for InCall {
 
     ghost answers = { λ old new event reply. Unit {0} };
 
-    ghost informs = { λ answerer facts. Unit {0} };
+    ghost administers = { λ answerer admin reply. Unit {0} };
 
     fn answer(&mut self, _alloc: Global, event: Event) -> Reply<()> {
         match event {
@@ -32,8 +34,8 @@ impl Answerer for InCall {
         }
     }
 
-    fn facts(&self) -> Option<Facts> {
-        None
+    fn administer(&self, _admin: Admin) -> AdminReply {
+        AdminReply::NotServed
     }
 }
 
@@ -48,7 +50,7 @@ impl Answerer for Calls {
 
     ghost answers = { λ old new event reply. Unit {0} };
 
-    ghost informs = { λ answerer facts. Unit {0} };
+    ghost administers = { λ answerer admin reply. Unit {0} };
 
     fn answer(&mut self, alloc: Global, event: Event) -> Reply<()> {
         self.inner.call = self.inner.call.wrapping_add(1);
@@ -63,8 +65,8 @@ impl Answerer for Calls {
         self.inner.answer_all(alloc, events, replies);
     }
 
-    fn facts(&self) -> Option<Facts> {
-        None
+    fn administer(&self, _admin: Admin) -> AdminReply {
+        AdminReply::NotServed
     }
 }
 

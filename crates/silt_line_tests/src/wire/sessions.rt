@@ -1,10 +1,12 @@
 // Sessions over readers and writers that take few bytes at a time, are interrupted or fail, and sessions with long
 // replies.
 ghost use Rattle.std.specs.Prelude.{◌≡◌, ℕ};
+ghost use Rattle.silt_event.specs.declared.admin.Admin.{Admin as AdminOf};
+ghost use Rattle.silt_event.specs.declared.admin.AdminReply.{AdminReply as AdminReplyOf};
 ghost use Rattle.silt_event.specs.declared.event.Event.{Event as EventOf};
 ghost use Rattle.silt_event.specs.Events.{PlainReply};
 
-use silt_event::{Answerer, Event, Facts, Refusal, Reply};
+use silt_event::{Admin, AdminReply, Answerer, Event, Refusal, Reply};
 use silt_frame::Value;
 use silt_wire::{SessionEnd, session};
 use std::alloc::{AllocError, Global};
@@ -23,15 +25,15 @@ impl Answerer for Counter {
 
     ghost answers = { λ old new event reply. Unit {0} };
 
-    ghost informs = { λ answerer facts. Unit {0} };
+    ghost administers = { λ answerer admin reply. Unit {0} };
 
     fn answer(&mut self, _alloc: Global, _event: Event) -> Reply<()> {
         self.count = self.count.wrapping_add(1);
         Reply::Accepted(self.count)
     }
 
-    fn facts(&self) -> Option<Facts> {
-        None
+    fn administer(&self, _admin: Admin) -> AdminReply {
+        AdminReply::NotServed
     }
 }
 
@@ -234,14 +236,14 @@ impl Answerer for Wide {
 
     ghost answers = { λ old new event reply. Unit {0} };
 
-    ghost informs = { λ answerer facts. Unit {0} };
+    ghost administers = { λ answerer admin reply. Unit {0} };
 
     fn answer(&mut self, _alloc: Global, _event: Event) -> Reply<()> {
         Reply::Accepted(1)
     }
 
-    fn facts(&self) -> Option<Facts> {
-        None
+    fn administer(&self, _admin: Admin) -> AdminReply {
+        AdminReply::NotServed
     }
 }
 
@@ -372,14 +374,14 @@ impl Answerer for Full {
 
     ghost answers = { λ old new event reply. Unit {0} };
 
-    ghost informs = { λ answerer facts. Unit {0} };
+    ghost administers = { λ answerer admin reply. Unit {0} };
 
     fn answer(&mut self, alloc: Global, _event: Event) -> Reply<()> {
         long_value(alloc)
     }
 
-    fn facts(&self) -> Option<Facts> {
-        None
+    fn administer(&self, _admin: Admin) -> AdminReply {
+        AdminReply::NotServed
     }
 }
 
@@ -430,14 +432,14 @@ impl Answerer for Vast {
 
     ghost answers = { λ old new event reply. Unit {0} };
 
-    ghost informs = { λ answerer facts. Unit {0} };
+    ghost administers = { λ answerer admin reply. Unit {0} };
 
     fn answer(&mut self, _alloc: Global, _event: Event) -> Reply<()> {
         Reply::Absent
     }
 
-    fn facts(&self) -> Option<Facts> {
-        None
+    fn administer(&self, _admin: Admin) -> AdminReply {
+        AdminReply::NotServed
     }
 }
 

@@ -2,9 +2,13 @@
 
 use crate::server::{Clients, connected, is_served_within, limits_of, read_lines};
 use silt_desk::{Gate, Spot};
-use silt_device::{Call, Disk, FaultDisk};
+use silt_device::{Call, Disk, FaultDisk, Geometry};
+use silt_event::Facts;
 use silt_fixtures::{of_values, reaches};
+use silt_manifest::{Body, Digests};
 use silt_server::{Limits, Protocol};
+use silt_store_set::Core;
+use silt_view::{ReadFault, Viewed, read_within};
 use std::alloc::Global;
 use std::io::{self, Write};
 use std::net::{Net, SocketAddr, TcpListener, TcpStream};
@@ -79,6 +83,24 @@ impl<D: Disk> Disk for Counted<'_, D> {
     }
 }
 
+impl Viewed for Counted<'_, FaultDisk> {
+    fn geometry_in(core: &Core<Self>) -> Geometry {
+        core.geometry()
+    }
+
+    fn facts_in(core: &Core<Self>) -> Facts {
+        core.facts()
+    }
+
+    fn named_in(core: &Core<Self>) -> (Body, Digests) {
+        core.named()
+    }
+
+    fn read_in(core: &Core<Self>, at: u64, buf: &mut [u8]) -> Result<(), ReadFault<Self::Fault>> {
+        read_within(core, at, buf)
+    }
+}
+
 /// Holds the writer before the call with this number, from 0, until it is opened.
 #[derive(Drop)]
 struct HoldsCall<'a, R: Clock> {
@@ -147,14 +169,18 @@ impl<R: Net<Stream = TcpStream> + Clock + Sync> Clients for GetBesideSet<'_, R> 
     }
 }
 
+// A disk none of whose calls fails.
+fn sound(alloc: Global) -> Result<FaultDisk, Fail> {
+    Ok(FaultDisk::new(of_values(alloc, 8)?, Call::Sync, 1_000_000))
+}
+
 // Whether clients get these replies while the writer is held before this call.
 fn are_served<
-    D: Disk,
     C: Clients,
     R: Net<Listener = TcpListener, Stream = TcpStream> + Clock + Threads + Wait + Sync,
 >(
     alloc: Global,
-    disk: D,
+    disk: FaultDisk,
     gate: &HoldsCall<'_, R>,
     sessions: u32,
     clients: &C,
@@ -179,7 +205,7 @@ fn a_get_of_what_is_not_flushed_waits_for_a_flush(rt: HostRuntime) -> Result<(),
         lines: 2,
     };
     let due = b"$1\r\n1\r\n+OK\r\n";
-    let disk = of_values(rt.alloc(), 8)?;
+    let disk = sound(rt.alloc())?;
     let gate = HoldsCall {
         rt: &rt,
         counts: &counts,
@@ -217,7 +243,7 @@ fn a_get_of_another_key_does_not_wait(rt: HostRuntime) -> Result<(), Fail> {
         counts: &counts,
     };
     let due = b"+OK\r\n+OK\r\n$1\r\n1\r\n";
-    let disk = of_values(rt.alloc(), 8)?;
+    let disk = sound(rt.alloc())?;
     let gate = HoldsCall {
         rt: &rt,
         counts: &counts,

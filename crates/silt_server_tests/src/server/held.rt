@@ -2,8 +2,12 @@
 
 use crate::server::{Clients, ask_lines, connected, is_served};
 use silt_desk::{Gate, Spot};
-use silt_device::Disk;
+use silt_device::{Disk, Geometry, MemDisk};
+use silt_event::Facts;
 use silt_fixtures::{formatted, reaches};
+use silt_manifest::{Body, Digests};
+use silt_store_set::Core;
+use silt_view::{ReadFault, Viewed, read_within};
 use std::alloc::Global;
 use std::io;
 use std::net::{Net, SocketAddr, TcpListener, TcpStream};
@@ -87,6 +91,24 @@ impl<D: Disk> Disk for Marked<'_, D> {
 
     fn sync(&mut self) -> Result<(), D::Fault> {
         self.disk.sync()
+    }
+}
+
+impl Viewed for Marked<'_, MemDisk> {
+    fn geometry_in(core: &Core<Self>) -> Geometry {
+        core.geometry()
+    }
+
+    fn facts_in(core: &Core<Self>) -> Facts {
+        core.facts()
+    }
+
+    fn named_in(core: &Core<Self>) -> (Body, Digests) {
+        core.named()
+    }
+
+    fn read_in(core: &Core<Self>, at: u64, buf: &mut [u8]) -> Result<(), ReadFault<Self::Fault>> {
+        read_within(core, at, buf)
     }
 }
 

@@ -2,15 +2,16 @@
 
 use crate::server::{Clients, ask_lines, connected, is_served, read_lines};
 use silt_desk::OpenGate;
-use silt_device::Disk;
+use silt_device::{Disk, Geometry, MemDisk};
+use silt_event::Facts;
 use silt_fixtures::{formatted, reaches};
-use std::alloc::Global;
+use silt_manifest::{Body, Digests};
+use silt_store_set::Core;
+use silt_view::{ReadFault, Viewed, read_within};
 use std::io::{self, Write};
-use std::net::{Net, SocketAddr, TcpListener, TcpStream};
-use std::sync::Wait;
+use std::net::{Net, SocketAddr, TcpStream};
 use std::sync::atomic::{AtomicU64, Ordering};
 use std::test::Fail;
-use std::thread::Threads;
 use std::time::Clock;
 
 /// How many reads have begun since they were armed, and whether one waited in vain.
@@ -73,6 +74,24 @@ impl<D: Disk, R: Clock + Send + Sync> Disk for Meeting<'_, D, R> {
     }
 }
 
+impl Viewed for Meeting<'_, MemDisk, HostRuntime> {
+    fn geometry_in(core: &Core<Self>) -> Geometry {
+        core.geometry()
+    }
+
+    fn facts_in(core: &Core<Self>) -> Facts {
+        core.facts()
+    }
+
+    fn named_in(core: &Core<Self>) -> (Body, Digests) {
+        core.named()
+    }
+
+    fn read_in(core: &Core<Self>, at: u64, buf: &mut [u8]) -> Result<(), ReadFault<Self::Fault>> {
+        read_within(core, at, buf)
+    }
+}
+
 /// A client that puts a key. Then it and another one ask for the key at once.
 #[derive(Drop)]
 struct AskBoth<'a, R> {
@@ -102,20 +121,7 @@ fn ask_both(
     read_lines(second, got, 1)
 }
 
-// Whether both get the value. There is no background work, so no other thread reads.
-fn both_find<
-    R: Net<Listener = TcpListener, Stream = TcpStream> + Clock + Threads + Wait + Send + Sync,
->(rt: &R, alloc: Global, reads: &Reads) -> Result<bool, Fail> {
-    let disk = Meeting {
-        disk: formatted(alloc)?,
-        rt,
-        reads,
-    };
-    let clients = AskBoth { rt, reads };
-    let due = b"accepted 1\nvalue 0102\nvalue 0102\n";
-    is_served(rt, alloc, disk, 2, &OpenGate, &clients, due)
-}
-
+// Both get the value. There is no background work, so no other thread reads.
 #[test]
 fn two_looks(rt: HostRuntime) -> Result<(), Fail> {
     let reads = Reads {
@@ -123,7 +129,18 @@ fn two_looks(rt: HostRuntime) -> Result<(), Fail> {
         begun: AtomicU64::new(0),
         missed: AtomicU64::new(0),
     };
-    assert!(rt; both_find(&rt, rt.alloc(), &reads)?);
+    let disk = Meeting {
+        disk: formatted(rt.alloc())?,
+        rt: &rt,
+        reads: &reads,
+    };
+    let clients = AskBoth {
+        rt: &rt,
+        reads: &reads,
+    };
+    let due = b"accepted 1\nvalue 0102\nvalue 0102\n";
+    let both_find = is_served(&rt, rt.alloc(), disk, 2, &OpenGate, &clients, due)?;
+    assert!(rt; both_find);
     assert!(rt; reads.missed.load(Ordering::SeqCst) == 0);
     Ok(())
 }

@@ -1,14 +1,17 @@
 // A session that gets no reply to a command ends, and its client is sent nothing more: the command
 // may have been done.
 
+use crate::server::both_ends;
 use silt_event::{Event, Facts, Reply};
-use silt_session::{AskBy, Asking, Client, Outlet, Unanswered};
+use silt_session::{AskBy, Asking, Board, Client, Outlet, Unanswered};
 use silt_wire::{SessionEnd, session};
 use std::alloc::Global;
 use std::io::{self, Read};
 use std::net::{Net, TcpListener, TcpStream};
+use std::sync::Wait;
 use std::sync::atomic::AtomicU64;
 use std::test::Fail;
+use std::time::Clock;
 
 /// What comes back for events.
 #[derive(Clone, Copy)]
@@ -60,19 +63,10 @@ fn absent(alloc: Global, count: usize) -> Result<Vec<Reply<()>>, Unanswered> {
     Ok(replies)
 }
 
-// Two ends of one connection.
-fn both_ends<R: Net<Listener = TcpListener, Stream = TcpStream>>(
-    rt: &R,
-) -> io::Result<(TcpStream, TcpStream)> {
-    let listener = TcpListener::bind(rt, ("127.0.0.1", 0u16))?;
-    let near = TcpStream::connect(rt, listener.local_addr()?)?;
-    let (far, _) = listener.accept()?;
-    Ok((near, far))
-}
-
 // How a session ends at this end of a connection if events are asked in this way: those of all lines together if it
 // pipelines, and else one by one.
-fn end_of<A: Asking>(
+fn end_of<A: Asking, R: Wait + Clock>(
+    rt: &R,
     alloc: Global,
     stream: &TcpStream,
     asking: A,
@@ -82,14 +76,16 @@ fn end_of<A: Asking>(
     requires { A.can_ask asking }
 {
     let cut = AtomicU64::new(0);
-    let mut client = Client::new(2, asking, pipelines, &cut);
-    let mut outlet = Outlet { stream, cut: &cut };
+    let board = Board::new(rt, false);
+    let mut client = Client::new(2, asking, pipelines, &cut, rt, &board);
+    let mut outlet = Outlet::new(rt, stream, &cut, &board, None);
     let mut reader = lines;
     session(alloc, 2, &mut reader, &mut outlet, &mut client)
 }
 
 // How a session ends at this end of a connection, which is then closed, if this comes back.
-fn end_with(
+fn end_with<R: Wait + Clock>(
+    rt: &R,
     alloc: Global,
     stream: TcpStream,
     back: Back,
@@ -106,12 +102,12 @@ fn end_with(
         all: &all,
         facts: &facts,
     };
-    end_of(alloc, &stream, asking, pipelines, lines)
+    end_of(rt, alloc, &stream, asking, pipelines, lines)
 }
 
 // How the session ends if this comes back. Appends the bytes that the other end of the connection
 // gets.
-fn sent<R: Net<Listener = TcpListener, Stream = TcpStream>>(
+fn sent<R: Net<Listener = TcpListener, Stream = TcpStream> + Wait + Clock>(
     rt: &R,
     alloc: Global,
     back: Back,
@@ -120,13 +116,13 @@ fn sent<R: Net<Listener = TcpListener, Stream = TcpStream>>(
     got: &mut Vec<u8>,
 ) -> io::Result<SessionEnd> {
     let (mut near, far) = both_ends(rt)?;
-    let end = end_with(alloc, far, back, pipelines, lines);
+    let end = end_with(rt, alloc, far, back, pipelines, lines);
     near.read_to_end(got)?;
     Ok(end)
 }
 
 // Whether the session ends so, and its client gets these bytes.
-fn ends_so<R: Net<Listener = TcpListener, Stream = TcpStream>>(
+fn ends_so<R: Net<Listener = TcpListener, Stream = TcpStream> + Wait + Clock>(
     rt: &R,
     alloc: Global,
     back: Back,

@@ -5,7 +5,8 @@ use silt_desk::OpenGate;
 use silt_device::Disk;
 use silt_fixtures::opened;
 use silt_recovery::check;
-use silt_server::{Listens, Server};
+use silt_server::{Listens, NoCare, Server};
+use silt_session::Board;
 use std::alloc::Global;
 use std::io::{self, ErrorKind};
 use std::net::TcpStream;
@@ -28,6 +29,8 @@ impl Listens for Portless {
     fn wait(&self) -> io::Result<TcpStream> {
         Err(io::Error::from(ErrorKind::NotConnected))
     }
+
+    fn wake(&self) {}
 }
 
 // Whether an empty store is on the disk.
@@ -51,6 +54,8 @@ fn serve_portless<R: Threads + Wait + Clock + Sync>(
         listener: &Portless,
         limits: limits_of(1, None),
         gate: &OpenGate,
+        board: &Board::new(rt, false),
+        care: &NoCare,
     };
     let (disk, status) = server.serve(core, written);
     let is_empty = is_empty(alloc, &disk);

@@ -2,8 +2,9 @@
 
 use crate::server::{Clients, ask_lines, connected, is_served, read_lines};
 use silt_desk::{Gate, Spot};
-use silt_device::{Call, Disk, FaultDisk, Geometry, MemDisk};
+use silt_device::{Call, FaultDisk, Geometry, MemDisk};
 use silt_fixtures::{formatted_with, reaches};
+use silt_view::Viewed;
 use std::alloc::Global;
 use std::io::{self, Write};
 use std::net::{Net, SocketAddr, TcpListener, TcpStream};
@@ -81,7 +82,7 @@ fn of_small_logs(alloc: Global) -> Result<MemDisk, Fail> {
 
 // Whether these are the replies, and the writer waited.
 fn gets_so<
-    D: Disk,
+    D: Viewed,
     R: Net<Listener = TcpListener, Stream = TcpStream> + Clock + Threads + Wait + Sync,
 >(rt: &R, alloc: Global, disk: D, due: &[u8]) -> Result<bool, Fail> {
     let (waits, opened) = (AtomicU64::new(0), AtomicU64::new(0));

@@ -9,7 +9,7 @@ use silt_event::Reply;
 use silt_fixtures::{formatted, key, opened_on};
 use silt_frame::Value;
 use silt_session::{
-    Job, JobLog, LogId, LogStart, Request, RoomWait, Task, Workplace, room_channel,
+    Board, Job, JobLog, LogId, LogStart, Request, RoomWait, Task, Workplace, room_channel,
 };
 use silt_store_set::Core;
 use std::alloc::{AllocError, Global};
@@ -191,6 +191,7 @@ fn serve_jobs<D: Disk, N: DeskId + LogId, R: Wait + Clock>(
         shared: &shared,
         gate: &OpenGate,
         room: &room,
+        board: &Board::new(rt, false),
     };
     let (jobs, _) = at.serve_batch(&mut seat, jobs);
     all_got(alloc, jobs).ok()

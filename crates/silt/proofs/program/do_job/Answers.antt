@@ -29,3 +29,9 @@ returns-in-PlanSet g c = rw (c.in-PlanSet.is, c.of-in-PlanSet.ensures.1) (c.of-i
 
 pub returns-in-Serve : goal.returns-in-Serve
 returns-in-Serve g c = rw (c.in-Serve.is, c.of-in-Serve.ensures.1) (c.of-in-Serve.ensures.0, c.serve.ensures)
+
+pub returns-in-Stop : goal.returns-in-Stop
+returns-in-Stop g c = rw (c.in-Stop.is, c.of-in-Stop.ensures.1) (c.of-in-Stop.ensures.0, c.ask_server.ensures)
+
+pub returns-in-Info : goal.returns-in-Info
+returns-in-Info g c = rw (c.in-Info.is, c.of-in-Info.ensures.1) (c.of-in-Info.ensures.0, c.ask_server-in-Info.ensures)

@@ -10,7 +10,7 @@ pub loop-core-preserved : goal.loop-core-preserved
 loop-core-preserved g c =
     let before = c.loop-core.invariant in
     let n = c.loop-core.core-index in
-    let merged : CoreState g.row.D.Denot → ℕ = λ core. least_merged c.args.service.now.merge_at core.shape.hashes in
+    let merged : CoreState g.row.D.Denot → ℕ = λ core. least_merged c.args.parts.now.merge_at core.shape.hashes in
     record {
       count = omega (arith, c.push_reserved.ensures.len, before.count);
       room = omega (arith, c.push_reserved.ensures.capacity, before.room);

@@ -9,5 +9,5 @@ invariant-loop-core g l = record {
   count : vec_len l.gates ≡ l.core-index;
   room : length l.cores ≤ vec_capacity l.gates;
   shards : map (λ gate. gate.shard) l.gates.items ≡ map Some (range_with_len 0 l.core-index);
-  least : map (λ gate. gate.least) l.gates.items ≡ map (λ core. least_merged l.service.merge_at core.shape.hashes) (take l.core-index l.cores);
+  least : map (λ gate. gate.least) l.gates.items ≡ map (λ core. least_merged l.parts.merge_at core.shape.hashes) (take l.core-index l.cores);
 }

@@ -10,7 +10,7 @@ use Rattle.silt_resp.proofs.session.answer_part.Goals as goal
 
 pub returns-then-not-write_texts-clause-ends : goal.returns-then-not-write_texts-clause-ends
 returns-then-not-write_texts-clause-ends g c =
-    let answers = (AnswersQuery g.A.Answerer.answers g.A.Answerer.informs) in
+    let answers = (AnswersQuery g.A.Answerer.answers g.A.Answerer.administers) in
     let s = c.args.settings.now in
     let gathered = if-either c.take_part-taken.result
     (λ part all client h. some-taken answers s client c.args.bytes.now part.count _ _ (Some c.new-texts.result.items) (Some c.take_part-taken.new.texts.items) (all client h))
@@ -21,7 +21,7 @@ returns-then-not-write_texts-clause-ends g c =
 
 pub returns-then-gathered-clause-ends : goal.returns-then-gathered-clause-ends
 returns-then-gathered-clause-ends g c = λ client h.
-    let answers = (AnswersQuery g.A.Answerer.answers g.A.Answerer.informs) in
+    let answers = (AnswersQuery g.A.Answerer.answers g.A.Answerer.administers) in
     let s = c.args.settings.now in
     let count = c.in-Ok.gathered.count in
     let front = take count c.args.bytes.now in

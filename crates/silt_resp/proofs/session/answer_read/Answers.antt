@@ -8,7 +8,7 @@ use Rattle.silt_resp.proofs.session.answer_read.Goals as goal
 
 pub returns-in_err-done-clause-ends : goal.returns-in_err-done-clause-ends
 returns-in_err-done-clause-ends g c =
-    let answers = (AnswersQuery g.A.Answerer.answers g.A.Answerer.informs) in
+    let answers = (AnswersQuery g.A.Answerer.answers g.A.Answerer.administers) in
     let s = c.args.settings.now in
     let done = c.loop-done.done in
     let bytes = c.args.bytes.now in
@@ -24,7 +24,7 @@ returns-in_err-done-clause-ends g c =
 
 pub loop-done-preserved : goal.loop-done-preserved
 loop-done-preserved g c =
-    let answers = (AnswersQuery g.A.Answerer.answers g.A.Answerer.informs) in
+    let answers = (AnswersQuery g.A.Answerer.answers g.A.Answerer.administers) in
     let s = c.args.settings.now in
     let done = c.loop-done.done in
     let count = c.in_ok-done.field-0 in

@@ -15,7 +15,7 @@ returns-in-Err-answer_read g c =
       i.1 ++ more,
       Consumes-append _ _ _ i.1 more i.2 c.in-Ok.ensures.bytes.0,
       last_cut end _ c.in-Err-answer_read.ensures.cut,
-      ends-bytes (AnswersQuery g.A.Answerer.answers g.A.Answerer.informs) end c.args.settings.now (new_client c.args.settings.now) i.1 more _ _ _ _ _ _ i.4 (c.in-Err-answer_read.ensures.ends _ i.3),
+      ends-bytes (AnswersQuery g.A.Answerer.answers g.A.Answerer.administers) end c.args.settings.now (new_client c.args.settings.now) i.1 more _ _ _ _ _ _ i.4 (c.in-Err-answer_read.ensures.ends _ i.3),
     )
 
 pub loop-preserved : goal.loop-preserved
@@ -32,7 +32,7 @@ loop-preserved g c =
             i.1 ++ more,
             Consumes-append _ _ _ i.1 more i.2 w.in-Ok.ensures.bytes.0,
             subst P (sym (client_after-append s client i.1 more)) (w.in-Ok-answer_read.ensures.holds _ i.3),
-            all-bytes (AnswersQuery g.A.Answerer.answers g.A.Answerer.informs) s client i.1 more _ _ _ _ _ _ i.4 (w.in-Ok-answer_read.ensures.all _ i.3),
+            all-bytes (AnswersQuery g.A.Answerer.answers g.A.Answerer.administers) s client i.1 more _ _ _ _ _ _ i.4 (w.in-Ok-answer_read.ensures.all _ i.3),
           )
       | in-Err w ↦ rw (w.writer-is, w.answerer-is, w.talk-is) (i.0, i.1, Consumes-keeps _ _ _ _ i.2 w.in-Err.ensures.bytes, i.3, i.4)
     ]

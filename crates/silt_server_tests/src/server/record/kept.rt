@@ -9,9 +9,10 @@ use silt_desk::{Desk, DeskId, Kept, OpenGate, Seat};
 use silt_device::{Disk, Geometry, MemDisk};
 use silt_fixtures::{are_those, formatted_with, opened_with};
 use silt_inbox::InboxId;
-use silt_server::{Server, ServerState};
-use silt_session::{LogId, LogStart};
+use silt_server::{NoCare, Server, ServerState};
+use silt_session::{Board, LogId, LogStart};
 use silt_store_set::Core;
+use silt_view::Viewed;
 use std::alloc::Global;
 use std::io;
 use std::marker::Brand;
@@ -65,7 +66,7 @@ type Ended = Option<(Printed, u8)>;
 
 // Serves the store of a desk with these seats. Returns what its record shows, and the status.
 fn serve_seated<
-    D: Disk,
+    D: Viewed,
     N: DeskId + InboxId + LogId + Send + Sync,
     R: Threads + Wait + Clock + Sync,
 >(
@@ -88,6 +89,8 @@ fn serve_seated<
         listener,
         limits: limits_of(SESSIONS, None),
         gate: &OpenGate,
+        board: &Board::new(rt, false),
+        care: &NoCare,
     };
     let mut written = Vec::new(alloc);
     let (desk, status) = server.serve_desk(desk, state, &mut written);
@@ -97,7 +100,7 @@ fn serve_seated<
 
 // Serves a store and records all calls. The blanks become the ledgers.
 fn serve_recorded<
-    D: Disk,
+    D: Viewed,
     N: DeskId + InboxId + LogId + Send + Sync,
     R: Threads + Wait + Clock + Sync,
 >(

@@ -7,7 +7,7 @@ use Rattle.silt_wire.proofs.sessions.session_over.Goals as goal
 use Rattle.silt_wire.proofs.sessions.session_over.Goals.{in-Ok-read+in-Ok-answer_read, in-Err}
 
 pub returns-in_default-clause-ends : goal.returns-in_default-clause-ends
-returns-in_default-clause-ends g c = Ends-unbegun (AnswersQuery g.A.Answerer.answers g.A.Answerer.informs) c.args.value_len (record {
+returns-in_default-clause-ends g c = Ends-unbegun (AnswersQuery g.A.Answerer.answers g.A.Answerer.administers) c.args.value_len (record {
   answerer = c.args.answerer.now;
   remaining = g.R.Read.remaining c.args.reader.now;
   contents = g.W.Write.contents c.args.writer.now;
@@ -17,9 +17,9 @@ pub returns-in-Err-answer_read-clause-ends : goal.returns-in-Err-answer_read-cla
 returns-in-Err-answer_read-clause-ends g c =
     let i = c.loop.invariant in
     let more = take c.in-Ok-read.count c.read.new.buf in
-    Ends-cut (AnswersQuery g.A.Answerer.answers g.A.Answerer.informs) c.in-Err-answer_read.end c.args.value_len _ _ (i.1 ++ more) c.in-Err-answer_read.ensures.cut
+    Ends-cut (AnswersQuery g.A.Answerer.answers g.A.Answerer.administers) c.in-Err-answer_read.end c.args.value_len _ _ (i.1 ++ more) c.in-Err-answer_read.ensures.cut
     (Consumes-append _ _ _ i.1 more i.2 c.in-Ok-read.ensures.bytes.0)
-    (some-bytes (AnswersQuery g.A.Answerer.answers g.A.Answerer.informs) c.args.value_len [] i.1 more _ _ _ _ _ _ i.4 (c.in-Err-answer_read.ensures.some _ i.3))
+    (some-bytes (AnswersQuery g.A.Answerer.answers g.A.Answerer.administers) c.args.value_len [] i.1 more _ _ _ _ _ _ i.4 (c.in-Err-answer_read.ensures.some _ i.3))
 
 pub loop-preserved : goal.loop-preserved
 loop-preserved g c =
@@ -33,7 +33,7 @@ loop-preserved g c =
             i.1 ++ more,
             Consumes-append _ _ _ i.1 more i.2 w.in-Ok-read.ensures.bytes.0,
             subst P (sym (rest_after-append [] i.1 more)) (w.in-Ok-answer_read.ensures.holds _ i.3),
-            all-bytes (AnswersQuery g.A.Answerer.answers g.A.Answerer.informs) c.args.value_len [] i.1 more _ _ _ _ _ _ i.4 (w.in-Ok-answer_read.ensures.all _ i.3),
+            all-bytes (AnswersQuery g.A.Answerer.answers g.A.Answerer.administers) c.args.value_len [] i.1 more _ _ _ _ _ _ i.4 (w.in-Ok-answer_read.ensures.all _ i.3),
           )
       | in-Err w ↦ rw (w.writer-is, w.answerer-is, w.pending-is) (i.0, i.1, Consumes-keeps _ _ _ _ i.2 w.in-Err.ensures.bytes, i.3, i.4)
     ]

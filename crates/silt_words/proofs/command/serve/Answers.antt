@@ -19,4 +19,8 @@ returns c =
     let stands11 = one_more _ _ (λ old arg new adds. adds.globals) _ _ c.add_option-with_password.ensures stands10 in
     let stands12 = one_more _ _ (λ old arg new adds. adds.globals) _ _ c.add_option-with_clients.ensures stands11 in
     let stands13 = one_more _ _ (λ old arg new adds. adds.globals) _ _ c.add_option-with_shards.ensures stands12 in
-    joins_as _ (λ old sub new adds. adds.shape) _ (one_more _ _ (λ old arg new adds. adds.globals) _ _ c.add_option.ensures stands13)
+    let stands14 = one_more _ _ (λ old arg new adds. adds.globals) _ _ c.add_option-with_mergers.ensures stands13 in
+    let stands15 = one_more _ _ (λ old arg new adds. adds.globals) _ _ c.add_flag-with_stay.ensures stands14 in
+    let stands16 = one_more _ _ (λ old arg new adds. adds.globals) _ _ c.add_option-with_scrub.ensures stands15 in
+    let stands17 = one_more _ _ (λ old arg new adds. adds.globals) _ _ c.add_option-with_rate.ensures stands16 in
+    joins_as _ (λ old sub new adds. adds.shape) _ (one_more _ _ (λ old arg new adds. adds.globals) _ _ c.add_option.ensures stands17)

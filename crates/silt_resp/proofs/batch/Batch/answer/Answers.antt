@@ -9,7 +9,7 @@ use Rattle.silt_resp.proofs.batch.Batch.answer.Goals as goal
 
 pub returns-in_err-replies-clause-some : goal.returns-in_err-replies-clause-some
 returns-in_err-replies-clause-some g c =
-    on-err c.from_residual.result (λ asked h. none-batch (AnswersQuery g.A.Answerer.answers g.A.Answerer.informs) asked c.args.answerer.now (Some c.args.texts.now.items))
+    on-err c.from_residual.result (λ asked h. none-batch (AnswersQuery g.A.Answerer.answers g.A.Answerer.administers) asked c.args.answerer.now (Some c.args.texts.now.items))
 
 pub returns-in_err-push_dues-clause-some : goal.returns-in_err-push_dues-clause-some
 returns-in_err-push_dues-clause-some g c =
@@ -21,8 +21,8 @@ returns-in_err-push_dues-clause-some g c =
     let text = c.args.texts.now.items in
     let told = c.in_err-push_dues.ensures.err in
     on-err c.from_residual-in_err-push_dues.result (λ asked h.
-    some-batch g.A.Answerer.answers g.A.Answerer.informs c.args.self asked _ _ answered.0 c.asked_facts-facts.result text c.push_dues.new.texts.items h answered.2
-    c.asked_facts-facts.ensures (told.0, (told.1.0, told.1.1 ∙ all), told.2))
+    some-batch g.A.Answerer.answers g.A.Answerer.administers c.args.self asked _ _ answered.0 c.administered-reply.result text c.push_dues.new.texts.items h answered.2
+    c.administered-reply.ensures (told.0, (told.1.0, told.1.1 ∙ all), told.2))
 
 pub returns-clause-all : goal.returns-clause-all
 returns-clause-all g c =
@@ -33,8 +33,8 @@ returns-clause-all g c =
     ap (λ ds. part_texts (map due_seen ds) (map replied c.deref-2.result.now)) c.deref.ensures.value ∙ ap (λ rs. part_texts (map due_seen dues) (map replied rs)) given in
     let text = c.args.texts.now.items in
     on_ok_weaker c.push_tail.result (λ last asked h.
-    all-batch g.A.Answerer.answers g.A.Answerer.informs c.args.self asked _ _ answered.0 c.asked_facts-facts.result text c.push_dues.new.texts.items c.push_tail.new.texts.items
-    h answered.2 c.asked_facts-facts.ensures (c.in_ok-push_dues.ensures.ok ∙ ap (λ t. text ++ t) all) last) c.push_tail.ensures.ok
+    all-batch g.A.Answerer.answers g.A.Answerer.administers c.args.self asked _ _ answered.0 c.administered-reply.result text c.push_dues.new.texts.items c.push_tail.new.texts.items
+    h answered.2 c.administered-reply.ensures (c.in_ok-push_dues.ensures.ok ∙ ap (λ t. text ++ t) all) last) c.push_tail.ensures.ok
 
 pub returns-clause-some : goal.returns-clause-some
 returns-clause-some g c =
@@ -46,5 +46,5 @@ returns-clause-some g c =
     let text = c.args.texts.now.items in
     let texts = part_texts (map due_seen dues) (map replied answered.0) in
     on_err_weaker c.push_tail.result (λ same asked h.
-    some-batch g.A.Answerer.answers g.A.Answerer.informs c.args.self asked _ _ answered.0 c.asked_facts-facts.result text c.push_tail.new.texts.items h answered.2
-    c.asked_facts-facts.ensures (texts, IsBeginning-all texts, same ∙ c.in_ok-push_dues.ensures.ok ∙ ap (λ t. text ++ t) all)) c.push_tail.ensures.err
+    some-batch g.A.Answerer.answers g.A.Answerer.administers c.args.self asked _ _ answered.0 c.administered-reply.result text c.push_tail.new.texts.items h answered.2
+    c.administered-reply.ensures (texts, IsBeginning-all texts, same ∙ c.in_ok-push_dues.ensures.ok ∙ ap (λ t. text ++ t) all)) c.push_tail.ensures.err

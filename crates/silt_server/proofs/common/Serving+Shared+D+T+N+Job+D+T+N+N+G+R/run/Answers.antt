@@ -7,5 +7,5 @@ use Rattle.silt_session.proofs.job_log.JobLog.TheSendSync.{the_sync as log_sync}
 use Rattle.silt_server.proofs.common.Serving.TheSendSync.{the_sync as serving_sync}
 use Rattle.silt_server.proofs.common.Serving+Shared+D+T+N+Job+D+T+N+N+G+R.run.Goals as goal
 
-pub run_beside-requires-sync-S : goal.run_beside-requires-sync-S
-run_beside-requires-sync-S g c κs within = search (sendable, crosses, lock_sync, desk_send, desk_sync, serving_sync, job_send, job_sync, log_sync) depth 20
+pub care_beside-requires-sync-S : goal.care_beside-requires-sync-S
+care_beside-requires-sync-S g c κs within = search (sendable, crosses, lock_sync, desk_send, desk_sync, serving_sync, job_send, job_sync, log_sync) depth 20

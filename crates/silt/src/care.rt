@@ -1,0 +1,197 @@
+// Care beside the sessions of a server: its stores are scrubbed, and its page of metrics is served.
+ghost use Rattle.std.specs.Prelude.{⊤};
+
+use crate::standard_streams::StandardStreams;
+use silt_care::{Finding, Finds, Pace, Schedule, Scrub, View};
+use silt_event::{Counter, Facts};
+use silt_jobs::{Tells, Urgent, offset_of, shard_path};
+use silt_metrics::serve_page;
+use silt_server::Cares;
+use silt_session::Board;
+use silt_shards::{no_facts, plus};
+use silt_words::Service;
+use std::io::Write;
+use std::net::{TcpListener, TcpStream};
+use std::sync::Wait;
+use std::time::{Clock, Duration};
+
+/// How many megabytes a second a scrub reads if no number is given.
+const RATE: u32 = 20;
+
+/// How many milliseconds a read or a write of the page's client waits.
+const CUT_OFF: u64 = 500;
+
+/// Care beside the sessions of a server: scrubs, and the page of metrics.
+#[derive(Drop)]
+pub struct Care<'a, 'f, 'p, H> {
+    rt: &'a H,
+    board: &'p Board,
+    /// The name of the store's file, or of its set.
+    file: &'f str,
+    is_set: bool,
+    /// After how many hours the next scrub begins, if there are scrubs.
+    hours: Option<u32>,
+    pace: Pace,
+    /// Where the page is read, if there is one. An accept does not wait.
+    page: Option<TcpListener>,
+}
+
+impl<'a, 'f, 'p, H: AllocGlobal + Clock + Wait + StandardStreams> Care<'a, 'f, 'p, H> {
+    /// The care that a service asks for, with the listener of its page, if there is one.
+    pub fn new(
+        rt: &'a H,
+        board: &'p Board,
+        service: &Service<'f>,
+        page: Option<TcpListener>,
+    ) -> Care<'a, 'f, 'p, H> {
+        Care {
+            rt,
+            board,
+            file: service.file,
+            is_set: service.shards.is_some(),
+            hours: service.scrub,
+            pace: Pace::new(service.scrub_rate.unwrap_or(RATE)),
+            page,
+        }
+    }
+
+    // Tells people what a scrub found in the store of this number, and where.
+    fn tell(&self, shard: u32, finding: Finding, at: Option<u64>) {
+        let mut people = self.rt.errors();
+        let urgent = Urgent::Scrubbed(self.rt.alloc(), finding, at);
+        if self.is_set {
+            if let Ok(path) = shard_path(self.rt.alloc(), self.file, shard) {
+                people.tell(path.as_str(), &urgent);
+                return;
+            }
+        }
+        people.tell(self.file, &urgent);
+    }
+
+    // Tells people where the page is, if there is one.
+    fn tell_page(&self) {
+        let Some(page) = &self.page else {
+            return;
+        };
+        if let Ok(socket) = page.local_addr() {
+            let (file, mut people) = (self.file, self.rt.errors());
+            let _ = writeln!(
+                people,
+                "silt: {file}: the page of metrics is at http://{socket}/metrics"
+            );
+        }
+    }
+
+    // The facts of the stores in these views, added up.
+    fn facts<V: View>(&self, views: &[V]) -> Facts {
+        let mut sum = no_facts();
+        for view in views {
+            sum = plus(sum, view.facts());
+        }
+        sum
+    }
+
+    // Serves the page to a client, which is cut off if it does not ask for it at once.
+    fn serve_client<V: View>(&self, views: &[V], stream: &TcpStream) {
+        let limit = Some(Duration::from_millis(CUT_OFF));
+        if stream.set_read_timeout(limit).is_err() || stream.set_write_timeout(limit).is_err() {
+            return;
+        }
+        let (mut reader, mut writer) = (stream, stream);
+        let (facts, counts) = (self.facts(views), self.board.counts(self.rt));
+        serve_page(self.rt.alloc(), &mut reader, &mut writer, &facts, &counts);
+    }
+
+    // Serves the page to the next client, if one waits.
+    fn serve_next<V: View>(&self, views: &[V]) {
+        let Some(page) = &self.page else {
+            return;
+        };
+        if let Ok((stream, _)) = page.accept() {
+            self.serve_client(views, &stream);
+        }
+    }
+
+    // Scrubs each store, in order. Returns whether all were scrubbed whole.
+    fn scrub_each<V: View>(&self, views: &[V]) -> bool {
+        for (shard, view) in views.iter().enumerate() {
+            let scrub = Scrub {
+                rt: self.rt,
+                view,
+                pace: self.pace,
+            };
+            let mut watch = Watch {
+                care: self,
+                views,
+                shard: u32::try_from(shard).unwrap_or(u32::MAX),
+            };
+            match scrub.pass(self.rt.alloc(), &mut watch) {
+                Ok(scrubbed) if !scrubbed.has_ended => {}
+                _ => return false,
+            }
+        }
+        true
+    }
+}
+
+// Hears of what a scrub of one store finds, and serves the page meanwhile.
+#[derive(Drop)]
+struct Watch<'w, 'a, 'f, 'p, H, V> {
+    care: &'w Care<'a, 'f, 'p, H>,
+    views: &'w [V],
+    shard: u32,
+}
+
+impl<H, V: View> Watch<'_, '_, '_, '_, H, V> {
+    // Where the part begins of which something was found.
+    fn offset(&self, finding: Finding) -> Option<u64> {
+        let (Finding::Damaged(place) | Finding::Unread(place)) = finding;
+        let view = self.views.get(self.shard as usize)?;
+        let (body, _) = view.named();
+        if body.sorted >= 2 {
+            return None;
+        }
+        offset_of(&view.geometry(), body.sorted, place)
+    }
+}
+
+impl<H: AllocGlobal + Clock + Wait + StandardStreams, V: View> Finds
+    for Watch<'_, '_, '_, '_, H, V> {
+    ghost heard = { λ _ _ _. ⊤ };
+
+    ghost has_stopped = { λ _. ⊤ };
+
+    fn found(&mut self, finding: Finding) {
+        self.care.board.count(Counter::Findings, 1);
+        self.care.tell(self.shard, finding, self.offset(finding));
+    }
+
+    fn goes_on(&self) -> bool {
+        self.care.serve_next(self.views);
+        !self.care.board.has_ended()
+    }
+}
+
+impl<H: AllocGlobal + Clock + Wait + Sync + StandardStreams> Cares for Care<'_, '_, '_, H> {
+    fn care<V: View>(&self, views: &[V]) {
+        if self.hours.is_none() && self.page.is_none() {
+            return;
+        }
+        self.tell_page();
+        let mut schedule = Schedule::new(self.rt, self.hours);
+        for _ in self.rt.forever() {
+            let watch = Watch {
+                care: self,
+                views,
+                shard: 0,
+            };
+            if !schedule.comes(self.rt, &watch) {
+                return;
+            }
+            if self.scrub_each(views) {
+                self.board.count(Counter::Scrubs, 1);
+            }
+        }
+        unreachable!()
+    }
+}

@@ -1,0 +1,4 @@
+pub mod Gathering
+pub mod Looking
+pub mod Parts
+pub mod Passing

@@ -1,0 +1,15 @@
+-- The digests in memory are those of the stores that are shown.
+use Rattle.std.proofs.Common.{IsTrue, Some}
+use Rattle.silt_disk.specs.Disk.{Content}
+use Rattle.silt_engine.proofs.Said.{frozen_said}
+use Rattle.silt_engine.specs.Digests.{own_digests}
+use Rattle.silt_image.specs.Meaning.{AreDigestsOf, with_new_log}
+use Rattle.silt_standing.specs.Standing.{Stands, shown_stores}
+use Rattle.silt_standing.specs.State.{EngineState}
+
+-- those of the stores with any new log are, and a log has no digest
+pub own_said : (content : Content) (s : EngineState) → Stands content s → IsTrue content.honest → AreDigestsOf (Some (own_digests s)) (shown_stores content s)
+unfolding with_new_log
+own_said content s stands honest =
+    let said = frozen_said content s stands honest s.manifest.current in
+    record { hashed = said.hashed; sorted = said.sorted }

@@ -1,0 +1,10 @@
+//! What a thread may see of a store that is served, besides events: a [`View`].
+//!
+//! A view asks a store through its disk: [`Viewed`] says what a store on such a disk shows. Disks in memory and in files are viewed.
+#![tactic(auto)]
+
+mod view;
+mod viewed;
+
+pub use view::View;
+pub use viewed::{ReadFault, Viewed, read_within};
