@@ -435,25 +435,21 @@ class Stop(EndsCase):
                     answering.join()
                     self.assertEqual(self.asked, before + line)
 
-    def test_a_reply_that_is_too_long(self):
+    def check_reply(self, reply, said):
+        """`info` asks a server that sends these bytes: it says so, and its status is 1."""
         with socket.create_server(("127.0.0.1", 0)) as other:
-            answering = threading.Thread(target=self.answer_once, args=(other, b"x" * 65_537))
+            answering = threading.Thread(target=self.answer_once, args=(other, reply))
             answering.start()
             port = other.getsockname()[1]
             ended = self.silt("info", port)
             answering.join()
-        said = f"silt: 127.0.0.1:{port}: the reply is longer than 65536 bytes\n"
-        self.assertEqual(ended, Ended(1, "network fault\n", said))
+        self.assertEqual(ended, Ended(1, "network fault\n", f"silt: 127.0.0.1:{port}: {said}\n"))
+
+    def test_a_reply_that_is_too_long(self):
+        self.check_reply(b"x" * 65_537, "the reply is longer than 65536 bytes")
 
     def test_no_reply(self):
-        with socket.create_server(("127.0.0.1", 0)) as other:
-            answering = threading.Thread(target=self.answer_once, args=(other, b""))
-            answering.start()
-            port = other.getsockname()[1]
-            ended = self.silt("info", port)
-            answering.join()
-        said = f"silt: 127.0.0.1:{port}: the server closed the connection without a reply\n"
-        self.assertEqual(ended, Ended(1, "network fault\n", said))
+        self.check_reply(b"", "the server closed the connection without a reply")
 
 
 class Info(EndsCase):

@@ -1,29 +1,29 @@
 // All entries of a store as lines that put them.
-ghost use Rattle.std.specs.Prelude.{◌≡◌, ◌++◌, IfOk, OnOk, string_bytes};
-ghost use Rattle.std.specs.BTreeMap.{IsOrdered};
+ghost use Rattle.std.specs.Prelude.{◌≡◌, ◌++◌, [], IfOk, OnOk, None, string_bytes};
 ghost use Rattle.std.specs.Io.KnownBytes.{Appends};
-ghost use Rattle.silt_frame.specs.Rows.{key_cmp};
-ghost use Rattle.silt_jobs.specs.Dump.{Dumps, DumpsFile, entry_lines, put_line};
+ghost use Rattle.silt_dump.specs.Stream.{Streams};
+ghost use Rattle.silt_jobs.specs.Dump.{Dumps, DumpsFile, EndsDump, GathersLines, WritesLines, put_line};
 
 use crate::ended::Ended;
 use crate::jobs::refuse_disk;
 use crate::not_opened::given_disk;
 use silt_device::DiskSource;
 use silt_disk::Disk;
-use silt_store_set::{Key, Refusal, Value, read_entries};
+use silt_dump::EntryStream;
+use silt_recovery::OpenError;
+use silt_store_set::{Key, Refusal};
 use std::alloc::{AllocError, Global};
-use std::collections::BTreeMap;
 use std::io::{self, Write};
 
 // How many bytes of lines are gathered before they are written.
 const WRITTEN_AT_ONCE: usize = 65_536;
 
 // Adds the line that puts this value at this key.
-fn push_put(alloc: Global, key: &Key, value: &Value, lines: &mut String) -> Result<(), AllocError>
+fn push_put(alloc: Global, key: &Key, value: &[u8], lines: &mut String) -> Result<(), AllocError>
     ensures { OnOk result (string_bytes lines.new ≡ string_bytes lines.old ++ put_line key.now value.now) }
 {
     let key = hex::encode(alloc, &key.0)?;
-    let value = hex::encode(alloc, value.as_slice())?;
+    let value = hex::encode(alloc, value)?;
     let line = format!(in alloc; "put {key} {value}\n")?;
     lines.push_str(&line)
 }
@@ -40,26 +40,65 @@ fn write_full<W: Write>(lines: &mut String, writer: &mut W) -> io::Result<()>
     Ok(())
 }
 
-// Writes the lines that put these entries, in the order of their keys.
-fn write_entries<W: Write>(
+// Adds the line of one entry, and writes the lines if enough of them are gathered.
+fn write_put<W: Write>(
     alloc: Global,
-    entries: &BTreeMap<Key, Value>,
+    key: &Key,
+    value: &[u8],
+    lines: &mut String,
     writer: &mut W,
 ) -> io::Result<()>
-    ensures lines { OnOk result (Appends (W.contents writer.old) (W.contents writer.new) (entry_lines entries.now.entries)) }
-    ensures ordered { IsOrdered key_cmp entries.now }
+    ensures { OnOk result ((passed : _) × (string_bytes lines.old ++ put_line key.now value.now ≡ passed ++ string_bytes lines.new) × Appends (W.contents writer.old) (W.contents writer.new) passed) }
 {
-    let mut lines = String::new(alloc);
-    for (key, value) in entries.iter() {
-        push_put(alloc, key, value, &mut lines)?;
-        write_full(&mut lines, writer)?;
-    }
-    writer.write_all(lines.as_bytes())?;
-    writer.flush()
+    push_put(alloc, key, value, lines)?;
+    write_full(lines, writer)
 }
 
-/// Writes the lines that put all entries of the store on a disk, in the order of their keys. It writes nothing to the disk.
-/// The status is 0 after the lines, and 1 if the device is refused.
+// Gathers the lines of the entries of a stream, and writes them as they become enough. Returns the error at which the stream
+// ended early, if it did. The last lines are gathered, and not written.
+fn gather_lines<D: Disk, W: Write>(
+    alloc: Global,
+    disk: &D,
+    stream: &mut EntryStream,
+    lines: &mut String,
+    writer: &mut W,
+) -> io::Result<Option<OpenError<D::Fault>>>
+    requires streams { Streams (D.content disk.now) stream.old }
+    requires first { stream.old.last ≡ None }
+    requires none { string_bytes lines.old ≡ [] }
+    ensures { IfOk result (λ early. GathersLines D.Disk disk.now early (W.contents writer.old) (W.contents writer.new) (string_bytes lines.new)) }
+{
+    let mut value = vec![in alloc; 0u8; stream.value_len()]?;
+    loop {
+        match stream.next(disk, &mut value) {
+            Ok(Some(key)) => write_put(alloc, &key, &value, lines, writer)?,
+            Ok(None) => return Ok(None),
+            Err(error) => return Ok(Some(error)),
+        }
+    }
+}
+
+// Writes the lines of the entries of a stream. Returns the error at which it ended early, if it did.
+fn write_lines<D: Disk, W: Write>(
+    alloc: Global,
+    disk: &D,
+    stream: &mut EntryStream,
+    writer: &mut W,
+) -> io::Result<Option<OpenError<D::Fault>>>
+    requires streams { Streams (D.content disk.now) stream.old }
+    requires first { stream.old.last ≡ None }
+    ensures { IfOk result (λ early. WritesLines D.Disk disk.now early (W.contents writer.old) (W.contents writer.new)) }
+{
+    let mut lines = String::new(alloc);
+    let early = gather_lines(alloc, disk, stream, &mut lines, writer)?;
+    writer.write_all(lines.as_bytes())?;
+    writer.flush()?;
+    Ok(early)
+}
+
+/// Writes the lines that put all entries of the store on a disk, in the order of their keys. It writes nothing to the disk. The
+/// status is 0 after the lines, and 1 if the device is refused. Damage is refused before the first line. If a read fails behind
+/// it, the refusal comes behind the lines so far.
 pub fn dump_on<E: Drop, D: Disk, W: Write>(
     alloc: Global,
     disk: &D,
@@ -67,24 +106,29 @@ pub fn dump_on<E: Drop, D: Disk, W: Write>(
 ) -> Ended<E, D::Fault>
     ensures { Dumps D.Disk disk.now result (W.contents writer.old) (W.contents writer.new) }
 {
-    match read_entries(alloc, disk) {
-        Ok(entries) => Ended::plain(write_dump(alloc, &entries, writer)),
+    match EntryStream::open(alloc, disk) {
+        Ok(mut stream) => {
+            let written = write_lines(alloc, disk, &mut stream, writer);
+            drop(stream);
+            end_dump(alloc, disk, written, writer)
+        }
         Err(error) => refuse_disk(alloc, disk, Refusal::from(error), writer),
     }
 }
 
-// Writes the lines that put these entries, and returns the status.
-fn write_dump<W: Write>(
+// Ends a dump after its lines: refuses the disk if the stream ended early.
+fn end_dump<E: Drop, D: Disk, W: Write>(
     alloc: Global,
-    entries: &BTreeMap<Key, Value>,
+    disk: &D,
+    written: io::Result<Option<OpenError<D::Fault>>>,
     writer: &mut W,
-) -> io::Result<u8>
-    ensures lines { IfOk result (λ status. (status ≡ 0) × Appends (W.contents writer.old) (W.contents writer.new) (entry_lines entries.now.entries)) }
-    ensures ordered { IsOrdered key_cmp entries.now }
+) -> Ended<E, D::Fault>
+    ensures { EndsDump written result (W.contents writer.old) (W.contents writer.new) }
 {
-    match write_entries(alloc, entries, writer) {
-        Ok(()) => Ok(0),
-        Err(error) => Err(error),
+    match written {
+        Ok(None) => Ended::plain(Ok(0)),
+        Ok(Some(error)) => refuse_disk(alloc, disk, Refusal::from(error), writer),
+        Err(error) => Ended::plain(Err(error)),
     }
 }
 

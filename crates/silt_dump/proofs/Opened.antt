@@ -1,0 +1,52 @@
+-- A stream that is opened.
+use Rattle.std.proofs.Common.{◌≡◌, IsTrue, Option, None, vec_len, ap, sym, subst, ◌∙◌, arith}
+use Rattle.std.specs.FinMap.{get}
+use Rattle.silt_disk.specs.Disk.{Content}
+use Rattle.silt_disk.specs.Layout.{row_len}
+use Rattle.silt_event.specs.Commands.{Map}
+use Rattle.silt_event.specs.Rows.{map_of_rows}
+use Rattle.silt_frame.specs.declared.key.Key.{Key}
+use Rattle.silt_standing.specs.Standing.{current_map}
+use Rattle.silt_recovery.specs.Opening.{Holds}
+use Rattle.silt_recovery.proofs.Shown.{held_map}
+use Rattle.silt_dump.specs.Order.{IsAbove}
+use Rattle.silt_dump.specs.Pieces.{IsPieceOf, key_at}
+use Rattle.silt_dump.specs.Spots.{AreSpotsOf, Overlays}
+use Rattle.silt_dump.specs.Stream.{Leaves, Streams, sorted_of, stores_of}
+use Rattle.silt_dump.specs.declared.stream.EntryStream.{EntryStream}
+
+-- its stores are held, its spots give the map, it has read no entry, and has passed no key
+pub record IsOpened (content : Content) (stream : EntryStream) : Type 0 where
+  pub holds : Holds content (stores_of stream)
+  pub spots : AreSpotsOf (stores_of stream) stream.spots
+  pub notes : IsTrue content.honest → Overlays content (stores_of stream) (current_map content (stores_of stream)) (map_of_rows (sorted_of content stream)) stream.spots
+  pub fits : IsPieceOf (stores_of stream).sorted stream.piece
+  pub first : stream.piece.first ≡ 0
+  pub empty : stream.piece.count ≡ 0
+  pub row : vec_len stream.row ≡ row_len (stores_of stream).manifest.shape
+  pub place : stream.place ≡ 0
+  pub last : stream.last ≡ None
+
+module _ (content : Content) (stream : EntryStream) (opened : IsOpened content stream) where
+  -- each key is above the last one
+  all_above : (key : Key) → IsAbove stream.last key
+  all_above key = subst (λ (last : Option Key). IsAbove last key) (sym opened.last) tt
+
+  all_left : IsTrue content.honest → Leaves content stream
+  all_left honest = record {
+    piece = λ i below. absurd (omega (arith, below, opened.empty));
+    values = λ key above. ap (λ (m : Map). get m key.0) (sym (held_map content (stores_of stream) opened.holds honest)) ∙ opened.notes honest key;
+    passed = λ place before above. absurd (omega (arith, before, opened.place));
+    left = λ place from inside. all_above (key_at (sorted_of content stream) place);
+  }
+
+  -- all keys are left
+  pub streams_opened : Streams content stream
+  streams_opened = record {
+    holds = opened.holds;
+    spots = opened.spots;
+    above = λ key some. all_above key;
+    row = opened.row;
+    at = record { fits = opened.fits; from = omega (arith, opened.first, opened.place); to = omega (arith, opened.place) };
+    leaves = all_left;
+  }

@@ -1,0 +1,10 @@
+use Rattle.std.proofs.Common.{take}
+use Rattle.silt_log.specs.State.{all_rows}
+use Rattle.silt_recovery.specs.Opening.{held_stores}
+use Rattle.silt_dump.specs.Spots.{NotesRows, log_at}
+use Rattle.silt_dump.proofs.gather.note_rows.Given as goal
+
+-- the rows that were read are noted
+abbrev pub invariant-loop-place : goal.invariant-loop-place
+invariant-loop-place g l =
+    NotesRows (g.D.Disk.content l.disk) (held_stores l.held) (take l.place (all_rows (g.D.Disk.content l.disk) (log_at (held_stores l.held) l.number).log)) l.initial.spots l.spots

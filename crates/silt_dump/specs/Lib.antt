@@ -1,0 +1,4 @@
+pub mod Order
+pub mod Pieces
+pub mod Spots
+pub mod Stream
