@@ -1,6 +1,8 @@
 """Tries the mutants: the prover has to refuse each wrong body that a crate's `must-fail/` describes.
 
 usage: python3 tools/try_mutants.py [CRATE..]
+       python3 tools/try_mutants.py --follow    of the crates that standard input names, a line each, as they are proved; it runs
+                                                one check at a time until standard input ends
 
 All mutants of a crate are planted in one copy of it, and one check is asked for the functions that they change: what a function
 is proved to do depends on the contracts of those that it calls, not on their bodies. A mutant is refused if the check says that its
@@ -19,6 +21,7 @@ import signal
 import subprocess
 import sys
 import tempfile
+import threading
 import time
 
 if __name__ == "__main__":
@@ -111,8 +114,15 @@ class Mutant:
         return not others or not self.is_alone() and not any(it.is_alone() or it.function == self.function for it in others)
 
 
-def read_mutant(path):
-    """The mutant that a file describes: `file: src/FILE`, pairs of `old: TEXT` and `new: TEXT`, and `fn: FUNCTION` if they stand in none."""
+def mutants_of(crate):
+    """The folder of a crate's mutants. The gate puts them aside while it proves the crates."""
+    aside = TOP / "out/must-fail" / crate
+    return aside if aside.is_dir() else TOP / f"crates/{crate}/must-fail"
+
+
+def read_mutant(path, crate):
+    """The mutant of a crate that a file describes: `file: src/FILE`, pairs of `old: TEXT` and `new: TEXT`, and `fn: FUNCTION` if they stand
+    in none."""
     found, changes = {}, []
     for line in path.read_text(encoding="utf-8").splitlines():
         word, _, text = line.partition(":")
@@ -121,7 +131,7 @@ def read_mutant(path):
         found[word] = text.removeprefix(" ")
         if word == "new":
             changes.append((found["file"], found["old"], found["new"]))
-    functions = {found.get("fn") or function_of(path.parent.parent, *it) for it in changes}
+    functions = {found.get("fn") or function_of(TOP / f"crates/{crate}", *it) for it in changes}
     if len(functions) != 1 or None in functions:
         raise BadMutant(f"{path.name}: it changes not one function but these: {functions}")
     return Mutant(path.stem, *functions, tuple(changes))
@@ -282,7 +292,7 @@ def try_crate(workspace, crate):
     begun, failures, refused, alone = time.monotonic(), [], [], []
     with tempfile.TemporaryDirectory(prefix="silt-kept-") as kept:
         try:
-            mutants = [read_mutant(it) for it in sorted((TOP / f"crates/{crate}/must-fail").glob("*.edit"))]
+            mutants = [read_mutant(it, crate) for it in sorted(mutants_of(crate).glob("*.edit"))]
             rounds = rounds_of(mutants)
             while rounds:
                 tried, *rounds = rounds
@@ -308,14 +318,61 @@ def try_crate(workspace, crate):
     return len(refused), len(failures)
 
 
-def main(names):
-    workspace = Workspace()
-    crates = [it for it in workspace.uses if any((TOP / f"crates/{it}/must-fail").glob("*.edit")) and it in (names or [it])]
-    # The largest first.
-    crates.sort(key=lambda it: -sum(path.stat().st_size for path in (TOP / f"crates/{it}").rglob("*.rt")))
+def size_of(crate):
+    """How much there is to check, so that the largest crates come first."""
+    return sum(path.stat().st_size for path in (TOP / f"crates/{crate}").rglob("*.rt"))
+
+
+class Queue:
+    """Crates whose mutants are to be tried."""
+
+    def __init__(self):
+        self.crates, self.is_whole, self.changed = [], False, threading.Condition()
+
+    def add(self, crate):
+        with self.changed:
+            self.crates.append(crate)
+            self.changed.notify()
+
+    def end(self):
+        with self.changed:
+            self.is_whole = True
+            self.changed.notify_all()
+
+    def take(self):
+        """The largest crate, or None if there are no more."""
+        with self.changed:
+            self.changed.wait_for(lambda: self.crates or self.is_whole)
+            crate = max(self.crates, key=size_of, default=None)
+            if crate:
+                self.crates.remove(crate)
+            return crate
+
+
+def try_queue(workspace, queue):
+    """Tries the mutants of each crate of a queue, and returns how many were refused, and how many failed."""
+    counts = [(0, 0)]
+    while crate := queue.take():
+        counts.append(try_crate(workspace, crate))
+    return tuple(sum(it) for it in zip(*counts))
+
+
+def try_all(workspace, names, follows):
+    """Tries the mutants of these crates, or of those that standard input names, by one worker until that ends."""
+    queue = Queue()
     with concurrent.futures.ThreadPoolExecutor(jobs()) as pool:
-        counts = list(pool.map(lambda it: try_crate(workspace, it), crates))
-    passed, failed = (sum(it) for it in zip(*counts)) if counts else (0, 1)
+        workers = [pool.submit(try_queue, workspace, queue)] if follows else []
+        for name in map(str.strip, sys.stdin) if follows else names:
+            if name in workspace.uses and any(mutants_of(name).glob("*.edit")):
+                queue.add(name)
+        queue.end()
+        workers += [pool.submit(try_queue, workspace, queue) for _ in range(jobs() - len(workers))]
+        return tuple(sum(it) for it in zip(*(it.result() for it in workers)))
+
+
+def main(words):
+    workspace, follows = Workspace(), words == ["--follow"]
+    passed, failed = try_all(workspace, words or list(workspace.uses), follows)
     print(f"{passed} passed, {failed} failed")
     return 1 if failed or not passed else 0
 

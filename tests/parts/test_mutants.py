@@ -3,6 +3,7 @@ check would say."""
 import contextlib
 import io
 import pathlib
+import sys
 import tempfile
 import unittest
 from unittest import mock
@@ -105,6 +106,26 @@ class Tries(unittest.TestCase):
 
     def test_a_line_of_another_kind_fails(self):
         self.assertEqual(self.tried(Prover("low"), low=LOW + "also: this\n")[0], (0, 1))
+
+
+class Follows(unittest.TestCase):
+    def test_the_crates_that_standard_input_names(self):
+        """Each once it is named, and the largest of those that wait. A crate without mutants is passed over, and so is a name of none."""
+        with tempfile.TemporaryDirectory(prefix="silt-mutants-") as folder:
+            top = pathlib.Path(folder)
+            for name in ("sums", "more", "bare"):
+                (top / f"crates/{name}/src").mkdir(parents=True)
+                (top / f"crates/{name}/src/lib.rt").write_text(SOURCE * (2 if name == "more" else 1))
+            for name in ("sums", "more"):
+                (top / f"out/must-fail/{name}").mkdir(parents=True)
+                (top / f"out/must-fail/{name}/low.edit").write_text(LOW)
+            tried = []
+            workspace = mock.Mock(uses={"sums": [], "more": [], "bare": []})
+            named = io.StringIO("sums\nbare\nnone\nmore\n")
+            with (mock.patch.object(try_mutants, "TOP", top), mock.patch.object(sys, "stdin", named),
+                  mock.patch.object(try_mutants, "try_crate", lambda _, it: tried.append(it) or (1, 0))):
+                self.assertEqual(try_mutants.try_all(workspace, [], True), (2, 0))
+            self.assertEqual(sorted(tried), ["more", "sums"])
 
 
 class Verdicts(unittest.TestCase):
