@@ -1,0 +1,5 @@
+pub mod Conversions
+pub mod Rooms
+pub mod Sizes
+pub mod Merges
+pub mod Backgrounds
