@@ -1,6 +1,8 @@
-// Care beside the sessions of a server: its stores are scrubbed, and its page of metrics is served.
+// Care beside the sessions of a server: its stores are scrubbed and backed up, and its page of metrics is served.
 ghost use Rattle.std.specs.Prelude.{⊤};
 
+use crate::backups::Backups;
+use crate::merge_gate::GateParts;
 use crate::standard_streams::StandardStreams;
 use silt_care::{Finding, Finds, Pace, Schedule, Scrub, View};
 use silt_event::{Counter, Facts};
@@ -21,7 +23,7 @@ const RATE: u32 = 20;
 /// How many milliseconds a read or a write of the page's client waits.
 const CUT_OFF: u64 = 500;
 
-/// Care beside the sessions of a server: scrubs, and the page of metrics.
+/// Care beside the sessions of a server: scrubs, backups, and the page of metrics.
 #[derive(Drop)]
 pub struct Care<'a, 'f, 'p, H> {
     rt: &'a H,
@@ -32,6 +34,7 @@ pub struct Care<'a, 'f, 'p, H> {
     /// After how many hours the next scrub begins, if there are scrubs.
     hours: Option<u32>,
     pace: Pace,
+    backups: Backups<'a, 'f, 'p, H>,
     /// Where the page is read, if there is one. An accept does not wait.
     page: Option<TcpListener>,
 }
@@ -41,6 +44,7 @@ impl<'a, 'f, 'p, H: AllocGlobal + Clock + Wait + StandardStreams> Care<'a, 'f, '
     pub fn new(
         rt: &'a H,
         board: &'p Board,
+        parts: &'p GateParts,
         service: &Service<'f>,
         page: Option<TcpListener>,
     ) -> Care<'a, 'f, 'p, H> {
@@ -51,6 +55,7 @@ impl<'a, 'f, 'p, H: AllocGlobal + Clock + Wait + StandardStreams> Care<'a, 'f, '
             is_set: service.shards.is_some(),
             hours: service.scrub,
             pace: Pace::new(service.scrub_rate.unwrap_or(RATE)),
+            backups: Backups::new(rt, board, parts, service),
             page,
         }
     }
@@ -166,6 +171,33 @@ impl<H: AllocGlobal + Clock + Wait + StandardStreams, V: View> Finds
         self.care.tell(self.shard, finding, self.offset(finding));
     }
 
+    // A scrub takes hours. So a backup is written meanwhile.
+    fn goes_on(&self) -> bool {
+        self.care.serve_next(self.views);
+        let patience = Patience {
+            care: self.care,
+            views: self.views,
+        };
+        self.care.backups.write_due(self.views, &patience);
+        !self.care.board.has_ended()
+    }
+}
+
+// Serves the page while a backup is written, and has that end with the server.
+#[derive(Drop)]
+struct Patience<'w, 'a, 'f, 'p, H, V> {
+    care: &'w Care<'a, 'f, 'p, H>,
+    views: &'w [V],
+}
+
+impl<H: AllocGlobal + Clock + Wait + StandardStreams, V: View> Finds
+    for Patience<'_, '_, '_, '_, H, V> {
+    ghost heard = { λ _ _ _. ⊤ };
+
+    ghost has_stopped = { λ _. ⊤ };
+
+    fn found(&mut self, _finding: Finding) {}
+
     fn goes_on(&self) -> bool {
         self.care.serve_next(self.views);
         !self.care.board.has_ended()
@@ -174,7 +206,7 @@ impl<H: AllocGlobal + Clock + Wait + StandardStreams, V: View> Finds
 
 impl<H: AllocGlobal + Clock + Wait + Sync + StandardStreams> Cares for Care<'_, '_, '_, H> {
     fn care<V: View>(&self, views: &[V]) {
-        if self.hours.is_none() && self.page.is_none() {
+        if self.hours.is_none() && self.page.is_none() && !self.backups.are_written() {
             return;
         }
         self.tell_page();

@@ -20,6 +20,7 @@
 //!   serves the store in a file to the connections of a port of this machine. With `--pipeline` the commands that a
 //!   connection sent together are done with one flush. A line `shutdown` ends it in order, and so does a failed write or sync,
 //!   with status 1, unless it has `--stay`.
+//!   With `--backup PATH` a line `backup` orders a copy of the store in a file of its own.
 //! - `silt stop ADDRESS [--password-file PATH]` ends a server in order, and waits until nothing listens at its port.
 //! - `silt info ADDRESS [--password-file PATH]` prints what a server says of itself.
 //!
@@ -31,6 +32,7 @@
 //! known.
 #![tactic(auto)]
 
+mod backups;
 mod care;
 mod clash;
 mod client;
@@ -40,6 +42,7 @@ mod file_identity;
 mod file_systems;
 mod listener;
 mod merge_gate;
+mod merge_holds;
 mod merge_places;
 mod mounts;
 mod password;

@@ -4,6 +4,7 @@ ghost use Rattle.silt.specs.Services.{least_merged};
 
 use crate::early_sync::EarlySync;
 use crate::listener::wake;
+use crate::merge_holds::{Hold, MergeHolds};
 use crate::merge_places::MergePlaces;
 use crate::standard_streams::StandardStreams;
 use silt_desk::{Gate, Spot};
@@ -17,7 +18,11 @@ use std::alloc::AllocError;
 use std::net::{Net, SocketAddr, TcpListener, TcpStream};
 use std::sync::atomic::{AtomicBool, Ordering};
 use std::sync::{OnceLock, Wait};
-use std::time::Clock;
+use std::thread;
+use std::time::{Clock, Duration};
+
+/// How many milliseconds a merger that a backup holds waits before it looks again.
+const HOLD: u64 = 2;
 
 // Of how many hash stores a merge begins, if a store has this many regions for them: half of them, but at least one, if
 // no number is asked for.
@@ -58,6 +63,7 @@ pub struct GateParts {
     /// The socket of its listener, if the system tells it.
     socket: Option<SocketAddr>,
     places: MergePlaces,
+    holds: MergeHolds,
     // Whether a store has failed.
     has_failed: OnceLock<()>,
 }
@@ -74,8 +80,16 @@ impl GateParts {
             stays: service.stay,
             socket,
             places: MergePlaces::new(places),
+            holds: MergeHolds::new(),
             has_failed: OnceLock::new(),
         }
+    }
+}
+
+impl GateParts {
+    /// What the mergers may do while a backup is made.
+    pub fn holds(&self) -> &MergeHolds {
+        &self.holds
     }
 }
 
@@ -95,6 +109,8 @@ pub struct MergeGate<'a, 'f, 'b, 'p, H> {
     least: u32,
     // Whether the merger has a place.
     has_place: AtomicBool,
+    // Whether a merge has ended since the merger was free.
+    has_merged: AtomicBool,
     early: EarlySync,
     is_noted: OnceLock<()>,
 }
@@ -123,6 +139,7 @@ impl<'a, 'f, 'b, 'p, H: AllocGlobal + Wait + StandardStreams> MergeGate<'a, 'f, 
             geometry,
             least: least_merged(parts.merge_at, geometry.hashes()),
             has_place: AtomicBool::new(false),
+            has_merged: AtomicBool::new(false),
             early: early_sync_of(rt, file, shard, geometry.entry_len()),
             is_noted: OnceLock::new(),
         }
@@ -158,6 +175,31 @@ impl<'a, 'f, 'b, 'p, H: AllocGlobal + Wait + StandardStreams> MergeGate<'a, 'f, 
     }
 }
 
+impl<H: Clock + Wait> MergeGate<'_, '_, '_, '_, H> {
+    // Whether the merger is to wait, since a backup copies what its next step might free or overwrite.
+    fn is_held(&self) -> bool {
+        match self.parts.holds().of(self.shard.unwrap_or(0) as usize) {
+            Hold::Free => {
+                self.has_merged.store(false, Ordering::Relaxed);
+                false
+            }
+            Hold::Steps => !self.board.is_ending(),
+            Hold::Merges => self.has_merged.load(Ordering::Relaxed) && !self.board.is_ending(),
+        }
+    }
+
+    // Waits until no backup holds the merger.
+    fn wait_for_backup(&self) {
+        for _ in self.rt.forever() {
+            if !self.is_held() {
+                return;
+            }
+            thread::sleep(self.rt, Duration::from_millis(HOLD));
+        }
+        unreachable!()
+    }
+}
+
 impl<
     H: Net<Listener = TcpListener, Stream = TcpStream>
         + AllocGlobal
@@ -167,6 +209,7 @@ impl<
 > Gate for MergeGate<'_, '_, '_, '_, H> {
     fn pass(&self, spot: Spot) {
         if spot == Spot::Merger {
+            self.wait_for_backup();
             self.take_place();
             self.early.step();
         }
@@ -181,6 +224,7 @@ impl<
     // A merge has ended: so the next one may be that of another shard.
     fn finished(&self, spot: Spot) {
         if spot == Spot::Merger {
+            self.has_merged.store(true, Ordering::Relaxed);
             self.leave_place();
         }
     }
@@ -189,9 +233,9 @@ impl<
         self.least
     }
 
-    fn damaged(&self, _spot: Spot, place: Place) {
+    fn damaged(&self, _spot: Spot, place: Place, sorted: Option<u32>) {
         if self.is_noted.try_set(()).is_ok() {
-            let at = merge_damage_at(&self.geometry, place);
+            let at = merge_damage_at(&self.geometry, sorted, place);
             self.tell(&Urgent::Unmerged(self.rt.alloc(), place, at));
         }
     }

@@ -213,7 +213,7 @@ fn serve_store<
         return (disk, status, None);
     };
     let limits = limits_of(service, entrance.password);
-    let board = Board::new(rt, false);
+    let board = Board::new(rt, service.backup.is_some());
     let listener = PatientListener::new(rt, entrance.listener, entrance.socket, &board);
     let parts = GateParts::new(service, listener.own_socket(), 1);
     let gate = MergeGate::new(rt, service.file, &board, &parts, None, &core);
@@ -224,7 +224,7 @@ fn serve_store<
         limits,
         gate: &gate,
         board: &board,
-        care: &Care::new(rt, &board, service, entrance.page),
+        care: &Care::new(rt, &board, &parts, service, entrance.page),
     };
     let (disk, status) = server.serve(core, writer);
     let why = listener_fault(entrance.socket, listener.failure(), &status);

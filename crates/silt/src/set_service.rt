@@ -203,7 +203,7 @@ fn serve_entered<
     ensures left { All (λ disk. (shape : Shape) × LeavesBegun (D.content disk) shape) result.0.items }
 {
     let alloc = rt.alloc();
-    let board = Board::new(rt, false);
+    let board = Board::new(rt, service.backup.is_some());
     let listener = PatientListener::new(rt, entrance.listener, entrance.socket, &board);
     let places = places_of(service, cores.len());
     let parts = GateParts::new(service, listener.own_socket(), places);
@@ -218,7 +218,7 @@ fn serve_entered<
         limits: limits_of(service, entrance.password),
         gates: gates.as_slice(),
         board: &board,
-        care: &Care::new(rt, &board, service, entrance.page),
+        care: &Care::new(rt, &board, &parts, service, entrance.page),
     };
     let (disks, status) = server.serve(cores, writer);
     let why = listener_fault(entrance.socket, listener.failure(), &status);

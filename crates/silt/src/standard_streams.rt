@@ -4,11 +4,11 @@ ghost use Rattle.silt.specs.Streams.{FillsLow, IsLowOrLast, first_stream, null_d
 ghost use Rattle.silt.specs.declared.standard_streams.SameStreams.{SameStreams as SameStreamsOf};
 
 use crate::file_identity::identity_at;
-use silt_device::FileSystem;
+use silt_device::{FileDisk, FileSystem};
 use silt_jobs::Stream;
 use std::alloc::Global;
-use std::fs::File;
-use std::io::{self, Read, Stderr};
+use std::fs::{self, File, Metadata};
+use std::io::{self, ErrorKind, Read, Stderr};
 use std::os::fd::{AsRawFd, RawFd};
 use std::rt::Runtime;
 
@@ -79,7 +79,7 @@ impl SameStreams {
     }
 }
 
-/// A program with standard streams.
+/// A program with standard streams, and with files beside those of its stores.
 pub trait StandardStreams {
     /// The system reported that these streams are the file of this path, and no others.
     ghost are_file: { Self → List ℕ → SameStreamsOf → Type 0 };
@@ -100,6 +100,24 @@ pub trait StandardStreams {
     /// Another handle of the file at this path, if it can be opened once more.
     fn open_beside(&self, path: &str) -> Option<File>;
 
+    /// Whether both paths are of one file that can hold a store.
+    fn is_same_file(&self, one: &str, other: &str) -> bool;
+
+    /// Makes a file of so many zeros at this path, in place of one that is there and that nobody has locked, and gives it as a disk.
+    fn make_disk(&self, path: &str, len: u64) -> io::Result<FileDisk>;
+
+    /// An error if at this path is something that a file is not to take the place of, as a pipe or a device.
+    fn may_replace(&self, path: &str) -> io::Result<()>;
+
+    /// Gives the file at this path another one, in place of a file that is there.
+    fn rename(&self, path: &str, place: &str) -> io::Result<()>;
+
+    /// Syncs the folder of the file at this path.
+    fn sync_folder(&self, path: &str) -> io::Result<()>;
+
+    /// Removes the file at this path, if there is one.
+    fn remove(&self, path: &str);
+
     /// The standard error.
     fn errors(&self) -> Stderr;
 }
@@ -117,6 +135,25 @@ fn fill_from<R: Read>(reader: &mut R, buffer: &mut [u8]) -> io::Result<usize>
         }
     }
     Ok(count)
+}
+
+// Whether a file may take the place of this, or the system itself refuses that.
+fn is_replaced(found: &Metadata) -> bool {
+    found.is_file() || found.is_dir() || found.file_type().is_symlink()
+}
+
+// Removes what is at this path, unless it is a file that another program has locked.
+fn clear(rt: &HostRuntime, path: &str) -> io::Result<()> {
+    let Ok(found) = fs::symlink_metadata(rt, path) else {
+        return Ok(());
+    };
+    if found.is_file() {
+        let held = FileDisk::open(rt, path)?;
+        fs::remove_file(rt, path)?;
+        drop(held);
+        return Ok(());
+    }
+    fs::remove_file(rt, path)
 }
 
 // Not for any system with files: rattle takes no such bound of `done` for granted in the threads of a server.
@@ -150,6 +187,40 @@ impl StandardStreams for HostRuntime {
 
     fn open_beside(&self, path: &str) -> Option<File> {
         File::open(self, path).ok()
+    }
+
+    fn is_same_file(&self, one: &str, other: &str) -> bool {
+        match identity_at(self, one) {
+            Some(file) => identity_at(self, other) == Some(file),
+            None => false,
+        }
+    }
+
+    fn make_disk(&self, path: &str, len: u64) -> io::Result<FileDisk> {
+        clear(self, path)?;
+        drop(self.make_new_file_at(path)?);
+        FileDisk::create(self, path, len)
+    }
+
+    fn may_replace(&self, path: &str) -> io::Result<()> {
+        match fs::symlink_metadata(self, path) {
+            Ok(found) if !is_replaced(&found) => {
+                Err(io::Error::new(ErrorKind::InvalidInput, "it is no regular file"))
+            }
+            _ => Ok(()),
+        }
+    }
+
+    fn rename(&self, path: &str, place: &str) -> io::Result<()> {
+        fs::rename(self, path, place)
+    }
+
+    fn sync_folder(&self, path: &str) -> io::Result<()> {
+        self.sync_folder_of(path)
+    }
+
+    fn remove(&self, path: &str) {
+        let _ = fs::remove_file(self, path); // most often there is none
     }
 
     fn errors(&self) -> Stderr {

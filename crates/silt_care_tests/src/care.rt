@@ -11,6 +11,7 @@ use silt_event::{Facts, Progress};
 use silt_fixtures::{key, opened_on};
 use silt_manifest::{Body, Digests};
 use silt_store_set::Core;
+use silt_view::Moment;
 use std::alloc::Global;
 use std::cell::Cell;
 use std::fmt::Debug;
@@ -95,6 +96,8 @@ impl View for Rotten {
 
     ghost has_named = { λ view named. Unit {0} };
 
+    ghost had_moment = { λ view moment. Unit {0} };
+
     ghost gave = { λ view at bytes. Unit {0} };
 
     ghost faulted = { λ view fault at len. Unit {0} };
@@ -109,6 +112,10 @@ impl View for Rotten {
 
     fn named(&self) -> (Body, Digests) {
         self.now().named()
+    }
+
+    fn note_moments(_views: &[Self], _moments: &mut [Moment]) -> Result<(), ()> {
+        Err(())
     }
 
     fn read_at(&self, at: u64, buf: &mut [u8]) -> Result<(), ()> {

@@ -7,7 +7,9 @@ use Rattle.silt_manifest.specs.declared.body.Body.{Body}
 use Rattle.silt_manifest.specs.declared.digests.Digests.{Digests}
 use Rattle.silt_store_set.specs.CoreState.{CoreState}
 use Rattle.silt_store_set.specs.Facts.{facts_of}
+use Rattle.silt_view.specs.Moments.{IsMoment}
 use Rattle.silt_view.specs.Views.{GivesBytes, GivesFault, IsNamed}
+use Rattle.silt_view.specs.declared.moment.Moment.{Moment}
 use Rattle.silt_view.specs.declared.viewed.ReadFault.{ReadFault}
 
 -- a store had this shape
@@ -22,6 +24,10 @@ module _ {D F : Type 0} (disk : Ghosts D F) where
   -- the record of a store named these regions, with these digests
   abbrev pub HadNamed : Body × Digests → Type 0
   HadNamed named = (core : CoreState D) × IsNamed disk core named
+
+  -- a store was this
+  abbrev pub HadMoment : Moment → Type 0
+  HadMoment moment = (core : CoreState D) × IsMoment disk core moment
 
   -- the disk of a store gave these bytes from there on
   abbrev pub GaveBytes : ℕ → List ℕ → Type 0

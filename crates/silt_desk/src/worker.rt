@@ -72,9 +72,9 @@ pub trait Gate {
         1
     }
 
-    /// The worker's step is refused, because this part of the device is damaged.
-    fn damaged(&self, spot: Spot, place: Place) {
-        let _ = (spot, place);
+    /// The worker's step is refused, because this part of the device is damaged. The sorted region in use is this one, if that is known.
+    fn damaged(&self, spot: Spot, place: Place, sorted: Option<u32>) {
+        let _ = (spot, place, sorted);
     }
 
     /// The worker's call is refused, because a write or a sync of the store failed.
@@ -255,7 +255,7 @@ fn rest<G: Gate, W: Hears, R: Wait + Clock>(
             ends.wakes.tries_again(rt)
         }
         Turn::Damaged(place) => {
-            gate.damaged(spot, place);
+            gate.damaged(spot, place, None);
             gate.rest(spot);
             ends.wakes.goes_on(rt)
         }

@@ -34,6 +34,11 @@ unsorted_offset_of s (Sorted entry) = None
 unsorted_offset_of s SortedDigest = None
 unsorted_offset_of s place = offset_of s 0 place
 
+-- the offset of a part, if it is known in which region the sorted store lies: else a part of that store has none
+abbrev pub merge_offset_of : Shape → Option ℕ → Place → Option ℕ
+merge_offset_of s None place = unsorted_offset_of s place
+merge_offset_of s (Some sorted) place = if nat_lt sorted 2 then offset_of s sorted place else unsorted_offset_of s place
+
 -- the header of a device is whole, and these are its six numbers
 abbrev pub HasShape : Content → Shape → Type 0
 HasShape content shape = IsTrue content.honest → shape_found (size content) (header_of content.shown) ≡ Ok shape

@@ -4,7 +4,7 @@ ghost use Rattle.silt_disk.specs.Disk.{GaveAny, size};
 ghost use Rattle.silt_disk.specs.Layout.{device_size, entry_len, row_len};
 ghost use Rattle.silt_disk.specs.Header.{header_of, version_of};
 ghost use Rattle.silt_image.specs.Stores.{shape_found};
-ghost use Rattle.silt_jobs.specs.Damage.{HasShape, LacksShape, part_at, offset_of, unsorted_offset_of};
+ghost use Rattle.silt_jobs.specs.Damage.{HasShape, LacksShape, part_at, offset_of, merge_offset_of, unsorted_offset_of};
 
 use silt_disk::{Disk, Geometry, HEADER_LEN, Version, slot_start, version_of};
 use silt_event::{Finding, Place, Refusal};
@@ -98,9 +98,19 @@ fn sorted_on<D: Disk>(disk: &D, header: &Header) -> u32
     }
 }
 
-/// The offset of the damaged part that a merge reports, if the geometry alone says it. In which region the sorted store
-/// lies, the manifest says.
-pub fn merge_damage_at(geometry: &Geometry, place: Place) -> Option<u64>
+/// The offset of the damaged part that a merge reports. If it is not known in which region the sorted store lies, a part of
+/// that store has no offset.
+pub fn merge_damage_at(geometry: &Geometry, sorted: Option<u32>, place: Place) -> Option<u64>
+    ensures { result ≡ merge_offset_of geometry.now sorted place }
+{
+    match sorted {
+        Some(sorted) if sorted < 2 => offset_of(geometry, sorted, place),
+        _ => unsorted_offset_of(geometry, place),
+    }
+}
+
+// The offset of a part that is not in the sorted store.
+fn unsorted_offset_of(geometry: &Geometry, place: Place) -> Option<u64>
     ensures { result ≡ unsorted_offset_of geometry.now place }
 {
     match place {

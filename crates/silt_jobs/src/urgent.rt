@@ -4,6 +4,7 @@ ghost use Rattle.silt_jobs.specs.declared.urgent.Urgent.{Urgent as UrgentOf};
 
 use crate::failure::Failure;
 use crate::held_data::HeldStore;
+use crate::no_backup::NoBackup;
 use crate::progress::AfterProgress;
 use crate::streams::StreamError;
 use silt_care::Finding;
@@ -34,6 +35,10 @@ pub enum Urgent {
     NotAccepting(SocketAddr, StreamError),
     /// A merge found this part damaged, which begins at this offset, if that is known. The text needs memory.
     Unmerged(Global, Place, Option<u64>),
+    /// The file has a backup. The server had accepted this many commands since it was opened when its moment came.
+    BackedUp(u64),
+    /// No backup was written to the file.
+    NotBackedUp(NoBackup),
 }
 
 /// Tells people at once what is urgent. No output for programs depends on it.
@@ -88,6 +93,8 @@ fn write_urgent<W: Write>(file: &str, urgent: &Urgent, out: &mut W) -> io::Resul
             "silt: {address}: a connection is not accepted: {error}; the server tries again"
         ),
         Urgent::Unmerged(alloc, place, at) => write_unmerged(*alloc, file, *place, *at, out),
+        Urgent::BackedUp(commands) => write_backed_up(file, *commands, out),
+        Urgent::NotBackedUp(why) => writeln!(out, "silt: {file}: no backup was written: {why}"),
     }
 }
 
@@ -143,6 +150,15 @@ fn write_unmerged<W: Write>(
         Err(_) => out.write_all(b"refused")?,
     }
     write_place(place, at, out)
+}
+
+// Writes that a file has a backup, and of which moment.
+fn write_backed_up<W: Write>(file: &str, commands: u64, out: &mut W) -> io::Result<()> {
+    let noun = if commands == 1 { "command" } else { "commands" };
+    writeln!(
+        out,
+        "silt: {file}: a backup is written, of the store as it was when this server had accepted {commands} {noun}"
+    )
 }
 
 /// Writes the end of a line: what a damaged part is, and where it begins, if that is known.

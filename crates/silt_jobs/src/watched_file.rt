@@ -12,7 +12,7 @@ use silt_disk::{Disk, Geometry};
 use silt_event::{Event, Facts, Reply};
 use silt_manifest::{Body, Digests};
 use silt_store_set::{Core, Refusal, Served};
-use silt_view::{ReadFault, Viewed, read_within};
+use silt_view::{Moment, ReadFault, Viewed, read_within};
 use std::alloc::Global;
 use std::io::Stderr;
 use std::sync::OnceLock;
@@ -176,6 +176,10 @@ impl Viewed for WatchedFile<'_> {
 
     fn named_in(core: &Core<Self>) -> (Body, Digests) {
         core.named()
+    }
+
+    fn note_in(core: &Core<Self>, moment: &mut Moment) -> Result<(), ReadFault<Self::Fault>> {
+        moment.note(core)
     }
 
     fn read_in(core: &Core<Self>, at: u64, buf: &mut [u8]) -> Result<(), ReadFault<Self::Fault>> {

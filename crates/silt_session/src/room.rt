@@ -100,8 +100,10 @@ impl<V: View, G: Gate, R: Wait> Gate for RoomGate<'_, V, G, R> {
         self.gate.merges_at()
     }
 
-    fn damaged(&self, spot: Spot, place: Place) {
-        self.gate.damaged(spot, place);
+    // A damaged store keeps its record, so the sorted region is the one that was read.
+    fn damaged(&self, spot: Spot, place: Place, _sorted: Option<u32>) {
+        let (body, _) = self.view.named();
+        self.gate.damaged(spot, place, Some(body.sorted));
     }
 
     fn failed(&self, spot: Spot) {

@@ -1,10 +1,12 @@
--- The digests in memory are those of the stores that are shown.
-use Rattle.std.proofs.Common.{IsTrue, Some}
+-- The digests in memory, and the base, are those of the stores that are shown.
+use Rattle.std.proofs.Common.{◌≡◌, IsTrue, Some, sym}
 use Rattle.silt_disk.specs.Disk.{Content}
+use Rattle.silt_engine.proofs.Meaning.{meaning}
 use Rattle.silt_engine.proofs.Said.{frozen_said}
 use Rattle.silt_engine.specs.Digests.{own_digests}
-use Rattle.silt_image.specs.Meaning.{AreDigestsOf, with_new_log}
-use Rattle.silt_standing.specs.Standing.{Stands, shown_stores}
+use Rattle.silt_event.specs.Rows.{map_of_rows}
+use Rattle.silt_image.specs.Meaning.{AreDigestsOf, image_map, rows_of, with_new_log}
+use Rattle.silt_standing.specs.Standing.{Stands, base_map, shown_stores}
 use Rattle.silt_standing.specs.State.{EngineState}
 
 -- those of the stores with any new log are, and a log has no digest
@@ -13,3 +15,8 @@ unfolding with_new_log
 own_said content s stands honest =
     let said = frozen_said content s stands honest s.manifest.current in
     record { hashed = said.hashed; sorted = said.sorted }
+
+-- so is the map of what is shown
+pub shown_is_base : (content : Content) (s : EngineState) → Stands content s → IsTrue content.honest → map_of_rows (rows_of (shown_stores content s)) ≡ image_map content.shown
+unfolding base_map
+shown_is_base content s stands honest = sym ((meaning content s stands).shown honest)

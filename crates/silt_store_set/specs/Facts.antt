@@ -7,7 +7,9 @@ use Rattle.silt_event.specs.declared.admin.AdminReply.TheVariants as reply_case
 use Rattle.silt_event.specs.declared.facts.Facts.{Facts}
 use Rattle.silt_disk.specs.Disk.{Content}
 use Rattle.silt_disk.specs.Layout.{Shape}
-use Rattle.silt_image.specs.Meaning.{AreDigestsOf}
+use Rattle.silt_event.specs.Commands.{Map}
+use Rattle.silt_event.specs.Rows.{map_of_rows}
+use Rattle.silt_image.specs.Meaning.{AreDigestsOf, rows_of}
 use Rattle.silt_image.specs.Stores.{stores_named}
 use Rattle.silt_manifest.specs.declared.body.Body.{Body}
 use Rattle.silt_manifest.specs.declared.digests.Digests.{Digests}
@@ -47,6 +49,10 @@ facts_of core = record {
 -- on a disk that obeys the crash model, these are the digests of the stores that the record names, as the disk shows them
 abbrev pub NamesDigests : Content → Shape → Body → Digests → Type 0
 NamesDigests content shape body digests = IsTrue content.honest → AreDigestsOf (Some digests) (stores_named shape body content.shown)
+
+-- on a disk that obeys the crash model, this map is that of the stores that the record names, as the disk shows them
+abbrev pub NamesMap : Content → Shape → Body → Map → Type 0
+NamesMap content shape body map = IsTrue content.honest → map_of_rows (rows_of (stores_named shape body content.shown)) ≡ map
 
 -- a store gives its facts, counts nothing, and does nothing else
 abbrev pub AdministersCore : {D : Type 0} → CoreState D → AdminOf → AdminReply → Type 0

@@ -101,7 +101,7 @@ impl<D: Disk> Core<D> {
     ghost use Rattle.silt_frame.specs.Rows.{key_cmp};
     ghost use Rattle.silt_store_set.specs.CoreState.{CoreState, Does, Runs, Opens, EntriesCause, IsRefusedRead, StandsKept, map_of, MayWrite, may_merge, row_event, wants_convert, wants_merge};
     ghost use Rattle.silt_store_set.specs.Costs.{RunMade};
-    ghost use Rattle.silt_store_set.specs.Facts.{NamesDigests, facts_of};
+    ghost use Rattle.silt_store_set.specs.Facts.{NamesDigests, NamesMap, facts_of};
     ghost use Rattle.silt_disk.specs.Layout.{device_size};
     ghost use Rattle.silt_disk.specs.declared.disk.Call.TheVariants as DiskCall;
     ghost use Rattle.silt_event.specs.Events.{HasValueOf, Step};
@@ -184,9 +184,10 @@ impl<D: Disk> Core<D> {
     }
 
     /// Which regions the current manifest record names, and the digests of the stores in them: of the hash stores, the newest
-    /// first, and of the sorted store. It asks nothing of the device.
+    /// first, and of the sorted store. These stores represent the base. It asks nothing of the device.
     pub fn named(&self) -> (Body, Digests)
         ensures body { result.0 ≡ self.now.body }
+        ensures map { self.now.failed ≡ false → NamesMap (D.content self.now.disk) self.now.shape self.now.body self.now.base }
         ensures digests { self.now.failed ≡ false → NamesDigests (D.content self.now.disk) self.now.shape self.now.body result.1 }
     {
         (self.engine.body(), self.engine.own_digests())

@@ -24,3 +24,8 @@ module _ {D F : Type 0} (disk : Ghosts D F) (core : CoreState D) where
   abbrev pub GivesFault : ReadFault F → ℕ → ℕ → Type 0
   GivesFault (Device fault) at len = disk.gave core.disk fault Read at len
   GivesFault Outside at len = device_size core.shape < at + len
+
+  -- its disk gave this fault for a read
+  abbrev pub GivesFaultIn : ReadFault F → Type 0
+  GivesFaultIn (Device fault) = (at : ℕ) × (len : ℕ) × disk.gave core.disk fault Read at len
+  GivesFaultIn Outside = Unit {0}

@@ -1,8 +1,10 @@
 // Disks whose stores can be viewed.
 ghost use Rattle.std.specs.Prelude.{◌≡◌, ◌+◌, ◌<◌, ◌≤◌, ◌^◌, IfErr, MatchBool, OnOk, length};
 ghost use Rattle.silt_store_set.specs.Facts.{facts_of};
+ghost use Rattle.silt_view.specs.Moments.{IsMoment};
 ghost use Rattle.silt_view.specs.Views.{GivesBytes, GivesFault, IsNamed};
 
+use crate::moment::Moment;
 use silt_device::{FaultDisk, FileDisk, MemDisk};
 use silt_disk::{Disk, Geometry};
 use silt_event::Facts;
@@ -31,6 +33,10 @@ pub trait Viewed: Disk + Sized {
     /// Which regions its manifest record names, and the digests of the stores in them.
     fn named_in(core: &Core<Self>) -> (Body, Digests)
         ensures { IsNamed Self.Disk core.now result };
+
+    /// Notes what it is at this moment. After a fault that is of no use.
+    fn note_in(core: &Core<Self>, moment: &mut Moment) -> Result<(), ReadFault<Self::Fault>>
+        ensures { OnOk result (IsMoment Self.Disk core.now moment.new) };
 
     /// Reads bytes of its device from `at` on. After a fault the buffer may hold any bytes.
     fn read_in(core: &Core<Self>, at: u64, buf: &mut [u8]) -> Result<(), ReadFault<Self::Fault>>
@@ -76,6 +82,10 @@ impl Viewed for MemDisk {
         core.named()
     }
 
+    fn note_in(core: &Core<Self>, moment: &mut Moment) -> Result<(), ReadFault<Self::Fault>> {
+        moment.note(core)
+    }
+
     fn read_in(core: &Core<Self>, at: u64, buf: &mut [u8]) -> Result<(), ReadFault<Self::Fault>> {
         read_within(core, at, buf)
     }
@@ -94,6 +104,10 @@ impl Viewed for FaultDisk {
         core.named()
     }
 
+    fn note_in(core: &Core<Self>, moment: &mut Moment) -> Result<(), ReadFault<Self::Fault>> {
+        moment.note(core)
+    }
+
     fn read_in(core: &Core<Self>, at: u64, buf: &mut [u8]) -> Result<(), ReadFault<Self::Fault>> {
         read_within(core, at, buf)
     }
@@ -110,6 +124,10 @@ impl Viewed for FileDisk {
 
     fn named_in(core: &Core<Self>) -> (Body, Digests) {
         core.named()
+    }
+
+    fn note_in(core: &Core<Self>, moment: &mut Moment) -> Result<(), ReadFault<Self::Fault>> {
+        moment.note(core)
     }
 
     fn read_in(core: &Core<Self>, at: u64, buf: &mut [u8]) -> Result<(), ReadFault<Self::Fault>> {

@@ -7,6 +7,7 @@ use Rattle.clap.specs.declared.builder.Command.{Command}
 use Rattle.clap.specs.declared.builder.ArgAction.TheVariants.{Set, SetTrue}
 use Rattle.silt_wire.specs.Numbers.{number_of}
 use Rattle.silt_words.specs.Addresses.{is_address, is_contact, is_loopback}
+use Rattle.silt_words.specs.Backups.{may_hold_backup}
 use Rattle.silt_words.specs.Jobs.{Named, NamedAccess, NamedContact, NamedService, format, script, run, tend, check, dump, on_set, plan, plan_set, serve, stop, info}
 use Rattle.silt_words.specs.declared.job.FormatOptions.{FormatOptions}
 use Rattle.silt_words.specs.declared.job.Numbers.{Numbers}
@@ -67,11 +68,11 @@ plan_app = with_option (with_option (with_value (with_value (new_app (codes "pla
 
 abbrev pub serve_app : App
 serve_app =
-    with_option (with_option (with_option (with_flag
+    with_option (with_option (with_option (with_option (with_flag
     (with_option (with_option (with_option (with_option (with_option (with_flag (with_flag (with_option (with_option (with_option (with_option (with_option (with_value (with_file (new_app (codes "serve"))) (codes "PORT"))
     (codes "audit")) (codes "sessions")) (codes "idle")) (codes "wait")) (codes "merge-at")) (codes "pipeline")) (codes "resp"))
     (codes "bind")) (codes "password-file")) (codes "clients")) (codes "shards")) (codes "mergers"))
-    (codes "stay")) (codes "scrub")) (codes "scrub-rate")) (codes "metrics")
+    (codes "stay")) (codes "scrub")) (codes "scrub-rate")) (codes "metrics")) (codes "backup")
 
 -- a command on a server that runs, by its name
 abbrev pub contact_app : Text → App
@@ -259,6 +260,15 @@ scrub_rate_in rows =
 abbrev pub metrics_in : List Row → Option (Option ℕ)
 metrics_in rows = option_and_then (λ given. if is_within 65535 given then Some given else None) (option_in rows (codes "metrics"))
 
+-- the path that a text gives backups of the store in this file, if a text is given
+abbrev pub backup_given : List ℕ → Option Text → Option (Option Text)
+backup_given file None = Some None
+backup_given file (Some path) = if may_hold_backup file path then Some (Some path) else None
+
+-- the file that backups are written to: none if the option is not given, and else another file than the store's
+abbrev pub backup_in : List Row → Option (Option Text)
+backup_in rows = option_and_then (λ file. backup_given file (first_of (codes "backup") rows)) (file_in rows)
+
 -- where a server listens, and who is let in
 abbrev pub access_in : List Row → Option NamedAccess
 access_in rows =
@@ -270,7 +280,7 @@ access_in rows =
 -- how a file is to be served
 abbrev pub service_in : List Row → Option NamedService
 service_in rows =
-    option_and_then (λ file. option_and_then (λ port. option_and_then (λ access. option_and_then (λ audit. option_and_then (λ sessions. option_and_then (λ idle. option_and_then (λ wait. option_and_then (λ shards. option_and_then (λ mergers. option_and_then (λ merge_at. option_and_then (λ scrub. option_and_then (λ scrub_rate. option_map (λ metrics.
+    option_and_then (λ file. option_and_then (λ port. option_and_then (λ access. option_and_then (λ audit. option_and_then (λ sessions. option_and_then (λ idle. option_and_then (λ wait. option_and_then (λ shards. option_and_then (λ mergers. option_and_then (λ merge_at. option_and_then (λ scrub. option_and_then (λ scrub_rate. option_and_then (λ metrics. option_map (λ backup.
     record {
       file = file;
       shards = shards;
@@ -288,8 +298,9 @@ service_in rows =
       scrub = scrub;
       scrub_rate = scrub_rate;
       metrics = metrics;
+      backup = backup;
     })
-    (metrics_in rows)) (scrub_rate_in rows)) (scrub_in rows)) (count_in rows (codes "merge-at"))) (mergers_in rows)) (shards_in rows)) (option_in rows (codes "wait"))) (limit_in rows (codes "idle"))) (limit_in rows (codes "sessions"))) (audit_in rows)) (access_in rows)) (port_in rows)) (file_in rows)
+    (backup_in rows)) (metrics_in rows)) (scrub_rate_in rows)) (scrub_in rows)) (count_in rows (codes "merge-at"))) (mergers_in rows)) (shards_in rows)) (option_in rows (codes "wait"))) (limit_in rows (codes "idle"))) (limit_in rows (codes "sessions"))) (audit_in rows)) (access_in rows)) (port_in rows)) (file_in rows)
 
 -- what a store is to be planned for
 abbrev pub request_in : List Row → Option PlanRequest

@@ -43,6 +43,7 @@ pub record NamedService : Type 0 where
   pub scrub : Option ℕ
   pub scrub_rate : Option ℕ
   pub metrics : Option ℕ
+  pub backup : Option (List ℕ)
 
 -- what a service is by that text
 abbrev pub named_service : Service → NamedService
@@ -63,6 +64,7 @@ named_service service = record {
   scrub = service.scrub;
   scrub_rate = service.scrub_rate;
   metrics = service.metrics;
+  backup = option_map (λ path. path.now) service.backup;
 }
 
 -- a server that runs, by the texts of its address and of the name of its password's file

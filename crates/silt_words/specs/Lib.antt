@@ -1,3 +1,4 @@
 pub mod Addresses
+pub mod Backups
 pub mod Commands
 pub mod Jobs

@@ -135,7 +135,8 @@ fn serve<'a>(alloc: Global) -> Result<Command<'a>, AllocError>
     let with_stay = add_flag(with_mergers, alloc, "stay");
     let with_scrub = add_option(with_stay, alloc, "scrub");
     let with_rate = add_option(with_scrub, alloc, "scrub-rate");
-    add_option(with_rate, alloc, "metrics")
+    let with_metrics = add_option(with_rate, alloc, "metrics");
+    add_option(with_metrics, alloc, "backup")
 }
 
 // A command on a server that runs.

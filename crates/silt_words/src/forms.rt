@@ -15,7 +15,7 @@ pub struct Choice {
 }
 
 /// The most options that a job has.
-pub const MOST_OPTIONS: usize = 16;
+pub const MOST_OPTIONS: usize = 17;
 
 /// What follows most options.
 const NUMBER: &str = "a number";
@@ -237,6 +237,13 @@ const METRICS: Choice = Choice {
     line: "--metrics PORT    a page of numbers for Prometheus at this port of this machine; 0 lets the system choose",
 };
 
+const BACKUP: Choice = Choice {
+    name: "--backup",
+    operand: Some("a file"),
+    needs: None,
+    line: "--backup PATH     writes a backup to PATH when a client orders one; of a set, to PATH.0, PATH.1 ..",
+};
+
 const STOP_PASSWORD: Choice = Choice {
     name: "--password-file",
     operand: Some("a file"),
@@ -265,6 +272,10 @@ const FACTS: &str = "info              prints the numbers of the store, a line e
 
 /// The line that ends a server.
 const SHUTDOWN: &str = "shutdown          ends the server once all that wait have their replies
+";
+
+/// The line that orders a backup.
+const BACKUP_LINE: &str = "backup            has a server with --backup write one
 ";
 
 /// The lines for background work.
@@ -347,8 +358,9 @@ const FORMS: [Form; 10] = [
             SCRUB,
             SCRUB_RATE,
             METRICS,
+            BACKUP,
         ],
-        input: &[EVENTS, FACTS, SHUTDOWN],
+        input: &[EVENTS, FACTS, SHUTDOWN, BACKUP_LINE],
     },
     Form {
         job: "stop",

@@ -8,15 +8,17 @@
 //! Options are `--force` and `--sparse` of `format`, `--tend` and `--strict` of `run`, `--merge-at K` of `run`, `tend` and
 //! `serve`, `--memory BYTES` of `plan`, `--shards M` of all but `script`, and `--audit N`,
 //! `--sessions M`, `--idle SECONDS`, `--wait SECONDS`, `--pipeline`, `--resp`, `--bind ADDRESS`,
-//! `--password-file PATH`, `--clients N`, `--stay`, `--scrub HOURS`, `--scrub-rate MB`, `--metrics PORT` and, beside `--shards`,
-//! `--mergers G` of `serve`, and `--password-file PATH` of `stop` and `info`. Each is given at most once, before,
-//! between or after the values, and `--audit=N` is the same as two words. No other word of more than one character may
+//! `--password-file PATH`, `--clients N`, `--stay`, `--scrub HOURS`, `--scrub-rate MB`, `--metrics PORT`, `--backup PATH` and,
+//! beside `--shards`, `--mergers G` of `serve`, and `--password-file PATH` of `stop` and `info`. Each is given at most once,
+//! before, between or after the values, and `--audit=N` is the same as two words. A backup is another file than the store's,
+//! by its name, and so is PATH.new, where it is written first. No other word of more than one character may
 //! begin with a hyphen, but after the first word `--` every word is a value. Without `--sessions`, or with 0, the server
 //! serves any number of sessions. Without `--idle`, or with 0, it closes no silent connection. With `--wait 0` no command
 //! waits for room; without `--wait` the server decides how long.
 #![tactic(auto)]
 
 mod address;
+mod backup;
 mod command;
 mod forms;
 mod job;

@@ -1,6 +1,7 @@
 // What is wrong with words that name no job, and what people are shown then.
 
 use crate::address::{is_address, is_contact, is_loopback};
+use crate::backup::is_draft;
 use crate::forms::{Form, Forms, MOST_OPTIONS, form_of};
 use crate::words::{FEWEST_SHARDS, MOST_CLIENTS, MOST_SCRUB, MOST_SCRUB_RATE, MOST_SHARDS};
 use silt_wire::number_of;
@@ -38,6 +39,11 @@ pub enum Complaint<'a> {
     Unguarded(&'a str),
     /// A record is asked for, and a set has none.
     RecordOfSet,
+    /// Backups would be written to the file of the store.
+    BackupInStore {
+        path: &'a str,
+        why: &'static str,
+    },
     /// The word for this value is none: no number, one that is too great, or no address.
     NoValue {
         name: &'a str,
@@ -63,6 +69,9 @@ impl fmt::Display for Complaint<'_> {
             Complaint::RecordOfSet => {
                 f.write_str("--audit is not for --shards: a record is a history of one store")
             }
+            Complaint::BackupInStore { path, why } => {
+                write!(f, "--backup cannot be '{path}': {why}")
+            }
             Complaint::NoValue { name, word } => {
                 write!(f, "{name} cannot be '{word}': {}", why_no_value(name, word))
             }
@@ -77,6 +86,9 @@ fn why_no_value(name: &str, word: &str) -> &'static str {
     }
     if name == "ADDRESS" {
         return "it is a port, or an IP address and a port, as 10.0.0.1:7379 or [::1]:7379";
+    }
+    if name == "--backup" {
+        return "a file has a name";
     }
     why_no_number(name, word)
 }
@@ -186,6 +198,10 @@ struct Walk<'a> {
     is_past_options: bool,
     /// The address to listen on that other machines reach, if one was met.
     open_address: Option<&'a str>,
+    /// The file of the store, if it was met.
+    file: Option<&'a str>,
+    /// Where backups are to be written, if that was met.
+    backup: Option<&'a str>,
 }
 
 impl<'a> Walk<'a> {
@@ -197,6 +213,8 @@ impl<'a> Walk<'a> {
             met: [false; MOST_OPTIONS],
             is_past_options: false,
             open_address: None,
+            file: None,
+            backup: None,
         }
     }
 
@@ -215,6 +233,9 @@ impl<'a> Walk<'a> {
         if name == "--bind" && !is_loopback(word) {
             self.open_address = Some(word);
         }
+        if name == "--backup" {
+            self.backup = Some(word);
+        }
         value_complaint(name, word)
     }
 
@@ -223,6 +244,9 @@ impl<'a> Walk<'a> {
             return Some(Complaint::TooMany(word));
         };
         self.place += 1;
+        if *name == "FILE" {
+            self.file = Some(word);
+        }
         value_complaint(*name, word)
     }
 
@@ -293,7 +317,22 @@ impl<'a> Walk<'a> {
         if self.has_met("--audit") && self.has_met("--shards") {
             return Some(Complaint::RecordOfSet);
         }
-        None
+        self.backup_in_store()
+    }
+
+    // That backups would be written to the file of the store.
+    fn backup_in_store(&self) -> Option<Complaint<'a>> {
+        let (Some(file), Some(path)) = (self.file, self.backup) else {
+            return None;
+        };
+        let why = if path == file {
+            "a backup is another file than the store's"
+        } else if is_draft(file, path) {
+            "a backup is written to PATH.new first, and that is the store's file"
+        } else {
+            return None;
+        };
+        Some(Complaint::BackupInStore { path, why })
     }
 
     // Whether the option of this name was met.
@@ -319,6 +358,7 @@ fn is_value(name: &str, word: &str) -> bool {
     match name {
         "FILE" | "--password-file" => true,
         "--bind" => is_address(word),
+        "--backup" => !word.is_empty(),
         "ADDRESS" => is_contact(word),
         _ => number_of(word.as_bytes()).is_some_and(|number| is_number(name, number)),
     }

@@ -4,11 +4,12 @@ ghost use Rattle.clap.specs.Words.{first_of, found_of, rows_of, subcommand_rows_
 ghost use Rattle.silt_words.specs.Commands.{access_in, address_given, clients_in, contact_given, contact_in, count_in, count_within, file_in, flag_in, format_options_in, job_in, job_met, job_named};
 ghost use Rattle.silt_words.specs.Commands.{audit_in, check_in, dump_in, format_in, plan_in, run_in, shards_in, tend_in};
 ghost use Rattle.silt_words.specs.Commands.{limit_in, may_listen, mergers_in, number_in, numbers_in, option_in, port_in, request_in, run_options_in, service_in};
-ghost use Rattle.silt_words.specs.Commands.{metrics_in, scrub_in, scrub_rate_in};
+ghost use Rattle.silt_words.specs.Commands.{backup_given, backup_in, metrics_in, scrub_in, scrub_rate_in};
 ghost use Rattle.silt_words.specs.Jobs.{named, named_access, named_contact, named_service, on_set};
 ghost use Rattle.silt_words.specs.declared.job.WordsError.TheVariants.{Usage};
 
 use crate::address::{is_address, is_contact, is_loopback};
+use crate::backup::may_hold_backup;
 use crate::command::command;
 use crate::job::{
     Access, Contact, FormatOptions, Job, Numbers, PlanRequest, RunOptions, Service, SetJob,
@@ -338,6 +339,30 @@ fn metrics_of(matches: &ArgMatches<'_>) -> Option<Option<u16>>
     }
 }
 
+// The path that a text gives backups of the store in this file, if a text is given. None if they may not be written there.
+fn backup_given<'a>(file: &str, text: Option<&'a str>) -> Option<Option<&'a str>>
+    ensures { option_map (option_map (λ path. path.now)) result ≡ backup_given file.now (option_map (λ text. text.now) text.entry) }
+{
+    match text {
+        None => Some(None),
+        Some(path) => {
+            if may_hold_backup(file, path) {
+                Some(Some(path))
+            } else {
+                None
+            }
+        }
+    }
+}
+
+// The file that backups are written to, if there are to be any.
+fn backup_of<'a>(matches: &ArgMatches<'a>) -> Option<Option<&'a str>>
+    ensures { option_map (option_map (λ path. path.now)) result ≡ backup_in (rows_of (found_of matches.now)) }
+{
+    let file = file_of(matches)?;
+    backup_given(file, text_at(matches, "backup"))
+}
+
 fn service_of<'a>(matches: &ArgMatches<'a>) -> Option<Service<'a>>
     ensures { option_map named_service result ≡ service_in (rows_of (found_of matches.now)) }
 {
@@ -358,6 +383,7 @@ fn service_of<'a>(matches: &ArgMatches<'a>) -> Option<Service<'a>>
         scrub: scrub_of(matches)?,
         scrub_rate: scrub_rate_of(matches)?,
         metrics: metrics_of(matches)?,
+        backup: backup_of(matches)?,
     })
 }
 

@@ -8,7 +8,7 @@ use silt_fixtures::{of_values, reaches};
 use silt_manifest::{Body, Digests};
 use silt_server::{Limits, Protocol};
 use silt_store_set::Core;
-use silt_view::{ReadFault, Viewed, read_within};
+use silt_view::{Moment, ReadFault, Viewed, read_within};
 use std::alloc::Global;
 use std::io::{self, Write};
 use std::net::{Net, SocketAddr, TcpListener, TcpStream};
@@ -94,6 +94,10 @@ impl Viewed for Counted<'_, FaultDisk> {
 
     fn named_in(core: &Core<Self>) -> (Body, Digests) {
         core.named()
+    }
+
+    fn note_in(core: &Core<Self>, moment: &mut Moment) -> Result<(), ReadFault<Self::Fault>> {
+        moment.note(core)
     }
 
     fn read_in(core: &Core<Self>, at: u64, buf: &mut [u8]) -> Result<(), ReadFault<Self::Fault>> {

@@ -7,7 +7,7 @@ use silt_event::Facts;
 use silt_fixtures::{formatted, reaches};
 use silt_manifest::{Body, Digests};
 use silt_store_set::Core;
-use silt_view::{ReadFault, Viewed, read_within};
+use silt_view::{Moment, ReadFault, Viewed, read_within};
 use std::io::{self, Write};
 use std::net::{Net, SocketAddr, TcpStream};
 use std::sync::atomic::{AtomicU64, Ordering};
@@ -85,6 +85,10 @@ impl Viewed for Meeting<'_, MemDisk, HostRuntime> {
 
     fn named_in(core: &Core<Self>) -> (Body, Digests) {
         core.named()
+    }
+
+    fn note_in(core: &Core<Self>, moment: &mut Moment) -> Result<(), ReadFault<Self::Fault>> {
+        moment.note(core)
     }
 
     fn read_in(core: &Core<Self>, at: u64, buf: &mut [u8]) -> Result<(), ReadFault<Self::Fault>> {

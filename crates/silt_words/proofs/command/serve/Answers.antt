@@ -23,4 +23,5 @@ returns c =
     let stands15 = one_more _ _ (λ old arg new adds. adds.globals) _ _ c.add_flag-with_stay.ensures stands14 in
     let stands16 = one_more _ _ (λ old arg new adds. adds.globals) _ _ c.add_option-with_scrub.ensures stands15 in
     let stands17 = one_more _ _ (λ old arg new adds. adds.globals) _ _ c.add_option-with_rate.ensures stands16 in
-    joins_as _ (λ old sub new adds. adds.shape) _ (one_more _ _ (λ old arg new adds. adds.globals) _ _ c.add_option.ensures stands17)
+    let stands18 = one_more _ _ (λ old arg new adds. adds.globals) _ _ c.add_option-with_metrics.ensures stands17 in
+    joins_as _ (λ old sub new adds. adds.shape) _ (one_more _ _ (λ old arg new adds. adds.globals) _ _ c.add_option.ensures stands18)

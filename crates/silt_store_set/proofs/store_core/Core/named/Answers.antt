@@ -1,7 +1,16 @@
-use Rattle.silt_store_set.proofs.Digests.{own_said}
+use Rattle.std.proofs.Common.{Bool, ap, sym, ◌∙◌}
+use Rattle.silt_store_set.proofs.Digests.{own_said, shown_is_base}
+use Rattle.silt_store_set.specs.Basis.{basis_kept, basis_of}
 use Rattle.silt_store_set.proofs.store_core.Core.named.Goals as goal
 
 pub returns-clause-digests : goal.returns-clause-digests
 returns-clause-digests g c =
     rw (← c.self.view_is, c.own_digests.ensures)
     (λ working honest. own_said (g.D.Disk.content c.self.inside.disk) c.self.inside.engine (c.self.invariant.stands working) honest)
+
+pub returns-clause-map : goal.returns-clause-map
+returns-clause-map g c =
+    let content = g.D.Disk.content c.self.inside.disk in
+    rw (← c.self.view_is)
+    (λ working honest. shown_is_base content c.self.inside.engine (c.self.invariant.stands working) honest
+    ∙ ap (λ (failed : Bool). (basis_kept failed c.self.inside.basis (basis_of content c.self.inside.engine)).base) (sym working))

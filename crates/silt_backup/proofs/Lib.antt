@@ -1,0 +1,5 @@
+pub mod Comparisons
+pub mod Copies
+pub mod Reading
+pub mod Records
+pub mod SameMaps

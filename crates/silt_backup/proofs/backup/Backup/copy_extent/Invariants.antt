@@ -1,0 +1,14 @@
+use Rattle.std.proofs.Common.{◌≡◌, ◌-◌, ◌≤◌, length}
+use Rattle.silt_disk.specs.Disk.{size}
+use Rattle.silt_backup.proofs.backup.Backup.copy_extent.Given as goal
+
+-- the first bytes were copied, and the disk has its length
+abbrev pub invariant-loop-done : goal.invariant-loop-done
+invariant-loop-done g l = record {
+  upto : l.done ≤ l.extent.len;
+  room : length l.room ≡ length l.initial.room;
+  size : size (g.D.Disk.content l.disk) ≡ size (g.D.Disk.content l.initial.disk);
+}
+
+abbrev pub decreases-loop-done : goal.decreases-loop-done
+decreases-loop-done g l = l.extent.len - l.done

@@ -1,0 +1,5 @@
+use Rattle.std.proofs.Common.{length}
+use Rattle.silt_backup.proofs.comparing.+has_logs.Given as goal
+
+abbrev pub decreases-has_logs : goal.decreases-has_logs
+decreases-has_logs g l = length l.others.now
