@@ -20,7 +20,8 @@
 // Files in which the system lists file systems, as /proc/self/mountinfo, are left alone without that: their calls are not
 // counted and not recorded.
 //
-// `open` is open and openat. `accept` is accept and accept4. `thread` is pthread_create. `memory`
+// `open` is open and openat. `accept` is accept and accept4. `rename` is rename, renameat and renameat2.
+// `unlink` is unlink and unlinkat. `thread` is pthread_create. `memory`
 // is malloc, calloc, realloc, aligned_alloc, memalign and posix_memalign, also if the C library
 // calls them. A program with its own allocator, as one with a memory checker, makes none of these.
 //
@@ -32,6 +33,7 @@
 #include <dlfcn.h>
 #include <errno.h>
 #include <fcntl.h>
+#include <limits.h>
 #include <pthread.h>
 #include <stdarg.h>
 #include <stdatomic.h>
@@ -47,13 +49,13 @@
 #include <unistd.h>
 
 enum call {
-    READ, WRITE, PREAD, PWRITE, FSYNC, FDATASYNC, FTRUNCATE, OPEN, CLOSE, FLOCK, ACCEPT, RECV, SEND, THREAD, MEMORY,
+    READ, WRITE, PREAD, PWRITE, FSYNC, FDATASYNC, FTRUNCATE, OPEN, CLOSE, FLOCK, ACCEPT, RECV, SEND, RENAME, UNLINK, THREAD, MEMORY,
     CALLS, RESULT = CALLS
 };
 
 // The record begins with these names. A `result` corrects the latest write or send of its thread.
 static const char *const call_names[] = {"read", "write", "pread", "pwrite", "fsync", "fdatasync", "ftruncate", "open",
-    "close", "flock", "accept", "recv", "send", "thread", "memory", "result"};
+    "close", "flock", "accept", "recv", "send", "rename", "unlink", "thread", "memory", "result"};
 
 static const struct { const char *name; int number; } error_names[] = {
     {"EIO", EIO}, {"ENOSPC", ENOSPC}, {"EINTR", EINTR}, {"EAGAIN", EAGAIN}, {"ENOMEM", ENOMEM}, {"EMFILE", EMFILE},
@@ -106,6 +108,8 @@ static __typeof__(&flock) real_flock;
 static __typeof__(&accept4) real_accept4;
 static __typeof__(&recv) real_recv;
 static __typeof__(&send) real_send;
+static __typeof__(&renameat2) real_renameat2;
+static __typeof__(&unlinkat) real_unlinkat;
 static __typeof__(&pthread_create) real_pthread_create;
 static __typeof__(&_exit) real_exit;
 
@@ -186,6 +190,8 @@ static void find_calls(void) {
     FIND(real_accept4, "accept4");
     FIND(real_recv, "recv");
     FIND(real_send, "send");
+    FIND(real_renameat2, "renameat2");
+    FIND(real_unlinkat, "unlinkat");
     FIND(real_pthread_create, "pthread_create");
     FIND(real_exit, "_exit");
 }
@@ -439,6 +445,40 @@ int accept4(int fd, struct sockaddr *address, socklen_t *len, int flags) {
 }
 
 int accept(int fd, struct sockaddr *address, socklen_t *len) { return accept4(fd, address, len, 0); }
+
+// The record has both names, with a zero between them.
+int renameat2(int from_folder, const char *from, int to_folder, const char *to, unsigned flags) {
+    need_calls();
+    const struct plan *plan = count(RENAME);
+    if (is(plan, DROP)) return 0;
+    char names[2 * PATH_MAX + 2];
+    int len = snprintf(names, sizeof names, "%s%c%s", from, 0, to);
+    if (len >= (int)sizeof names) refuse_words(to);
+    pthread_mutex_lock(&lock);
+    int got = is(plan, FAIL) ? failure(plan) : real_renameat2(from_folder, from, to_folder, to, flags);
+    note(RENAME, -1, -1, flags, got, names, len);
+    pthread_mutex_unlock(&lock);
+    return got;
+}
+
+int renameat(int from_folder, const char *from, int to_folder, const char *to) {
+    return renameat2(from_folder, from, to_folder, to, 0);
+}
+
+int rename(const char *from, const char *to) { return renameat2(AT_FDCWD, from, AT_FDCWD, to, 0); }
+
+int unlinkat(int folder, const char *path, int flags) {
+    need_calls();
+    const struct plan *plan = count(UNLINK);
+    if (is(plan, DROP)) return 0;
+    pthread_mutex_lock(&lock);
+    int got = is(plan, FAIL) ? failure(plan) : real_unlinkat(folder, path, flags);
+    note(UNLINK, -1, -1, flags, got, path, strlen(path));
+    pthread_mutex_unlock(&lock);
+    return got;
+}
+
+int unlink(const char *path) { return unlinkat(AT_FDCWD, path, 0); }
 
 struct started {
     void *(*run)(void *);

@@ -100,6 +100,50 @@ class Writer:
         return [] if found in states else states
 
 
+class Remembering(Writer):
+    """A client that remembers all its commands. So it can say which states its keys ever had."""
+
+    def __init__(self, *how):
+        super().__init__(*how)
+        # The commands that had their replies, in their order.
+        self.done = []
+
+    def take(self, reply):
+        command = self.pending[0]
+        was_done = super().take(reply)
+        if was_done:
+            self.done.append(command)
+        return was_done
+
+    def accepted(self, count):
+        """How many of so many first commands changed something."""
+        return sum(due == "accepted" for due, _, _ in self.done[:count])
+
+    def has_been(self, found, first=0):
+        """Whether these are the values after a beginning of its commands, which has at least so many
+        that had their replies."""
+        values = dict.fromkeys(self.values, "absent")
+        for number, (_, key, value) in enumerate([*self.done, *self.pending]):
+            if number >= first and values == found:
+                return True
+            values[key] = value
+        return values == found
+
+
+class InTurn(Remembering):
+    """One that puts a new value to each of these keys in turn, and waits for each reply."""
+
+    def __init__(self, number, names):
+        super().__init__(number, None)
+        self.values = dict.fromkeys(names, "absent")
+
+    def next_command(self, values):
+        key = list(values)[self.turn % len(values)]
+        self.turn += 1
+        new = f"{self.number:02x}{self.turn:06x}"
+        return f"put {key} {new}", ("accepted", key, f"value {new}")
+
+
 class Load:
     """Clients that write to a server in threads, until the server ends. Commands that are refused
     do not count: so whoever waits for many has waited for the background work that makes room for

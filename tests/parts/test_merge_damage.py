@@ -317,7 +317,12 @@ class Serves(ServedCase, DamageCase):
                 "a hash store",
                 f", at byte {self.geometry.hash_at(0)}",
             ),
-            (self.sorted_places()[2], SORTED, "the sorted store", ""),
+            (
+                self.sorted_places()[2],
+                SORTED,
+                "the sorted store",
+                f", at byte {self.geometry.sorted_at(1)}",
+            ),
         )
         for place, refusal, what, at in cases:
             with self.subTest(what=what):

@@ -93,6 +93,7 @@ class Completion(Packaging):
         self.assertEqual(self.completed("plan", "some"), [])
         served = ("serve", "some.silt", "7070")
         self.assertEqual(self.completed(*served, "--password-file", "some"), ["some.silt"])
+        self.assertEqual(self.completed(*served, "--backup", "some"), ["some.silt"])
         self.assertEqual(self.completed(*served, "--idle", "some"), [])
 
 

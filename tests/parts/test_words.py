@@ -53,6 +53,7 @@ ADDRESS  where a server is: a port of this machine, or an IP address and a port,
 --scrub HOURS     reads the whole store each HOURS hours, 1 to 8760, and reports what is damaged
 --scrub-rate MB   serve --scrub: reads at most MB megabytes a second, 1 to 10000
 --metrics PORT    a page of numbers for Prometheus at this port of this machine; 0 lets the system choose
+--backup PATH     writes a backup to PATH when a client orders one; of a set, to PATH.0, PATH.1 ..
 --password-file PATH  stop: sends the password in the first line of this file
 --password-file PATH  info: sends the password in the first line of this file
 """
@@ -68,7 +69,7 @@ JOBS = {
     "script": ("V B CAP NL NH S", ""),
     "serve": (
         "FILE PORT",
-        "--audit --sessions --idle --wait --merge-at --pipeline --resp --bind --password-file --clients --shards --mergers --stay --scrub --scrub-rate --metrics",
+        "--audit --sessions --idle --wait --merge-at --pipeline --resp --bind --password-file --clients --shards --mergers --stay --scrub --scrub-rate --metrics --backup",
     ),
     "stop": ("ADDRESS", "--password-file"),
     "info": ("ADDRESS", "--password-file"),
@@ -82,12 +83,13 @@ flush             makes all accepted commands safe from crashes
 """
 FACTS = "info              prints the numbers of the store, a line each\n"
 SHUTDOWN = "shutdown          ends the server once all that wait have their replies\n"
+BACKUP = "backup            has a server with --backup write one\n"
 STEPS = "convert, merge    does one step of background work\n"
 STOPS = "stop K FILL       crashes the life before it at its K-th write or sync\n"
 HELP_OF_LINES = {
     "run": LINES + FACTS + STEPS,
     "script": LINES + STEPS + STOPS,
-    "serve": LINES + FACTS + SHUTDOWN,
+    "serve": LINES + FACTS + SHUTDOWN + BACKUP,
 }
 MORE = """KEY is 40 hexadecimal digits, or = and a name. VALUE, OLD and NEW have two hexadecimal digits a byte.
 docs/program.md has these lines, and the replies to them.
@@ -109,6 +111,10 @@ RATE = "a scrub reads 1 to 10000 megabytes a second"
 UNGUARDED = "--bind {} needs --password-file: other machines reach this address"
 # Of a set there is no record.
 RECORD_OF_SET = "--audit is not for --shards: a record is a history of one store"
+# Why backups cannot be written to a file.
+NO_NAME = "a file has a name"
+OWN = "a backup is another file than the store's"
+DRAFT = "a backup is written to PATH.new first, and that is the store's file"
 # Words with single spaces between them, and what is wrong with them.
 COMPLAINTS = {
     "prune disk": "there is no job 'prune'",
@@ -258,6 +264,18 @@ COMPLAINTS = {
     "serve disk 0 --metrics 65536": "--metrics cannot be '65536': a port is at most 65535",
     "serve disk 0 --metrics x": f"--metrics cannot be 'x': {NO_DIGITS}",
     "run disk --metrics 0": "'--metrics' is no option here",
+    "serve disk 0 --backup": "--backup needs a file behind it",
+    "serve disk 0 --backup --stay": "--backup needs a file behind it",
+    "serve disk 0 --backup ": f"--backup cannot be '': {NO_NAME}",
+    "serve disk 0 --backup=": f"--backup cannot be '': {NO_NAME}",
+    "serve disk 0 --backup a --backup=a": "--backup is given twice",
+    "serve disk 0 --backup disk": f"--backup cannot be 'disk': {OWN}",
+    "serve --backup=disk disk 0": f"--backup cannot be 'disk': {OWN}",
+    "serve disk 0 --shards 2 --backup disk": f"--backup cannot be 'disk': {OWN}",
+    "serve disk.new 0 --backup disk": f"--backup cannot be 'disk': {DRAFT}",
+    "serve .new.new 0 --shards 2 --backup .new": f"--backup cannot be '.new': {DRAFT}",
+    "serve disk 0 --backup disk --audit 5 --shards 4": RECORD_OF_SET,
+    "run disk --backup copy": "'--backup' is no option here",
     "stop": "ADDRESS is missing",
     "info": "ADDRESS is missing",
     "stop 7379 7380": "'7380' is one word too many",
@@ -314,6 +332,12 @@ class Words(Case):
         self.assert_usage([], FORMS + "\nsilt: no job is named\n")
         for words, complaint in COMPLAINTS.items():
             self.assert_usage(words.split(" "), f"{forms_for(words.split())}\nsilt: {complaint}\n")
+
+    def test_where_backups_may_go(self):
+        """Names are compared letter for letter. The words name a job, whose file is not there."""
+        for path in ("disk.new", "disk.new.new", "./disk", "disk.0", "dis", "k", "-", " "):
+            ended = self.silt("serve", "disk", 0, "--backup", path)
+            self.assertEqual((ended.status, ended.out), (1, "refused 5 Device\n"), path)
 
     def test_no_other_job_is_shown(self):
         for job in JOBS:
