@@ -19,7 +19,7 @@ use Rattle.silt_store_set.specs.CoreState.{ConvertGoesOn, ConvertWork, CoreState
 use Rattle.silt_progress.specs.Steps.{HasStepLeft, IsSized, TakesSome, conversions_left, convert_steps, is_background, is_step, logs_left, most_per_store, next_merge, steps_per_log, stores_left}
 use Rattle.silt_progress.specs.Laws.{BackgroundLaw}
 use Rattle.silt_progress.proofs.Conversions.{due_first, finished, moved, step_is, works}
-use Rattle.silt_progress.proofs.Merges.{Moves, merge_end, merge_length, moves}
+use Rattle.silt_progress.proofs.Merges.{Moves, few_taken, merge_end, merge_length, moves}
 use Rattle.silt_progress.proofs.Sizes.{kept_merge}
 
 -- a merge of some hash stores takes at most so many steps
@@ -61,7 +61,7 @@ few_steps core sized left =
           let long = merge_length core in
           let most = per_store (next_merge core).stores (4 * core.shape.buckets) core.shape.sorted_capacity (omega (arith, takes.0, stores)) in
           let all : (next_merge core).stores * most_per_store core ≤ stores_left core * most_per_store core = mul-le-mul_right (most_per_store core) (omega (arith, takes.1, stores)) in
-          omega (arith, left, long, most, all, sized.entries)
+          omega (arith, few_taken core left, long, most, all, sized.entries)
     ] in
     go core.merging refl sized.merging
 

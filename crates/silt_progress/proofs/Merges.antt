@@ -1,5 +1,5 @@
 -- Merges, step by step.
-use Rattle.std.proofs.Common.{◌≡◌, ◌≤◌, ℕ, zero, suc, ◌+◌, ◌-◌, ◌*◌, ◌==◌, Bool, true, false, not, if◌then◌else◌, IsTrue, List, [], ◌∷◌, ◌++◌, drop, filter, length, map, take, Option, Some, None, inl, inr, refl, ap, sym, ◌∙◌, subst, arith, suc-mul, length-append}
+use Rattle.std.proofs.Common.{◌≡◌, ◌≤◌, ◌<◌, ℕ, zero, suc, ◌+◌, ◌-◌, ◌*◌, ◌==◌, Bool, true, false, not, if◌then◌else◌, IsTrue, List, [], ◌∷◌, ◌++◌, drop, filter, length, map, take, Option, Some, None, IfSome, inl, inr, refl, ap, sym, ◌∙◌, subst, arith, suc-mul, length-append}
 use Rattle.std.proofs.Math.Nat.{mul-le-mul_right}
 use Rattle.std.specs.Prelude.{replicate, cond, unwrap_or, ◌⊎◌}
 use Rattle.std.specs.List.{list_all}
@@ -25,8 +25,8 @@ use Rattle.silt_event.specs.declared.reply.Reply.{Reply}
 use Rattle.silt_event.specs.declared.reply.Reply.TheVariants.{Accepted, Acknowledged, Found, Absent, Differs, NotServed, Progress, Refused, Unsettled}
 use Rattle.silt_engine.specs.Conversion.{is_work}
 use Rattle.silt_engine.specs.Merge.{merge_progress, merge_sources}
-use Rattle.silt_store_set.specs.CoreState.{CoreState, Does, MergeGoesOn, MergeWork, Runs, has_decided, is_refused, merge_due, taken_by}
-use Rattle.silt_progress.specs.Steps.{TakesAll, most_merge_steps, next_merge, slots_to_gather}
+use Rattle.silt_store_set.specs.CoreState.{CoreState, Does, IsWithinSteps, MergeGoesOn, MergeWork, Runs, has_decided, is_refused, merge_due, taken_by}
+use Rattle.silt_progress.specs.Steps.{HasStepLeft, TakesAll, most_merge_steps, next_merge, slots_to_gather, steps_per_merge}
 use Rattle.silt_progress.specs.Laws.{MergeEndLaw, MergeIdleLaw, MergeLengthLaw, MergeRunLaw, MergeStepLaw, MergeTurnLaw, WholeMergeLaw}
 use Rattle.silt_progress.proofs.Conversions.{no_length}
 
@@ -121,6 +121,17 @@ merge_length core =
     let few = few_keys core.shape core.body core.full (next_merge core).stores in
     omega (arith, few)
 
+-- a merge that has a step left took fewer than it takes in all
+pub few_taken : {D : Type 0} (core : CoreState D) → HasStepLeft core → (next_merge core).steps < steps_per_merge core
+few_taken core left =
+    let first : MergeWork = record { stores = length core.body.hashed; steps = 0; written = 0; damaged = None } in
+    let go : (o : Option MergeWork) → IfSome o (IsWithinSteps core)
+    → (unwrap_or o first).steps < (unwrap_or o first).stores * (4 * core.shape.buckets) + key_count (taken_by core (unwrap_or o first)) + 1 = elim [
+      | None ↦ λ _. omega arith
+      | Some work ↦ λ few. omega (arith, few)
+    ] in
+    go core.merging left
+
 -- ---- calls
 
 module _ {D F : Type 0} (facts : Ghosts D F) where
@@ -157,7 +168,7 @@ module _ {D F : Type 0} (facts : Ghosts D F) where
   merge_step old new does more =
       let on = moves old new does in
       let long = merge_length old in
-      omega (arith, more, long, on.slots, on.steps, ap (λ (b : Body). b.sorted_count) on.body)
+      omega (arith, few_taken old more, long, on.slots, on.steps, ap (λ (b : Body). b.sorted_count) on.body)
 
   -- a merge that finishes has decided all keys
   decided : (hashes : ℕ) (done : Bool) → Finished ≡ merge_progress hashes (Some done) → done ≡ true
@@ -278,7 +289,7 @@ module _ {D F : Type 0} (facts : Ghosts D F) where
   merge_run old new replies runs goes all more = elim (goes_or_ends (most_merge_steps old) old new replies runs goes all) [
     | inl moved ↦
         let long = merge_length new in
-        absurd (omega (arith, long, more, moved.steps, moved.slots, ap (λ (b : Body). b.sorted_count) moved.body))
+        absurd (omega (arith, long, few_taken new more, moved.steps, moved.slots, ap (λ (b : Body). b.sorted_count) moved.body))
     | inr ended ↦ ended
   ]
 
@@ -334,6 +345,6 @@ module _ {D F : Type 0} (facts : Ghosts D F) where
   merge_turn old new replies runs goes more = elim (goes_or_turns (most_merge_steps old) old new replies runs goes) [
     | inl moved ↦
         let long = merge_length new in
-        absurd (omega (arith, long, more, moved.steps, moved.slots, ap (λ (b : Body). b.sorted_count) moved.body))
+        absurd (omega (arith, long, few_taken new more, moved.steps, moved.slots, ap (λ (b : Body). b.sorted_count) moved.body))
     | inr turned ↦ turned
   ]

@@ -6,7 +6,7 @@ use Rattle.silt_event.specs.declared.reply.Reply.{Reply}
 use Rattle.silt_event.specs.declared.reply.Reply.TheVariants.{Progress}
 use Rattle.silt_engine.specs.Conversion.{is_work}
 use Rattle.silt_merge.specs.Rows.{key_count}
-use Rattle.silt_store_set.specs.CoreState.{ConvertWork, CoreState, MergeWork, is_convert, is_merge, taken_by}
+use Rattle.silt_store_set.specs.CoreState.{ConvertWork, CoreState, IsWithinSteps, MergeWork, is_convert, is_merge, taken_by}
 use Rattle.silt_store_set.specs.Facts.{slots_written}
 
 -- a merge takes at least one of so many hash stores
@@ -69,9 +69,9 @@ slots_to_gather core = (next_merge core).stores * (4 * core.shape.buckets)
 abbrev pub steps_per_merge : {D : Type 0} → CoreState D → ℕ
 steps_per_merge core = slots_to_gather core + key_count (taken_by core (next_merge core)) + 1
 
--- it has a step to take: it took fewer than it takes in all
+-- a merge in progress has its last step still to come, as `Core::standing` says of each store on a disk that obeys the crash model
 abbrev pub HasStepLeft : {D : Type 0} → CoreState D → Type 0
-HasStepLeft core = (next_merge core).steps < steps_per_merge core
+HasStepLeft core = IfSome core.merging (IsWithinSteps core)
 
 -- The most steps that finish it, whatever rows it takes: each slot is gathered and may have a key of its own, and so may each entry of the
 -- sorted store.

@@ -6,7 +6,8 @@
 //! fewer. A store with no step to do has nothing to convert and nothing to merge. A store with a free log region, or with
 //! nothing to convert, refuses no call for lack of room. If it refuses one, there is a step to do.
 //!
-//! The laws follow from what each call promises (`Does` of silt_store_set), and from nothing else.
+//! The laws follow from what each call promises (`Does` of silt_store_set), and from nothing else. What those of merges ask for
+//! is a clause of [`Core::standing`](silt_store_set::Core::standing).
 #![tactic(auto)]
 
 mod laws;

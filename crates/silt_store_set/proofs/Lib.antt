@@ -11,6 +11,7 @@ pub mod Gatherings
 pub mod Damages
 pub mod MayMerge
 pub mod Merges
+pub mod StepsLeft
 pub mod Flushes
 pub mod Gets
 pub mod Swaps

@@ -1,5 +1,5 @@
 -- How many writes and syncs runs make, from what each call makes.
-use Rattle.std.proofs.Common.{◌≡◌, ◌≤◌, ℕ, zero, suc, ◌+◌, ◌*◌, ◌==◌, Bool, true, false, if◌then◌else◌, IsTrue, List, [], ◌∷◌, ◌++◌, length, Option, Some, None, inl, inr, refl, ap, sym, ◌∙◌, subst, arith}
+use Rattle.std.proofs.Common.{◌≡◌, ◌≢◌, ◌≤◌, ℕ, zero, suc, ◌+◌, ◌*◌, ◌==◌, Bool, true, false, if◌then◌else◌, IsTrue, List, [], ◌∷◌, ◌++◌, length, Option, Some, None, inl, inr, refl, ap, sym, ◌∙◌, subst, arith}
 use Rattle.std.specs.Prelude.{◌&&◌}
 use Rattle.std.specs.List.{list_all}
 use Rattle.silt_disk.specs.declared.disk.Disk.{Ghosts}
@@ -12,7 +12,7 @@ use Rattle.silt_event.specs.declared.reply.Reply.{Reply}
 use Rattle.silt_event.specs.declared.reply.Reply.TheVariants.{Accepted, Acknowledged, Found, Absent, Differs, Progress, Refused}
 use Rattle.silt_event.specs.Events.{accepted_command, accepted_commands}
 use Rattle.silt_store_set.specs.CoreState.{ConvertGoesOn, ConvertWork, CoreState, Does, HasMade, MakesRow, Runs, WritesRow, entries_written, is_convert, is_merge, some_wait, written_of}
-use Rattle.silt_store_set.specs.Costs.{RunMade, is_foreground, settles_by, settling, to_the_end, waits_after}
+use Rattle.silt_store_set.specs.Costs.{RowsMade, RunMade, is_foreground, settles_by, settling, to_the_end, waits_after}
 use Rattle.silt_store_set.proofs.Calls.{none_refused}
 use Rattle.std.proofs.lemmas.List.{length-append}
 use Rattle.std.proofs.lemmas.Bool.{eqb-true}
@@ -23,6 +23,11 @@ use Rattle.silt_engine.specs.Conversion.{progress_due}
 waits_behind : (commands : List Command) (command : Command) → some_wait (commands ++ command ∷ []) ≡ 1
 waits_behind [] command = refl
 waits_behind (first ∷ commands) command = refl
+
+-- some commands wait or none do
+waits_most : (commands : List Command) → some_wait commands ≤ 1
+waits_most [] = omega arith
+waits_most (command ∷ commands) = omega arith
 
 -- of two truths each is one
 both_true : (a b : Bool) → IsTrue (a && b) → IsTrue a × IsTrue b
@@ -60,60 +65,106 @@ all_slots frozen hashes regions slots written due =
     go (written == slots) refl due
 
 module _ {D F : Type 0} (facts : Ghosts D F) where
+  -- the same numbers in other words
+  as_many : (old new : CoreState D) {n k m l : ℕ} → HasMade facts old new n m → n ≡ k → m ≡ l → HasMade facts old new k l
+  as_many old new {n} {k} {m} {l} made writes syncs = subst (λ (x : ℕ). HasMade facts old new x l) writes (subst (λ (y : ℕ). HasMade facts old new n y) syncs made)
+
   -- what one call makes, and whether commands wait after it
   record Made (old new : CoreState D) (event : Event) (reply : Reply F) : Type 0 where
-    generation : old.body.generation ≤ new.body.generation
-    made : new.body.generation ≡ old.body.generation
-        → HasMade facts old new (2 * length (accepted_command event reply) + settles_by (some_wait old.waiting) reply) (2 * settles_by (some_wait old.waiting) reply)
+    freezes : ℕ
+    waited : ℕ
+    turns : new.body.generation ≡ old.body.generation + freezes
+    fewer : waited ≤ freezes
+    made : HasMade facts old new (2 * length (accepted_command event reply) + settles_by (some_wait old.waiting) reply + 4 * freezes + waited)
+        (2 * settles_by (some_wait old.waiting) reply + 4 * freezes + 2 * waited)
     waits : some_wait new.waiting ≡ waits_after (some_wait old.waiting) reply
 
   -- a row
-  row_made : (old new : CoreState D) (key : List ℕ) (command : Command) → IsTrue (facts.content old.disk).honest → WritesRow facts old new key command → MakesRow facts old new
-      → (old.body.generation ≤ new.body.generation) × (new.body.generation ≡ old.body.generation → HasMade facts old new 2 0) × (some_wait new.waiting ≡ 1)
+  record RowMade (old new : CoreState D) : Type 0 where
+    freezes : ℕ
+    waited : ℕ
+    turns : new.body.generation ≡ old.body.generation + freezes
+    fewer : waited ≤ freezes
+    made : HasMade facts old new (2 + 4 * freezes + waited) (4 * freezes + 2 * waited)
+    waits : some_wait new.waiting ≡ 1
+
+  row_made : (old new : CoreState D) (key : List ℕ) (command : Command) → IsTrue (facts.content old.disk).honest → WritesRow facts old new key command → MakesRow facts old new → RowMade old new
   row_made old new key command h (inl (stays, behind), quiet) made =
       let same : new.body.generation ≡ old.body.generation = ap (λ b. b.generation) stays.0 in
-      (omega (arith, same), λ _. made.0 stays.0, ap some_wait (behind h).waiting ∙ waits_behind old.waiting command)
+      record {
+        freezes = 0;
+        waited = 0;
+        turns = omega (arith, same);
+        fewer = omega arith;
+        made = as_many old new (made.0 stays.0) (omega arith) (omega arith);
+        waits = ap some_wait (behind h).waiting ∙ waits_behind old.waiting command;
+      }
   row_made old new key command h (inr (turns, alone), quiet) made =
       let next : new.body.generation ≡ old.body.generation + 1 = ap (λ b. b.generation) turns.0.is in
-      (omega (arith, next), λ same. absurd (omega (arith, next, same)), ap some_wait (alone h).waiting)
+      let other : new.body ≢ old.body = λ same. absurd (omega (arith, next, ap (λ (b : Body). b.generation) same)) in
+      record {
+        freezes = 1;
+        waited = some_wait old.waiting;
+        turns = next;
+        fewer = waits_most old.waiting;
+        made = as_many old new (made.1 other) (omega arith) (omega arith);
+        waits = ap some_wait (alone h).waiting;
+      }
+
+  -- the reply to the command of this number
+  abbrev acceptance : ℕ → Reply F
+  acceptance n = Accepted n
+
+  -- a command that wrote a row
+  command_made : (old new : CoreState D) (event : Event) (n : ℕ) → length (accepted_command event (acceptance n)) ≡ 1 → RowMade old new → Made old new event (acceptance n)
+  command_made old new event n one row = record {
+    freezes = row.freezes;
+    waited = row.waited;
+    turns = row.turns;
+    fewer = row.fewer;
+    made = as_many old new row.made (omega (arith, one)) (omega arith);
+    waits = row.waits;
+  }
+
+  -- a call that freezes no log
+  still_made : (old new : CoreState D) (event : Event) (reply : Reply F) → new.body.generation ≡ old.body.generation
+      → HasMade facts old new (2 * length (accepted_command event reply) + settles_by (some_wait old.waiting) reply) (2 * settles_by (some_wait old.waiting) reply)
+      → some_wait new.waiting ≡ waits_after (some_wait old.waiting) reply → Made old new event reply
+  still_made old new event reply same made waits = record {
+    freezes = 0;
+    waited = 0;
+    turns = omega (arith, same);
+    fewer = omega arith;
+    made = as_many old new made (omega arith) (omega arith);
+    waits = waits;
+  }
 
   -- a call that changes nothing
-  nothing_made : (old new : CoreState D) → new ≡ old → (old.body.generation ≤ new.body.generation) × HasMade facts old new 0 0 × (some_wait new.waiting ≡ some_wait old.waiting)
-  nothing_made old new same = rw same (omega arith, none_made, refl)
+  nothing_made : (old new : CoreState D) → new ≡ old → (new.body.generation ≡ old.body.generation) × HasMade facts old new 0 0 × (some_wait new.waiting ≡ some_wait old.waiting)
+  nothing_made old new same = rw same (refl, none_made, refl)
 
   call_made : (old new : CoreState D) (event : Event) (reply : Reply F) → IsTrue (facts.content old.disk).honest → IsTrue (is_foreground event) → old.failed ≡ false → new.failed ≡ false
       → Does facts old new event reply → Made old new event reply
-  call_made old new (Put key value) (Accepted n) h front was is does =
-      let row = row_made old new key.0 _ h does.cause.1 does.made in
-      record { generation = row.0; made = row.1; waits = row.2 }
-  call_made old new (Delete key) (Accepted n) h front was is does =
-      let row = row_made old new key.0 _ h does.cause.1 does.made in
-      record { generation = row.0; made = row.1; waits = row.2 }
+  call_made old new (Put key value) (Accepted n) h front was is does = command_made old new (Put key value) n refl (row_made old new key.0 _ h does.cause.1 does.made)
+  call_made old new (Delete key) (Accepted n) h front was is does = command_made old new (Delete key) n refl (row_made old new key.0 _ h does.cause.1 does.made)
   call_made old new (Swap key expected (Some value)) (Accepted n) h front was is does =
-      let row = row_made old new key.0 _ h does.cause.1.1 does.made in
-      record { generation = row.0; made = row.1; waits = row.2 }
-  call_made old new (Swap key expected None) (Accepted n) h front was is does =
-      let row = row_made old new key.0 _ h does.cause.1.1 does.made in
-      record { generation = row.0; made = row.1; waits = row.2 }
+      command_made old new (Swap key expected (Some value)) n refl (row_made old new key.0 _ h does.cause.1.1 does.made)
+  call_made old new (Swap key expected None) (Accepted n) h front was is does = command_made old new (Swap key expected None) n refl (row_made old new key.0 _ h does.cause.1.1 does.made)
   call_made old new Flush (Acknowledged n) h front was is does =
-      let same : new.body.generation ≡ old.body.generation = ap (λ b. b.generation) (does.keeps_body is refl refl) in
-      record { generation = omega (arith, same); made = λ _. subst (λ (n : ℕ). HasMade facts old new n (2 * some_wait old.waiting)) (omega arith) does.made; waits = ap some_wait (does.settles h) }
+      still_made old new Flush (Acknowledged n) (ap (λ b. b.generation) (does.keeps_body is refl refl)) (as_many old new does.made (omega arith) refl) (ap some_wait (does.settles h))
   call_made old new (Get key) (Found value) h front was is does =
       let none = nothing_made old new does.cause.1 in
-      record { generation = none.0; made = λ _. none.1; waits = none.2 }
+      still_made old new (Get key) (Found value) none.0 none.1 none.2
   call_made old new (Get key) Absent h front was is does =
       let none = nothing_made old new does.cause.1 in
-      record { generation = none.0; made = λ _. none.1; waits = none.2 }
+      still_made old new (Get key) Absent none.0 none.1 none.2
   call_made old new (Swap key expected value) Differs h front was is does =
       let none = nothing_made old new does.cause.1 in
-      record { generation = none.0; made = λ _. none.1; waits = none.2 }
+      still_made old new (Swap key expected value) Differs none.0 none.1 none.2
   call_made old new event (Refused refusal) h front was is does =
       let none = nothing_made old new (does.stays refl (is ∙ sym was)) in
-      record {
-        generation = none.0;
-        made = λ _. subst (λ (commands : List Command). HasMade facts old new (2 * length commands + 0) 0) (sym (none_refused {F = F} event refusal)) none.1;
-        waits = none.2;
-      }
+      still_made old new event (Refused refusal) none.0
+      (subst (λ (commands : List Command). HasMade facts old new (2 * length commands + 0) 0) (sym (none_refused {F = F} event refusal)) none.1) none.2
   call_made old new Convert reply h front was is does = absurd (let no : IsTrue false = front in cc)
   call_made old new Merge reply h front was is does = absurd (let no : IsTrue false = front in cc)
   call_made old new (Swap key expected value) reply h front was is does = absurd does.cause.1
@@ -139,42 +190,43 @@ module _ {D F : Type 0} (facts : Ghosts D F) where
       ] in
       go old.failed refl
 
-  -- no record of a lower generation becomes current
-  rises : (old new : CoreState D) (events : List Event) (replies : List (Reply F)) → IsTrue (facts.content old.disk).honest → IsTrue (list_all is_foreground events) → new.failed ≡ false
-      → Runs facts old events replies new → old.body.generation ≤ new.body.generation
-  rises old new [] [] h front is runs = omega (arith, ap (λ (c : CoreState D). c.body.generation) runs)
-  rises old new (event ∷ events) (reply ∷ replies) h front is runs =
-      let next = runs.0 in
-      let working : next.failed ≡ false = not_failed next new events replies runs.2 is in
-      let was : old.failed ≡ false = not_failed old new (event ∷ events) (reply ∷ replies) runs is in
-      let fronts = both_true (is_foreground event) (list_all is_foreground events) front in
-      let one = call_made old next event reply h fronts.0 was working runs.1 in
-      let rest = rises next new events replies (subst IsTrue (sym runs.1.disk.honest) h) fronts.1 is runs.2 in
-      omega (arith, one.generation, rest)
-  rises old new [] (reply ∷ replies) h front is runs = absurd runs
-  rises old new (event ∷ events) [] h front is runs = absurd runs
-
   rows_made : (old new : CoreState D) (events : List Event) (replies : List (Reply F)) → IsTrue (facts.content old.disk).honest → IsTrue (list_all is_foreground events) → new.failed ≡ false
-      → new.body.generation ≡ old.body.generation → Runs facts old events replies new
-      → HasMade facts old new (2 * length (accepted_commands events replies) + settling (some_wait old.waiting) replies) (2 * settling (some_wait old.waiting) replies)
-  rows_made old new [] [] h front is same runs = rw runs none_made
-  rows_made old new (event ∷ events) (reply ∷ replies) h front is same runs =
+      → Runs facts old events replies new → RowsMade facts old events replies new
+  rows_made old new [] [] h front is runs = record {
+    freezes = 0;
+    waited = 0;
+    turns = omega (arith, ap (λ (c : CoreState D). c.body.generation) runs);
+    fewer = omega arith;
+    made = rw runs none_made;
+  }
+  rows_made old new (event ∷ events) (reply ∷ replies) h front is runs =
       let next = runs.0 in
       let working : next.failed ≡ false = not_failed next new events replies runs.2 is in
       let was : old.failed ≡ false = not_failed old new (event ∷ events) (reply ∷ replies) runs is in
       let fronts = both_true (is_foreground event) (list_all is_foreground events) front in
       let there : IsTrue (facts.content next.disk).honest = subst IsTrue (sym runs.1.disk.honest) h in
       let one = call_made old next event reply h fronts.0 was working runs.1 in
-      let above = rises next new events replies there fronts.1 is runs.2 in
-      let first : next.body.generation ≡ old.body.generation = omega (arith, one.generation, above, same) in
-      let rest = rows_made next new events replies there fronts.1 is (same ∙ sym first) runs.2 in
-      let after : HasMade facts next new (2 * length (accepted_commands events replies) + settling (waits_after (some_wait old.waiting) reply) replies) (2 * settling (waits_after (some_wait old.waiting) reply) replies)
-      = subst (λ (n : ℕ). HasMade facts next new (2 * length (accepted_commands events replies) + settling n replies) (2 * settling n replies)) one.waits rest in
+      let rest = rows_made next new events replies there fronts.1 is runs.2 in
+      let after : HasMade facts next new (2 * length (accepted_commands events replies) + settling (waits_after (some_wait old.waiting) reply) replies + 4 * rest.freezes + rest.waited)
+      (2 * settling (waits_after (some_wait old.waiting) reply) replies + 4 * rest.freezes + 2 * rest.waited)
+      = subst (λ (n : ℕ). HasMade facts next new (2 * length (accepted_commands events replies) + settling n replies + 4 * rest.freezes + rest.waited) (2 * settling n replies + 4 * rest.freezes + 2 * rest.waited))
+      one.waits rest.made in
       let long : length (accepted_command event reply ++ accepted_commands events replies) ≡ length (accepted_command event reply) + length (accepted_commands events replies)
       = length-append (accepted_command event reply) (accepted_commands events replies) in
-      made_both next.disk (one.made first) after (omega (arith, long)) (omega arith)
-  rows_made old new [] (reply ∷ replies) h front is same runs = absurd runs
-  rows_made old new (event ∷ events) [] h front is same runs = absurd runs
+      record {
+        freezes = one.freezes + rest.freezes;
+        waited = one.waited + rest.waited;
+        turns = omega (arith, one.turns, rest.turns);
+        fewer = omega (arith, one.fewer, rest.fewer);
+        made = made_both next.disk one.made after (omega (arith, long)) (omega arith);
+      }
+  rows_made old new [] (reply ∷ replies) h front is runs = absurd runs
+  rows_made old new (event ∷ events) [] h front is runs = absurd runs
+
+  -- a run that freezes no log
+  unfrozen : (old new : CoreState D) (events : List Event) (replies : List (Reply F)) → new.body.generation ≡ old.body.generation → RowsMade facts old events replies new
+      → HasMade facts old new (2 * length (accepted_commands events replies) + settling (some_wait old.waiting) replies) (2 * settling (some_wait old.waiting) replies)
+  unfrozen old new events replies same rows = as_many old new rows.made (omega (arith, same, rows.turns, rows.fewer)) (omega (arith, same, rows.turns, rows.fewer))
 
   -- ---- background work
 
@@ -229,7 +281,8 @@ module _ {D F : Type 0} (facts : Ghosts D F) where
   -- what a run makes
   pub run_made : (old new : CoreState D) (events : List Event) (replies : List (Reply F)) → Runs facts old events replies new → RunMade facts old events replies new
   run_made old new events replies runs = record {
-    rows = λ h front is same. rows_made old new events replies h front is same runs;
+    rows = λ h front is same. unfrozen old new events replies same (rows_made old new events replies h front is runs);
+    freezes = λ h front is. rows_made old new events replies h front is runs;
     conversion = λ moves none all ends.
         let end = conversion_made moves old new events all (subst (λ rs. Runs facts old events rs new) ends runs) in
         (omega (arith, end.0, ap slots_written none), end.1);

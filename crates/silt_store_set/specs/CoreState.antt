@@ -159,6 +159,10 @@ taken_by core work = merge_sources work.stores (stores_of core)
 abbrev pub has_decided : {D : Type 0} → CoreState D → MergeWork → Bool
 has_decided core work = work.steps == work.stores * (4 * core.shape.buckets) + key_count (taken_by core work)
 
+-- a merge took at most one step for each slot of its hash stores and one for each key, so that its last step is still to come
+abbrev pub IsWithinSteps : {D : Type 0} → CoreState D → MergeWork → Type 0
+IsWithinSteps core work = work.steps ≤ work.stores * (4 * core.shape.buckets) + key_count (taken_by core work)
+
 -- the progress of the next step of merging
 abbrev pub merge_due : {D : Type 0} → CoreState D → ProgressOf
 merge_due core = merge_progress (length core.body.hashed) (option_map (has_decided core) core.merging)

@@ -1,5 +1,5 @@
 -- How many writes and syncs a run of events makes.
-use Rattle.std.specs.Prelude.{◌≡◌, ℕ, ◌+◌, ◌*◌, Bool, false, not, ◌&&◌, IsTrue, List, [], ◌∷◌, ◌++◌, length, replicate, None}
+use Rattle.std.specs.Prelude.{◌≡◌, ◌≤◌, ℕ, ◌+◌, ◌*◌, Bool, false, not, ◌&&◌, IsTrue, List, [], ◌∷◌, ◌++◌, length, replicate, None}
 use Rattle.std.specs.List.{list_all}
 use Rattle.silt_disk.specs.declared.disk.Disk.{Ghosts}
 use Rattle.silt_event.specs.declared.event.Event.{Event}
@@ -33,12 +33,23 @@ to_the_end moves = replicate moves (Progress Moved) ++ Progress Finished ∷ []
 abbrev pub is_foreground : Event → Bool
 is_foreground event = not (is_convert event) && not (is_merge event)
 
+-- What a run without background steps makes: two writes for each accepted command, a write and two syncs for each flush that settles
+-- commands, and for each freeze four writes and four syncs, and a write and two syncs more if commands waited.
+pub record RowsMade {D F : Type 0} (facts : Ghosts D F) (old : CoreState D) (events : List Event) (replies : List (Reply F)) (new : CoreState D) : Type 0 where
+  pub freezes : ℕ
+  pub waited : ℕ
+  pub turns : new.body.generation ≡ old.body.generation + freezes
+  pub fewer : waited ≤ freezes
+  pub made : HasMade facts old new (2 * length (accepted_commands events replies) + settling (some_wait old.waiting) replies + 4 * freezes + waited)
+      (2 * settling (some_wait old.waiting) replies + 4 * freezes + 2 * waited)
+
 -- What a run makes. Without background steps and freezes: two writes for each accepted command, and a write and two syncs for each flush
--- that settles commands. A whole conversion: a write for each slot of the hash store, and the manifest. A whole merge: a write for each
+-- that settles commands; with freezes, so much more. A whole conversion: a write for each slot of the hash store, and the manifest. A whole merge: a write for each
 -- entry of the new sorted store, and the manifest.
 pub record RunMade {D F : Type 0} (facts : Ghosts D F) (old : CoreState D) (events : List Event) (replies : List (Reply F)) (new : CoreState D) : Type 0 where
   pub rows : IsTrue (facts.content old.disk).honest → IsTrue (list_all is_foreground events) → new.failed ≡ false → new.body.generation ≡ old.body.generation
       → HasMade facts old new (2 * length (accepted_commands events replies) + settling (some_wait old.waiting) replies) (2 * settling (some_wait old.waiting) replies)
+  pub freezes : IsTrue (facts.content old.disk).honest → IsTrue (list_all is_foreground events) → new.failed ≡ false → RowsMade facts old events replies new
   pub conversion : (moves : ℕ) → old.converting ≡ None → IsTrue (list_all is_convert events) → replies ≡ to_the_end moves
       → (moves ≡ 4 * old.shape.buckets) × HasMade facts old new (moves + 3) 4
   pub merge : (moves : ℕ) → old.merging ≡ None → IsTrue (list_all is_merge events) → replies ≡ to_the_end moves

@@ -99,7 +99,8 @@ impl<D: Disk> Core<D> {
     ghost use Rattle.silt_engine.specs.Lookup.{changes_key};
     ghost use Rattle.silt_store_set.specs.CoreInvariant.{LeavesBegun};
     ghost use Rattle.silt_frame.specs.Rows.{key_cmp};
-    ghost use Rattle.silt_store_set.specs.CoreState.{CoreState, Does, Runs, Opens, EntriesCause, IsRefusedRead, StandsKept, map_of, MayWrite, may_merge, row_event, wants_convert, wants_merge};
+    ghost use Rattle.silt_store_set.specs.CoreState.{CoreState, Does, Runs, Opens, EntriesCause, IsRefusedRead, IsWithinSteps, StandsKept};
+    ghost use Rattle.silt_store_set.specs.CoreState.{map_of, MayWrite, may_merge, row_event, wants_convert, wants_merge};
     ghost use Rattle.silt_store_set.specs.Costs.{RunMade};
     ghost use Rattle.silt_store_set.specs.Facts.{NamesDigests, NamesMap, facts_of};
     ghost use Rattle.silt_disk.specs.Layout.{device_size};
@@ -206,12 +207,13 @@ impl<D: Disk> Core<D> {
     /// States what is true of the store at every moment, and does nothing. Each possible crash image of its device
     /// represents the base or, if the store is failed, the base after some first part of the waiting commands. Its map
     /// is the base after all of them, and no more wait than this life has accepted. A failed store has both as its
-    /// failing call began.
+    /// failing call began. A merge in progress has a step left.
     pub fn standing(&self)
         ensures safe { self.now.failed ≡ false → LeavesOnly (D.content self.now.disk) (StandsFor self.now.shape self.now.base) }
         ensures begun { LeavesOnly (D.content self.now.disk) (HasBegun self.now.shape self.now.base self.now.waiting) }
         ensures has_map { IsTrue (D.content self.now.disk).honest → map_of self.now ≡ map_after self.now.base self.now.waiting }
         ensures few { IsTrue (D.content self.now.disk).honest → length self.now.waiting ≤ self.now.count }
+        ensures merging { self.now.failed ≡ false → IsTrue (D.content self.now.disk).honest → IfSome self.now.merging (IsWithinSteps self.now) }
     {
         let _ = &self.disk; // the store is as it was made
     }

@@ -1,0 +1,49 @@
+-- A merge in progress has a step left.
+use Rattle.std.proofs.Common.{◌≡◌, ◌≤◌, ℕ, ◌+◌, ◌*◌, Bool, false, IsTrue, Option, Some, None, IfSome, inl, inr, ap, subst, arith}
+use Rattle.std.proofs.lemmas.Bool.{cases_lt}
+use Rattle.silt_disk.specs.Layout.{Shape}
+use Rattle.silt_disk.specs.declared.disk.Disk.{Ghosts}
+use Rattle.silt_merge.specs.Rows.{key_count, sources}
+use Rattle.silt_merge.specs.State.{IsHeldMerge, MergeState, oldest_stores}
+use Rattle.silt_engine.specs.Merge.{full_stores, merge_sources}
+use Rattle.silt_engine.proofs.MergeDone.{sources_full, taken_sound}
+use Rattle.silt_standing.specs.Standing.{HasGathered, Stands}
+use Rattle.silt_standing.specs.State.{EngineState, IsMerging}
+use Rattle.silt_store_set.specs.Basis.{BasisState}
+use Rattle.silt_store_set.specs.CoreInvariant.{IsCore}
+use Rattle.silt_store_set.specs.CoreState.{CoreState, IsWithinSteps, merge_work}
+use Rattle.silt_store_set.proofs.Calls.{seen, seen_core}
+use Rattle.silt_store_set.proofs.Damages.{slot_below}
+
+-- a merge has gathered at most all slots of its hash stores
+few_gathered : (merge : MergeState) → IsHeldMerge merge → merge.store * (4 * merge.shape.buckets) + merge.slot ≤ merge.stores * (4 * merge.shape.buckets)
+few_gathered merge held = elim (cases_lt merge.store merge.stores) [
+  | inl below ↦ let few = slot_below merge.store merge.stores merge.slot (4 * merge.shape.buckets) below held.slot in omega (arith, few)
+  | inr past ↦
+      let all : merge.store ≡ merge.stores = omega (arith, past, held.store) in
+      let slots : merge.store * (4 * merge.shape.buckets) ≡ merge.stores * (4 * merge.shape.buckets) = ap (λ (n : ℕ). n * (4 * merge.shape.buckets)) all in
+      omega (arith, slots, held.ended all)
+]
+
+module _ {D F : Type 0} (facts : Ghosts D F) (disk : D) (stores : EngineState) (count : ℕ) (stands : Stands (facts.content disk) stores) where
+  -- the merge in memory
+  left_in : IsTrue (facts.content disk).honest → (o : Option MergeState) → IfSome o (IsMerging stores) → IfSome o (HasGathered (facts.content disk) stores)
+      → IfSome (merge_work o) (IsWithinSteps (seen facts disk stores count))
+  left_in honest None merging merged = tt
+  left_in honest (Some merge) merging merged =
+      let decided : merge.decided ≤ key_count (sources (facts.content disk).shown (oldest_stores merge.stores stores.hashes) stores.sorted) =
+      (merged.0.merged honest (taken_sound (facts.content disk) stores stands honest merge.stores)).gathered.most in
+      let keys : key_count (merge_sources merge.stores (full_stores (facts.content disk) stores)) ≡ key_count (sources (facts.content disk).shown (oldest_stores merge.stores stores.hashes) stores.sorted) =
+      ap key_count (sources_full (facts.content disk) stores stands honest merge.stores) in
+      let slots : merge.stores * (4 * merge.shape.buckets) ≡ merge.stores * (4 * stores.manifest.shape.buckets) = ap (λ (s : Shape). merge.stores * (4 * s.buckets)) merging.has_shape in
+      omega (arith, decided, keys, slots, few_gathered merge merging.held)
+
+  left : IsTrue (facts.content disk).honest → IfSome (merge_work stores.merging) (IsWithinSteps (seen facts disk stores count))
+  left honest = left_in honest stores.merging stands.whole.merging stands.merged
+
+-- of the store that contracts see
+pub left_seen : {D F : Type 0} (facts : Ghosts D F) (disk : D) (stores : EngineState) (count : ℕ) (failed : Bool) (basis : BasisState) (core : CoreState D) → seen_core facts disk stores count failed basis ≡ core
+    → IsCore (facts.content disk) stores count failed basis → core.failed ≡ false → IsTrue (facts.content core.disk).honest → IfSome core.merging (IsWithinSteps core)
+left_seen facts disk stores count failed basis core is holds =
+    subst (λ (c : CoreState _). c.failed ≡ false → IsTrue (facts.content c.disk).honest → IfSome c.merging (IsWithinSteps c)) is
+    (λ working honest. left facts disk stores count (holds.stands working) honest)
