@@ -2,14 +2,13 @@
 use Rattle.std.specs.Prelude.{◌≡◌, ◌⊎◌, ◌<◌, ◌/◌, ℕ, max, Bool, true, false, IfOk, IfSome, List, Option, None, Some, codes, unwrap_or}
 use Rattle.std.specs.Net.Socket.{socket_port}
 use Rattle.std.specs.Option.{IsSomeAnd}
-use Rattle.silt_disk.specs.Layout.{Shape}
 use Rattle.silt_disk.specs.declared.disk.Disk.{Ghosts}
+use Rattle.silt_desk.specs.Servings.{LeavesCalls}
 use Rattle.silt_server.specs.Serving.{IsServed, ServesKept, PrintsNotServed}
 use Rattle.silt_server.specs.declared.limits.Protocol.{Protocol}
 use Rattle.silt_server.specs.declared.limits.Protocol.TheVariants.{Lines, PipelinedLines, Resp}
 use Rattle.silt_shards.specs.Opening.{Says}
 use Rattle.silt_shards.specs.declared.mark.Marking.TheVariants.{Unmarked}
-use Rattle.silt_store_set.specs.CoreInvariant.{LeavesBegun}
 use Rattle.silt_store_set.specs.CoreState.{CoreState, Opens}
 use Rattle.silt_words.specs.Jobs.{NamedAccess, named_access}
 use Rattle.silt_words.specs.declared.job.Service.{Service}
@@ -92,14 +91,14 @@ module _ {D E F : Type 0} (facts : Ghosts D F) (Failed : D → Failures → Type
       ⊎ (Failed new ended.failures
       × IfOk ended.status (λ status. ServesStore facts service.audit bound (ended.why ≡ None) core status new before after)))
 
-  -- The port was bound before the opening, or people were told why not. The store was not opened, or it was served. Then each possible crash
-  -- image represents one map after some first part of one list of commands.
+  -- The port was bound before the opening, or people were told why not. The store was not opened, or it was served. Then some calls lead from
+  -- the store that was opened to the one that is left: they have the replies of a plain map, and a crash keeps only what they allow.
   abbrev pub ServesDisk : (List ℕ → Urgent → Type 0) → Type 0 → D → Option D → Ended E F → Option (List ℕ) → Option (List ℕ) → Type 0
   ServesDisk Told Quiet old given ended before after =
       (bound : Bool) × TellsEntrance Told Quiet service bound
       × (RefusesDisk facts old given ended before after
       ⊎ (Says facts old Unmarked × ((core : CoreState D) × Opens facts (facts.content old) core
-      × IsSomeAnd given (λ new. ServesOpened bound core new ended before after × ((shape : Shape) × LeavesBegun (facts.content new) shape)))))
+      × IsSomeAnd given (λ new. ServesOpened bound core new ended before after × LeavesCalls facts core new))))
 
   -- the disk that the source opened was served, or it opened none
   abbrev pub ServesFile : (D → Type 0) → (E → Type 0) → (List ℕ → Urgent → Type 0) → Type 0 → Option D → Ended E F → Option (List ℕ) → Option (List ℕ) → Type 0

@@ -1,7 +1,6 @@
 // The server on the disk of a path.
 ghost use Rattle.std.specs.Prelude.{◌≡◌, ◌⊎◌, ◌<◌, ◌≤◌, None, Ok, IfOk, IfSome, IsOkAnd, is_some, false, true, unwrap_or};
-ghost use Rattle.silt_disk.specs.Layout.{Shape};
-ghost use Rattle.silt_store_set.specs.CoreInvariant.{LeavesBegun};
+ghost use Rattle.silt_desk.specs.Servings.{LeavesCalls};
 ghost use Rattle.silt_wire.specs.Statuses.{IsStatus};
 ghost use Rattle.silt_server.specs.Serving.{PrintsNotServed};
 ghost use Rattle.silt_jobs.specs.Ended.{HasFailed};
@@ -142,8 +141,9 @@ fn serve_opened<
     writer: &mut W,
 ) -> (D, Ended<E, D::Fault>)
     ensures served { ServesOpened D.Disk (HasFailed D.kept_read D.last_failure) service.now (is_some entrance) core result.0 result.1 (W.contents writer.old) (W.contents writer.new) }
-    ensures left { (shape : Shape) × LeavesBegun (D.content result.0) shape }
+    ensures led { LeavesCalls D.Disk core result.0 }
 {
+    core.standing(); // the possible crash images of the store as it is
     if has_few_regions(&core, service.merge_at) {
         return refuse_few_regions(rt.alloc(), core, writer);
     }
@@ -206,7 +206,7 @@ fn serve_store<
     ensures printed { IfOk result.1 (IsStatus (PrintsNotServed D.Disk (λ port. Unit {0}) core result.0 (W.contents writer.old) (W.contents writer.new)
         ⊎ EndsServe D.Disk service.now.audit result.0 (W.contents writer.old) (W.contents writer.new))) }
     ensures quiet { result.1 ≡ Ok 0 → result.2 ≡ None }
-    ensures left { (shape : Shape) × LeavesBegun (D.content result.0) shape }
+    ensures led { LeavesCalls D.Disk core result.0 }
 {
     let Some(entrance) = entrance else {
         let (disk, status) = refuse_network(core, writer);

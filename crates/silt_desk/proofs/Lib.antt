@@ -1,3 +1,4 @@
 mod Looking
 pub mod Serving
+mod Servings
 pub mod Shares

@@ -1,9 +1,11 @@
+pub mod Anchors
 pub mod DeskState
 pub mod History
 pub mod Notes
 pub mod Preparing
 pub mod Seats
 pub mod Seeing
+pub mod Servings
 pub mod Shifts
 pub mod TraceLaws
 pub mod Traces

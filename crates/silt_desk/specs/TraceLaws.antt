@@ -1,8 +1,9 @@
 -- One call more, in a trace.
-use Rattle.std.proofs.Common.{◌≡◌, ℕ, ◌+◌, ◌%◌, ◌^◌, ◌≤◌, ◌==◌, Bool, true, false, IsTrue, List, [], ◌∷◌, ◌++◌, length, refl, sym, ◌∙◌, ap, subst, arith, length-append, append_assoc}
+use Rattle.std.proofs.Common.{◌≡◌, ℕ, ◌+◌, ◌%◌, ◌^◌, ◌≤◌, ◌==◌, Bool, true, false, IsTrue, List, [], ◌∷◌, ◌++◌, length, refl, sym, ◌∙◌, ap, subst, arith, length-append, append_assoc, Option, Some, None}
 use Rattle.std.proofs.lemmas.Bool.{ne_eqb}
 use Rattle.silt_disk.specs.Disk.{LeavesOnly}
 use Rattle.silt_disk.specs.Layout.{Shape}
+use Rattle.silt_disk.specs.declared.disk.Disk.{Ghosts}
 use Rattle.silt_event.specs.Commands.{Command, Map, map_after}
 use Rattle.silt_event.specs.Events.{Counts, Legal, PlainReply, Step, accepted_command, acknowledged_after, acknowledged_by}
 use Rattle.silt_event.specs.declared.event.Event.{Event}
@@ -10,13 +11,17 @@ use Rattle.silt_event.specs.declared.reply.Reply.{Reply}
 use Rattle.silt_event.specs.declared.reply.Reply.TheVariants.{Accepted, Acknowledged, Found, Absent, Differs, Progress, Refused, Unsettled, NotServed}
 use Rattle.silt_event.specs.declared.refusal.Refusal.TheVariants.{Failed}
 use Rattle.silt_image.specs.Meaning.{StandsFor}
+use Rattle.silt_engine.specs.Calls.{HasBegun}
 use Rattle.silt_store_set.proofs.Calls.{none_refused}
 use Rattle.silt_store_set.proofs.Keeps.{fault_adds}
+use Rattle.silt_store_set.specs.CoreState.{CoreState, map_of}
 use Rattle.silt_store_set.proofs.Maps.{map_after-append, append_nil}
 use Rattle.silt_desk.specs.declared.call.RecordedCall.{RecordedCall}
+use Rattle.silt_desk.specs.Anchors.{HasPast, LeadsFrom}
 use Rattle.silt_desk.specs.History.{OthersStayLaw, accepted_by, calls_of_seat, commands_of, count_accepted, called_events, replies_of, Replays}
-use Rattle.silt_desk.specs.Seeing.{MovesSeen, NoneWaits, SeenStore, SeenStep}
-use Rattle.silt_desk.specs.Traces.{ListsMap, HasSettled, IsHistory, Keeping, StandsRecorded, Survives, with_call}
+use Rattle.silt_desk.specs.Seeing.{MovesSeen, NoneWaits, SeenStore, SeenStep, seen}
+use Rattle.silt_desk.specs.Servings.{LeavesCalls}
+use Rattle.silt_desk.specs.Traces.{HasSettled, IsHistory, Keeping, LeadsTo, ListsMap, Past, StandsRecorded, Survives, SurvivesFrom, past_of, then_call, with_call}
 
 -- a number modulo 2^64 after an addition
 pub next_count : (a b n k m : ℕ) → a ≡ n % 2 ^ 64 → b ≡ (a + k) % 2 ^ 64 → m ≡ n + k → b ≡ m % 2 ^ 64
@@ -102,8 +107,8 @@ acknowledged_one (Unsettled n) before count next total store counts none sum les
 acknowledged_one NotServed before count next total store counts none sum less = less
 
 -- one call more settles on
-settles_more : (a : Keeping) (c : RecordedCall) (base : Map) (waiting : List Command) (s t : SeenStore) → IsTrue s.content.honest → HasSettled a base waiting s → SeenStep s t c.event c.reply
-    → MovesSeen s t (accepted_command c.event c.reply) → HasSettled (with_call a c) base waiting t
+settles_more : (a : Past) (c : RecordedCall) (base : Map) (waiting : List Command) (s t : SeenStore) → IsTrue s.content.honest → HasSettled a base waiting s → SeenStep s t c.event c.reply
+    → MovesSeen s t (accepted_command c.event c.reply) → HasSettled (then_call a c) base waiting t
 settles_more a c base waiting s t h old step moves =
     let own : List Command = accepted_command c.event c.reply in
     let all : commands_of (a.calls ++ c ∷ []) ≡ commands_of a.calls ++ own = commands_more a.calls c in
@@ -127,14 +132,14 @@ settles_more a c base waiting s t h old step moves =
     }
 
 -- a call that adds nothing, and leaves the base and the waiting commands, settles nothing more
-settles_same : (a : Keeping) (c : RecordedCall) (base : Map) (waiting : List Command) (s t : SeenStore) → IsTrue s.content.honest → HasSettled a base waiting s → SeenStep s t c.event c.reply
-    → accepted_command c.event c.reply ≡ [] → t.base ≡ s.base → t.waiting ≡ s.waiting → HasSettled (with_call a c) base waiting t
+settles_same : (a : Past) (c : RecordedCall) (base : Map) (waiting : List Command) (s t : SeenStore) → IsTrue s.content.honest → HasSettled a base waiting s → SeenStep s t c.event c.reply
+    → accepted_command c.event c.reply ≡ [] → t.base ≡ s.base → t.waiting ≡ s.waiting → HasSettled (then_call a c) base waiting t
 settles_same a c base waiting s t h old step none same_base same_waiting =
     settles_more a c base waiting s t h old step (record { moved = []; rest = same_waiting ∙ sym (append_nil s.waiting) ∙ ap (λ (cs : List Command). s.waiting ++ cs) (sym none); base = same_base })
 
 -- a call that adds and acknowledges nothing changes nothing about what a crash may keep
-records_on : (a : Keeping) (c : RecordedCall) (shape : Shape) (base : Map) (waiting : List Command) (image : List ℕ) → accepted_command c.event c.reply ≡ [] → ((n : ℕ) → acknowledged_by n c.reply ≡ n)
-    → StandsRecorded a shape base waiting image → StandsRecorded (with_call a c) shape base waiting image
+records_on : (a : Past) (c : RecordedCall) (shape : Shape) (base : Map) (waiting : List Command) (image : List ℕ) → accepted_command c.event c.reply ≡ [] → ((n : ℕ) → acknowledged_by n c.reply ≡ n)
+    → StandsRecorded a shape base waiting image → StandsRecorded (then_call a c) shape base waiting image
 records_on a c shape base waiting image none same kept =
     let all : commands_of (a.calls ++ c ∷ []) ≡ commands_of a.calls = commands_more a.calls c ∙ ap (λ (cs : List Command). commands_of a.calls ++ cs) none ∙ append_nil (commands_of a.calls) in (
       kept.0,
@@ -147,7 +152,7 @@ records_on a c shape base waiting image none same kept =
     )
 
 -- if the store is not failed, a crash keeps what went into the base
-keeps_settled : (a : Keeping) (base : Map) (waiting : List Command) (t : SeenStore) (image : List ℕ) → HasSettled a base waiting t → StandsFor t.shape t.base image
+keeps_settled : (a : Past) (base : Map) (waiting : List Command) (t : SeenStore) (image : List ℕ) → HasSettled a base waiting t → StandsFor t.shape t.base image
     → StandsRecorded a t.shape base waiting image
 keeps_settled a base waiting t image settled stands = (
   settled.moved,
@@ -156,26 +161,23 @@ keeps_settled a base waiting t image settled stands = (
 )
 
 -- after one more call, the recorded calls still say what a crash keeps
-survives_on : (a : Keeping) (c : RecordedCall) (opening : Map) (s t : SeenStore) → Survives a opening s → SeenStep s t c.event c.reply → Survives (with_call a c) opening t
-survives_on a c opening s t survives step =
-    let base : Map = survives.base in
-    let waiting : List Command = survives.waiting in
+survives_on : (a : Past) (c : RecordedCall) (opening base : Map) (waiting : List Command) (s t : SeenStore) → SurvivesFrom a opening base waiting s → SeenStep s t c.event c.reply
+    → SurvivesFrom (then_call a c) opening base waiting t
+survives_on a c opening base waiting s t survives step =
     let was : IsTrue t.content.honest → IsTrue s.content.honest = λ h. subst IsTrue step.honest h in
     let opens : IsTrue t.content.honest → opening ≡ map_after base waiting = λ h. survives.opens (was h) in
     let few : IsTrue t.content.honest → length waiting ≤ a.count = λ h. survives.few (was h) in
-    let go : (b : Bool) → s.failed ≡ b → (d : Bool) → t.failed ≡ d → Survives (with_call a c) opening t = elim [
+    let go : (b : Bool) → s.failed ≡ b → (d : Bool) → t.failed ≡ d → SurvivesFrom (then_call a c) opening base waiting t = elim [
       | true ↦ λ failed d is.
           let stays = step.failed failed in
           let none : c.reply ≡ Refused Failed → accepted_command c.event c.reply ≡ [] = λ is. ap (λ (r : PlainReply). accepted_command c.event r) is ∙ none_refused c.event Failed in
           record {
-            base = base;
-            waiting = waiting;
             opens = opens;
             few = few;
             settled = λ h. settles_same a c base waiting s t (was h) (survives.settled (was h)) step (none stays.1) (ap (λ (x : SeenStore). x.base) stays.0) (ap (λ (x : SeenStore). x.waiting) stays.0);
             left = record {
               each = λ h image left.
-                  subst (λ (shape : Shape). StandsRecorded (with_call a c) shape base waiting image) (sym step.shape)
+                  subst (λ (shape : Shape). StandsRecorded (then_call a c) shape base waiting image) (sym step.shape)
                   (records_on a c s.shape base waiting image
                   (none stays.1) (λ n. ap (λ (r : PlainReply). acknowledged_by n r) stays.1)
                   ((subst (λ (x : SeenStore). LeavesOnly x.content (StandsRecorded a s.shape base waiting)) (sym stays.0) survives.left).each h image left));
@@ -183,18 +185,14 @@ survives_on a c opening s t survives step =
           }
       | false ↦ λ working. elim [
         | false ↦ λ goes.
-            let settled : IsTrue t.content.honest → HasSettled (with_call a c) base waiting t = λ h. settles_more a c base waiting s t (was h) (survives.settled (was h)) step (step.moves goes (was h)) in
+            let settled : IsTrue t.content.honest → HasSettled (then_call a c) base waiting t = λ h. settles_more a c base waiting s t (was h) (survives.settled (was h)) step (step.moves goes (was h)) in
             record {
-              base = base;
-              waiting = waiting;
               opens = opens;
               few = few;
               settled = settled;
-              left = record { each = λ h image left. keeps_settled (with_call a c) base waiting t image (settled h) ((step.safe goes).each h image left) };
+              left = record { each = λ h image left. keeps_settled (then_call a c) base waiting t image (settled h) ((step.safe goes).each h image left) };
             }
         | true ↦ λ fails. record {
-          base = base;
-          waiting = waiting;
           opens = opens;
           few = few;
           settled = λ h.
@@ -216,7 +214,7 @@ survives_on a c opening s t survives step =
                   },
                   subst (λ (m : Map). StandsFor s.shape m image) (ap (λ (m : Map). map_after m torn.kept) old.has_base ∙ sym (map_after-append base old.moved torn.kept)) torn.stands,
                 ) in
-                subst (λ (shape : Shape). StandsRecorded (with_call a c) shape base waiting image) (sym step.shape) (records_on a c s.shape base waiting image fault.0 fault.1 before);
+                subst (λ (shape : Shape). StandsRecorded (then_call a c) shape base waiting image) (sym step.shape) (records_on a c s.shape base waiting image fault.0 fault.1 before);
           };
         }
       ]
@@ -243,11 +241,12 @@ others_stay_law other calls c apart = others_stay other calls c (ne_eqb c.seat o
 pub history_more : (a b : Keeping) (c : RecordedCall) (s t : SeenStore) → IsHistory a s → b ≡ with_call a c → SeenStep s t c.event c.reply → IsHistory b t
 history_more a b c s t history extends step =
     let was : IsTrue t.content.honest → IsTrue s.content.honest = λ h. subst IsTrue step.honest h in
+    let old = history.survives in
     subst (λ (k : Keeping). IsHistory k t) (sym extends) (record {
       map = history.map;
       entries = λ h. history.entries (was h);
       replays = λ h. replays_more a.count history.map a.calls s.count s.map c t.count t.map (history.replays (was h)) step.counts (step.step (was h));
-      survives = survives_on a c history.map s t history.survives step;
+      survives = record { base = old.base; waiting = old.waiting; from = survives_on (past_of a) c history.map old.base old.waiting s t old.from step };
     })
 
 pub length_after : (a b : Keeping) (c : RecordedCall) (n m : ℕ) → length a.calls ≡ n → b ≡ with_call a c → m ≡ n + 1 → length b.calls ≡ m
@@ -257,8 +256,8 @@ pub accepted_after : (a b : Keeping) (c : RecordedCall) (m n : ℕ) → count_ac
 accepted_after a b c m n is extends more = rw extends (omega (arith, count_accepted_push a.calls c, is, more))
 
 -- with no calls yet nothing is settled since the history began
-settles_none : (kept : Keeping) (store : SeenStore) → kept.calls ≡ [] → kept.count ≡ store.count → HasSettled kept store.base store.waiting store
-settles_none kept store none count = record {
+settles_none : (past : Past) (store : SeenStore) → past.calls ≡ [] → past.count ≡ store.count → HasSettled past store.base store.waiting store
+settles_none past store none count = record {
   moved = [];
   rest = sym (append_nil store.waiting) ∙ ap (λ (calls : List RecordedCall). store.waiting ++ commands_of calls) (sym none);
   has_base = refl;
@@ -277,9 +276,68 @@ history_opens kept store none count entries has_map few safe = record {
   survives = record {
     base = store.base;
     waiting = store.waiting;
-    opens = has_map;
-    few = λ h. subst (λ (n : ℕ). length store.waiting ≤ n) (sym count) (few h);
-    settled = λ h. settles_none kept store none count;
-    left = record { each = λ h image left. keeps_settled kept store.base store.waiting store image (settles_none kept store none count) (safe.each h image left) };
+    from = record {
+      opens = has_map;
+      few = λ h. subst (λ (n : ℕ). length store.waiting ≤ n) (sym count) (few h);
+      settled = λ h. settles_none (past_of kept) store none count;
+      left = record { each = λ h image left. keeps_settled (past_of kept) store.base store.waiting store image (settles_none (past_of kept) store none count) (safe.each h image left) };
+    };
   };
 }
+
+-- ---- calls that lead from a store
+
+-- no call leads from a store to itself, failed or not
+pub leads_none : (store : SeenStore) → (IsTrue store.content.honest → store.map ≡ map_after store.base store.waiting) → (IsTrue store.content.honest → length store.waiting ≤ store.count)
+    → LeavesOnly store.content (HasBegun store.shape store.base store.waiting) → LeadsTo store [] store
+leads_none store has_map few begun = record {
+  honest = refl;
+  shape = refl;
+  replays = λ h. (refl, refl);
+  survives = record {
+    opens = has_map;
+    few = few;
+    settled = λ h. settles_none (record { count = store.count; calls = [] }) store refl refl;
+    left = record {
+      each = λ h image left.
+          let torn = begun.each h image left in (
+            torn.kept,
+            record { begins = record { rest = torn.begins.rest; is = torn.begins.is ∙ sym (append_nil store.waiting) }; acknowledged = λ settled sum. omega arith },
+            torn.stands,
+          );
+    };
+  };
+}
+
+-- they lead on by one call more
+pub leads_more : (first : SeenStore) (calls : List RecordedCall) (c : RecordedCall) (s t : SeenStore) → LeadsTo first calls s → SeenStep s t c.event c.reply → LeadsTo first (calls ++ c ∷ []) t
+leads_more first calls c s t leads step =
+    let was : IsTrue t.content.honest → IsTrue s.content.honest = λ h. subst IsTrue step.honest h in
+    record {
+      honest = step.honest ∙ leads.honest;
+      shape = step.shape ∙ leads.shape;
+      replays = λ h. replays_more first.count first.map calls s.count s.map c t.count t.map (leads.replays (was h)) step.counts (step.step (was h));
+      survives = survives_on (record { count = first.count; calls = calls }) c first.map first.base first.waiting s t leads.survives step;
+    }
+
+from_more : (named : Option SeenStore) (calls : List RecordedCall) (c : RecordedCall) (s t : SeenStore) → LeadsFrom named calls s → SeenStep s t c.event c.reply → LeadsFrom named (calls ++ c ∷ []) t
+from_more None calls c s t leads step = tt
+from_more (Some first) calls c s t leads step = leads_more first calls c s t leads step
+
+-- a past goes on by one more call
+pub past_more : {T : Type 0} (named : Option SeenStore) (counts : T → ℕ → ℕ → Type 0) (a b : T) (c : RecordedCall) (s t : SeenStore)
+    → ((n m k l : ℕ) → counts a n m → k ≡ n + 1 → l ≡ m + accepted_by c.reply → counts b k l) → HasPast named counts a s → SeenStep s t c.event c.reply → HasPast named counts b t
+past_more named counts a b c s t law past step =
+    let calls : List RecordedCall = past.calls in
+    let longer : length (calls ++ c ∷ []) ≡ length calls + 1 = omega (arith, length-append calls (c ∷ [])) in
+    record {
+      calls = calls ++ c ∷ [];
+      leads = from_more named calls c s t past.leads step;
+      counted = law (length calls) (count_accepted calls) (length (calls ++ c ∷ [])) (count_accepted (calls ++ c ∷ [])) past.counted longer (count_accepted_push calls c);
+    }
+
+-- a store that did no call leaves its disk so
+pub leaves_none : {D F : Type 0} (facts : Ghosts D F) (core : CoreState D) (disk : D) → disk ≡ core.disk
+    → (IsTrue (facts.content core.disk).honest → map_of core ≡ map_after core.base core.waiting) → (IsTrue (facts.content core.disk).honest → length core.waiting ≤ core.count)
+    → LeavesOnly (facts.content core.disk) (HasBegun core.shape core.base core.waiting) → LeavesCalls facts core disk
+leaves_none facts core disk is has_map few begun = (core, [], sym is, leads_none (seen facts core) has_map few begun)

@@ -3,7 +3,8 @@
 //! A [`Desk`] is a store with a [`Trace`] of its calls. Each caller has a [`Seat`]. A call at the desk does the store's
 //! call and records its seat's number, its event and its reply. So the recorded calls are a history of one thread,
 //! whatever threads made them. [`Kept`] keeps all of them, and the entries at which they began; its type says that
-//! their replay is the store's map. [`Count`] keeps only their number. A look is a get that is not recorded, and many
+//! their replay is the store's map. [`Count`] keeps only their number. [`Anchored`] is another trace whose type says that some calls
+//! lead from the store with which it began to the one that the desk has. A look is a get that is not recorded, and many
 //! threads may look at the same time.
 //!
 //! [`Shared`] is the desk under a lock for readers and writers, and nothing more: a thread with a guard makes the
@@ -14,6 +15,7 @@
 //! Nothing is promised about waiting: not that a call gets its turn, nor in which order, nor that a message arrives.
 #![tactic(auto)]
 
+mod anchored;
 mod call;
 mod count;
 mod desk;
@@ -28,11 +30,12 @@ mod view;
 mod wakes;
 mod worker;
 
+pub use anchored::{Anchor, Anchored};
 pub use call::{Note, RecordedCall, plain};
 pub use count::Count;
 pub use desk::{Desk, NotMade};
 pub use kept::Kept;
-pub use laws::others_stay_law;
+pub use laws::{follows_law, held_law, others_stay_law, servings_law};
 pub use seat::{DeskId, MissingSeats, Seat};
 pub use shared::{Shared, settle};
 pub use shift_gate::ShiftGate;

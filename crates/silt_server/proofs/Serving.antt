@@ -1,8 +1,13 @@
 -- What a server writes.
-use Rattle.std.proofs.Common.{◌≡◌, ◌⊎◌, ℕ, ◌%◌, ◌^◌, Option, List, [], ◌∷◌, ◌++◌, ap, arith, codes, inl, inr, refl, subst, sym, take, drop, take-append-drop}
+use Rattle.std.proofs.Common.{◌≡◌, ◌⊎◌, ℕ, ◌%◌, ◌^◌, Option, List, [], ◌∷◌, ◌++◌, ap, arith, codes, inl, inr, length, refl, subst, sym, take, drop, take-append-drop}
 use Rattle.std.specs.Prelude.{IfOk, OnOk, Result, Ok, Err}
 use Rattle.silt_wire.proofs.Streams.{Appends-append, Appends-keeps, Appends-none}
-use Rattle.silt_server.specs.Serving.{BreaksServing, PrintsCalls, PrintsServed, WritesHead, head_text, network_text, no_memory_text}
+use Rattle.silt_disk.specs.declared.disk.Disk.{Ghosts}
+use Rattle.silt_store_set.specs.CoreState.{CoreState}
+use Rattle.silt_desk.specs.History.{count_accepted}
+use Rattle.silt_desk.specs.Seeing.{SeenStore}
+use Rattle.silt_desk.specs.Servings.{LeavesCalls}
+use Rattle.silt_server.specs.Serving.{BreaksServing, IsTraced, PrintsCalls, PrintsServed, ServesCalls, WritesHead, head_text, network_text, no_memory_text}
 use Rattle.std.proofs.lemmas.Fmt.{decimal_digit}
 use Rattle.std.specs.Io.KnownBytes.{Appends, WriteAppends}
 use Rattle.silt_event.specs.declared.refusal.Refusal.{Refusal}
@@ -41,6 +46,28 @@ served_written has_port counts trace before mid after head printed =
 pub calls_of_same : {T : Type 0} (counts : T → ℕ → ℕ → Type 0) (old new : T) (before after : Option (List ℕ)) → new ≡ old → PrintsCalls counts old before after
     → PrintsCalls counts new before after
 calls_of_same {T} counts old new before after same printed = (printed.0, printed.1, subst (λ (t : T). counts t printed.0 printed.1) (sym same) printed.2, printed.3)
+
+-- ---- the calls of a server
+
+module _ {D F T E : Type 0} (facts : Ghosts D F) (agrees : T → SeenStore → Type 0) (counts : T → ℕ → ℕ → Type 0) (has_port : ℕ → Type 0) (first : CoreState D) (disk : D)
+    (status : Result ℕ E) (before after : Option (List ℕ)) where
+  -- the calls that a trace counts lead to the store on the disk
+  pub leaves_traced : IsTraced facts agrees counts has_port first disk status before after → LeavesCalls facts first disk
+  leaves_traced traced = (traced.last, traced.past.calls, traced.is, traced.past.leads)
+
+  -- the number that was written is theirs, if the trace counts one number modulo 2^64
+  pub calls_served : ((trace : T) (n m k l : ℕ) → counts trace n m → counts trace k l → n % 2 ^ 64 ≡ k % 2 ^ 64) → IsTraced facts agrees counts has_port first disk status before after
+      → status ≡ Ok 0 → ServesCalls facts has_port first disk before after
+  calls_served one traced is =
+      let printed = traced.printed is in
+      let calls = traced.past.calls in
+      let number = one traced.trace printed.2 printed.3 (length calls) (count_accepted calls) printed.4 traced.past.counted in (
+        traced.last,
+        calls,
+        traced.is,
+        traced.past.leads,
+        (printed.0, printed.1, subst (λ (n : ℕ). Appends before after (head_text printed.0 ++ calls_text n)) number printed.5),
+      )
 
 -- one write took a first part of a text, or nothing
 pub wrote_some : {E : Type 0} (result : Result ℕ E) (text : List ℕ) (before after : Option (List ℕ)) → WriteAppends before after result text

@@ -1,5 +1,5 @@
 -- What a server writes and leaves.
-use Rattle.std.specs.Prelude.{◌≡◌, ◌⊎◌, ℕ, All, List, length, ◌++◌, ◌%◌, ◌^◌, Option, codes, sum}
+use Rattle.std.specs.Prelude.{◌≡◌, ◌⊎◌, ℕ, All, List, length, ◌++◌, ◌%◌, ◌^◌, Option, Some, Result, Ok, codes, sum}
 use Rattle.std.specs.List.{AllZip}
 use Rattle.std.specs.Io.KnownBytes.{Appends}
 use Rattle.silt_disk.specs.Disk.{Content}
@@ -9,9 +9,11 @@ use Rattle.silt_event.specs.declared.refusal.Refusal.{Refusal}
 use Rattle.silt_event.specs.declared.refusal.Refusal.TheVariants.{NoMemory}
 use Rattle.silt_store_set.specs.CoreInvariant.{LeavesBegun}
 use Rattle.silt_store_set.specs.CoreState.{CoreState, EntriesCause}
+use Rattle.silt_desk.specs.Anchors.{HasPast}
 use Rattle.silt_desk.specs.History.{count_accepted}
-use Rattle.silt_desk.specs.Seeing.{seen}
-use Rattle.silt_desk.specs.Traces.{IsHistory, Keeping}
+use Rattle.silt_desk.specs.Seeing.{SeenStore, seen}
+use Rattle.silt_desk.specs.Traces.{IsHistory, Keeping, LeadsTo}
+use Rattle.silt_desk.specs.declared.call.RecordedCall.{RecordedCall}
 use Rattle.silt_server.specs.Texts.{calls_text, listening_text, refused_text}
 
 -- what is written before the first connection is accepted
@@ -59,6 +61,23 @@ counts_kept kept calls accepted = (length kept.calls ≡ calls) × (count_accept
 abbrev pub ServesKept : {D F : Type 0} → Ghosts D F → (ℕ → Type 0) → D → Option (List ℕ) → Option (List ℕ) → Type 0
 ServesKept {D} facts has_port disk before after =
     (core : CoreState D) × (kept : Keeping) × (core.disk ≡ disk) × IsHistory kept (seen facts core) × PrintsServed has_port counts_kept kept before after
+
+-- Some calls lead from the store that was opened to one on this disk, and their number was written behind the head.
+abbrev pub ServesCalls : {D F : Type 0} → Ghosts D F → (ℕ → Type 0) → CoreState D → D → Option (List ℕ) → Option (List ℕ) → Type 0
+ServesCalls {D} facts has_port first disk before after =
+    (last : CoreState D) × (calls : List RecordedCall) × (last.disk ≡ disk) × LeadsTo (seen facts first) calls (seen facts last)
+    × ((port : ℕ) × has_port port × Appends before after (head_text port ++ calls_text (length calls % 2 ^ 64)))
+
+-- A store was served with a trace of its calls, to the end if the status is 0: the trace agrees with the store on this disk, it counts calls
+-- that lead there from the store that was opened, and the number that it counts was written behind the head.
+pub record IsTraced {D F T E : Type 0} (facts : Ghosts D F) (agrees : T → SeenStore → Type 0) (counts : T → ℕ → ℕ → Type 0) (has_port : ℕ → Type 0)
+    (first : CoreState D) (disk : D) (status : Result ℕ E) (before after : Option (List ℕ)) : Type 0 where
+  pub last : CoreState D
+  pub trace : T
+  pub is : last.disk ≡ disk
+  pub agreed : agrees trace (seen facts last)
+  pub past : HasPast (Some (seen facts first)) counts trace (seen facts last)
+  pub printed : status ≡ Ok 0 → PrintsServed has_port counts trace before after
 
 -- ---- a server of a set
 

@@ -1,12 +1,12 @@
 // A server on one listener.
-ghost use Rattle.std.specs.Prelude.{◌≡◌, ◌⊎◌, ◌++◌, Ok, IfErr, IfOk, IfSome, OnOk, codes};
+ghost use Rattle.std.specs.Prelude.{◌≡◌, ◌⊎◌, ◌++◌, Ok, Some, IfErr, IfOk, IfSome, OnOk, codes};
 ghost use Rattle.std.specs.Io.KnownBytes.{Appends};
 ghost use Rattle.silt_disk.specs.Layout.{Shape};
 ghost use Rattle.silt_store_set.specs.CoreInvariant.{LeavesBegun};
-ghost use Rattle.silt_store_set.specs.CoreState.{CoreState};
 ghost use Rattle.silt_desk.specs.Seeing.{seen};
+ghost use Rattle.silt_desk.specs.Servings.{LeavesCalls};
 ghost use Rattle.silt_wire.specs.Statuses.{IsStatus};
-ghost use Rattle.silt_server.specs.Serving.{BreaksServing, ServesAt, ServesKept, PrintsCalls, PrintsNotServed};
+ghost use Rattle.silt_server.specs.Serving.{BreaksServing, IsTraced, ServesAt, ServesCalls, ServesKept, PrintsCalls, PrintsNotServed};
 ghost use Rattle.silt_server.specs.Serving.{PrintsServed, WritesHead, head_text, network_text, no_memory_text};
 
 use crate::care::Cares;
@@ -15,7 +15,7 @@ use crate::counting_listener::Listens;
 use crate::limits::{Limits, MOST_SESSIONS};
 use crate::workers::Workers;
 use crate::written::{refuse, write_calls, write_listening, write_network_fault, write_opened};
-use silt_desk::{Count, Desk, DeskId, Gate, Kept, Seat, Shared, Trace, Viewed};
+use silt_desk::{Anchor, Anchored, Count, Desk, DeskId, Gate, Kept, Seat, Shared, Trace, Viewed};
 use silt_disk::Disk;
 use silt_event::Refusal;
 use silt_inbox::{Inbox, InboxId, Taker};
@@ -66,6 +66,8 @@ impl<L: Listens + Sync, G: Gate + Sync, C: Cares, R: Threads + Wait + Clock + Sy
     pub fn serve<D: Viewed, W: Write>(&self, core: Core<D>, out: &mut W) -> (D, io::Result<u8>)
         ensures served { result.1 ≡ Ok 0 → ServesAt (L.has_port self.now.listener.now) (D.content result.0) (W.contents out.old) (W.contents out.new) }
         ensures kept { result.1 ≡ Ok 0 → IfSome self.now.limits.audit (λ _. ServesKept D.Disk (L.has_port self.now.listener.now) result.0 (W.contents out.old) (W.contents out.new)) }
+        ensures calls { result.1 ≡ Ok 0 → ServesCalls D.Disk (L.has_port self.now.listener.now) core result.0 (W.contents out.old) (W.contents out.new) }
+        ensures led { LeavesCalls D.Disk core result.0 }
         ensures printed { IfOk result.1 (IsStatus (PrintsNotServed D.Disk (L.has_port self.now.listener.now) core result.0 (W.contents out.old) (W.contents out.new))) }
         ensures left { (shape : Shape) × LeavesBegun (D.content result.0) shape }
     {
@@ -87,6 +89,8 @@ impl<L: Listens + Sync, G: Gate + Sync, C: Cares, R: Threads + Wait + Clock + Sy
     ) -> (D, io::Result<u8>)
         ensures served { result.1 ≡ Ok 0 → ServesAt (L.has_port self.now.listener.now) (D.content result.0) (W.contents out.old) (W.contents out.new) }
         ensures kept { result.1 ≡ Ok 0 → ServesKept D.Disk (L.has_port self.now.listener.now) result.0 (W.contents out.old) (W.contents out.new) }
+        ensures calls { result.1 ≡ Ok 0 → ServesCalls D.Disk (L.has_port self.now.listener.now) core result.0 (W.contents out.old) (W.contents out.new) }
+        ensures led { LeavesCalls D.Disk core result.0 }
         ensures printed { IfOk result.1 (IsStatus (PrintsNotServed D.Disk (L.has_port self.now.listener.now) core result.0 (W.contents out.old) (W.contents out.new))) }
         ensures left { (shape : Shape) × LeavesBegun (D.content result.0) shape }
     {
@@ -96,6 +100,7 @@ impl<L: Listens + Sync, G: Gate + Sync, C: Cares, R: Threads + Wait + Clock + Sy
                 self.serve_traced::<D, Kept, Brand, W>(core, trace, blanks, out)
             }
             Err(refusal) => {
+                core.standing(); // the possible crash images of the store as it is
                 let status = refuse(self.alloc, &refusal, out);
                 (core.close(), status)
             }
@@ -106,7 +111,7 @@ impl<L: Listens + Sync, G: Gate + Sync, C: Cares, R: Threads + Wait + Clock + Sy
     fn serve_traced<
         D: Viewed,
         T: Trace + Send + Sync,
-        N: DeskId + InboxId + LogId + Send + Sync,
+        N: DeskId + InboxId + LogId + Anchor + Send + Sync,
         W: Write,
     >(&self, core: Core<D>, trace: T, blanks: Blanks, out: &mut W) -> (D, io::Result<u8>)
         requires calls { (blanks.calls.name ≡ N.calls_name) × (blanks.calls.parts ≡ N.seats) × (N.seats ≡ 3) }
@@ -114,9 +119,8 @@ impl<L: Listens + Sync, G: Gate + Sync, C: Cares, R: Threads + Wait + Clock + Sy
         requires put { (blanks.put.name ≡ N.put_name) × (blanks.put.parts ≡ N.feeders) × (N.feeders ≡ 1024) }
         requires taken { (blanks.taken.name ≡ N.taken_name) × (blanks.taken.parts ≡ 1) }
         requires log { blanks.log ≡ N.log }
-        requires trace { T.agrees trace (seen D.Disk core) × T.counts trace 0 0 }
-        ensures served { result.1 ≡ Ok 0 → (core : CoreState D) × (trace : T) × (core.disk ≡ result.0) × T.agrees trace (seen D.Disk core)
-            × PrintsServed (L.has_port self.now.listener.now) T.counts trace (W.contents out.old) (W.contents out.new) }
+        requires trace { (N.first ≡ Some (seen D.Disk core)) × T.agrees trace (seen D.Disk core) × T.counts trace 0 0 }
+        ensures traced { IsTraced D.Disk T.agrees T.counts (L.has_port self.now.listener.now) core result.0 result.1 (W.contents out.old) (W.contents out.new) }
         ensures printed { IfOk result.1 (IsStatus (BreaksServing (L.has_port self.now.listener.now) (W.contents out.old) (W.contents out.new))) }
         ensures left { (shape : Shape) × LeavesBegun (D.content result.0) shape }
     {
@@ -127,11 +131,12 @@ impl<L: Listens + Sync, G: Gate + Sync, C: Cares, R: Threads + Wait + Clock + Sy
             taken,
             log,
         } = blanks;
-        match Desk::<D, T, N>::new(self.alloc, core, trace, WORKERS, calls, accepted) {
+        let trace = Anchored::<T, N>::new(&core, trace);
+        match Desk::<D, Anchored<T, N>, N>::new(self.alloc, core, trace, WORKERS, calls, accepted) {
             Ok((desk, seats)) => {
-                let Some(state) = ServerState::<D, T, N>::new(self.alloc, seats, put, taken, log)
-                else {
+                let Some(state) = ServerState::new(self.alloc, seats, put, taken, log) else {
                     let status = refuse(self.alloc, &Refusal::<()>::NoMemory, out);
+                    let _ = desk.trace(); // it agrees with the store
                     return (desk.close(), status);
                 };
                 let (desk, status) = self.serve_desk(desk, state, out);
@@ -231,8 +236,10 @@ impl<L: Listens + Sync, G: Gate + Sync, C: Cares, R: Threads + Wait + Clock + Sy
 /// The writer's.
 pub fn refuse_network<D: Disk, W: Write>(core: Core<D>, out: &mut W) -> (D, io::Result<u8>)
     ensures printed { IfOk result.1 (λ status. (status ≡ 1) × Appends (W.contents out.old) (W.contents out.new) (codes "opened\n" ++ network_text)) }
+    ensures led { LeavesCalls D.Disk core result.0 }
     ensures left { (shape : Shape) × LeavesBegun (D.content result.0) shape }
 {
+    core.standing(); // the possible crash images of the store as it is
     (core.close(), write_no_network(out))
 }
 

@@ -8,23 +8,28 @@ use Rattle.silt_store_set.specs.Replies.{change_reply, flush_reply, swap_reply}
 use Rattle.silt_desk.specs.DeskState.{DeskState, Serves}
 use Rattle.silt_desk.specs.Notes.{plain_answer}
 use Rattle.silt_desk.specs.Seats.{SeatState}
+use Rattle.silt_desk.specs.Seeing.{seen}
 use Rattle.silt_desk.specs.declared.trace.Trace.{Ghosts as TraceOf}
 use Rattle.silt_session.specs.Requests.{Answer, Flushed, compared, reply_due}
 use Rattle.silt_session.specs.declared.job.Request.{Request}
 use Rattle.silt_session.specs.declared.job.Request.TheVariants.{Put, Delete, Swap, Flush}
 
 module _ {D F T : Type 0} (facts : Ghosts D F) (trace : TraceOf T) where
+  -- the trace of a desk agrees with its store; that of a server says of which calls the store comes
+  abbrev pub AgreesAt : DeskState D T → Type 0
+  AgreesAt desk = trace.agrees desk.trace (seen facts desk.core)
+
   -- the desk does a request with this result
   abbrev pub Performs : DeskState D T → DeskState D T → SeatState → SeatState → Request → Option Answer → Type 0
   Performs old new seat after (Put key value) (Some answer) =
       (reported : Result ℕ (Refusal F)) × (answer ≡ compared (plain_answer reported))
-      × Serves facts trace old new seat after (event.Put key value) (change_reply reported)
+      × Serves facts trace old new seat after (event.Put key value) (change_reply reported) × AgreesAt old
   Performs old new seat after (Delete key) (Some answer) =
       (reported : Result ℕ (Refusal F)) × (answer ≡ compared (plain_answer reported))
-      × Serves facts trace old new seat after (event.Delete key) (change_reply reported)
+      × Serves facts trace old new seat after (event.Delete key) (change_reply reported) × AgreesAt old
   Performs old new seat after (Swap key expected value) (Some answer) =
       (reported : Result (Option ℕ) (Refusal F)) × (answer ≡ plain_answer reported)
-      × Serves facts trace old new seat after (event.Swap key expected value) (swap_reply reported)
+      × Serves facts trace old new seat after (event.Swap key expected value) (swap_reply reported) × AgreesAt old
   Performs old new seat after (Put key value) None = (length value ≢ old.core.shape.value_len) × (new ≡ old) × (after ≡ seat)
   Performs old new seat after (Swap key expected value) None =
       (IsSomeAnd expected (λ v. length v ≢ old.core.shape.value_len) ⊎ IsSomeAnd value (λ v. length v ≢ old.core.shape.value_len))
@@ -36,7 +41,7 @@ module _ {D F T : Type 0} (facts : Ghosts D F) (trace : TraceOf T) where
   abbrev pub Flushes : DeskState D T → DeskState D T → SeatState → SeatState → Flushed → Type 0
   Flushes old new seat after answer =
       (reported : Result ℕ (Refusal F)) × (answer ≡ plain_answer reported)
-      × Serves facts trace old new seat after event.Flush (flush_reply reported)
+      × Serves facts trace old new seat after event.Flush (flush_reply reported) × AgreesAt old
 
   -- the desk did this request with this result
   pub record WasDone (request : Request) (answer : Answer) : Type 0 where

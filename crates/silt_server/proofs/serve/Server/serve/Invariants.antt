@@ -1,3 +1,5 @@
+use Rattle.std.specs.Prelude.{Some}
+use Rattle.silt_desk.specs.Seeing.{seen}
 use Rattle.silt_server.proofs.serve.Server.serve.Given as goal
 
 abbrev pub ghosts-serve_traced-N-DeskId : goal.ghosts-serve_traced-N-DeskId
@@ -8,3 +10,6 @@ ghosts-serve_traced-N-InboxId g a = record { put_name = a.blanks.put.name; taken
 
 abbrev pub ghosts-serve_traced-N-LogId : goal.ghosts-serve_traced-N-LogId
 ghosts-serve_traced-N-LogId g a = record { log = a.blanks.log }
+
+abbrev pub ghosts-serve_traced-N-Anchor : goal.ghosts-serve_traced-N-Anchor
+ghosts-serve_traced-N-Anchor g a = record { first = Some (seen g.D.Disk a.core) }

@@ -1,10 +1,46 @@
-use Rattle.std.proofs.Common.{sym}
+use Rattle.std.proofs.Common.{◌∙◌, ap, subst, sym}
+use Rattle.silt_wire.proofs.Statuses.{never_done}
+use Rattle.silt_store_set.specs.CoreState.{CoreState}
+use Rattle.silt_desk.specs.Anchors.{HasPast}
+use Rattle.silt_desk.specs.Seeing.{seen}
 use Rattle.silt_server.proofs.serve.Server.serve_traced.Goals as goal
 
 pub returns-in-Some : goal.returns-in-Some
 returns-in-Some g c =
+    let desk = c.serve_desk-desk.result.0 in
     record {
-      served = λ is. (c.serve_desk-desk.result.0.core, c.serve_desk-desk.result.0.trace, sym c.close-in-Ok.ensures.disk, c.trace.ensures.agrees, c.serve_desk-desk.ensures.served is);
+      traced = record {
+        last = desk.core;
+        trace = desk.trace.trace;
+        is = sym c.close-in-Ok.ensures.disk;
+        agreed = c.trace-in-Ok.ensures.agrees.0;
+        past = subst (λ named. HasPast named g.T.Trace.counts desk.trace.trace (seen g.D.Disk desk.core)) c.requires.trace.0 c.trace-in-Ok.ensures.agrees.1;
+        printed = c.serve_desk-desk.ensures.served;
+      };
       printed = c.serve_desk-desk.ensures.printed;
       left = (_, c.close-in-Ok.ensures.left);
+    }
+
+pub returns-in_default-clause-traced : goal.returns-in_default-clause-traced
+returns-in_default-clause-traced g c =
+    let desk = c.in-Ok.desk in
+    record {
+      last = desk.core;
+      trace = desk.trace.trace;
+      is = sym c.close.ensures.disk;
+      agreed = c.trace.ensures.agrees.0;
+      past = subst (λ named. HasPast named g.T.Trace.counts desk.trace.trace (seen g.D.Disk desk.core)) c.requires.trace.0 c.trace.ensures.agrees.1;
+      printed = never_done _ c.refuse-status.result c.refuse-status.ensures;
+    }
+
+pub returns-in-Err-clause-traced : goal.returns-in-Err-clause-traced
+returns-in-Err-clause-traced g c =
+    let trace = c.new-trace.result.trace in
+    record {
+      last = c.args.core;
+      trace = trace;
+      is = sym (c.close-in-Err.ensures.disk ∙ ap (λ (core : CoreState _). core.disk) c.in-Err.ensures.err.0);
+      agreed = c.new-trace.ensures.agrees;
+      past = subst (λ named. HasPast named g.T.Trace.counts trace (seen g.D.Disk c.args.core)) c.requires.trace.0 c.new-trace.ensures.past;
+      printed = never_done _ c.refuse-status-in-Err.result c.refuse-status-in-Err.ensures;
     }

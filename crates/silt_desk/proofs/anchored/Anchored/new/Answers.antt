@@ -1,0 +1,14 @@
+use Rattle.std.proofs.Common.{[], subst, sym}
+use Rattle.silt_desk.specs.Anchors.{LeadsFrom}
+use Rattle.silt_desk.specs.Seeing.{seen}
+use Rattle.silt_desk.specs.TraceLaws.{leads_none}
+use Rattle.silt_desk.proofs.anchored.Anchored.new.Goals as goal
+
+pub returns-clause-past : goal.returns-clause-past
+returns-clause-past g c =
+    let store = seen g.D.Disk c.args.core.now in
+    record {
+      calls = [];
+      leads = subst (λ named. LeadsFrom named [] store) (sym c.requires.first) (leads_none store c.standing.ensures.has_map c.standing.ensures.few c.standing.ensures.begun);
+      counted = c.requires.trace.1;
+    }
