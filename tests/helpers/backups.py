@@ -1,4 +1,5 @@
 """A server that writes backups, and what is said of them."""
+import os
 import re
 
 from harness import TIME_LIMIT
@@ -21,6 +22,9 @@ WRITTEN = re.compile(
 NONE_WRITTEN = re.compile(r"silt: (.*): no backup was written: (.*)")
 OWN = "it is a file of the served store"
 ENDS = "the server ends"
+NO_LINK = "it is no link to PATH.a or PATH.b, so no backup of a set takes its place"
+NO_FOLDER = "PATH.a or PATH.b, where its files are to go, is no folder"
+OTHER_FILES = "the folder PATH.a or PATH.b, where its files are to go, holds other files"
 FAILED = "the store has failed"
 DAMAGED = "the store's device is damaged, or the copy was changed"
 # Two hundred rows are a log: of a thousand puts there are rows, hash stores and entries.
@@ -50,6 +54,11 @@ class BackupCase(ServedCase):
 
     def set_options(self):
         return () if self.count is None else ("--shards", self.count)
+
+    @property
+    def backup(self):
+        """The name of the backup: of a set, that of its files in the folder that `backup` names."""
+        return "backup" if self.count is None else "backup/set"
 
     def serve_store(self, *options, **how):
         self.noted = 0
@@ -130,21 +139,40 @@ class BackupCase(ServedCase):
         client.send("info")
         return {name: int(number) for name, number in map(str.split, iter(client.reply, "end"))}
 
-    def held(self, name="backup"):
+    def held(self, name=None):
         """What a store or a set has, by key. It is sound."""
+        name = name or self.backup
         checked = self.silt("check", name, *self.set_options())
         self.assertEqual(checked.status, 0, checked)
         dumped = self.silt("dump", name, *self.set_options(), limit=2 * TIME_LIMIT)
         self.assertEqual((dumped.status, dumped.err), (0, ""), dumped.err)
         return dict(it.split()[1:] for it in dumped.lines)
 
-    def check_holds(self, values, name="backup"):
+    def check_holds(self, values, name=None):
         """A store has these values, by the names of their keys."""
         self.assertEqual(self.held(name), {key_of(it): values[it] for it in values})
 
     def files(self):
         """The names of all files there that belong to backups."""
         return sorted(it.name for it in self.folder.iterdir() if it.name.startswith("backup"))
+
+    def check_alone(self, name="backup"):
+        """Nothing else is left of backups. That of a set is a link to one of two folders, which has
+        its files alone."""
+        if self.count is None:
+            self.assertEqual(self.files(), [name])
+            return
+        link = os.readlink(self.path(name))
+        self.assertIn(link, (f"{name}.a", f"{name}.b"))
+        self.assertEqual(self.files(), [name, link])
+        within = sorted(it.name for it in self.path(link).iterdir())
+        self.assertEqual(within, sorted(f"set.{it}" for it in range(self.count)))
+
+    def image(self):
+        """The bytes of the backup."""
+        if self.count is None:
+            return self.path("backup").read_bytes()
+        return [self.path(f"{self.backup}.{it}").read_bytes() for it in range(self.count)]
 
     def calls_of_care(self):
         """The recorded calls of the thread that renames."""

@@ -21,7 +21,7 @@
 // counted and not recorded.
 //
 // `open` is open and openat. `accept` is accept and accept4. `rename` is rename, renameat and renameat2.
-// `unlink` is unlink and unlinkat. `thread` is pthread_create. `memory`
+// `unlink` is unlink and unlinkat. `stat` is statx. `thread` is pthread_create. `memory`
 // is malloc, calloc, realloc, aligned_alloc, memalign and posix_memalign, also if the C library
 // calls them. A program with its own allocator, as one with a memory checker, makes none of these.
 //
@@ -43,19 +43,22 @@
 #include <string.h>
 #include <sys/file.h>
 #include <sys/socket.h>
+#include <sys/stat.h>
 #include <sys/syscall.h>
 #include <sys/uio.h>
 #include <time.h>
 #include <unistd.h>
 
 enum call {
-    READ, WRITE, PREAD, PWRITE, FSYNC, FDATASYNC, FTRUNCATE, OPEN, CLOSE, FLOCK, ACCEPT, RECV, SEND, RENAME, UNLINK, THREAD, MEMORY,
+    READ, WRITE, PREAD, PWRITE, FSYNC, FDATASYNC, FTRUNCATE, OPEN, CLOSE, FLOCK, ACCEPT, RECV, SEND, RENAME, UNLINK, MKDIR, RMDIR, SYMLINK,
+    READLINK, STAT, THREAD, MEMORY,
     CALLS, RESULT = CALLS
 };
 
 // The record begins with these names. A `result` corrects the latest write or send of its thread.
 static const char *const call_names[] = {"read", "write", "pread", "pwrite", "fsync", "fdatasync", "ftruncate", "open",
-    "close", "flock", "accept", "recv", "send", "rename", "unlink", "thread", "memory", "result"};
+    "close", "flock", "accept", "recv", "send", "rename", "unlink", "mkdir", "rmdir", "symlink", "readlink",
+    "stat", "thread", "memory", "result"};
 
 static const struct { const char *name; int number; } error_names[] = {
     {"EIO", EIO}, {"ENOSPC", ENOSPC}, {"EINTR", EINTR}, {"EAGAIN", EAGAIN}, {"ENOMEM", ENOMEM}, {"EMFILE", EMFILE},
@@ -110,6 +113,11 @@ static __typeof__(&recv) real_recv;
 static __typeof__(&send) real_send;
 static __typeof__(&renameat2) real_renameat2;
 static __typeof__(&unlinkat) real_unlinkat;
+static __typeof__(&mkdir) real_mkdir;
+static __typeof__(&rmdir) real_rmdir;
+static __typeof__(&symlink) real_symlink;
+static __typeof__(&readlink) real_readlink;
+static __typeof__(&statx) real_statx;
 static __typeof__(&pthread_create) real_pthread_create;
 static __typeof__(&_exit) real_exit;
 
@@ -192,6 +200,11 @@ static void find_calls(void) {
     FIND(real_send, "send");
     FIND(real_renameat2, "renameat2");
     FIND(real_unlinkat, "unlinkat");
+    FIND(real_mkdir, "mkdir");
+    FIND(real_rmdir, "rmdir");
+    FIND(real_symlink, "symlink");
+    FIND(real_readlink, "readlink");
+    FIND(real_statx, "statx");
     FIND(real_pthread_create, "pthread_create");
     FIND(real_exit, "_exit");
 }
@@ -479,6 +492,57 @@ int unlinkat(int folder, const char *path, int flags) {
 }
 
 int unlink(const char *path) { return unlinkat(AT_FDCWD, path, 0); }
+
+int mkdir(const char *path, mode_t mode) {
+    need_calls();
+    const struct plan *plan = count(MKDIR);
+    if (is(plan, DROP)) return 0;
+    pthread_mutex_lock(&lock);
+    int got = is(plan, FAIL) ? failure(plan) : real_mkdir(path, mode);
+    note(MKDIR, -1, -1, mode, got, path, strlen(path));
+    pthread_mutex_unlock(&lock);
+    return got;
+}
+
+int rmdir(const char *path) {
+    need_calls();
+    const struct plan *plan = count(RMDIR);
+    if (is(plan, DROP)) return 0;
+    pthread_mutex_lock(&lock);
+    int got = is(plan, FAIL) ? failure(plan) : real_rmdir(path);
+    note(RMDIR, -1, -1, 0, got, path, strlen(path));
+    pthread_mutex_unlock(&lock);
+    return got;
+}
+
+// The record has the text and the name, with a zero between them.
+int symlink(const char *text, const char *path) {
+    need_calls();
+    const struct plan *plan = count(SYMLINK);
+    if (is(plan, DROP)) return 0;
+    char names[2 * PATH_MAX + 2];
+    int len = snprintf(names, sizeof names, "%s%c%s", text, 0, path);
+    if (len >= (int)sizeof names) refuse_words(path);
+    pthread_mutex_lock(&lock);
+    int got = is(plan, FAIL) ? failure(plan) : real_symlink(text, path);
+    note(SYMLINK, -1, -1, 0, got, names, len);
+    pthread_mutex_unlock(&lock);
+    return got;
+}
+
+ssize_t readlink(const char *restrict path, char *restrict buf, size_t len) {
+    need_calls();
+    const struct plan *plan = count(READLINK);
+    ssize_t got = is(plan, FAIL) ? failure(plan) : real_readlink(path, buf, len);
+    note_alone(READLINK, -1, -1, len, got, path, strlen(path));
+    return got;
+}
+
+int statx(int folder, const char *restrict path, int flags, unsigned mask, struct statx *restrict found) {
+    need_calls();
+    const struct plan *plan = count(STAT);
+    return is(plan, FAIL) ? failure(plan) : real_statx(folder, path, flags, mask, found);
+}
 
 struct started {
     void *(*run)(void *);

@@ -19,7 +19,7 @@ from harness import Case, watch_library
 HEAD = struct.Struct("<B3xiiIqqqI4x")
 STREAMS = {0: "standard input", 1: "standard output", 2: "standard error"}
 # Calls that name a path.
-NAMING = ("open", "rename", "unlink")
+NAMING = ("open", "rename", "unlink", "mkdir", "rmdir", "symlink", "readlink")
 # Calls that put bytes into a stream or a socket, and those that take bytes out.
 OUT = ("write", "send")
 IN = ("read", "recv")
@@ -29,12 +29,12 @@ IN = ("read", "recv")
 class Call:
     """One call of the system.
 
-    `file` is the path that was opened or removed, the new name of one that was renamed, a stream's
-    name, or `socket N` for the N-th connection.
+    `file` is the path that was opened, made or removed, the new name of one that was renamed, a
+    stream's name, or `socket N` for the N-th connection.
     `at` is the offset, and of ftruncate the length. `asked` is the number of bytes, or the flags.
     `result` is what the system returned; if that is negative, `error` has the error's name.
     `data` is the bytes to write, or those that were read from a stream. Of a rename it has the old
-    name, a zero and the new one.
+    name, a zero and the new one; of a symlink the text of the link, a zero and its name.
     """
 
     name: str

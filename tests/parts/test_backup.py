@@ -6,14 +6,13 @@ import threading
 import time
 import unittest
 
-import model
-from backups import BEGUN, BGSAVE, ENDS, FAILED, IN_PROGRESS, NONE_WRITTEN, OWN, SOON, UNDER_WAY, WRITTEN, BackupCase, key_of
+from backups import BEGUN, BGSAVE, ENDS, FAILED, FILLED, IN_PROGRESS, NONE_WRITTEN, SOON, UNDER_WAY, WRITTEN, BackupCase, key_of
 from harness import PROVED, TIME_LIMIT, scaled
 from resp import OK, command
 from served import SMALL, WRITER
 from test_metrics import MetricsCase
 from test_serve_sets import names_of
-from watch import watching
+from watch import read_record, watching
 from writers import BUSY, CLIENTS, InTurn, Load, Remembering
 
 # A store of many pages, whose backup has few.
@@ -294,7 +293,7 @@ class LoadCase(BackupCase):
             lasts = [len(it.done) + len(it.pending) + 1 for it in writers]
             self.assertTrue(least <= commands <= sum(lasts), (least, commands, lasts))
             found.append((firsts, self.held()))
-            reports.append(self.silt("check", "backup", *self.set_options()))
+            reports.append(self.silt("check", self.backup, *self.set_options()))
         server.kill()
         load.join()
         self.assertEqual([it.wrong for it in writers], [[]] * len(writers))
@@ -345,10 +344,10 @@ class Sets(LoadCase):
         )
         self.assertEqual(made.status, 0, made)
 
-    def mark(self, shard, name="backup"):
+    def mark(self, shard, name=None):
         """A file's mark: its magic bytes, its version, the numbers of the shard and of all; then
         the name of the set."""
-        return self.path(f"{name}.{shard}").read_bytes()[2048 : 2048 + 37]
+        return self.path(f"{name or self.backup}.{shard}").read_bytes()[2048 : 2048 + 37]
 
     def in_turn(self, number):
         """A client whose commands go to one shard after the other."""
@@ -397,10 +396,10 @@ class Sets(LoadCase):
             self.assertEqual(len({it[21:] for it in marks}), 1)
             names.add(marks[0][21:])
             self.assertEqual(len(names), 1 + number)
-        self.assertEqual(self.files(), [f"backup.{it}" for it in range(self.count)])
+        self.check_alone()
         self.check_holds(values)
         self.options = ()
-        other = self.serve_store(name="backup")
+        other = self.serve_store(name=self.backup)
         reader = self.client(other)
         self.assertEqual(reader.ask("get =k7", "flush"), ["value 00000007", "acknowledged 0"])
         self.put_all(reader, {"more": "00000001"})
@@ -418,7 +417,7 @@ class Sets(LoadCase):
         self.assertEqual(self.written(server), 20)
         self.check_holds({str(it): f"0001{ord(str(it % 10)):02x}00" for it in range(20)})
 
-    def refused(self, name="backup"):
+    def refused(self, name):
         """All jobs that open a set refuse this one."""
         for job in (("check", name), ("run", name), ("serve", name, 0)):
             ran = self.silt(*job, *self.set_options())
@@ -430,90 +429,17 @@ class Sets(LoadCase):
         client = self.client(server)
         self.back_up(server, client)
         for shard in range(self.count):
-            self.path(f"backup.{shard}").rename(self.path(f"first.{shard}"))
+            shutil.copy(self.path(f"{self.backup}.{shard}"), self.path(f"first.{shard}"))
         self.back_up(server, client)
         server.kill()
         for shard in range(self.count):
             for other in ("first", "store"):
                 for it in range(self.count):
-                    source = other if it == shard else "backup"
+                    source = other if it == shard else self.backup
                     shutil.copy(self.path(f"{source}.{it}"), self.path(f"mixed.{it}"))
                 self.refused("mixed")
-        for name in ("first", "backup", "store"):
+        for name in ("first", self.backup, "store"):
             self.check_holds({}, name)
-
-    def test_killed_between_two_renames(self):
-        """The old files are exchanged one after the other. A mix is refused, and whoever renames
-        the rest has the new backup."""
-        never = self.path("never")
-        for renamed in range(self.count):
-            with self.subTest(renamed=renamed):
-                self.format("--force")
-                server = self.serve_store()
-                client = self.client(server)
-                self.put_all(client, {"a": "00000001"})
-                self.back_up(server, client)
-                server.kill()
-                env = watching(self, hold=f"rename@{self.care}:{renamed + 1}:{never}")
-                server = self.serve_store(env=env)
-                client = self.client(server)
-                self.put_all(client, {"b": "00000002"})
-                self.order(client)
-                drafts = [f"backup.new.{it}" for it in range(renamed, self.count)]
-                files = sorted([*(f"backup.{it}" for it in range(self.count)), *drafts])
-                self.wait_until(lambda: self.files() == files, f"the files {files}")
-                # All are sound before the first is renamed.
-                self.wait_until(
-                    lambda: all(self.is_sound(it) for it in drafts), "drafts that are sound"
-                )
-                time.sleep(0.1)
-                server.kill()
-                self.assertEqual(self.files(), files)
-                if renamed:
-                    self.refused()
-                else:
-                    self.check_holds({"a": "00000001"})
-                for name in drafts:
-                    self.path(name).rename(self.path(name.replace(".new", "")))
-                self.check_holds({"a": "00000001", "b": "00000002"})
-
-    def is_sound(self, name):
-        """Whether a file holds a store, as far as the model sees."""
-        try:
-            model.examine(self.path(name).read_bytes())
-            return True
-        except (model.Refused, FileNotFoundError):
-            return False
-
-    def test_the_first_one_is_broken_off(self):
-        """Without an old backup some files are missing, and nothing is opened."""
-        env = watching(self, hold=f"rename@{self.care}:3:{self.path('never')}")
-        server = self.serve_store(env=env)
-        self.order(self.client(server))
-        files = ["backup.0", "backup.1", "backup.new.2", "backup.new.3"]
-        self.wait_until(lambda: self.files() == files, f"the files {files}")
-        server.kill()
-        ran = self.silt("run", "backup", *self.set_options())
-        self.assertEqual((ran.status, ran.out), (1, "refused 5 Device\n"))
-        # The next one takes no notice of them.
-        server = self.serve_store()
-        self.back_up(server)
-        self.check_holds({})
-        self.assertEqual(self.files(), [f"backup.{it}" for it in range(self.count)])
-
-    def test_a_shard_that_is_a_link(self):
-        """Each file of a backup is compared with each file of the store."""
-        os.link(self.path("store.1"), self.path("backup.2"))
-        server = self.serve_store()
-        client = self.client(server)
-        self.put_all(client, {"a": "00000001"})
-        self.order(client)
-        note = self.note(server)
-        self.assertRegex(note, rf"\Asilt: backup(\.2)?: no backup was written: {OWN}\Z")
-        self.put_all(client, {"b": "00000002"})
-        server.kill()
-        self.assertEqual(self.files(), ["backup.2"])
-        self.check_holds({"a": "00000001", "b": "00000002"}, "store")
 
     def test_a_shard_that_has_failed(self):
         """Each opening makes one sync. One shard fails, and there is no backup of the others."""
@@ -577,6 +503,37 @@ class Ends(BackupCase):
         self.assertEqual(client.exchange(["shutdown"]), [BEGUN])
         self.assertIn(ENDS, self.check_ended(server))
 
+    def test_a_shutdown_while_the_copy_is_examined(self):
+        """Each read of the copy takes a second. The examination is given up."""
+        self.silt("format", "store", *FILLED.split(), "--force")
+        lines = "".join(f"put =key/{it} {it:0200x}\n" for it in range(600))
+        ran = self.silt("run", "store", "--tend", text=lines + "flush\n")
+        self.assertEqual(ran.status, 0, ran.lines[-1:])
+        server = self.serve_store("--merge-at", 4, env=watching(self, log="record"))
+        self.back_up(server)
+        server.kill()
+        files = [it.file for it in self.calls_of_care() if it.name == "pread"]
+        first = files.index("backup.new") + 1
+        self.assertGreater(len(files) - first, 3 * SOON)
+        self.old = self.path("backup").read_bytes()
+        env = watching(self, log="record", slow=f"pread@{self.care}:{first + 1}+:1000")
+        server = self.serve_store("--merge-at", 4, env=env)
+        self.order(self.client(server))
+
+        def is_examined():
+            return any(
+                it.name == "pread" and it.file == "backup.new"
+                for it in read_record(self.path("record"))
+            )
+
+        self.wait_until(is_examined, "a read of the copy")
+        self.assertEqual(self.client(server).exchange(["shutdown"]), [BEGUN])
+        ended = server.ended(limit=SOON)
+        self.assertEqual(ended.status, 0, ended)
+        self.assertEqual(self.note(server), f"silt: backup: no backup was written: {ENDS}")
+        self.assertEqual(self.files(), ["backup"])
+        self.assertEqual(self.path("backup").read_bytes(), self.old)
+
     def test_the_last_session(self):
         """The server ends with its last session, also if that has ordered a backup."""
         for _ in range(5):
@@ -613,48 +570,67 @@ class Calls(BackupCase):
         server.kill()
         return self.calls_of_care()
 
-    def check_calls(self, drafts, names):
+    def check_drafts(self, calls, drafts, renamed):
         """Nothing is written but the drafts. Each is made by this backup, has its whole length, and
-        is settled before the first rename. Then each has its name, in order, and the folder is
-        synced."""
-        calls = self.recorded()
+        is settled before the rename."""
         # The draft is made anew, and then opened as each store is.
         self.assertEqual({it.error for it in calls if it.result < 0} - {"ENOENT", "EEXIST"}, set())
         changing = [it for it in calls if it.name in ("pwrite", "write", "ftruncate")]
         written = {it.file for it in changing if it.file != "standard error"}
         self.assertEqual(written, set(drafts))
-        renames = [place for place, it in enumerate(calls) if it.name == "rename"]
-        self.assertEqual(
-            [calls[it].data.decode().split("\0") for it in renames],
-            [list(it) for it in zip(drafts, names)],
-        )
         for draft in drafts:
             opened = [it for it in calls if it.name == "open" and it.file == draft]
             self.assertTrue(any(it.asked & os.O_CREAT for it in opened), opened)
             its = [(place, it) for place, it in enumerate(calls) if it.file == draft]
             last = max(place for place, it in its if it.name in ("pwrite", "ftruncate"))
-            syncs = [place for place, it in its if it.name in ("fsync", "fdatasync")]
-            self.assertTrue(any(last < it < renames[0] for it in syncs), (draft, last, syncs))
-            lengths = [it for it in calls if it.name == "ftruncate" and it.file == draft]
-            behind = max(place for place, it in its if it.name == "ftruncate")
             # The length is a part of the file that fdatasync settles only if it is needed.
-            self.assertTrue(any(behind < it < renames[0] for it in syncs), lengths)
-        folders = [
-            place
-            for place, it in enumerate(calls)
-            if it.name == "fsync" and it.file in (".", str(self.folder))
-        ]
-        self.assertGreater(max(folders, default=-1), renames[-1], calls[renames[0] :])
+            syncs = [place for place, it in its if it.name in ("fsync", "fdatasync")]
+            self.assertTrue(any(last < it < renamed for it in syncs), (draft, last, syncs))
+
+    def renamed(self, calls):
+        """The place of the only rename, which gives the draft its name."""
+        (place,) = [place for place, it in enumerate(calls) if it.name == "rename"]
+        self.assertEqual(calls[place].data.decode().split("\0"), ["backup.new", "backup"])
+        return place
+
+    def syncs_of(self, calls, folder):
+        """The places of the syncs of a folder."""
+        return [place for place, it in enumerate(calls) if it.name == "fsync" and it.file == folder]
 
     def test_of_a_store(self):
         self.store(WIDE)
-        self.check_calls(["backup.new"], ["backup"])
+        calls = self.recorded()
+        renamed = self.renamed(calls)
+        self.check_drafts(calls, ["backup.new"], renamed)
+        self.assertGreater(max(self.syncs_of(calls, ".")), renamed, calls[renamed:])
 
     def test_of_a_set(self):
+        """The folder is settled behind its files, and behind that the folder of its name. Then the
+        link gets its name, which is settled before the old files are removed."""
         self.count = 3
         made = self.silt("format", "store", *WIDE.split(), "--shards", 3)
         self.assertEqual(made.status, 0, made)
-        self.check_calls([f"backup.new.{it}" for it in range(3)], [f"backup.{it}" for it in range(3)])
+        for new, old in (("backup.a", None), ("backup.b", "backup.a"), ("backup.a", "backup.b")):
+            calls = self.recorded()
+            renamed = self.renamed(calls)
+            drafts = [f"{new}/set.{it}" for it in range(3)]
+            self.check_drafts(calls, drafts, renamed)
+            names = [it.data.decode() for it in calls if it.name in ("mkdir", "symlink")]
+            self.assertEqual(names, [new, f"{new}\0backup.new"])
+            made = max(place for place, it in enumerate(calls) if it.file in drafts)
+            within = [it for it in self.syncs_of(calls, new) if made < it < renamed]
+            self.assertTrue(within, calls[made : renamed + 1])
+            settled = [it for it in self.syncs_of(calls, ".") if within[0] < it < renamed]
+            self.assertTrue(settled, calls[made : renamed + 1])
+            behind = [it for it in self.syncs_of(calls, ".") if renamed < it]
+            self.assertTrue(behind, calls[renamed:])
+            removed = [place for place, it in enumerate(calls) if it.name in ("unlink", "rmdir")]
+            gone = [calls[it].file for it in removed]
+            self.assertEqual(gone, [*(f"{old}/set.{it}" for it in range(3)), old] if old else [])
+            self.assertTrue(all(behind[0] < it for it in removed), calls[renamed:])
+            # What the path names is settled before a folder is made or removed.
+            first = min(place for place, it in enumerate(calls) if it.name in ("mkdir", "rmdir"))
+            self.assertLess(self.syncs_of(calls, ".")[0], first)
 
     def test_of_another_folder(self):
         """The folder of the backup is the one that is synced."""

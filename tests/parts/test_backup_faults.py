@@ -2,11 +2,24 @@
 full, or a call fails. The old backup stays."""
 import os
 import pathlib
+import shutil
 import stat
 import unittest
 
 import model
-from backups import DAMAGED, FAILED, FILLED, NONE_WRITTEN, OWN, WRITTEN, BackupCase, key_of
+from backups import (
+    DAMAGED,
+    FAILED,
+    FILLED,
+    NO_FOLDER,
+    NO_LINK,
+    NONE_WRITTEN,
+    OTHER_FILES,
+    OWN,
+    WRITTEN,
+    BackupCase,
+    key_of,
+)
 from harness import PROVED, mounting
 from served import SMALL
 from test_merge_damage import DamageCase
@@ -174,6 +187,283 @@ class Paths(BackupCase):
         self.check_holds({}, "later/backup")
 
 
+class PathsOfSets(BackupCase):
+    """What lies at the path of a set's backup, at its draft and at its two folders."""
+
+    count = 2
+
+    def setUp(self):
+        super().setUp()
+        self.format(self.count)
+        self.values = {}
+
+    def format(self, count, name="store"):
+        made = self.silt("format", name, *ROOMY.split(), "--shards", count)
+        self.assertEqual(made.status, 0, made)
+
+    def begin_server(self):
+        self.server = self.serve_store()
+        self.asking = self.client(self.server)
+
+    def put_more(self):
+        more = {f"k{len(self.values)}": f"{len(self.values):04x}"}
+        self.put_all(self.asking, more)
+        self.values |= more
+
+    def check_written(self):
+        """The next order has its backup."""
+        self.put_more()
+        self.back_up(self.server, self.asking)
+        self.check_holds(self.values)
+        self.check_alone()
+
+    def seen(self):
+        """All that lies at the names of backups: files with their bytes, links with their texts."""
+        found = {}
+        for top in self.files():
+            for folder, folders, files in [(self.path(top), [], [""]), *os.walk(self.path(top))]:
+                for name in (*folders, *files):
+                    it = pathlib.Path(folder, name) if name else self.path(top)
+                    if it.is_symlink():
+                        found[str(it)] = os.readlink(it)
+                    elif it.is_file():
+                        found[str(it)] = it.read_bytes()
+                    else:
+                        found[str(it)] = stat.S_IFMT(it.stat().st_mode)
+        return found
+
+    def check_refused(self, why=None):
+        """No backup is written, and nothing at all has changed."""
+        self.put_more()
+        before = self.seen()
+        self.order(self.asking)
+        found = self.not_written(self.server, why)
+        self.assertEqual(self.seen(), before)
+        return found
+
+    def next_folder(self):
+        last = os.readlink(self.path("backup"))
+        return self.path({"backup.a": "backup.b", "backup.b": "backup.a"}[last])
+
+    def test_one_after_the_other(self):
+        """The two folders take turns, and the link has the last name alone."""
+        self.begin_server()
+        for folder in ("backup.a", "backup.b", "backup.a"):
+            self.check_written()
+            self.assertEqual(os.readlink(self.path("backup")), folder)
+
+    def test_what_is_no_link(self):
+        """A folder, a file, a pipe, and a link to something else stay as they are."""
+        makes = {
+            "an empty folder": lambda it: it.mkdir(),
+            "a folder": lambda it: (it.mkdir(), (it / "set.0").write_bytes(b"precious")),
+            "a file": lambda it: it.write_bytes(b"precious"),
+            "a pipe": os.mkfifo,
+            "a link to nothing": lambda it: os.symlink("nothing", it),
+            "a link to a folder": lambda it: os.symlink("other", it),
+            "a link with another text": lambda it: os.symlink("./backup.a", it),
+        }
+        self.path("other").mkdir()
+        self.begin_server()
+        for what, make in makes.items():
+            with self.subTest(what):
+                make(self.path("backup"))
+                self.check_refused(NO_LINK)
+                self.path("backup").rename(self.path(f"moved {what}"))
+        self.assertEqual(list(self.path("other").iterdir()), [])
+        self.check_written()
+
+    def test_a_link_to_a_missing_folder(self):
+        """Somebody has removed the folder of the last backup."""
+        for name, other in (("backup.a", "backup.b"), ("backup.b", "backup.a")):
+            with self.subTest(name):
+                os.symlink(name, self.path("backup"))
+                self.begin_server()
+                self.check_written()
+                self.assertEqual(os.readlink(self.path("backup")), other)
+                self.server.kill()
+                shutil.rmtree(self.path(other))
+                self.path("backup").unlink()
+
+    def test_other_files_in_the_next_folder(self):
+        """They stay, and so does the last backup."""
+        self.begin_server()
+        self.check_written()
+        folder = self.next_folder()
+        folder.mkdir()
+        for name in ("notes", "set.64", "set.00", "set.-1", "set"):
+            with self.subTest(name):
+                (folder / name).write_bytes(b"precious")
+                self.check_refused(OTHER_FILES)
+                (folder / name).unlink()
+        (folder / "set.1").mkdir()
+        self.check_refused("Is a directory (os error 21)")
+        (folder / "set.1").rmdir()
+        self.check_written()
+
+    def test_other_files_in_the_last_folder(self):
+        """The next backup takes the place of the last one, and they stay. The one behind that is
+        refused."""
+        self.begin_server()
+        self.check_written()
+        folder = self.path(os.readlink(self.path("backup")))
+        (folder / "notes").write_bytes(b"precious")
+        self.put_more()
+        self.back_up(self.server, self.asking)
+        self.check_holds(self.values)
+        self.assertEqual([it.name for it in folder.iterdir()], ["notes"])
+        self.check_refused(OTHER_FILES)
+        (folder / "notes").unlink()
+        self.check_written()
+
+    def test_a_folder_that_is_none(self):
+        """A file and a link at the name of the next folder stay. Nothing is removed through the
+        link."""
+        self.begin_server()
+        self.check_written()
+        folder, other = self.next_folder(), self.path("other")
+        other.mkdir()
+        (other / "set.0").write_bytes(b"precious")
+        os.symlink("other", folder)
+        self.check_refused(NO_FOLDER)
+        self.assertEqual((other / "set.0").read_bytes(), b"precious")
+        folder.unlink()
+        folder.write_bytes(b"precious")
+        self.check_refused(NO_FOLDER)
+        folder.unlink()
+        self.check_written()
+
+    def test_a_link_at_the_draft(self):
+        """It is replaced, and what it names stays as it is."""
+        self.begin_server()
+        other = self.path("other")
+        other.mkdir()
+        for text in ("other", "other/set.0", "store.0", "nothing"):
+            with self.subTest(text):
+                (other / "set.0").write_bytes(b"precious")
+                os.symlink(text, self.path("backup.new"))
+                self.put_more()
+                self.order(self.asking)
+                if text == "store.0":
+                    self.not_written(self.server, OWN)
+                    self.path("backup.new").unlink()
+                else:
+                    self.written(self.server)
+                    self.check_holds(self.values)
+                    self.check_alone()
+                self.assertEqual([it.name for it in other.iterdir()], ["set.0"])
+                self.assertEqual((other / "set.0").read_bytes(), b"precious")
+        self.check_written()
+
+    def test_a_folder_at_the_draft(self):
+        self.begin_server()
+        self.check_written()
+        self.path("backup.new").mkdir()
+        self.check_refused()
+        self.path("backup.new").rmdir()
+        self.check_written()
+
+    def test_a_file_that_is_the_stores(self):
+        """A file of the set at a name that is written or removed."""
+        for folder in ("backup.a", "backup.b"):
+            for shard, name in ((0, "set.1"), (1, "set.63")):
+                with self.subTest(folder=folder, name=name):
+                    self.path(folder).mkdir()
+                    os.link(self.path(f"store.{shard}"), self.path(folder) / name)
+                    self.begin_server()
+                    self.check_refused(OWN)
+                    self.server.kill()
+                    shutil.rmtree(self.path(folder))
+        self.check_holds(self.values, "store")
+
+    def test_a_served_backup(self):
+        """A server of the backup itself writes none over it."""
+        self.begin_server()
+        self.check_written()
+        self.server.kill()
+        self.server = self.serve_store(name=self.backup)
+        self.asking = self.client(self.server)
+        self.check_refused(OWN)
+        self.server.kill()
+        self.check_holds(self.values)
+
+    def test_a_backup_that_another_server_serves(self):
+        """The link is replaced. The files stay until that server ends, and so long there is no
+        backup behind that one."""
+        self.begin_server()
+        self.check_written()
+        folder = self.path(os.readlink(self.path("backup")))
+        kept, self.noted = self.noted, 0
+        self.options = ()
+        other = self.serve_store(name=self.backup)
+        self.noted = kept
+        before = dict(self.values)
+        self.put_more()
+        self.back_up(self.server, self.asking)
+        self.check_holds(self.values)
+        self.put_all(self.client(other), {"later": "0102"})
+        self.check_holds(self.values)
+        self.order(self.asking)
+        self.assertIn("the file is in use", self.not_written(self.server))
+        other.kill()
+        self.check_holds(before | {"later": "0102"}, f"{folder.name}/set")
+        self.check_written()
+
+    def test_no_folder(self):
+        self.path("file").write_bytes(b"")
+        for path, why in (
+            ("missing/backup", "No such file or directory (os error 2)"),
+            ("file/backup", "Not a directory (os error 20)"),
+            ("b" * 253, "File name too long (os error 36)"),
+        ):
+            self.options = ("--backup", path)
+            self.begin_server()
+            self.order(self.asking)
+            self.not_written(self.server, why, path)
+            self.server.kill()
+        self.assertEqual(self.files(), [])
+        self.assertEqual([it.name for it in self.folder.iterdir() if it.name[0] == "b"], [])
+
+    def test_another_number_of_shards(self):
+        """The next backup of the same path is one of another set."""
+        for count in (2, 5, 3):
+            self.count, self.values = count, {}
+            self.format(count, f"store{count}")
+            self.server = self.serve_store(name=f"store{count}")
+            self.asking = self.client(self.server)
+            self.check_written()
+            self.check_written()
+            self.server.kill()
+
+    def test_a_folder_that_moves(self):
+        """The link works wherever the folder is that has it."""
+        self.path("deep").mkdir()
+        for path in ("deep/backup", str(self.path("deep/backup"))):
+            self.options = ("--backup", path)
+            self.begin_server()
+            self.put_more()
+            self.order(self.asking)
+            self.written(self.server, path)
+            self.server.kill()
+            self.path("deep").rename(self.path("moved"))
+            self.check_holds(self.values, "moved/backup/set")
+            self.path("moved").rename(self.path("deep"))
+
+    def test_the_way_back(self):
+        """The files take the place of the store's."""
+        self.begin_server()
+        self.check_written()
+        kept = dict(self.values)
+        self.put_more()
+        self.server.kill()
+        for shard in range(self.count):
+            self.path(f"backup/set.{shard}").rename(self.path(f"store.{shard}"))
+        self.check_holds(kept, "store")
+        self.values = kept
+        self.begin_server()
+        self.check_written()
+
+
 class Damage(DamageCase, BackupCase):
     """A byte of the served file that changes before the order."""
 
@@ -294,8 +584,39 @@ class FullDisks(BackupCase):
         self.assertEqual(client.ask("put =more " + "01" * 400), ["accepted 1"])
 
 
+class FullDisksOfSets(BackupCase):
+    """The same of a set: neither a file nor a folder nor a link stays."""
+
+    count = 2
+
+    def test_a_small_file_system(self):
+        made = self.silt("format", "store", *"400 64 200 3 4 4000".split(), *self.set_options())
+        self.assertEqual(made.status, 0, made)
+        lines = "".join(f"put =key/{it} {it:0800x}\n" for it in range(600))
+        self.silt("run", "store", "--tend", *self.set_options(), text=lines + "flush\n")
+        self.path("small").mkdir()
+        script = 'mount -t tmpfs -o size=128k tmpfs small && exec "$0" "$@"'
+        self.starter = [*mounting(self), "sh", "-c", script]
+        self.options = ("--backup", "small/backup")
+        server = self.serve_store()
+        self.starter = ()
+        there = pathlib.Path(f"/proc/{server.process.pid}/root") / str(self.path("small"))[1:]
+        client = self.client(server)
+        for _ in range(2):
+            self.order(client)
+            why = self.not_written(server, name="small/backup")
+            self.assertEqual(why, "No space left on device (os error 28)")
+            self.assertEqual(list(there.iterdir()), [])
+        self.assertEqual(client.ask("put =more " + "01" * 400), ["accepted 1"])
+
+
 class Faults(BackupCase):
     """Each call of a backup fails once."""
+
+    # So many calls of a backup ask what a path is.
+    stats = 6
+    # The numbers of its requests for memory.
+    requests = range(1, 25)
 
     def setUp(self):
         super().setUp()
@@ -310,7 +631,10 @@ class Faults(BackupCase):
         self.assertEqual(made.status, 0, made)
 
     def calls(self):
-        """How many calls of each name the care makes for a backup, one after the other."""
+        """How many calls of each name the care makes for a backup that takes the place of one."""
+        server = self.serve_store("--merge-at", 4)
+        self.back_up(server)
+        server.kill()
         server = self.serve_store("--merge-at", 4, env=watching(self, log="record"))
         self.back_up(server)
         server.kill()
@@ -354,6 +678,7 @@ class Faults(BackupCase):
                         self.assertTrue(WRITTEN.fullmatch(note), note)
                         self.back_up(server, client)
                     self.check_holds(self.values)
+                    self.check_alone()
                     notes.append(note)
                 server.kill()
         return notes
@@ -377,8 +702,13 @@ class Faults(BackupCase):
             "flock": ("EAGAIN",),
             "rename": ("EACCES", "EROFS"),
             "unlink": ("EACCES",),
+            "mkdir": ("EACCES", "ENOSPC"),
+            "symlink": ("EACCES", "ENOSPC"),
+            "readlink": ("EIO",),
+            "rmdir": ("EACCES",),
+            "stat": ("EACCES",),
         }
-        calls = self.calls()
+        calls = self.calls() | {"stat": self.stats}
         for name in errors:
             notes = self.sweep(name, errors[name], self.some(calls.get(name, 0)))
             print(name, calls.get(name, 0), sorted({it.split(": ", 2)[2] if ": no" in it else "written" for it in notes}))
@@ -403,31 +733,21 @@ class Faults(BackupCase):
         server = self.serve_store()
         self.back_up(server)
         server.kill()
-        notes = self.sweep("memory", ["ENOMEM"], range(1, 25))
+        notes = self.sweep("memory", ["ENOMEM"], self.requests)
         self.assertIn("silt: backup: no backup was written: there is no memory for it", notes)
 
 
 class FaultsOfSets(Faults):
     count = 2
+    stats = 300
+
+    @property
+    def requests(self):
+        """Some of them. The first one of the care's thread is none of a backup."""
+        return sorted(self.random.sample(range(2, 260), 24))
 
     def some(self, count, most=4):
         return super().some(count, most + 2)[: most + 1] if count > most + 2 else range(1, count + 1)
-
-    test_refused_memory = None
-
-    def check_fault(self, server, note, client):
-        """A fault between two renames leaves a mix."""
-        failed = NONE_WRITTEN.fullmatch(note)
-        marks = {
-            self.path(f"backup.{it}").read_bytes()[2048 + 21 : 2048 + 37] for it in range(self.count)
-        }
-        if failed and len(marks) > 1:
-            for name in self.files():
-                if ".new" in name:
-                    self.path(name).rename(self.path(name.replace(".new", "")))
-            self.check_holds(self.values)
-            return
-        super().check_fault(server, note, client)
 
 
 if __name__ == "__main__":

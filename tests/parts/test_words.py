@@ -53,7 +53,7 @@ ADDRESS  where a server is: a port of this machine, or an IP address and a port,
 --scrub HOURS     reads the whole store each HOURS hours, 1 to 8760, and reports what is damaged
 --scrub-rate MB   serve --scrub: reads at most MB megabytes a second, 1 to 10000
 --metrics PORT    a page of numbers for Prometheus at this port of this machine; 0 lets the system choose
---backup PATH     writes a backup to PATH when a client orders one; of a set, to PATH.0, PATH.1 ..
+--backup PATH     writes a backup to PATH when a client orders one; of a set, to a folder that PATH links to
 --password-file PATH  stop: sends the password in the first line of this file
 --password-file PATH  info: sends the password in the first line of this file
 """

@@ -1,5 +1,6 @@
 pub mod Clashes
 pub mod Clients
+pub mod Copies
 pub mod Mounts
 pub mod Passwords
 pub mod Programs

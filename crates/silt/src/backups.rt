@@ -1,12 +1,13 @@
 // Backups of a served store, or of all stores of a served set.
 
+use crate::backup_places::{Folder, Folders, Places};
+use crate::copy_disk::{CopyDisk, CopyFault};
 use crate::merge_gate::GateParts;
 use crate::merge_holds::Hold;
 use crate::random_bytes::random_set;
-use crate::standard_streams::StandardStreams;
+use crate::standard_streams::{StandardStreams, not_its_link};
 use silt_backup::{Backup, BackupFault};
 use silt_care::{Finds, View};
-use silt_device::{BufferFault, FileDisk, FileFault};
 use silt_disk::Disk;
 use silt_event::Counter;
 use silt_jobs::{NoBackup, StreamError, Tells, Urgent, is_set, shard_path};
@@ -15,16 +16,13 @@ use silt_shards::{Mark, Marking, read_mark, write_mark};
 use silt_view::Moment;
 use silt_words::Service;
 use std::alloc::{AllocError, Global};
-use std::io;
+use std::io::{self, ErrorKind};
 
 /// The length of a sector, of which the first has a shard's mark.
 const SECTOR: u64 = 4_096;
 
 /// How often a backup is begun if what it copies is freed meanwhile.
 const TRIES: u32 = 3;
-
-/// The fault of a call of a file's disk.
-type DiskFault = BufferFault<FileFault>;
 
 /// Backups of a served store, or of all stores of a served set.
 #[derive(Drop)]
@@ -39,25 +37,20 @@ pub struct Backups<'a, 'f, 'p, H> {
     path: Option<&'f str>,
 }
 
-/// The files of one store that is backed up.
-#[derive(Drop)]
-struct Names {
-    /// The store's own file.
-    own: String,
-    /// The file that is written.
-    new: String,
-    /// The backup.
-    place: String,
-}
-
 // Why a file's operation failed.
 fn file_fault(error: io::Error) -> NoBackup {
-    NoBackup::File(StreamError { error })
+    match error.kind() {
+        ErrorKind::OutOfMemory => NoBackup::NoMemory,
+        _ => NoBackup::File(StreamError { error }),
+    }
 }
 
-// Why a call of a file's disk failed.
-fn disk_fault(fault: &DiskFault) -> NoBackup {
-    file_fault(fault.inner().error())
+// Why a call of a copy's disk failed.
+fn disk_fault(fault: &CopyFault) -> NoBackup {
+    match fault {
+        CopyFault::Ended => NoBackup::Ended,
+        CopyFault::File(fault) => file_fault(fault.inner().error()),
+    }
 }
 
 // Out of memory.
@@ -66,7 +59,7 @@ fn no_memory(_: AllocError) -> NoBackup {
 }
 
 // Why a copy was not written, or is none.
-fn copy_fault<G: Drop>(fault: BackupFault<G, DiskFault>) -> NoBackup {
+fn copy_fault<G: Drop>(fault: BackupFault<G, CopyFault>) -> NoBackup {
     match fault {
         BackupFault::Ended => NoBackup::Ended,
         BackupFault::NoMemory => NoBackup::NoMemory,
@@ -74,17 +67,6 @@ fn copy_fault<G: Drop>(fault: BackupFault<G, DiskFault>) -> NoBackup {
         BackupFault::Device(fault) => disk_fault(&fault),
         BackupFault::Length => NoBackup::Damaged(None),
         BackupFault::Damaged(place) => NoBackup::Damaged(place),
-    }
-}
-
-// The path of the file of a store, by the name of all of them.
-fn path_of(alloc: Global, name: &str, end: &str, shard: Option<u32>) -> Result<String, AllocError> {
-    match shard {
-        None => format!(in alloc; "{name}{end}"),
-        Some(shard) => {
-            let whole = format!(in alloc; "{name}{end}")?;
-            shard_path(alloc, whole.as_str(), shard)
-        }
     }
 }
 
@@ -138,9 +120,9 @@ impl<'a, 'f, 'p, H: AllocGlobal + StandardStreams> Backups<'a, 'f, 'p, H> {
         views: &[V],
         finds: &F,
     ) -> Result<u64, NoBackup> {
-        let names = self.names(path, views.len()).map_err(no_memory)?;
+        let places = self.places(path, views.len())?;
         for _ in 0..TRIES {
-            let written = self.write_once(&names, views, finds);
+            let written = self.write_once(path, &places, views, finds);
             self.hold_all(views.len(), Hold::Free);
             match written {
                 Err(NoBackup::Moved) => {}
@@ -150,22 +132,47 @@ impl<'a, 'f, 'p, H: AllocGlobal + StandardStreams> Backups<'a, 'f, 'p, H> {
         Err(NoBackup::Moved)
     }
 
-    // The files of each store.
-    fn names(&self, path: &str, stores: usize) -> Result<Vec<Names>, AllocError> {
+    // The files of the served stores.
+    fn own_files(&self, stores: usize) -> Result<Vec<String>, AllocError> {
         let alloc = self.rt.alloc();
-        let mut names = Vec::new(alloc);
+        let mut files = Vec::new(alloc);
         for store in 0..stores {
-            let shard = match self.is_set {
-                true => u32::try_from(store).ok(),
-                false => None,
-            };
-            names.push(Names {
-                own: path_of(alloc, self.file, "", shard)?,
-                new: path_of(alloc, path, ".new", shard)?,
-                place: path_of(alloc, path, "", shard)?,
+            let shard = u32::try_from(store).unwrap_or(u32::MAX);
+            files.push(match self.is_set {
+                true => shard_path(alloc, self.file, shard)?,
+                false => String::from_str(alloc, self.file)?,
             })?;
         }
-        Ok(names)
+        Ok(files)
+    }
+
+    // Where a backup of so many stores goes, if none of that is a store's own.
+    fn places(&self, path: &str, stores: usize) -> Result<Places, NoBackup> {
+        let alloc = self.rt.alloc();
+        let own = self.own_files(stores).map_err(no_memory)?;
+        let draft = format!(in alloc; "{path}.new").map_err(no_memory)?;
+        if self.is_own(&own, path) || self.is_own(&own, draft.as_str()) {
+            return Err(NoBackup::Own);
+        }
+        let folders = match self.is_set {
+            true => Some(self.folders(path, &own)?),
+            false => None,
+        };
+        Ok(Places { draft, folders })
+    }
+
+    // The folders of a set's backups, if no file there is a store's own.
+    fn folders(&self, path: &str, own: &[String]) -> Result<Folders, NoBackup> {
+        let link = self.rt.link_at(path).map_err(file_fault)?;
+        let text = link.as_ref().map(|text| text.as_str());
+        let known = Folders::of(self.rt.alloc(), path, text).map_err(no_memory)?;
+        let Some(folders) = known else {
+            return Err(file_fault(not_its_link()));
+        };
+        if self.has_own(own, &folders.new.files) || self.has_own(own, &folders.old.files) {
+            return Err(NoBackup::Own);
+        }
+        Ok(folders)
     }
 
     // From now on the merger of each of so many stores may do that.
@@ -175,53 +182,72 @@ impl<'a, 'f, 'p, H: AllocGlobal + StandardStreams> Backups<'a, 'f, 'p, H> {
         }
     }
 
-    // Whether one of the files that are written is a store's own.
-    fn is_own(&self, names: &[Names]) -> bool {
-        for name in names {
-            for other in names {
-                let own = other.own.as_str();
-                if self.rt.is_same_file(own, name.new.as_str())
-                    || self.rt.is_same_file(own, name.place.as_str())
-                {
-                    return true;
-                }
+    // Whether this path is that of one of the stores' own files.
+    fn is_own(&self, own: &[String], path: &str) -> bool {
+        for file in own {
+            if self.rt.is_same_file(path, file.as_str()) {
+                return true;
             }
         }
         false
     }
 
-    // Refuses files that are a store's own, and places that no file is to take.
-    fn check_places(&self, names: &[Names]) -> Result<(), NoBackup> {
-        if self.is_own(names) {
-            return Err(NoBackup::Own);
+    // Whether one of these paths is that of one of the stores' own files.
+    fn has_own(&self, own: &[String], paths: &[String]) -> bool {
+        for path in paths {
+            if self.is_own(own, path.as_str()) {
+                return true;
+            }
         }
-        for name in names {
-            self.rt
-                .may_replace(name.place.as_str())
-                .map_err(file_fault)?;
-        }
-        Ok(())
+        false
     }
 
     // Writes a backup, if what it copies is not freed meanwhile. What was written of it is removed if not.
     fn write_once<V: View, F: Finds>(
         &self,
-        names: &[Names],
+        path: &str,
+        places: &Places,
         views: &[V],
         finds: &F,
     ) -> Result<u64, NoBackup> {
-        self.check_places(names)?;
+        self.may_begin(path, places).map_err(file_fault)?;
         let moments = self.moments(views)?;
-        let written = match self.begin_each(names, views, &moments, finds) {
+        self.make_folder(places).map_err(file_fault)?;
+        let written = match self.begin_each(places, views, &moments, finds) {
             Ok(disks) => self.finish_each(disks, views, &moments, finds),
             Err(why) => Err(why),
         };
         if written.is_err() {
-            self.remove_new(names);
+            self.remove_new(places);
         }
         written?;
-        self.put_in_place(names)?;
+        self.put_in_place(path, places).map_err(file_fault)?;
         Ok(commands_of(&moments))
+    }
+
+    // An error if a backup is not to take the place of what is at its path. Before the files in the older folder of a set are removed, it
+    // is settled that the path names the other one.
+    fn may_begin(&self, path: &str, places: &Places) -> io::Result<()> {
+        match &places.folders {
+            Some(_) => self.rt.sync_folder(path),
+            None => self.rt.may_replace(path),
+        }
+    }
+
+    // Makes an empty folder for the files of a set, and the link that gets the name of the backup. What an earlier backup left of both is
+    // removed. If there is no link, there is no folder.
+    fn make_folder(&self, places: &Places) -> io::Result<()> {
+        let Some(folders) = &places.folders else {
+            return Ok(());
+        };
+        let folder = &folders.new;
+        self.rt.remove_folder(folder.path.as_str(), &folder.files)?;
+        self.rt.make_folder(folder.path.as_str())?;
+        let made = self.rt.make_link(folder.name(), places.draft.as_str());
+        if made.is_err() {
+            self.remove_folder(folder);
+        }
+        made
     }
 
     // What the stores in these views are at one moment. From before it on no merger does a step.
@@ -240,20 +266,20 @@ impl<'a, 'f, 'p, H: AllocGlobal + StandardStreams> Backups<'a, 'f, 'p, H> {
     // Begins the copy of each store: it has what a step of a merge could free.
     fn begin_each<V: View, F: Finds>(
         &self,
-        names: &[Names],
+        places: &Places,
         views: &[V],
         moments: &[Moment],
         finds: &F,
-    ) -> Result<Vec<FileDisk>, NoBackup> {
+    ) -> Result<Vec<CopyDisk<'p>>, NoBackup> {
         let set = self.new_set().map_err(file_fault)?;
         let mut disks = Vec::new(self.rt.alloc());
         for (view, moment) in views.iter().zip(moments.iter()) {
             let store = disks.len();
-            let Some(name) = names.get(store) else {
+            let Some(path) = places.copy_of(store) else {
                 return Err(NoBackup::Damaged(None));
             };
             let backup = Backup { view, moment };
-            let disk = self.begin(&backup, name.new.as_str(), set, finds)?;
+            let disk = self.begin(&backup, path, set, finds)?;
             let Ok(()) = disks.push(disk) else {
                 return Err(NoBackup::NoMemory);
             };
@@ -265,7 +291,7 @@ impl<'a, 'f, 'p, H: AllocGlobal + StandardStreams> Backups<'a, 'f, 'p, H> {
     // Writes the rest of each copy, and examines it.
     fn finish_each<V: View, F: Finds>(
         &self,
-        disks: Vec<FileDisk>,
+        disks: Vec<CopyDisk<'p>>,
         views: &[V],
         moments: &[Moment],
         finds: &F,
@@ -298,9 +324,10 @@ impl<'a, 'f, 'p, H: AllocGlobal + StandardStreams> Backups<'a, 'f, 'p, H> {
         path: &str,
         set: Option<[u8; 16]>,
         finds: &F,
-    ) -> Result<FileDisk, NoBackup> {
+    ) -> Result<CopyDisk<'p>, NoBackup> {
         let len = backup.moment.geometry.size();
-        let mut disk = self.rt.make_disk(path, len).map_err(file_fault)?;
+        let file = self.rt.make_disk(path, len).map_err(file_fault)?;
+        let mut disk = CopyDisk::new(file, self.board);
         backup
             .begin(self.rt.alloc(), &mut disk, finds)
             .map_err(copy_fault)?;
@@ -313,7 +340,7 @@ impl<'a, 'f, 'p, H: AllocGlobal + StandardStreams> Backups<'a, 'f, 'p, H> {
     fn finish<V: View, F: Finds>(
         &self,
         backup: &Backup<'_, V>,
-        disk: FileDisk,
+        disk: CopyDisk<'p>,
         finds: &F,
     ) -> Result<(), NoBackup> {
         let mut disk = disk;
@@ -324,29 +351,46 @@ impl<'a, 'f, 'p, H: AllocGlobal + StandardStreams> Backups<'a, 'f, 'p, H> {
         }
     }
 
-    // Gives each copy its name, and syncs their folder. If the first one gets none, all are removed. If a later one gets none, it and those
-    // behind it stay, so that they can be renamed by hand.
-    fn put_in_place(&self, names: &[Names]) -> Result<(), NoBackup> {
-        let mut is_first = true;
-        for name in names {
-            let renamed = self.rt.rename(name.new.as_str(), name.place.as_str());
-            if renamed.is_err() && is_first {
-                self.remove_new(names);
-            }
-            renamed.map_err(file_fault)?;
-            is_first = false;
+    // Gives the copy the name of the backup, and syncs the folder of that name. If it does not get the name, it is removed. The files of a
+    // set and their folder are settled before.
+    fn put_in_place(&self, path: &str, places: &Places) -> io::Result<()> {
+        let named = self.give_name(path, places);
+        if named.is_err() {
+            self.remove_new(places);
         }
-        match names.first() {
-            Some(name) => self.rt.sync_folder(name.place.as_str()).map_err(file_fault),
-            None => Ok(()),
+        named?;
+        self.rt.sync_folder(path)?;
+        self.remove_old(places);
+        Ok(())
+    }
+
+    // Gives the copy the name of the backup, in one step.
+    fn give_name(&self, path: &str, places: &Places) -> io::Result<()> {
+        if let (Some(_), Some(file)) = (&places.folders, places.copy_of(0)) {
+            self.rt.sync_folder(file)?;
+            self.rt.sync_folder(path)?;
         }
+        self.rt.rename(places.draft.as_str(), path)
     }
 
     // Removes what was written.
-    fn remove_new(&self, names: &[Names]) {
-        for name in names {
-            self.rt.remove(name.new.as_str());
+    fn remove_new(&self, places: &Places) {
+        self.rt.remove(places.draft.as_str());
+        if let Some(folders) = &places.folders {
+            self.remove_folder(&folders.new);
         }
+    }
+
+    // Removes the backup of a set that has been replaced.
+    fn remove_old(&self, places: &Places) {
+        if let Some(folders) = &places.folders {
+            self.remove_folder(&folders.old);
+        }
+    }
+
+    // Removes a folder with the files of a set. What stays of it is removed by the next backup that goes there.
+    fn remove_folder(&self, folder: &Folder) {
+        let _ = self.rt.remove_folder(folder.path.as_str(), &folder.files);
     }
 }
 
@@ -380,7 +424,7 @@ fn has_merged<V: View>(backup: &Backup<'_, V>) -> bool {
 }
 
 // Marks a shard as one of this set, if there is one. The file of a store has room for a mark.
-fn mark_anew(disk: &mut FileDisk, set: Option<[u8; 16]>) -> Result<(), DiskFault> {
+fn mark_anew(disk: &mut CopyDisk<'_>, set: Option<[u8; 16]>) -> Result<(), CopyFault> {
     let Some(set) = set else {
         return Ok(());
     };

@@ -32,11 +32,13 @@
 //! known.
 #![tactic(auto)]
 
+mod backup_places;
 mod backups;
 mod care;
 mod clash;
 mod client;
 mod client_text;
+mod copy_disk;
 mod early_sync;
 mod file_identity;
 mod file_systems;

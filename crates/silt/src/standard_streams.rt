@@ -10,6 +10,8 @@ use std::alloc::Global;
 use std::fs::{self, File, Metadata};
 use std::io::{self, ErrorKind, Read, Stderr};
 use std::os::fd::{AsRawFd, RawFd};
+use std::os::unix::fs::symlink;
+use std::path::Path;
 use std::rt::Runtime;
 
 /// The device that takes everything and gives nothing.
@@ -79,6 +81,14 @@ impl SameStreams {
     }
 }
 
+/// What is wrong with a path whose file or link a backup of a set does not replace.
+pub fn not_its_link() -> io::Error {
+    io::Error::new(
+        ErrorKind::InvalidInput,
+        "it is no link to PATH.a or PATH.b, so no backup of a set takes its place",
+    )
+}
+
 /// A program with standard streams, and with files beside those of its stores.
 pub trait StandardStreams {
     /// The system reported that these streams are the file of this path, and no others.
@@ -118,6 +128,19 @@ pub trait StandardStreams {
     /// Removes the file at this path, if there is one.
     fn remove(&self, path: &str);
 
+    /// The text of the symbolic link at this path, or none if nothing is there. Anything else there is an error.
+    fn link_at(&self, path: &str) -> io::Result<Option<String>>;
+
+    /// Makes a symbolic link of this text at this path, in place of a file or a link that is there and that nobody has locked.
+    fn make_link(&self, text: &str, path: &str) -> io::Result<()>;
+
+    /// Makes a folder at this path.
+    fn make_folder(&self, path: &str) -> io::Result<()>;
+
+    /// Removes the folder at this path, if there is one, and these files in it. A file that another program has locked stays, and so
+    /// does what else is in the folder: then it is an error.
+    fn remove_folder(&self, path: &str, files: &[String]) -> io::Result<()>;
+
     /// The standard error.
     fn errors(&self) -> Stderr;
 }
@@ -148,12 +171,36 @@ fn clear(rt: &HostRuntime, path: &str) -> io::Result<()> {
         return Ok(());
     };
     if found.is_file() {
-        let held = FileDisk::open(rt, path)?;
+        let held = rt.lock_file(rt.open_file_at(path)?)?;
         fs::remove_file(rt, path)?;
         drop(held);
         return Ok(());
     }
     fs::remove_file(rt, path)
+}
+
+// Whether a folder is at this path. Anything else there is an error.
+fn has_folder(rt: &HostRuntime, path: &str) -> io::Result<bool> {
+    match fs::symlink_metadata(rt, path) {
+        Ok(found) if found.is_dir() => Ok(true),
+        Ok(_) => Err(io::Error::new(
+            ErrorKind::NotADirectory,
+            "PATH.a or PATH.b, where its files are to go, is no folder",
+        )),
+        Err(error) if error.kind() == ErrorKind::NotFound => Ok(false),
+        Err(error) => Err(error),
+    }
+}
+
+// Removes an empty folder.
+fn remove_empty(rt: &HostRuntime, path: &str) -> io::Result<()> {
+    match fs::remove_dir(rt, path) {
+        Err(error) if error.kind() == ErrorKind::DirectoryNotEmpty => Err(io::Error::new(
+            ErrorKind::DirectoryNotEmpty,
+            "the folder PATH.a or PATH.b, where its files are to go, holds other files",
+        )),
+        ended => ended,
+    }
 }
 
 // Not for any system with files: rattle takes no such bound of `done` for granted in the threads of a server.
@@ -221,6 +268,41 @@ impl StandardStreams for HostRuntime {
 
     fn remove(&self, path: &str) {
         let _ = fs::remove_file(self, path); // most often there is none
+    }
+
+    fn link_at(&self, path: &str) -> io::Result<Option<String>> {
+        match fs::symlink_metadata(self, path) {
+            Ok(found) if found.file_type().is_symlink() => {
+                Ok(Some(Path::new(path).read_link(self)?.into_string()))
+            }
+            Ok(_) => Err(not_its_link()),
+            Err(error) if error.kind() == ErrorKind::NotFound => Ok(None),
+            Err(error) => Err(error),
+        }
+    }
+
+    fn make_link(&self, text: &str, path: &str) -> io::Result<()> {
+        clear(self, path)?;
+        symlink(self, text, path)
+    }
+
+    fn make_folder(&self, path: &str) -> io::Result<()> {
+        fs::create_dir(self, path)
+    }
+
+    fn remove_folder(&self, path: &str, files: &[String]) -> io::Result<()> {
+        if !has_folder(self, path)? {
+            return Ok(());
+        }
+        let mut removed = Ok(());
+        for file in files {
+            let cleared = clear(self, file.as_str());
+            if cleared.is_err() {
+                removed = cleared;
+            }
+        }
+        removed?;
+        remove_empty(self, path)
     }
 
     fn errors(&self) -> Stderr {

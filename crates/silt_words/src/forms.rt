@@ -241,7 +241,7 @@ const BACKUP: Choice = Choice {
     name: "--backup",
     operand: Some("a file"),
     needs: None,
-    line: "--backup PATH     writes a backup to PATH when a client orders one; of a set, to PATH.0, PATH.1 ..",
+    line: "--backup PATH     writes a backup to PATH when a client orders one; of a set, to a folder that PATH links to",
 };
 
 const STOP_PASSWORD: Choice = Choice {

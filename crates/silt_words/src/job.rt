@@ -78,7 +78,7 @@ pub struct Service<'a> {
     pub scrub_rate: Option<u32>,
     /// The port of the page of metrics, if there is one. For 0 the system chooses one.
     pub metrics: Option<u16>,
-    /// The file that backups are written to, if the server makes any; of a set the name of its files.
+    /// The file that backups are written to, if the server makes any; of a set the link to the folder of its files.
     pub backup: Option<&'a str>,
 }
 
