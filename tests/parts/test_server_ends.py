@@ -93,7 +93,9 @@ class Orders(EndsCase):
         what was accepted is there."""
         for options in (("--pipeline",), ()):
             with self.subTest(options):
-                self.silt("format", "store", *"2 16 64 8 16 4000".split(), "--force")
+                # The logs have room for all puts. Else one might need a worker, which does no step once
+                # the server ends, and be refused for want of room.
+                self.silt("format", "store", *"2 256 1024 8 16 4000".split(), "--force")
                 server = self.serve(*options)
                 clients = self.clients(server, 4)
                 replies = [[] for _ in clients]
