@@ -69,7 +69,8 @@ class Merges(ServedCase):
 
 
 class EarlySyncs(ServedCase):
-    """A merger syncs what it wrote, with no lock held: so the sync at its end is short."""
+    """A merger syncs what it wrote, with no lock held, and once more before its last step: so the
+    sync of that step, under the store's lock, finds only what the buffers held."""
 
     # Long values, and a log whose rows are fourteen million bytes.
     NUMBERS = "4096 1024 3500 2 2 6000"
@@ -99,14 +100,17 @@ class EarlySyncs(ServedCase):
         self.assertGreater(
             sum(it.result for it in of_merger if writes_entries(it)), 3000 * geometry.entry_length
         )
-        written, most = 0, 0
+        own = next(it.fd for it in of_merger if writes_entries(it))
+        written, most, last = 0, 0, 0
         for call in of_merger:
             if call.name == "fdatasync":
+                last = max(last, written if call.fd == own else 0)
                 written = 0
             elif writes_entries(call):
                 written += call.result
             most = max(most, written)
         self.assertLessEqual(most, self.BYTES + self.BUFFERS)
+        self.assertLessEqual(last, self.BUFFERS, "the sync of the last step")
 
 
 class Tends(ServedCase):

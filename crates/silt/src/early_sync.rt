@@ -32,9 +32,13 @@ impl EarlySync {
     /// Counts a step of the merger, and syncs if it is time.
     pub fn step(&self) {
         let before = self.steps.fetch_add(1, Ordering::Relaxed);
-        if before.wrapping_add(1) % self.each.max(1) != 0 {
-            return;
+        if before.wrapping_add(1) % self.each.max(1) == 0 {
+            self.sync();
         }
+    }
+
+    /// Syncs now.
+    pub fn sync(&self) {
         if let Some(file) = &self.file {
             let _ = file.sync_data(); // a loss of bytes is reported to the store's own handle too
         }

@@ -221,6 +221,10 @@ impl<
         }
     }
 
+    fn ends_merge(&self) {
+        self.early.sync();
+    }
+
     // A merge has ended: so the next one may be that of another shard.
     fn finished(&self, spot: Spot) {
         if spot == Spot::Merger {

@@ -417,6 +417,11 @@ impl<D: Disk, T: Trace, N: DeskId> Desk<D, T, N> {
         self.core.wants_merge()
     }
 
+    /// Whether the next step of merging, if nothing refuses it, ends a merge.
+    pub fn ends_merge(&self) -> bool {
+        self.core.ends_merge()
+    }
+
     /// Whether there is a step of merging to do that goes on with a merge, or that begins one of at least this many hash
     /// stores. If a conversion waits for a hash region, any number is enough.
     pub fn may_merge(&self, least: u32) -> bool

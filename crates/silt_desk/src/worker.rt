@@ -62,6 +62,9 @@ pub trait Gate {
         let _ = spot;
     }
 
+    /// The merger's next step ends a merge, if nothing refuses it.
+    fn ends_merge(&self) {}
+
     /// The worker has finished a conversion or a merge, and goes on.
     fn finished(&self, spot: Spot) {
         let _ = spot;
@@ -292,7 +295,7 @@ pub fn converter<D: Disk, T: Trace, N: DeskId, G: Gate, W: Hears, R: Wait + Cloc
     unreachable!()
 }
 
-// Does a turn of merging under a guard of its own, unless the gate is closed.
+// Does a turn of merging under a guard of its own, unless the gate is closed. Returns also whether the next one ends a merge.
 fn merge_turn<D: Disk, T: Trace, N: DeskId, G: Gate, R: Wait>(
     rt: &R,
     alloc: Global,
@@ -300,14 +303,16 @@ fn merge_turn<D: Disk, T: Trace, N: DeskId, G: Gate, R: Wait>(
     seat: &mut Seat<N>,
     gate: &G,
     lent: &mut Option<LentBytes>,
-) -> Turn
+) -> (Turn, bool)
     ensures { seat.new.number ≡ seat.old.number }
 {
     if gate.is_closed() {
-        return Turn::Wait;
+        return (Turn::Wait, false);
     }
     let least = gate.merges_at();
-    merge_ahead(&mut *shared.write(rt), alloc, seat, least, lent)
+    let mut desk = shared.write(rt);
+    let turn = merge_ahead(&mut *desk, alloc, seat, least, lent);
+    (turn, desk.ends_merge())
 }
 
 /// Does steps of merging, each under a guard of its own, until it hears that it is to end. Gives its seat back. Between two
@@ -326,8 +331,11 @@ pub fn merger<D: Disk, T: Trace, N: DeskId, G: Gate, W: Hears, R: Wait + Clock>(
     let mut lent = LentBytes::new(alloc).ok();
     for _ in rt.forever() {
         gate.pass(Spot::Merger);
-        let turn = merge_turn(rt, alloc, shared, &mut seat, gate, &mut lent);
+        let (turn, is_last) = merge_turn(rt, alloc, shared, &mut seat, gate, &mut lent);
         hash_lent(&mut lent);
+        if is_last {
+            gate.ends_merge();
+        }
         if !rest(rt, turn, Spot::Merger, gate, &ends) {
             return seat;
         }

@@ -89,6 +89,10 @@ impl<V: View, G: Gate, R: Wait> Gate for RoomGate<'_, V, G, R> {
         wake(self.rt, &self.room);
     }
 
+    fn ends_merge(&self) {
+        self.gate.ends_merge();
+    }
+
     fn finished(&self, spot: Spot) {
         self.gate.finished(spot);
         if spot == Spot::Converter {

@@ -507,6 +507,11 @@ impl<D: Disk> Core<D> {
         !self.failed && is_work(self.engine.merge_turn())
     }
 
+    /// Whether the store is not failed and the next step of merging, if nothing refuses it, ends a merge.
+    pub fn ends_merge(&self) -> bool {
+        !self.failed && self.engine.merge_turn() == Progress::Finished
+    }
+
     /// Whether there is a step of merging to do that goes on with a merge, or that begins one of at least this many hash
     /// stores. If a conversion waits for a hash region, any number is enough.
     pub fn may_merge(&self, least: u32) -> bool
