@@ -12,11 +12,11 @@ use Rattle.silt_image.specs.Meaning.{image_map}
 use Rattle.silt_store_set.specs.CoreState.{map_of}
 use Rattle.silt_desk.specs.declared.call.RecordedCall.{RecordedCall}
 use Rattle.silt_desk.specs.History.{Replays, commands_of, replies_of}
-use Rattle.silt_desk.specs.Servings.{Follows, FollowsLaw, HeldLaw, IsServing, ServingHistory, ServingsLaw, acceptance}
+use Rattle.silt_desk.specs.Servings.{ComesAfter, FollowsLaw, HeldLaw, IsServing, ServingHistory, ServingsLaw, acceptance}
 
 module _ {D F : Type 0} (facts : Ghosts D F) where
   -- one serving, and what the next one finds
-  serving : (calls : List RecordedCall) (old left next : Content) → IsTrue old.honest → IsServing facts old calls left → Follows left next
+  serving : (calls : List RecordedCall) (old left next : Content) → IsTrue old.honest → IsServing facts old calls left → ComesAfter left next
       → IsTrue next.honest × ServingHistory (image_map old.shown) calls (image_map next.shown)
   serving calls old left next h serves follows =
       let first = serves.first in

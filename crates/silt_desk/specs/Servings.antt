@@ -28,14 +28,14 @@ pub record IsServing {D F : Type 0} (facts : Ghosts D F) (old : Content) (calls 
   pub is : left ≡ facts.content last.disk
 
 -- the device is shown as a crash may leave it: after a crash, or as it was if there was none
-pub record Follows (left next : Content) : Type 0 where
+pub record ComesAfter (left next : Content) : Type 0 where
   pub honest : next.honest ≡ left.honest
   pub shown : IsTrue left.honest → Left left next.shown
 
 -- servings in order, each on what the one before left of the device
 abbrev pub Servings : {D F : Type 0} → Ghosts D F → List (List RecordedCall) → Content → Type 0
 Servings facts [] content = Unit {0}
-Servings facts (calls ∷ later) content = (left : Content) × (next : Content) × IsServing facts content calls left × Follows left next × Servings facts later next
+Servings facts (calls ∷ later) content = (left : Content) × (next : Content) × IsServing facts content calls left × ComesAfter left next × Servings facts later next
 
 -- ---- what is left of them
 
@@ -62,7 +62,7 @@ ServingsLaw facts =
 
 -- a crash leaves what the next serving may find, and so does an end without one
 abbrev pub FollowsLaw : Type 0
-FollowsLaw = (left next : Content) → Restarts left next ⊎ (next ≡ left) → Follows left next
+FollowsLaw = (left next : Content) → Restarts left next ⊎ (next ≡ left) → ComesAfter left next
 
 -- ---- one command
 
@@ -85,7 +85,7 @@ abbrev pub acceptance : ℕ → PlainReply
 acceptance n = Accepted n
 
 -- the kept commands have this event's, as the one of this number
-pub record Holds (kept : List Command) (event : Event) (n : ℕ) : Type 0 where
+pub record KeepsCommand (kept : List Command) (event : Event) (n : ℕ) : Type 0 where
   pub command : Command
   pub is : accepted_command event (acceptance n) ≡ command ∷ []
   pub place : ℕ
@@ -94,4 +94,4 @@ pub record Holds (kept : List Command) (event : Event) (n : ℕ) : Type 0 where
 
 -- what is left of a serving holds each command that was accepted and acknowledged
 abbrev pub HeldLaw : Type 0
-HeldLaw = (map : Map) (calls : List RecordedCall) (to : Map) (history : ServingHistory map calls to) (event : Event) (n : ℕ) → IsAcknowledged calls event n → Holds history.kept event n
+HeldLaw = (map : Map) (calls : List RecordedCall) (to : Map) (history : ServingHistory map calls to) (event : Event) (n : ℕ) → IsAcknowledged calls event n → KeepsCommand history.kept event n

@@ -21,7 +21,7 @@ use Rattle.silt_desk.specs.Anchors.{HasPast, LeadsFrom}
 use Rattle.silt_desk.specs.History.{OthersStayLaw, accepted_by, calls_of_seat, commands_of, count_accepted, called_events, replies_of, Replays}
 use Rattle.silt_desk.specs.Seeing.{MovesSeen, NoneWaits, SeenStore, SeenStep, seen}
 use Rattle.silt_desk.specs.Servings.{LeavesCalls}
-use Rattle.silt_desk.specs.Traces.{HasSettled, IsHistory, Keeping, LeadsTo, ListsMap, Past, StandsRecorded, Survives, SurvivesFrom, past_of, then_call, with_call}
+use Rattle.silt_desk.specs.Traces.{HasSettled, IsHistory, Keeping, LeadsTo, ListsMap, Past, StandsRecorded, SurvivesFrom, past_of, then_call, with_call}
 
 -- a number modulo 2^64 after an addition
 pub next_count : (a b n k m : ℕ) → a ≡ n % 2 ^ 64 → b ≡ (a + k) % 2 ^ 64 → m ≡ n + k → b ≡ m % 2 ^ 64
