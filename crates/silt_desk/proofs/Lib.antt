@@ -1,3 +1,4 @@
+pub mod CallLogs
 mod Looking
 pub mod Serving
 mod Servings

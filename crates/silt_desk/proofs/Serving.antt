@@ -244,7 +244,7 @@ module _ {D F : Type 0} (facts : Ghosts D F) where
     same_desk : c1 ≡ c0 → t1 ≡ t0 → desk c1 t1 ≡ desk c0 t0
     same_desk cores traces = ap (λ (core : CoreState D). desk core t1) cores ∙ ap (λ (t : T). desk c0 t) traces
 
-    serves_told : (reply : Reply F) → Does facts c0 c1 event reply → Notes trace.extends t0 t1 totals after_totals seat after event (plain reply)
+    serves_told : (reply : Reply F) → Does facts c0 c1 event reply → Notes trace t0 t1 totals after_totals seat after event (plain reply)
         → Serves facts trace (desk c0 t0) (desk c1 t1) seat after event reply
     serves_told (Accepted n) does notes = record { done = does; recorded = notes.0; seated = notes.1 }
     serves_told (Acknowledged n) does notes = record { done = does; recorded = notes.0; seated = notes.1 }
@@ -269,12 +269,12 @@ module _ {D F : Type 0} (facts : Ghosts D F) where
     serves_told (Refused HistoryFull) does notes = absurd (never_full c0 c1 event does.cause)
 
     -- the store did the event, and the call was noted
-    pub serves : (reply : Reply F) (told : Reply (Unit {0})) → told ≡ plain reply → Does facts c0 c1 event reply → Notes trace.extends t0 t1 totals after_totals seat after event told
+    pub serves : (reply : Reply F) (told : Reply (Unit {0})) → told ≡ plain reply → Does facts c0 c1 event reply → Notes trace t0 t1 totals after_totals seat after event told
         → Serves facts trace (desk c0 t0) (desk c1 t1) seat after event reply
-    serves reply told is does notes = serves_told reply does (subst (λ r. Notes trace.extends t0 t1 totals after_totals seat after event r) is notes)
+    serves reply told is does notes = serves_told reply does (subst (λ r. Notes trace t0 t1 totals after_totals seat after event r) is notes)
 
     module _ (agrees : T → SeenStore → Type 0) (law : agrees t0 (seen facts c0) → (c : RecordedCall) → trace.extends t0 c t1 → SeenStep (seen facts c0) (seen facts c1) c.event c.reply → agrees t1 (seen facts c1)) where
-      keeps_told : (reply : Reply F) → Does facts c0 c1 event reply → Notes trace.extends t0 t1 totals after_totals seat after event (plain reply) → agrees t0 (seen facts c0) → agrees t1 (seen facts c1)
+      keeps_told : (reply : Reply F) → Does facts c0 c1 event reply → Notes trace t0 t1 totals after_totals seat after event (plain reply) → agrees t0 (seen facts c0) → agrees t1 (seen facts c1)
       keeps_told (Accepted n) does notes held = law held (call seat.number event (plain {F = F} (Accepted n))) notes.0 (seen_step c0 c1 event (Accepted n) does)
       keeps_told (Acknowledged n) does notes held = law held (call seat.number event (plain {F = F} (Acknowledged n))) notes.0 (seen_step c0 c1 event (Acknowledged n) does)
       keeps_told (Found v) does notes held = law held (call seat.number event (plain {F = F} (Found v))) notes.0 (seen_step c0 c1 event (Found v) does)
@@ -297,8 +297,8 @@ module _ {D F : Type 0} (facts : Ghosts D F) where
       keeps_told (Refused HistoryFull) does notes held = absurd (never_full c0 c1 event does.cause)
 
       -- the trace agrees with the store on
-      pub keeps_agreeing : (reply : Reply F) (told : Reply (Unit {0})) → told ≡ plain reply → Does facts c0 c1 event reply → Notes trace.extends t0 t1 totals after_totals seat after event told → agrees t0 (seen facts c0) → agrees t1 (seen facts c1)
-      keeps_agreeing reply told is does notes held = keeps_told reply does (subst (λ r. Notes trace.extends t0 t1 totals after_totals seat after event r) is notes) held
+      pub keeps_agreeing : (reply : Reply F) (told : Reply (Unit {0})) → told ≡ plain reply → Does facts c0 c1 event reply → Notes trace t0 t1 totals after_totals seat after event told → agrees t0 (seen facts c0) → agrees t1 (seen facts c1)
+      keeps_agreeing reply told is does notes held = keeps_told reply does (subst (λ r. Notes trace t0 t1 totals after_totals seat after event r) is notes) held
 
 -- the books count on
 books_after : (books : Option Totals) (calls accepted more : ℕ) → IfSome books (λ totals. (totals.calls ≡ calls) × (totals.accepted ≡ accepted))
@@ -306,9 +306,9 @@ books_after : (books : Option Totals) (calls accepted more : ℕ) → IfSome boo
 books_after None calls accepted more held = tt
 books_after (Some totals) calls accepted more held = (ap (λ n. n + 1) held.0, ap (λ n. n + more) held.1)
 
-module _ {T : Type 0} (counts : T → ℕ → ℕ → Type 0) (extends : T → RecordedCall → T → Type 0) (t0 t1 : T) (totals after_totals : Option Totals) (seat after : SeatState) (event : Event)
-    (law : (c : RecordedCall) (n m k l : ℕ) → counts t0 n m → extends t0 c t1 → k ≡ n + 1 → l ≡ m + accepted_by c.reply → counts t1 k l) where
-  counts_more : (c : RecordedCall) → extends t0 c t1 → after_totals ≡ option_map (counted (accepted_by c.reply)) totals → CountsCalls counts t0 totals → CountsCalls counts t1 after_totals
+module _ {T : Type 0} (counts : T → ℕ → ℕ → Type 0) (trace : TraceOf T) (t0 t1 : T) (totals after_totals : Option Totals) (seat after : SeatState) (event : Event)
+    (law : (c : RecordedCall) (n m k l : ℕ) → counts t0 n m → trace.extends t0 c t1 → k ≡ n + 1 → l ≡ m + accepted_by c.reply → counts t1 k l) where
+  counts_more : (c : RecordedCall) → trace.extends t0 c t1 → after_totals ≡ option_map (counted (accepted_by c.reply)) totals → CountsCalls counts t0 totals → CountsCalls counts t1 after_totals
   counts_more c more books held = (
     held.0 + 1,
     held.1 + accepted_by c.reply,
@@ -320,7 +320,7 @@ module _ {T : Type 0} (counts : T → ℕ → ℕ → Type 0) (extends : T → R
   counts_same traces books held = subst (λ (t : T). CountsCalls counts t after_totals) (sym traces) (subst (λ b. CountsCalls counts t0 b) (sym books) held)
 
   -- the trace counts on
-  pub keeps_counting : (reply : Reply (Unit {0})) → Notes extends t0 t1 totals after_totals seat after event reply → CountsCalls counts t0 totals → CountsCalls counts t1 after_totals
+  pub keeps_counting : (reply : Reply (Unit {0})) → Notes trace t0 t1 totals after_totals seat after event reply → CountsCalls counts t0 totals → CountsCalls counts t1 after_totals
   keeps_counting (Accepted n) notes held = counts_more (call seat.number event (Accepted n)) notes.0 notes.2 held
   keeps_counting (Acknowledged n) notes held = counts_more (call seat.number event (Acknowledged n)) notes.0 notes.2 held
   keeps_counting (Found v) notes held = counts_more (call seat.number event (Found v)) notes.0 notes.2 held

@@ -8,10 +8,9 @@ use Rattle.silt_event.specs.declared.event.Event.{Event}
 use Rattle.silt_event.specs.declared.refusal.Refusal.TheVariants.{NoMemory, HistoryFull}
 use Rattle.silt_event.specs.declared.reply.Reply.{Reply}
 use Rattle.silt_event.specs.declared.reply.Reply.TheVariants.{Refused}
-use Rattle.silt_desk.specs.declared.call.RecordedCall.{RecordedCall}
 use Rattle.silt_desk.specs.declared.trace.Trace.{Ghosts as TraceOf}
 use Rattle.silt_desk.specs.History.{accepted_by, call, is_recorded}
-use Rattle.silt_desk.specs.Seats.{SeatState, Totals, after_call, counted}
+use Rattle.silt_desk.specs.Seats.{IsSeatedAfter, SeatState, Totals, counted}
 
 -- a store and the trace of its calls
 pub record DeskState (D T : Type 0) : Type 0 where
@@ -23,7 +22,7 @@ module _ {D F T : Type 0} (facts : Ghosts D F) (trace : TraceOf T) (old new : De
   pub record Records : Type 0 where
     pub done : Does facts old.core new.core event reply
     pub recorded : trace.extends old.trace (call seat.number event (plain reply)) new.trace
-    pub seated : after ≡ after_call seat (accepted_by reply)
+    pub seated : IsSeatedAfter trace.log seat (call seat.number event (plain reply)) after
 
   -- why a call is not recorded: the history is full, or the trace or the store was out of memory
   abbrev pub UnrecordedCause : Reply F → Type 0
@@ -47,8 +46,8 @@ CountsCalls counts trace books =
     (calls : ℕ) × (accepted : ℕ) × counts trace calls accepted × IfSome books (λ totals. (totals.calls ≡ calls) × (totals.accepted ≡ accepted))
 
 -- what is noted of one call: it is recorded and counted, or nothing is noted
-abbrev pub Notes : {T : Type 0} → (T → RecordedCall → T → Type 0) → T → T → Option Totals → Option Totals → SeatState → SeatState → Event → Reply (Unit {0}) → Type 0
-Notes extends old new books after_books seat after event reply =
+abbrev pub Notes : {T : Type 0} → TraceOf T → T → T → Option Totals → Option Totals → SeatState → SeatState → Event → Reply (Unit {0}) → Type 0
+Notes trace old new books after_books seat after event reply =
     MatchBool (is_recorded reply)
-    (extends old (call seat.number event reply) new × (after ≡ after_call seat (accepted_by reply)) × (after_books ≡ option_map (counted (accepted_by reply)) books))
+    (trace.extends old (call seat.number event reply) new × IsSeatedAfter trace.log seat (call seat.number event reply) after × (after_books ≡ option_map (counted (accepted_by reply)) books))
     ((new ≡ old) × (after_books ≡ books) × (after ≡ seat))

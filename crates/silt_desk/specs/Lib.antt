@@ -1,4 +1,5 @@
 pub mod Anchors
+pub mod CallLogs
 pub mod DeskState
 pub mod History
 pub mod Notes

@@ -1,16 +1,21 @@
 -- Seats, as contracts see them.
-use Rattle.std.specs.Prelude.{ℕ, List, ◌+◌, Option, Some, None, sum_by}
+use Rattle.std.specs.Prelude.{◌≡◌, ℕ, List, ◌+◌, Option, Some, None, sum_by}
 use Rattle.std.specs.Option.{option_map, unwrap_or}
+use Rattle.logbook.specs.Pages.{Book}
+use Rattle.silt_desk.specs.declared.call.RecordedCall.{RecordedCall}
+use Rattle.silt_desk.specs.CallLogs.{PlaceState, PlacesCall}
+use Rattle.silt_desk.specs.History.{accepted_by}
 
 -- how many calls are recorded, and how many of them are accepted commands
 pub record Totals : Type 0 where
   pub calls : ℕ
   pub accepted : ℕ
 
--- a seat: its number, and what is counted of its calls, if the desk keeps books
+-- a seat: its number, what is counted of its calls, if the desk keeps books, and the place of its last recorded call, if the trace has a log
 pub record SeatState : Type 0 where
   pub number : ℕ
   pub counts : Option Totals
+  pub last : Option PlaceState
 
 -- what is counted of a seat's calls, or nothing
 abbrev pub counts_of : SeatState → Totals
@@ -26,11 +31,11 @@ accepted_of seats = sum_by (λ (seat : SeatState). (counts_of seat).accepted) se
 
 -- the seat of this number before any call
 abbrev pub fresh : ℕ → SeatState
-fresh number = record { number = number; counts = Some (record { calls = 0; accepted = 0 }) }
+fresh number = record { number = number; counts = Some (record { calls = 0; accepted = 0 }); last = None }
 
 -- the seat of this number at a desk without books
 abbrev pub unbooked : ℕ → SeatState
-unbooked number = record { number = number; counts = None }
+unbooked number = record { number = number; counts = None; last = None }
 
 -- the totals after one more recorded call
 abbrev pub counted : ℕ → Totals → Totals
@@ -38,4 +43,10 @@ counted accepted totals = record { calls = totals.calls + 1; accepted = totals.a
 
 -- the seat after one more recorded call, which is counted if the desk keeps books
 abbrev pub after_call : SeatState → ℕ → SeatState
-after_call seat accepted = record { number = seat.number; counts = option_map (counted accepted) seat.counts }
+after_call seat accepted = record { number = seat.number; counts = option_map (counted accepted) seat.counts; last = seat.last }
+
+-- the seat after this recorded call: it is counted, and the seat has its place in the log that is named, if there is one
+pub record IsSeatedAfter (named : Option Book) (seat : SeatState) (c : RecordedCall) (after : SeatState) : Type 0 where
+  pub number : after.number ≡ seat.number
+  pub counts : after.counts ≡ (after_call seat (accepted_by c.reply)).counts
+  pub place : PlacesCall named c after.last

@@ -1,5 +1,5 @@
 -- One call more, in a trace.
-use Rattle.std.proofs.Common.{◌≡◌, ℕ, ◌+◌, ◌%◌, ◌^◌, ◌≤◌, ◌==◌, Bool, true, false, IsTrue, List, [], ◌∷◌, ◌++◌, length, refl, sym, ◌∙◌, ap, subst, arith, length-append, append_assoc, Option, Some, None}
+use Rattle.std.proofs.Common.{◌≡◌, ℕ, ◌+◌, ◌%◌, ◌^◌, ◌≤◌, ◌==◌, Bool, true, false, IsTrue, List, [], ◌∷◌, ◌++◌, length, refl, sym, ◌∙◌, ap, subst, arith, length-append, append_assoc, IfSome, Option, Some, None}
 use Rattle.std.proofs.lemmas.Bool.{ne_eqb}
 use Rattle.silt_disk.specs.Disk.{LeavesOnly}
 use Rattle.silt_disk.specs.Layout.{Shape}
@@ -17,7 +17,8 @@ use Rattle.silt_store_set.proofs.Keeps.{fault_adds}
 use Rattle.silt_store_set.specs.CoreState.{CoreState, map_of}
 use Rattle.silt_store_set.proofs.Maps.{map_after-append, append_nil}
 use Rattle.silt_desk.specs.declared.call.RecordedCall.{RecordedCall}
-use Rattle.silt_desk.specs.Anchors.{HasPast, LeadsFrom}
+use Rattle.silt_desk.specs.Anchors.{AnchoredState, HasPast, LeadsFrom}
+use Rattle.silt_desk.specs.CallLogs.{CallsSeen, HasLogged, LogsCall}
 use Rattle.silt_desk.specs.History.{OthersStayLaw, accepted_by, calls_of_seat, commands_of, count_accepted, called_events, replies_of, Replays}
 use Rattle.silt_desk.specs.Seeing.{MovesSeen, NoneWaits, SeenStore, SeenStep, seen}
 use Rattle.silt_desk.specs.Servings.{LeavesCalls}
@@ -324,16 +325,30 @@ from_more : (named : Option SeenStore) (calls : List RecordedCall) (c : Recorded
 from_more None calls c s t leads step = tt
 from_more (Some first) calls c s t leads step = leads_more first calls c s t leads step
 
+-- the calls of a log end with the one that was added
+pub logged_more : (old new : Option CallsSeen) (c : RecordedCall) (calls : List RecordedCall) → LogsCall old c new → HasLogged new calls → (before : List RecordedCall) × (calls ≡ before ++ c ∷ [])
+logged_more old None c calls more logged = absurd logged
+logged_more None (Some seen) c calls more logged = absurd more
+logged_more (Some before) (Some seen) c calls more logged = (before.calls, logged ∙ more)
+
+-- the log has the calls, and the one that was added
+logs_more : (old new : Option CallsSeen) (c : RecordedCall) (calls : List RecordedCall) → LogsCall old c new → IfSome old (λ seen. seen.calls ≡ calls) → IfSome new (λ seen. seen.calls ≡ calls ++ c ∷ [])
+logs_more old None c calls more logged = tt
+logs_more None (Some seen) c calls more logged = absurd more
+logs_more (Some before) (Some seen) c calls more logged = more ∙ ap (λ (cs : List RecordedCall). cs ++ c ∷ []) logged
+
 -- a past goes on by one more call
-pub past_more : {T : Type 0} (named : Option SeenStore) (counts : T → ℕ → ℕ → Type 0) (a b : T) (c : RecordedCall) (s t : SeenStore)
-    → ((n m k l : ℕ) → counts a n m → k ≡ n + 1 → l ≡ m + accepted_by c.reply → counts b k l) → HasPast named counts a s → SeenStep s t c.event c.reply → HasPast named counts b t
-past_more named counts a b c s t law past step =
+pub past_more : {T : Type 0} (named : Option SeenStore) (counts : T → ℕ → ℕ → Type 0) (a b : AnchoredState T) (c : RecordedCall) (s t : SeenStore)
+    → ((n m k l : ℕ) → counts a.trace n m → k ≡ n + 1 → l ≡ m + accepted_by c.reply → counts b.trace k l) → LogsCall a.log c b.log → HasPast named counts a s → SeenStep s t c.event c.reply
+    → HasPast named counts b t
+past_more named counts a b c s t law log past step =
     let calls : List RecordedCall = past.calls in
     let longer : length (calls ++ c ∷ []) ≡ length calls + 1 = omega (arith, length-append calls (c ∷ [])) in
     record {
       calls = calls ++ c ∷ [];
       leads = from_more named calls c s t past.leads step;
       counted = law (length calls) (count_accepted calls) (length (calls ++ c ∷ [])) (count_accepted (calls ++ c ∷ [])) past.counted longer (count_accepted_push calls c);
+      logged = logs_more a.log b.log c calls log past.logged;
     }
 
 -- a store that did no call leaves its disk so

@@ -1,63 +1,91 @@
 // A trace that is anchored at the store with which it began.
-ghost use Rattle.std.specs.Prelude.{◌≡◌, Some};
+ghost use Rattle.std.specs.Prelude.{◌≡◌, [], Some};
 ghost use Rattle.silt_desk.specs.Anchors.{HasPast};
 ghost use Rattle.silt_desk.specs.Seeing.{seen};
 
 use crate::call::Note;
+use crate::call_log::{CallLog, CallView, NotedCall};
 use crate::trace::{NotPrepared, Room, Trace};
 use silt_disk::Disk;
 use silt_store_set::Core;
 use std::alloc::Global;
-use std::marker::{Brand, PhantomData};
+use std::marker::{Brand, Model, PhantomData};
 
-/// Names the store with which a trace began. Each call of a program picks the name.
+/// Names the store with which a trace began, and the log of its calls. Each call of a program picks the names.
 pub trait Anchor {
     ghost use Rattle.std.specs.Prelude.{Option};
+    ghost use Rattle.logbook.specs.Pages.{Book};
     ghost use Rattle.silt_desk.specs.Seeing.{SeenStore};
 
     /// The store, if the name is that of one.
     ghost first: { Option SeenStore };
+
+    /// The log.
+    ghost calls: { Book };
 }
 
 impl Anchor for Brand {
     ghost use Rattle.std.specs.Prelude.{None};
 
     ghost first = { None };
+
+    ghost calls = { record { number = 0; log_name = 0; cells_name = 0 } };
 }
 
-/// A trace whose type names the store with which it began: the recorded calls lead from that store to the one that a desk has, whether
-/// or not the trace keeps them.
+/// A trace whose type names the store with which it began, and a log: the calls of the log lead from that store to the one that a desk
+/// has, whether or not the trace keeps them.
 #[derive(Drop)]
 pub struct Anchored<T: Trace, N: Anchor> {
     trace: T,
+    /// None once it could not take a call.
+    log: Option<CallLog>,
     of: PhantomData<N>,
 }
 
+impl<T: Trace, N: Anchor> Model for Anchored<T, N> {
+    ghost use Rattle.std.specs.Prelude.{◌≡◌, IfSome};
+    ghost use Rattle.silt_desk.specs.Anchors.{AnchoredState};
+
+    ghost Value = { AnchoredState T };
+
+    ghost view = { λ a. record { trace = a.trace; log = a.log } };
+
+    ghost invariant = { λ a. IfSome a.log (λ log. log.book ≡ N.calls) };
+}
+
 impl<T: Trace, N: Anchor> Anchored<T, N> {
-    /// Anchors a trace of no calls at this store, as it is now.
-    pub fn new<D: Disk>(core: &Core<D>, trace: T) -> Anchored<T, N>
+    /// Anchors a trace of no calls at this store, as it is now, with a log of no calls.
+    pub fn new<D: Disk>(core: &Core<D>, trace: T, log: CallLog) -> Anchored<T, N>
         requires first { N.first ≡ Some (seen D.Disk core.now) }
+        requires log { (log.book ≡ N.calls) × (log.calls ≡ []) }
         requires trace { T.agrees trace (seen D.Disk core.now) × T.counts trace 0 0 }
         ensures agrees { T.agrees result.trace (seen D.Disk core.now) }
         ensures counts { T.counts result.trace 0 0 }
-        ensures past { HasPast N.first T.counts result.trace (seen D.Disk core.now) }
+        ensures past { HasPast N.first T.counts result (seen D.Disk core.now) }
+        ensures log { result.log ≡ Some log }
     {
         core.standing(); // the possible crash images of the store as it is now
         Anchored {
             trace,
+            log: Some(log),
             of: PhantomData,
         }
     }
 }
 
 impl<T: Trace, N: Anchor> Trace for Anchored<T, N> {
-    ghost use Rattle.silt_desk.specs.TraceLaws.{past_more};
+    ghost use Rattle.silt_desk.specs.CallLogs.{HasLogged, LogsCall};
+    ghost use Rattle.silt_desk.specs.TraceLaws.{logged_more, past_more};
 
-    ghost agrees = { λ a s. T.agrees a.trace s × HasPast N.first T.counts a.trace s };
+    ghost log = { Some N.calls };
+
+    ghost logs = { λ a calls. HasLogged a.log calls };
+
+    ghost agrees = { λ a s. T.agrees a.trace s × HasPast N.first T.counts a s };
 
     ghost counts = { λ a n m. T.counts a.trace n m };
 
-    ghost extends = { λ a c b. T.extends a.trace c b.trace };
+    ghost extends = { λ a c b. T.extends a.trace c b.trace × LogsCall a.log c b.log };
 
     ghost is_full = { λ a. T.is_full a.trace };
 
@@ -66,21 +94,43 @@ impl<T: Trace, N: Anchor> Trace for Anchored<T, N> {
     ghost fits = { T.fits };
 
     ghost agrees_after = { λ a b c s t agrees extends step. (
-      T.agrees_after a.trace b.trace c s t agrees.0 extends step,
-      past_more N.first T.counts a.trace b.trace c s t (λ n m k l held more accepted. T.counts_after a.trace b.trace c n m k l held extends more accepted) agrees.1 step,
+      T.agrees_after a.trace b.trace c s t agrees.0 extends.0 step,
+      past_more N.first T.counts a b c s t (λ n m k l held more accepted. T.counts_after a.trace b.trace c n m k l held extends.0 more accepted) extends.1 agrees.1 step,
     ) };
 
-    ghost counts_after = { λ a b c n m k l counts extends more accepted. T.counts_after a.trace b.trace c n m k l counts extends more accepted };
+    ghost counts_after = { λ a b c n m k l counts extends more accepted. T.counts_after a.trace b.trace c n m k l counts extends.0 more accepted };
+
+    ghost logs_after = { λ a b c calls extends logged. logged_more a.log b.log c calls extends.1 logged };
 
     fn prepare(&self, alloc: Global, len: usize, second: usize) -> Result<Room, NotPrepared> {
         self.trace.prepare(alloc, len, second)
     }
 
     fn record(&mut self, seat: u64, note: Note, value: &[u8], second: &[u8], room: Room) {
+        let noted = NotedCall {
+            seat,
+            note,
+            value,
+            second,
+        };
+        let is_logged = match &mut self.log {
+            Some(log) => log.append(&noted),
+            None => false,
+        };
+        if !is_logged {
+            self.log = None; // another owner added to it: this never happens, and if it did, no reply would come
+        }
         self.trace.record(seat, note, value, second, room);
     }
 
     fn numbers(&self) -> (u64, u64) {
         self.trace.numbers()
+    }
+
+    fn view(&self) -> Option<CallView> {
+        match &self.log {
+            Some(log) => Some(log.view()),
+            None => None,
+        }
     }
 }

@@ -2,6 +2,7 @@
 ghost use Rattle.std.specs.Prelude.{◌≡◌};
 
 use crate::call::Note;
+use crate::call_log::CallView;
 use crate::trace::{NotPrepared, Room, Trace};
 use std::alloc::Global;
 
@@ -25,7 +26,7 @@ impl Count {
 }
 
 impl Trace for Count {
-    ghost use Rattle.std.specs.Prelude.{◌≡◌, ◌+◌, ◌%◌, ◌^◌};
+    ghost use Rattle.std.specs.Prelude.{◌≡◌, ◌+◌, ◌%◌, ◌^◌, None};
     ghost use Rattle.silt_desk.specs.History.{accepted_by};
     ghost use Rattle.silt_desk.specs.TraceLaws.{next_count};
 
@@ -41,10 +42,16 @@ impl Trace for Count {
 
     ghost fits = { λ capacity len. Unit {0} };
 
+    ghost log = { None };
+
+    ghost logs = { λ t calls. ⊥ };
+
     ghost agrees_after = { λ a b c s t agrees extends step. tt };
 
     ghost counts_after = { λ a b c n m k l counts extends more accepted.
         (next_count a.calls b.calls n 1 k counts.0 extends.0 more, next_count a.accepted b.accepted m (accepted_by c.reply) l counts.1 extends.1 accepted) };
+
+    ghost logs_after = { λ a b c calls extends logged. absurd logged };
 
     fn prepare(&self, alloc: Global, _len: usize, _second: usize) -> Result<Room, NotPrepared> {
         Ok(Room {
@@ -60,5 +67,9 @@ impl Trace for Count {
 
     fn numbers(&self) -> (u64, u64) {
         (self.calls, self.accepted)
+    }
+
+    fn view(&self) -> Option<CallView> {
+        None
     }
 }

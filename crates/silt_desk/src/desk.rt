@@ -51,7 +51,7 @@ impl<D: Disk, T: Trace, N: DeskId> Model for Desk<D, T, N> {
     ghost invariant = { λ d. T.agrees d.trace (seen D.Disk d.core) × CountsCalls T.counts d.trace d.ledgers };
 }
 
-// Notes a call in the trace, with the seat and in the ledgers, if it is to be recorded. Only a swap can have a second value.
+// Notes a call in the trace, with the seat and in the ledgers, and its place with the seat, if it is to be recorded. Only a swap can have a second value.
 fn note_both<T: Trace, N: DeskId>(
     trace: &mut T,
     ledgers: &mut Ledgers<N>,
@@ -64,11 +64,12 @@ fn note_both<T: Trace, N: DeskId>(
     requires room { T.is_full trace.old → ⊥ }
     requires fits { T.fits (vec_capacity room.value) (length value.now) }
     requires fits_second { T.fits (vec_capacity room.second) (length second.now) }
-    ensures { Notes T.extends trace.old trace.new ledgers.old ledgers.new seat.old seat.new (noted_event note value.now second.now) (reply_of note value.now) }
+    ensures { Notes T.Trace trace.old trace.new ledgers.old ledgers.new seat.old seat.new (noted_event note value.now second.now) (reply_of note value.now) }
 {
     if note.is_recorded() {
         trace.record(seat.number(), note, value, second, room);
         ledgers.count(seat, note.acceptance());
+        seat.note_last(trace.view());
     }
 }
 
@@ -84,7 +85,7 @@ fn note<T: Trace, N: DeskId>(
     requires room { T.is_full trace.old → ⊥ }
     requires fits { T.fits (vec_capacity room.value) (length value.now) }
     requires fits_second { T.fits (vec_capacity room.second) 0 }
-    ensures { Notes T.extends trace.old trace.new ledgers.old ledgers.new seat.old seat.new (noted_event note value.now []) (reply_of note value.now) }
+    ensures { Notes T.Trace trace.old trace.new ledgers.old ledgers.new seat.old seat.new (noted_event note value.now []) (reply_of note value.now) }
 {
     note_both(trace, ledgers, seat, room, note, value, &[]);
 }

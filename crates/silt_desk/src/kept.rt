@@ -5,6 +5,7 @@ ghost use Rattle.silt_desk.specs.Seeing.{seen};
 ghost use Rattle.silt_desk.specs.Traces.{ListsMap, IsHistory};
 
 use crate::call::{Note, RecordedCall};
+use crate::call_log::CallView;
 use crate::trace::{NotPrepared, Room, Trace};
 use silt_disk::Disk;
 use silt_event::Refusal;
@@ -89,7 +90,7 @@ impl Kept {
 }
 
 impl Trace for Kept {
-    ghost use Rattle.std.specs.Prelude.{◌≡◌, ◌+◌, ◌≤◌, length};
+    ghost use Rattle.std.specs.Prelude.{◌≡◌, ◌+◌, ◌≤◌, None, length};
     ghost use Rattle.silt_desk.specs.History.{count_accepted};
     ghost use Rattle.silt_desk.specs.Traces.{IsHistory, with_call};
     ghost use Rattle.silt_desk.specs.TraceLaws.{history_more, length_after, accepted_after};
@@ -106,9 +107,15 @@ impl Trace for Kept {
 
     ghost fits = { λ capacity len. len ≤ capacity };
 
+    ghost log = { None };
+
+    ghost logs = { λ t calls. ⊥ };
+
     ghost agrees_after = { λ a b c s t agrees extends step. history_more a b c s t agrees extends step };
 
     ghost counts_after = { λ a b c n m k l counts extends more accepted. (length_after a b c n k counts.0 extends more, accepted_after a b c m l counts.1 extends accepted) };
+
+    ghost logs_after = { λ a b c calls extends logged. absurd logged };
 
     fn prepare(&self, alloc: Global, len: usize, second: usize) -> Result<Room, NotPrepared> {
         if self.calls.len() as u64 >= self.most {
@@ -136,6 +143,10 @@ impl Trace for Kept {
     #[tactic(auto, using(crate::specs::TraceLaws::accepted_laws))]
     fn numbers(&self) -> (u64, u64) {
         (self.calls.len() as u64, self.accepted)
+    }
+
+    fn view(&self) -> Option<CallView> {
+        None
     }
 }
 

@@ -4,8 +4,9 @@
 //! call and records its seat's number, its event and its reply. So the recorded calls are a history of one thread,
 //! whatever threads made them. [`Kept`] keeps all of them, and the entries at which they began; its type says that
 //! their replay is the store's map. [`Count`] keeps only their number. [`Anchored`] is another trace whose type says that some calls
-//! lead from the store with which it began to the one that the desk has. A look is a get that is not recorded, and many
-//! threads may look at the same time.
+//! lead from the store with which it began to the one that the desk has: those of its [`CallLog`], of which only the length is kept
+//! in memory. A [`CallView`] is a beginning of that log, and a [`CallPlace`] one call of it, which a [`Seat`] has of its last call. A look is a get
+//! that is not recorded, and many threads may look at the same time.
 //!
 //! [`Shared`] is the desk under a lock for readers and writers, and nothing more: a thread with a guard makes the
 //! desk's own calls. Once all seats are given back, [`settle`] returns how many calls are recorded and how many
@@ -17,6 +18,7 @@
 
 mod anchored;
 mod call;
+mod call_log;
 mod count;
 mod desk;
 mod kept;
@@ -32,6 +34,7 @@ mod worker;
 
 pub use anchored::{Anchor, Anchored};
 pub use call::{Note, RecordedCall, plain};
+pub use call_log::{CallLog, CallPlace, CallView};
 pub use count::Count;
 pub use desk::{Desk, NotMade};
 pub use kept::Kept;

@@ -1,9 +1,11 @@
 // Places at a desk, and the ledgers that count what is done from them.
-ghost use Rattle.std.specs.Prelude.{◌≡◌, ◌≢◌, ℕ, ◌+◌, ◌<◌, Some, None, false, true, is_some, IfOk, MatchResult, vec_len, slice_get};
+ghost use Rattle.std.specs.Prelude.{◌≡◌, ◌≢◌, ℕ, ◌+◌, ◌<◌, ◌++◌, ◌∷◌, [], List, Some, None, false, true, is_some, IfOk, IfSome, MatchResult, vec_len, slice_get};
 ghost use Rattle.std.specs.Option.{option_map};
 ghost use Rattle.silt_inbox.specs.Books.{has_books};
 ghost use Rattle.silt_desk.specs.Seats.{accepted_of, after_call, calls_of, counted, counts_of, fresh, unbooked};
+ghost use Rattle.silt_desk.specs.declared.call.RecordedCall.{RecordedCall as Recorded};
 
+use crate::call_log::{CallPlace, CallView};
 use std::alloc::{AllocError, Global};
 use std::marker::{Brand, Model, PhantomData};
 use std::sync::ledger::{Blank, Book, Ledger, Share};
@@ -68,12 +70,13 @@ impl<N: DeskId> Model for Shares<N> {
     ghost invariant = { λ s. (s.calls.parts ≡ 1) × (s.accepted.parts ≡ 1) };
 }
 
-/// A place at a desk. Contracts see its number, and how many calls from it are recorded and are accepted commands, if the desk keeps
-/// books. It fits only the desk that gave it out.
+/// A place at a desk. Contracts see its number, how many calls from it are recorded and are accepted commands, if the desk keeps
+/// books, and where its last recorded call stands, if the trace has a log. It fits only the desk that gave it out.
 #[derive(Drop)]
 pub struct Seat<N: DeskId> {
     number: u64,
     shares: Option<Shares<N>>,
+    last: Option<CallPlace>,
 }
 
 impl<N: DeskId> Model for Seat<N> {
@@ -83,7 +86,7 @@ impl<N: DeskId> Model for Seat<N> {
 
     ghost Value = { SeatState };
 
-    ghost view = { λ s. record { number = s.number; counts = s.shares } };
+    ghost view = { λ s. record { number = s.number; counts = s.shares; last = s.last } };
 
     ghost invariant = { λ s. is_some s.shares ≡ has_books N.seats };
 }
@@ -96,13 +99,42 @@ impl<N: DeskId> Seat<N> {
         self.number
     }
 
+    /// Where its last recorded call stands in the trace's log. None if it has none, or if the trace has no log.
+    pub fn last(&self) -> Option<CallPlace>
+        ensures { result ≡ self.now.last }
+    {
+        match &self.last {
+            Some(place) => Some(place.again()),
+            None => None,
+        }
+    }
+
+    // Notes that its last recorded call is the last one of these.
+    pub(crate) fn note_last(&mut self, view: Option<CallView>)
+        ensures number { self.new.number ≡ self.old.number }
+        ensures counts { self.new.counts ≡ self.old.counts }
+        ensures last { IfSome self.new.last (λ place. IfSome view (λ seen. (place.book ≡ seen.book) × ((before : List Recorded) (c : Recorded) → seen.calls ≡ before ++ c ∷ [] → place.at ≡ Some c))) }
+        ensures none { view ≡ None → self.new.last ≡ None }
+    {
+        self.last = match view {
+            Some(view) => CallPlace::last(view),
+            None => None,
+        };
+    }
+
     // Gives the seat's parts up.
     fn leave(self, calls: &mut Share<CallsOf<N>>, accepted: &mut Share<AcceptedOf<N>>)
         requires { has_books N.seats ≡ true }
         ensures calls { (calls.new.parts ≡ calls.old.parts + 1) × (calls.new.amount ≡ calls.old.amount + (counts_of self).calls) }
         ensures accepted { (accepted.new.parts ≡ accepted.old.parts + 1) × (accepted.new.amount ≡ accepted.old.amount + (counts_of self).accepted) }
     {
-        if let Some(shares) = self.shares {
+        let Seat {
+            number: _,
+            shares,
+            last,
+        } = self;
+        drop(last);
+        if let Some(shares) = shares {
             let Shares {
                 calls: mine,
                 accepted: mine_accepted,
@@ -202,6 +234,7 @@ impl<N: DeskId> Ledgers<N> {
             places.push_reserved(Seat {
                 number,
                 shares: Some(shares),
+                last: None,
             });
         }
         let books = Books {
@@ -228,6 +261,7 @@ impl<N: DeskId> Ledgers<N> {
             places.push_reserved(Seat {
                 number,
                 shares: None,
+                last: None,
             });
         }
         Ok((Ledgers { seats, books: None }, places))

@@ -1,5 +1,6 @@
 // What a desk remembers of its calls.
-ghost use Rattle.std.specs.Prelude.{◌≡◌, ℕ, ◌+◌, ◌%◌, ◌^◌, MatchResult, length, vec_capacity};
+ghost use Rattle.logbook.specs.Pages.{Book};
+ghost use Rattle.std.specs.Prelude.{◌≡◌, ℕ, ◌+◌, ◌++◌, ◌∷◌, ◌%◌, ◌^◌, [], IfSome, List, MatchResult, Option, Some, length, vec_capacity};
 ghost use Rattle.silt_desk.specs.History.{accepted_by, call};
 ghost use Rattle.silt_desk.specs.Notes.{noted_event, reply_of};
 ghost use Rattle.silt_desk.specs.Seeing.{SeenStore, SeenStep};
@@ -7,6 +8,7 @@ ghost use Rattle.silt_desk.specs.Preparing.{NotPreparedCause};
 ghost use Rattle.silt_desk.specs.declared.call.RecordedCall.{RecordedCall as Recorded};
 
 use crate::call::Note;
+use crate::call_log::CallView;
 use std::alloc::Global;
 
 /// Why a further call cannot be recorded.
@@ -45,6 +47,12 @@ pub trait Trace: Drop {
     /// A buffer of this capacity has room for a value of this length.
     ghost fits: { ℕ → ℕ → Type 0 };
 
+    /// The log to which it adds each call, if it keeps one.
+    ghost log: { Option Book };
+
+    /// These are the calls of its log.
+    ghost logs: { Self → List Recorded → Type 0 };
+
     /// Allocates the memory for the record of a call whose values have `len` and `second` bytes. A value of 0 bytes
     /// needs none.
     fn prepare(&self, alloc: Global, len: usize, second: usize) -> Result<Room, NotPrepared>
@@ -62,7 +70,13 @@ pub trait Trace: Drop {
     fn numbers(&self) -> (u64, u64)
         ensures { (n m : ℕ) → counts self.now n m → (result.0 ≡ n % 2 ^ 64) × (result.1 ≡ m % 2 ^ 64) };
 
+    /// The calls of its log, if it keeps one.
+    fn view(&self) -> Option<CallView>
+        ensures { IfSome result (λ view. (Some view.book ≡ log) × logs self.now view.calls) };
+
     ghost agrees_after: { (a b : Self) (c : Recorded) (s t : SeenStore) → agrees a s → extends a c b → SeenStep s t c.event c.reply → agrees b t };
 
     ghost counts_after: { (a b : Self) (c : Recorded) (n m k l : ℕ) → counts a n m → extends a c b → k ≡ n + 1 → l ≡ m + accepted_by c.reply → counts b k l };
+
+    ghost logs_after: { (a b : Self) (c : Recorded) (calls : List Recorded) → extends a c b → logs b calls → (before : List Recorded) × (calls ≡ before ++ c ∷ []) };
 }

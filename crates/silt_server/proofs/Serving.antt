@@ -61,7 +61,7 @@ module _ {D F T E : Type 0} (facts : Ghosts D F) (agrees : T → SeenStore → T
   calls_served one traced is =
       let printed = traced.printed is in
       let calls = traced.past.calls in
-      let number = one traced.trace printed.2 printed.3 (length calls) (count_accepted calls) printed.4 traced.past.counted in (
+      let number = one traced.state.trace printed.2 printed.3 (length calls) (count_accepted calls) printed.4 traced.past.counted in (
         traced.last,
         calls,
         traced.is,

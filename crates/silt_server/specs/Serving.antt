@@ -9,7 +9,7 @@ use Rattle.silt_event.specs.declared.refusal.Refusal.{Refusal}
 use Rattle.silt_event.specs.declared.refusal.Refusal.TheVariants.{NoMemory}
 use Rattle.silt_store_set.specs.CoreInvariant.{LeavesBegun}
 use Rattle.silt_store_set.specs.CoreState.{CoreState, EntriesCause}
-use Rattle.silt_desk.specs.Anchors.{HasPast}
+use Rattle.silt_desk.specs.Anchors.{AnchoredState, HasPast}
 use Rattle.silt_desk.specs.History.{count_accepted}
 use Rattle.silt_desk.specs.Seeing.{SeenStore, seen}
 use Rattle.silt_desk.specs.Traces.{IsHistory, Keeping, LeadsTo}
@@ -73,11 +73,11 @@ ServesCalls {D} facts has_port first disk before after =
 pub record IsTraced {D F T E : Type 0} (facts : Ghosts D F) (agrees : T → SeenStore → Type 0) (counts : T → ℕ → ℕ → Type 0) (has_port : ℕ → Type 0)
     (first : CoreState D) (disk : D) (status : Result ℕ E) (before after : Option (List ℕ)) : Type 0 where
   pub last : CoreState D
-  pub trace : T
+  pub state : AnchoredState T
   pub is : last.disk ≡ disk
-  pub agreed : agrees trace (seen facts last)
-  pub past : HasPast (Some (seen facts first)) counts trace (seen facts last)
-  pub printed : status ≡ Ok 0 → PrintsServed has_port counts trace before after
+  pub agreed : agrees state.trace (seen facts last)
+  pub past : HasPast (Some (seen facts first)) counts state (seen facts last)
+  pub printed : status ≡ Ok 0 → PrintsServed has_port counts state.trace before after
 
 -- ---- a server of a set
 

@@ -16,8 +16,8 @@ use silt_disk::Disk;
 use silt_event::{Event, Facts, Reply};
 use silt_inbox::{Inbox, InboxId, Taker};
 use silt_session::{
-    AskBy, Asking, Board, Job, JobLog, LogId, RoomGate, RoomWait, Session, SessionSlot, Unanswered,
-    Workplace, WriterLink,
+    AskBy, Asking, Board, Job, JobLog, LogId, RoomGate, RoomWait, Session, SessionSlot, Told,
+    Unanswered, Workplace, WriterLink,
 };
 use std::alloc::Global;
 use std::io;
@@ -220,15 +220,25 @@ impl<D: Viewed, T: Trace, N: DeskId + InboxId + LogId, G: Gate, R: Wait + Clock>
         let stream = slot.lock(self.rt).connection();
         if let Some(stream) = stream {
             let session = self.session(slot, self.limits.protocol.settles_gets());
-            let one = |event: Event| -> Result<Reply<()>, Unanswered> { session.answer(event) };
-            let all = |events: Vec<Event>| -> Result<Vec<Reply<()>>, Unanswered> {
-                session.answer_all(events)
+            let one = |event: Event, told: &Told<T>| -> (Result<Reply<()>, Unanswered>, Told<T>) {
+                let mut now = told.again();
+                let given = session.answer(event, &mut now);
+                (given, now)
+            };
+            let all = |events: Vec<Event>, told: &Told<T>| -> (
+                Result<Vec<Reply<()>>, Unanswered>,
+                Told<T>,
+            ) {
+                let mut now = told.again();
+                let given = session.answer_all(events, &mut now);
+                (given, now)
             };
             let facts = || -> Facts { session.facts() };
             let asking = AskBy {
                 one: &one,
                 all: &all,
                 facts: &facts,
+                told: session.told(),
             };
             self.answer(number, &stream, asking);
         }

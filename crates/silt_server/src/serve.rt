@@ -1,5 +1,5 @@
 // A server on one listener.
-ghost use Rattle.std.specs.Prelude.{◌≡◌, ◌⊎◌, ◌++◌, Ok, Some, IfErr, IfOk, IfSome, OnOk, codes};
+ghost use Rattle.std.specs.Prelude.{◌≡◌, ◌⊎◌, ◌++◌, [], Ok, Some, IfErr, IfOk, IfSome, OnOk, codes};
 ghost use Rattle.std.specs.Io.KnownBytes.{Appends};
 ghost use Rattle.silt_disk.specs.Layout.{Shape};
 ghost use Rattle.silt_store_set.specs.CoreInvariant.{LeavesBegun};
@@ -15,7 +15,9 @@ use crate::counting_listener::Listens;
 use crate::limits::{Limits, MOST_SESSIONS};
 use crate::workers::Workers;
 use crate::written::{refuse, write_calls, write_listening, write_network_fault, write_opened};
-use silt_desk::{Anchor, Anchored, Count, Desk, DeskId, Gate, Kept, Seat, Shared, Trace, Viewed};
+use silt_desk::{
+    Anchor, Anchored, CallLog, Count, Desk, DeskId, Gate, Kept, Seat, Shared, Trace, Viewed,
+};
 use silt_disk::Disk;
 use silt_event::Refusal;
 use silt_inbox::{Inbox, InboxId, Taker};
@@ -119,6 +121,7 @@ impl<L: Listens + Sync, G: Gate + Sync, C: Cares, R: Threads + Wait + Clock + Sy
         requires put { (blanks.put.name ≡ N.put_name) × (blanks.put.parts ≡ N.feeders) × (N.feeders ≡ 1024) }
         requires taken { (blanks.taken.name ≡ N.taken_name) × (blanks.taken.parts ≡ 1) }
         requires log { blanks.log ≡ N.log }
+        requires history { (blanks.history.book ≡ N.calls) × (blanks.history.calls ≡ []) }
         requires trace { (N.first ≡ Some (seen D.Disk core)) × T.agrees trace (seen D.Disk core) × T.counts trace 0 0 }
         ensures traced { IsTraced D.Disk T.agrees T.counts (L.has_port self.now.listener.now) core result.0 result.1 (W.contents out.old) (W.contents out.new) }
         ensures printed { IfOk result.1 (IsStatus (BreaksServing (L.has_port self.now.listener.now) (W.contents out.old) (W.contents out.new))) }
@@ -130,8 +133,9 @@ impl<L: Listens + Sync, G: Gate + Sync, C: Cares, R: Threads + Wait + Clock + Sy
             put,
             taken,
             log,
+            history,
         } = blanks;
-        let trace = Anchored::<T, N>::new(&core, trace);
+        let trace = Anchored::<T, N>::new(&core, trace, history);
         match Desk::<D, Anchored<T, N>, N>::new(self.alloc, core, trace, WORKERS, calls, accepted) {
             Ok((desk, seats)) => {
                 let Some(state) = ServerState::new(self.alloc, seats, put, taken, log) else {
@@ -262,7 +266,7 @@ fn write_no_network<W: Write>(out: &mut W) -> io::Result<u8>
     write_network_fault(out)
 }
 
-// The blanks that become the ledgers of a desk and of an inbox, and the log of the jobs.
+// The blanks that become the ledgers of a desk and of an inbox, the log of the jobs, and that of the calls.
 #[derive(Drop)]
 struct Blanks {
     calls: Blank,
@@ -270,12 +274,14 @@ struct Blanks {
     put: Blank,
     taken: Blank,
     log: LogStart,
+    history: CallLog,
 }
 
 impl Blanks {
     fn new() -> Blanks
         ensures desk { (result.calls.parts ≡ 3) × (result.accepted.parts ≡ 3) }
         ensures inbox { (result.put.parts ≡ 1024) × (result.taken.parts ≡ 1) }
+        ensures history { result.history.calls ≡ [] }
     {
         Blanks {
             calls: Blank::new(WORKERS),
@@ -283,6 +289,7 @@ impl Blanks {
             put: Blank::new(MOST_SESSIONS),
             taken: Blank::new(1),
             log: LogStart::new(),
+            history: CallLog::new(),
         }
     }
 }

@@ -14,7 +14,9 @@ use silt_desk::{DeskId, DeskView, Gate, Shared, Trace, Viewed};
 use silt_disk::Disk;
 use silt_event::{Event, Facts, Reply};
 use silt_inbox::{InboxId, Taker};
-use silt_session::{AskAheadBy, AskedEvents, Board, Job, LogId, Session, SetAsking, Unanswered};
+use silt_session::{
+    AskAheadBy, AskedEvents, Board, Job, LogId, Session, SetAsking, Told, Unanswered,
+};
 use std::alloc::Global;
 use std::io;
 use std::marker::PhantomData;
@@ -53,12 +55,17 @@ impl<D: Disk, T: Trace, N: DeskId + InboxId + LogId, G: Gate, R: Wait + Clock> S
         };
         for session in sessions {
             shards.push_reserved(AskAheadBy {
-                one: move |event: Event| -> Result<Reply<()>, Unanswered> { session.answer(event) },
+                one: move |event: Event| -> Result<Reply<()>, Unanswered> {
+                    session.answer(event, &mut Told::nothing())
+                },
                 begin: move |events: Vec<Event>| -> Result<AskedEvents<D, T, N>, Unanswered> {
-                    session.begin(events)
+                    session.begin(events, &Told::nothing())
                 },
                 finish: move |asked: AskedEvents<D, T, N>| -> Result<Vec<Reply<()>>, Unanswered> {
-                    session.finish(asked)
+                    match session.finish(asked) {
+                        Ok((replies, _)) => Ok(replies),
+                        Err(lack) => Err(lack),
+                    }
                 },
                 facts: move || -> Facts { session.facts() },
                 of: PhantomData,

@@ -1,5 +1,5 @@
 -- What a batch does to the writer's seat, and one batch more.
-use Rattle.std.proofs.Common.{◌≡◌, ◌⊎◌, inl, inr, ℕ, zero, suc, ◌+◌, ◌-◌, ◌<◌, ◌≤◌, ◌&&◌, ◌||◌, Bool, true, false, Option, Some, None, Result, Ok, Err, List, [], ◌∷◌, ◌++◌, append_assoc, drop, drop_of_length-le, get_or, length, take, refl, sym, ◌∙◌, ap, subst, arith}
+use Rattle.std.proofs.Common.{◌≡◌, ◌⊎◌, inl, inr, ℕ, zero, suc, ◌-◌, ◌<◌, ◌≤◌, ◌&&◌, ◌||◌, Bool, true, false, Option, Some, None, Result, Ok, Err, List, [], ◌∷◌, ◌++◌, append_assoc, drop, drop_of_length-le, get_or, length, take, refl, sym, ◌∙◌, ap, subst, arith}
 use Rattle.std.specs.List.{AllZip}
 use Rattle.std.specs.Prelude.{MatchBool}
 use Rattle.std.proofs.lemmas.List.{append-nil, drop-append-le, take-append-le, take_all}
@@ -19,6 +19,9 @@ use Rattle.silt_desk.specs.Notes.{plain_answer}
 use Rattle.silt_desk.specs.Seats.{SeatState}
 use Rattle.silt_desk.specs.declared.trace.Trace.{Ghosts as TraceOf}
 use Rattle.silt_desk.specs.declared.worker.Due.{Due}
+use Rattle.silt_session.specs.Tolds.{CallsAt, answer_place}
+use Rattle.silt_desk.specs.CallLogs.{PlaceState}
+use Rattle.silt_session.proofs.Tolds.{done_place}
 use Rattle.silt_session.specs.Requests.{Answer, Flushed, TaskState, compared, requests_of}
 use Rattle.silt_session.specs.Origins.{Flushes, HasDone, Performs, WasFlushed}
 use Rattle.silt_session.specs.Batches.{FindsNoRoom, FindsNoRoomTimes, IsBatch, IsDueAt, KeepsLeft, MayMakeRoom, PerformsAll, PerformsAtOnce, PerformsJob, PerformsLast, PerformsLater, PerformsRequest, PerformsTask, RepliesTo, RepliesToAll, ServesBatch, ServesBatches, StepsThrough, TriesAgain, TriesOnce, WriterState, done_in, lacks_room, left_in, may_get_room, writer_at}
@@ -35,7 +38,7 @@ module _ {D F T : Type 0} (facts : Ghosts D F) (trace : TraceOf T) where
       → Serves facts trace old new seat after e reply → after.number ≡ seat.number
   serves_number old new seat after e reply serves =
       let go : (b : Bool) → MatchBool b (Records facts trace old new seat after e reply) (Refuses facts trace old new seat after e reply) → after.number ≡ seat.number = elim [
-        | true ↦ λ records. ap (λ (s : SeatState). s.number) records.seated
+        | true ↦ λ records. records.seated.number
         | false ↦ λ refuses. ap (λ (s : SeatState). s.number) refuses.seated
       ] in
       go (is_recorded reply) serves
@@ -158,6 +161,13 @@ module _ {D F T : Type 0} (facts : Ghosts D F) (trace : TraceOf T) where
     pub task_done : (before after : WriterState D T N F) (asked request : Request) (answer : Option Answer) → asked ≡ request
         → PerformsRequest facts trace seconds is_over before asked answer after → HasDone facts trace request answer
     task_done before after asked request answer is does = subst (λ (r : Request). HasDone facts trace r answer) is (request_done before after asked answer does)
+
+    -- where a task's call stands
+    pub task_placed : (before after : WriterState D T N F) (asked request : Request) (answer : Option Answer) (place : Option PlaceState) → asked ≡ request
+        → place ≡ answer_place answer after.seat.last → PerformsRequest facts trace seconds is_over before asked answer after → CallsAt trace.log request answer place
+    task_placed before after asked request answer place is at does =
+        subst (λ (r : Request). CallsAt trace.log r answer place) is
+        (subst (λ (p : Option PlaceState). CallsAt trace.log asked answer p) (sym at) (done_place facts trace seconds is_over before after asked answer does))
 
     pub task_performed : (before after : WriterState D T N F) (asked : Request) (old new : TaskState) (answer : Option Answer) → asked ≡ old.request
         → new ≡ record old { answer = answer } → PerformsRequest facts trace seconds is_over before asked answer after

@@ -5,3 +5,4 @@ mod Marks
 mod Pipelines
 mod JobLogs
 mod Sets
+mod Tolds

@@ -24,9 +24,10 @@ use Rattle.silt_store_set.specs.declared.store_core.Look.{Look}
 use Rattle.silt_desk.specs.declared.trace.Trace.{Ghosts as TraceOf}
 use Rattle.silt_session.specs.Marks.{IsMarked, mark_of}
 use Rattle.silt_session.specs.Pipelines.{AddsFlush, AnswersSoFar, AwaitsFlush, Fills, FillsAll, FillsOne, GathersTask, HasRoom, IsFlushedBy, IsFree, IsNoGetOf, IsPlaceOf, IsSettled, IsShown, IsTaskOf, Looks, MarksToo, MaySettle, MovesPlaces, NoneOvertakes, NothingWaits, SettlesAll, SettlesEach, SettlesShown, flush_if, given_after, given_by, reply_without_tasks, shown_of, waiting_events}
-use Rattle.silt_session.specs.Origins.{Origin}
 use Rattle.silt_session.specs.Requests.{TaskState, asked_event, changed_key, requests_of}
-use Rattle.silt_session.specs.Sessions.{IsAnswer, IsKept, IsReplyOf}
+use Rattle.silt_session.specs.Sessions.{IsAnswer, IsKept, IsReplyOf, IsToldTo}
+use Rattle.silt_session.specs.Tolds.{IsToldMore, ToldState}
+use Rattle.silt_session.proofs.Tolds.{answers_more}
 use Rattle.silt_session.specs.declared.job.Request.{Request}
 use Rattle.silt_session.specs.declared.job.Request.TheVariants.{Put, Delete, Swap, Flush}
 use Rattle.silt_session.specs.declared.key_marks.KeyMarks.{KeyMarks}
@@ -52,24 +53,24 @@ not_false false is = absurd (cc)
 le_of_count : (count core n : ℕ) → count ≡ core → count ≤ n → core ≤ n
 le_of_count count core n is le = omega (arith, is, le)
 
-module _ {D F T : Type 0} (facts : Ghosts D F) (trace : TraceOf T) where
+module _ {D F T : Type 0} (facts : Ghosts D F) (trace : TraceOf T) (told : ToldState) where
   -- a task's own reply comes from its request
-  reply_comes : (task : TaskState) (request : Request) (reply : PlainReply) → task.request ≡ request → IsReplyOf facts trace task reply → Origin facts trace request reply
-  reply_comes task request reply its has = subst (λ (r : Request). Origin facts trace r reply) its has.1
+  reply_comes : (task : TaskState) (request : Request) (reply : PlainReply) → task.request ≡ request → IsReplyOf facts trace told task reply → IsToldTo facts trace told request reply
+  reply_comes task request reply its has = subst (λ (r : Request). IsToldTo facts trace told r reply) its has.1
 
   -- the reply of a task that came back alone comes from its request
   pub alone_comes : {E : Type 0} (request : Request) (sent tasks : List TaskState) (found : Option PlainReply) (given : Result PlainReply E)
       → requests_of sent ≡ request ∷ [] → requests_of tasks ≡ requests_of sent → found ≡ result_ok given
-      → IfSome found (λ reply. (task : TaskState) × (tasks ≡ task ∷ []) × IsReplyOf facts trace task reply) → IfOk given (Origin facts trace request)
+      → IfSome found (λ reply. (task : TaskState) × (tasks ≡ task ∷ []) × IsReplyOf facts trace told task reply) → IfOk given (IsToldTo facts trace told request)
   alone_comes request sent tasks found (Ok reply) one same is all =
-      let (task, alone, has) = subst (λ (o : Option PlainReply). IfSome o (λ r. (task : TaskState) × (tasks ≡ task ∷ []) × IsReplyOf facts trace task r)) is all in
+      let (task, alone, has) = subst (λ (o : Option PlainReply). IfSome o (λ r. (task : TaskState) × (tasks ≡ task ∷ []) × IsReplyOf facts trace told task r)) is all in
       let its : task.request ∷ [] ≡ request ∷ [] = ap requests_of (sym alone) ∙ same ∙ one in
       reply_comes task request reply (let i : task.request ≡ request = cc in i) has
   alone_comes request sent tasks found (Err e) one same is all = tt
 
   -- a reply that is given is that of the place
-  pub given_settles : {E : Type 0} (shown : Shown) (flushed found : Option PlainReply) (given : Result PlainReply E) → IsFlushedBy facts trace flushed
-      → found ≡ given_by flushed shown → found ≡ result_ok given → IfOk given (SettlesShown facts trace shown)
+  pub given_settles : {E : Type 0} (shown : Shown) (flushed found : Option PlainReply) (given : Result PlainReply E) → IsFlushedBy facts trace told flushed
+      → found ≡ given_by flushed shown → found ≡ result_ok given → IfOk given (SettlesShown facts trace told shown)
   given_settles shown flushed found (Ok reply) came by is = inr (flushed, came, sym by ∙ is)
   given_settles shown flushed found (Err e) came by is = tt
 
@@ -115,42 +116,42 @@ module _ {D F : Type 0} (facts : Ghosts D F) (settles : Bool) where
 
 -- ---- places that have their replies
 
-module _ {D F T : Type 0} (facts : Ghosts D F) (trace : TraceOf T) where
+module _ {D F T : Type 0} (facts : Ghosts D F) (trace : TraceOf T) (told : ToldState) where
   -- one place more
   pub fills_more : (flushed : Option PlainReply) (tasks mid left : List TaskState) (places : List Place) (replies : List PlainReply) (place : Place) (reply : PlainReply)
-      → Fills facts trace flushed tasks places replies mid → FillsOne facts trace flushed mid place reply left → Fills facts trace flushed tasks (places ++ place ∷ []) (replies ++ reply ∷ []) left
-  fills_more flushed tasks mid left [] [] place reply all one = (left, subst (λ (l : List TaskState). FillsOne facts trace flushed l place reply left) all one, refl)
+      → Fills facts trace told flushed tasks places replies mid → FillsOne facts trace told flushed mid place reply left → Fills facts trace told flushed tasks (places ++ place ∷ []) (replies ++ reply ∷ []) left
+  fills_more flushed tasks mid left [] [] place reply all one = (left, subst (λ (l : List TaskState). FillsOne facts trace told flushed l place reply left) all one, refl)
   fills_more flushed tasks mid left (p ∷ places) (r ∷ replies) place reply all one = (all.0, all.1, fills_more flushed all.0 mid left places replies place reply all.2 one)
   fills_more flushed tasks mid left [] (r ∷ replies) place reply all one = absurd all
   fills_more flushed tasks mid left (p ∷ places) [] place reply all one = absurd all
 
-module _ {D F T : Type 0} (facts : Ghosts D F) (trace : TraceOf T) where
+module _ {D F T : Type 0} (facts : Ghosts D F) (trace : TraceOf T) (told : ToldState) where
   -- the tasks give the places their replies
-  fills_settle : (flushed : Option PlainReply) → IsFlushedBy facts trace flushed → (tasks : List TaskState) (places : List Place) (replies : List PlainReply)
-      → Fills facts trace flushed tasks places replies [] → SettlesEach facts trace places (requests_of tasks) replies
-  fills_settle flushed came tasks [] [] fills = subst (λ (l : List TaskState). SettlesEach facts trace [] (requests_of l) []) fills tt
+  fills_settle : (flushed : Option PlainReply) → IsFlushedBy facts trace told flushed → (tasks : List TaskState) (places : List Place) (replies : List PlainReply)
+      → Fills facts trace told flushed tasks places replies [] → SettlesEach facts trace told places (requests_of tasks) replies
+  fills_settle flushed came tasks [] [] fills = subst (λ (l : List TaskState). SettlesEach facts trace told [] (requests_of l) []) fills tt
   fills_settle flushed came tasks (Shows shown ∷ places) (reply ∷ replies) (mid, one, rest) =
-      subst (λ (l : List TaskState). SettlesEach facts trace (Shows shown ∷ places) (requests_of l) (reply ∷ replies)) one.1
+      subst (λ (l : List TaskState). SettlesEach facts trace told (Shows shown ∷ places) (requests_of l) (reply ∷ replies)) one.1
       (inr (flushed, came, one.0), fills_settle flushed came mid places replies rest)
   fills_settle flushed came tasks (Waits ∷ places) (reply ∷ replies) (mid, one, rest) =
       let (task, next, has) = one in
-      subst (λ (l : List TaskState). SettlesEach facts trace (Waits ∷ places) (requests_of l) (reply ∷ replies)) (sym next)
+      subst (λ (l : List TaskState). SettlesEach facts trace told (Waits ∷ places) (requests_of l) (reply ∷ replies)) (sym next)
       (has.1, fills_settle flushed came mid places replies rest)
   fills_settle flushed came tasks [] (reply ∷ replies) fills = absurd fills
   fills_settle flushed came tasks (place ∷ places) [] fills = absurd fills
 
   -- the tasks that came back give the places their replies
   pub all_settle : (has_flush : Bool) (tasks : List TaskState) (requests : List Request) → requests_of tasks ≡ requests ++ flush_if has_flush
-      → (places : List Place) (replies : List PlainReply) → FillsAll facts trace has_flush tasks places replies → SettlesEach facts trace places requests replies
+      → (places : List Place) (replies : List PlainReply) → FillsAll facts trace told has_flush tasks places replies → SettlesEach facts trace told places requests replies
   all_settle true tasks requests same places replies (left, flushed, (task, is, has), fills) =
       let both = last_same (requests_of left) requests task.request Flush (sym (map-append (λ (t : TaskState). t.request) left (task ∷ [])) ∙ ap requests_of (sym is) ∙ same) in
-      subst (λ (l : List Request). SettlesEach facts trace places l replies) both.0
-      (fills_settle (Some flushed) (reply_comes facts trace task Flush flushed both.1 has) left places replies fills)
+      subst (λ (l : List Request). SettlesEach facts trace told places l replies) both.0
+      (fills_settle (Some flushed) (reply_comes facts trace told task Flush flushed both.1 has) left places replies fills)
   all_settle false tasks requests same places replies fills =
-      subst (λ (l : List Request). SettlesEach facts trace places l replies) (same ∙ append-nil requests) (fills_settle None tt tasks places replies fills)
+      subst (λ (l : List Request). SettlesEach facts trace told places l replies) (same ∙ append-nil requests) (fills_settle None tt tasks places replies fills)
 
   -- each place has one reply
-  each_long : (places : List Place) (requests : List Request) (replies : List PlainReply) → SettlesEach facts trace places requests replies → length replies ≡ length places
+  each_long : (places : List Place) (requests : List Request) (replies : List PlainReply) → SettlesEach facts trace told places requests replies → length replies ≡ length places
   each_long [] [] [] fits = refl
   each_long (Shows shown ∷ places) requests (reply ∷ replies) fits = ap suc (each_long places requests replies fits.1)
   each_long (Waits ∷ places) (request ∷ requests) (reply ∷ replies) fits = ap suc (each_long places requests replies fits.1)
@@ -162,32 +163,32 @@ module _ {D F T : Type 0} (facts : Ghosts D F) (trace : TraceOf T) where
   each_long (Waits ∷ places) (request ∷ requests) [] fits = absurd fits
 
   pub given_long : (memory : Bool) (places : List Place) (requests : List Request) (given : List PlainReply)
-      → (given ≡ map reply_without_tasks places) ⊎ ((memory ≡ false) × SettlesEach facts trace places requests given) → length given ≡ length places
+      → (given ≡ map reply_without_tasks places) ⊎ ((memory ≡ false) × SettlesEach facts trace told places requests given) → length given ≡ length places
   given_long memory places requests given (inl none) = ap length none ∙ length-map places reply_without_tasks
   given_long memory places requests given (inr fits) = each_long places requests given fits.1
 
   module _ (settles : Bool) where
     -- a look that waits for no flush
-    looked_now : (key : Key) (shown reply : PlainReply) → reply ≡ shown → Looks facts settles key (record { reply = shown; until = None }) → IsAnswer facts trace settles (event.Get key) reply
+    looked_now : (key : Key) (shown reply : PlainReply) → reply ≡ shown → Looks facts settles key (record { reply = shown; until = None }) → IsAnswer facts trace told settles (event.Get key) reply
     looked_now key shown reply is (core, gets, kept) =
-        subst (λ (r : PlainReply). IsAnswer facts trace settles (event.Get key) r) (sym is) (inr (inl (core, gets, λ yes_settles. inl (kept yes_settles))))
+        subst (λ (r : PlainReply). IsAnswer facts trace told settles (event.Get key) r) (sym is) (inr (inl (core, gets, λ yes_settles. inl (kept yes_settles))))
 
     -- a look that waits for a flush, by the reply to that
     looked_until : (key : Key) (count : ℕ) (shown reply : PlainReply) (flushed : Option PlainReply) → Looks facts settles key (record { reply = shown; until = Some count })
-        → IsFlushedBy facts trace flushed → given_after (Some count) flushed shown ≡ Some reply → IsAnswer facts trace settles (event.Get key) reply
+        → IsFlushedBy facts trace told flushed → given_after (Some count) flushed shown ≡ Some reply → IsAnswer facts trace told settles (event.Get key) reply
     looked_until key count shown reply None looks came is = absurd (cc)
     looked_until key count shown reply (Some (Acknowledged n)) (core, gets, waits) came is =
-        let go : (b : Bool) → nat_le count n ≡ b → cond b (Some shown) None ≡ Some reply → IsAnswer facts trace settles (event.Get key) reply = elim [
+        let go : (b : Bool) → nat_le count n ≡ b → cond b (Some shown) None ≡ Some reply → IsAnswer facts trace told settles (event.Get key) reply = elim [
           | true ↦ λ enough same.
               let its : reply ≡ shown = cc in
-              subst (λ (r : PlainReply). IsAnswer facts trace settles (event.Get key) r) (sym its)
+              subst (λ (r : PlainReply). IsAnswer facts trace told settles (event.Get key) r) (sym its)
               (inr (inl (core, gets, λ yes_settles. inr (n, came, le_of_count count _ n waits.1 (leb-true count n enough)))))
           | false ↦ λ few same. absurd (cc)
         ] in
         go (nat_le count n) refl is
     looked_until key count shown reply (Some (Refused refusal)) (core, gets, waits) came is =
         let its : reply ≡ Refused refusal = cc in
-        subst (λ (r : PlainReply). IsAnswer facts trace settles (event.Get key) r) (sym its) (inr (inr (waits.0, (refusal, refl), came)))
+        subst (λ (r : PlainReply). IsAnswer facts trace told settles (event.Get key) r) (sym its) (inr (inr (waits.0, (refusal, refl), came)))
     looked_until key count shown reply (Some (Accepted n)) looks came is = absurd (cc)
     looked_until key count shown reply (Some (Found value)) looks came is = absurd (cc)
     looked_until key count shown reply (Some Absent) looks came is = absurd (cc)
@@ -198,23 +199,23 @@ module _ {D F T : Type 0} (facts : Ghosts D F) (trace : TraceOf T) where
 
     -- a look has its reply
     looked : (key : Key) (until : Option ℕ) (shown reply : PlainReply) → Looks facts settles key (record { reply = shown; until = until })
-        → SettlesShown facts trace (record { reply = shown; until = until }) reply → IsAnswer facts trace settles (event.Get key) reply
+        → SettlesShown facts trace told (record { reply = shown; until = until }) reply → IsAnswer facts trace told settles (event.Get key) reply
     looked key None shown reply looks (inl is) = looked_now key shown reply is looks
     looked key None shown reply looks (inr (flushed, came, is)) = looked_now key shown reply (let same : reply ≡ shown = cc in same) looks
     looked key (Some count) shown reply looks (inl is) = inl is
     looked key (Some count) shown reply looks (inr (flushed, came, is)) = looked_until key count shown reply flushed looks came is
 
     -- a reply that waits for nothing is given
-    given_now : (shown : Shown) (reply due : PlainReply) → shown.reply ≡ due → shown.until ≡ None → SettlesShown facts trace shown reply → reply ≡ due
+    given_now : (shown : Shown) (reply due : PlainReply) → shown.reply ≡ due → shown.until ≡ None → SettlesShown facts trace told shown reply → reply ≡ due
     given_now shown reply due is none settled =
-        let go : (until : Option ℕ) → until ≡ None → SettlesShown facts trace (record { reply = shown.reply; until = until }) reply → reply ≡ due = elim [
+        let go : (until : Option ℕ) → until ≡ None → SettlesShown facts trace told (record { reply = shown.reply; until = until }) reply → reply ≡ due = elim [
           | None ↦ λ same. elim [ inl its ↦ its ∙ is | inr its ↦ let same : reply ≡ shown.reply = (let held : Some shown.reply ≡ Some reply = its.2 in cc) in same ∙ is ]
           | Some count ↦ λ differs. absurd (cc)
         ] in
         go shown.until none settled
 
     -- what is shown has its reply
-    pub shown_answers : (e : Event) (shown : Shown) (reply : PlainReply) → IsShown facts settles e shown → SettlesShown facts trace shown reply → IsAnswer facts trace settles e reply
+    pub shown_answers : (e : Event) (shown : Shown) (reply : PlainReply) → IsShown facts settles e shown → SettlesShown facts trace told shown reply → IsAnswer facts trace told settles e reply
     shown_answers (event.Get key) shown reply (inl (is, none)) settled = inl (given_now shown reply (Refused NoMemory) is none settled)
     shown_answers (event.Get key) shown reply (inr looks) settled = looked key shown.until shown.reply reply looks settled
     shown_answers event.Convert shown reply (is, none) settled = given_now shown reply NotServed is none settled
@@ -225,14 +226,14 @@ module _ {D F T : Type 0} (facts : Ghosts D F) (trace : TraceOf T) where
     shown_answers event.Flush shown reply is settled = absurd is
 
     -- the reply of a request's task is one to its event
-    request_answers : (request : Request) (reply : PlainReply) → Origin facts trace request reply → IsAnswer facts trace settles (asked_event request) reply
+    request_answers : (request : Request) (reply : PlainReply) → IsToldTo facts trace told request reply → IsAnswer facts trace told settles (asked_event request) reply
     request_answers (Put key value) reply came = inr (Put key value, refl, came)
     request_answers (Delete key) reply came = inr (Delete key, refl, came)
     request_answers (Swap key old new) reply came = inr (Swap key old new, refl, came)
     request_answers Flush reply came = inr (Flush, refl, came)
 
     -- out of memory for a request
-    request_refused : (request : Request) → IsAnswer facts trace settles (asked_event request) (Refused NoMemory)
+    request_refused : (request : Request) → IsAnswer facts trace told settles (asked_event request) (Refused NoMemory)
     request_refused (Put key value) = inl refl
     request_refused (Delete key) = inl refl
     request_refused (Swap key old new) = inl refl
@@ -240,27 +241,27 @@ module _ {D F T : Type 0} (facts : Ghosts D F) (trace : TraceOf T) where
 
     -- a reply that came back to a request is one to its event
     pub requested_answers : {E : Type 0} (request : Request) (e : Event) (result : Result PlainReply E) → asked_event request ≡ e
-        → IfOk result (Origin facts trace request) → IfOk result (IsAnswer facts trace settles e)
-    requested_answers request e (Ok reply) is came = subst (λ (x : Event). IsAnswer facts trace settles x reply) is (request_answers request reply came)
+        → IfOk result (IsToldTo facts trace told request) → IfOk result (IsAnswer facts trace told settles e)
+    requested_answers request e (Ok reply) is came = subst (λ (x : Event). IsAnswer facts trace told settles x reply) is (request_answers request reply came)
     requested_answers request e (Err lack) is came = tt
 
     -- what is shown and then given is a reply to the event
     pub given_answers : {E : Type 0} (e : Event) (shown : Shown) (result : Result PlainReply E) → IsShown facts settles e shown
-        → IfOk result (SettlesShown facts trace shown) → IfOk result (IsAnswer facts trace settles e)
+        → IfOk result (SettlesShown facts trace told shown) → IfOk result (IsAnswer facts trace told settles e)
     given_answers e shown (Ok reply) is settled = shown_answers e shown reply is settled
     given_answers e shown (Err lack) is settled = tt
 
     -- events have the replies at their places
     places_answer : (marks : KeyMarks) (events : List Event) (places : List Place) (tasks : List TaskState) (replies : List PlainReply)
         → AllZip (IsPlaceOf facts settles marks) events places → AllZip IsTaskOf (waiting_events events places) tasks
-        → SettlesEach facts trace places (requests_of tasks) replies → AllZip (IsAnswer facts trace settles) events replies
+        → SettlesEach facts trace told places (requests_of tasks) replies → AllZip (IsAnswer facts trace told settles) events replies
     places_answer marks [] [] [] [] are wait settled = tt
     places_answer marks (e ∷ events) (Shows shown ∷ places) tasks (reply ∷ replies) are wait settled =
         (shown_answers e shown reply are.0 settled.0, places_answer marks events places tasks replies are.1 wait settled.1)
     places_answer marks (e ∷ events) (Waits ∷ places) (task ∷ tasks) (reply ∷ replies) are wait settled =
         let (request, asks, fresh) = wait.0 in
-        let came = subst (λ (r : Request). Origin facts trace r reply) fresh.0 settled.0 in (
-          subst (λ (x : Event). IsAnswer facts trace settles x reply) asks (request_answers request reply came),
+        let came = subst (λ (r : Request). IsToldTo facts trace told r reply) fresh.0 settled.0 in (
+          subst (λ (x : Event). IsAnswer facts trace told settles x reply) asks (request_answers request reply came),
           places_answer marks events places tasks replies are.1 wait.1 settled.1,
         )
     places_answer marks [] (place ∷ places) tasks replies are wait settled = absurd are
@@ -273,12 +274,12 @@ module _ {D F T : Type 0} (facts : Ghosts D F) (trace : TraceOf T) where
 
     -- out of memory for the tasks
     refused_answer : (marks : KeyMarks) (events : List Event) (places : List Place) → AllZip (IsPlaceOf facts settles marks) events places
-        → AllZip (IsAnswer facts trace settles) events (map reply_without_tasks places)
+        → AllZip (IsAnswer facts trace told settles) events (map reply_without_tasks places)
     refused_answer marks [] [] are = tt
     refused_answer marks (e ∷ events) (Shows shown ∷ places) are =
         (shown_answers e shown (reply_without_tasks (Shows shown)) are.0 (inl refl), refused_answer marks events places are.1)
     refused_answer marks (e ∷ events) (Waits ∷ places) are = (
-      subst (λ (x : Event). IsAnswer facts trace settles x (Refused NoMemory)) are.0.0.1 (request_refused are.0.0.0),
+      subst (λ (x : Event). IsAnswer facts trace told settles x (Refused NoMemory)) are.0.0.1 (request_refused are.0.0.0),
       refused_answer marks events places are.1,
     )
     refused_answer marks [] (place ∷ places) are = absurd are
@@ -291,29 +292,37 @@ nothing_moved : {D T F : Type 0} (mid new : Pipeline D T F) → NothingWaits mid
 nothing_moved mid new none moved =
     subst NothingWaits (sym moved.same) (record { tasks = none.tasks; memory = none.memory; flush = none.flush; marks = none.marks })
 
-module _ {D F T : Type 0} (facts : Ghosts D F) (trace : TraceOf T) (old mid new : Pipeline D T F) (none : NothingWaits mid) (same : (mid.replies ≡ old.replies) × (mid.places ≡ old.places)) where
+-- nothing waits still if more was told
+pub told_none : {D T F : Type 0} (old new : Pipeline D T F) → new ≡ record old { told = new.told } → NothingWaits old → NothingWaits new
+told_none old new same none = subst NothingWaits (sym same) (record { tasks = none.tasks; memory = none.memory; flush = none.flush; marks = none.marks })
+
+module _ {D F T : Type 0} (facts : Ghosts D F) (trace : TraceOf T) (old mid new : Pipeline D T F) (none : NothingWaits mid) (same : (mid.replies ≡ old.replies) × (mid.places ≡ old.places)) (more : IsToldMore old.told mid.told) where
   moved_settles : (given : List PlainReply) → new.replies.items ≡ mid.replies.items ++ given
-      → (given ≡ map reply_without_tasks mid.places.items) ⊎ ((old.lacks_memory ≡ false) × SettlesEach facts trace mid.places.items (requests_of old.tasks.items) given)
+      → (given ≡ map reply_without_tasks mid.places.items) ⊎ ((old.lacks_memory ≡ false) × SettlesEach facts trace mid.told mid.places.items (requests_of old.tasks.items) given)
       → MovesPlaces mid new → SettlesAll facts trace old new
-  moved_settles given items fits moved = record {
-    given = given;
-    replies = items ∙ ap (λ v. v.items ++ given) same.0;
-    fits = subst
-        (λ v. (given ≡ map reply_without_tasks v.items) ⊎ ((old.lacks_memory ≡ false) × SettlesEach facts trace v.items (requests_of old.tasks.items) given))
-        same.1 fits;
-    settled = (moved.places, nothing_moved mid new none moved);
-    replies_room = moved.replies_room ∙ ap vec_capacity same.0;
-    places_room = moved.places_room ∙ ap deque_capacity same.1;
-  }
+  moved_settles given items fits moved =
+      let told : new.told ≡ mid.told = ap (λ (p : Pipeline D T F). p.told) moved.same in
+      record {
+        given = given;
+        replies = items ∙ ap (λ v. v.items ++ given) same.0;
+        fits = subst
+            (λ v. (given ≡ map reply_without_tasks v.items) ⊎ ((old.lacks_memory ≡ false) × SettlesEach facts trace new.told v.items (requests_of old.tasks.items) given))
+            same.1
+            (subst (λ (s : ToldState). (given ≡ map reply_without_tasks mid.places.items) ⊎ ((old.lacks_memory ≡ false) × SettlesEach facts trace s mid.places.items (requests_of old.tasks.items) given)) (sym told) fits);
+        told = subst (λ (s : ToldState). IsToldMore old.told s) (sym told) more;
+        settled = (moved.places, nothing_moved mid new none moved);
+        replies_room = moved.replies_room ∙ ap vec_capacity same.0;
+        places_room = moved.places_room ∙ ap deque_capacity same.1;
+      }
 
   -- the tasks came back
   pub filled_settles : {X E : Type 0} (result : Result X E) (has_flush : Bool) (tasks : List TaskState)
       → (old.lacks_memory ≡ false) × (requests_of tasks ≡ requests_of old.tasks.items ++ flush_if has_flush)
-      → OnOk result ((given : List PlainReply) × (new.replies.items ≡ mid.replies.items ++ given) × FillsAll facts trace has_flush tasks mid.places.items given)
+      → OnOk result ((given : List PlainReply) × (new.replies.items ≡ mid.replies.items ++ given) × FillsAll facts trace mid.told has_flush tasks mid.places.items given)
       → OnOk result (MovesPlaces mid new) → OnOk result (SettlesAll facts trace old new)
   filled_settles (Ok x) has_flush tasks asked filled moved =
       moved_settles filled.0 filled.1
-      (inr (asked.0, all_settle facts trace has_flush tasks (requests_of old.tasks.items) asked.1 mid.places.items filled.0 filled.2)) moved
+      (inr (asked.0, all_settle facts trace mid.told has_flush tasks (requests_of old.tasks.items) asked.1 mid.places.items filled.0 filled.2)) moved
   filled_settles (Err e) has_flush tasks asked filled moved = tt
 
   -- out of memory for the tasks
@@ -429,17 +438,17 @@ module _ {D F : Type 0} (facts : Ghosts D F) (settles : Bool) where
       done = [];
       later = [];
       whole = refl;
-      replied = subst (λ (l : List PlainReply). AllZip (IsAnswer facts trace settles) [] l) (sym none) tt;
+      replied = subst (λ (l : List PlainReply). AllZip (IsAnswer facts trace pipeline.told settles) [] l) (sym none) tt;
       placed = subst (λ (l : List Place). AllZip (IsPlaceOf facts settles pipeline.marks) [] l) (sym settled.0) tt;
       tasks = λ memory. none_wait pipeline settled;
       ordered = subst (λ (l : List Place). NoneOvertakes [] l) (sym settled.0) tt;
     }
 
     -- a request more waits
-    pub gathers_one : (events : List Event) (e : Event) (old new : Pipeline D T F) (request : Request) → asked_event request ≡ e → new.replies ≡ old.replies
+    pub gathers_one : (events : List Event) (e : Event) (old new : Pipeline D T F) (request : Request) → asked_event request ≡ e → new.replies ≡ old.replies → new.told ≡ old.told
         → new.places.items ≡ old.places.items ++ Waits ∷ [] → MarksToo old.marks (changed_key (asked_event request)) new.marks
         → (new.lacks_memory ≡ false → GathersTask old new request) → AnswersSoFar facts settles trace events old → AnswersSoFar facts settles trace (events ++ e ∷ []) new
-    gathers_one events e old new request is same items more gathers so_far =
+    gathers_one events e old new request is same told items more gathers so_far =
         let x = asked_event request in
         let len = AllZip-long (IsPlaceOf facts settles old.marks) so_far.later old.places.items so_far.placed in
         let placed = zip_append (IsPlaceOf facts settles new.marks) so_far.later old.places.items (x ∷ []) (Waits ∷ [])
@@ -450,7 +459,8 @@ module _ {D F : Type 0} (facts : Ghosts D F) (settles : Bool) where
           done = so_far.done;
           later = so_far.later ++ x ∷ [];
           whole = ap (λ (l : List Event). l ++ x ∷ []) so_far.whole ∙ append_assoc so_far.done so_far.later (x ∷ []);
-          replied = subst (λ v. AllZip (IsAnswer facts trace settles) so_far.done v.items) (sym same) so_far.replied;
+          replied = subst (λ (s : ToldState). AllZip (IsAnswer facts trace s settles) so_far.done new.replies.items) (sym told)
+              (subst (λ v. AllZip (IsAnswer facts trace old.told settles) so_far.done v.items) (sym same) so_far.replied);
           placed = subst (λ (l : List Place). AllZip (IsPlaceOf facts settles new.marks) (so_far.later ++ x ∷ []) l) (sym items) placed;
           tasks = λ memory.
               let (had, made) = gathers memory in
@@ -465,9 +475,9 @@ module _ {D F : Type 0} (facts : Ghosts D F) (settles : Bool) where
 
     -- an event more shows its reply
     pub shows_one : (events : List Event) (e : Event) (old new : Pipeline D T F) (shown : Shown) → IsFree old.marks e → IsShown facts settles e shown
-        → new.places.items ≡ old.places.items ++ Shows shown ∷ [] → new.replies ≡ old.replies → new.marks ≡ old.marks → new.tasks ≡ old.tasks
+        → new.places.items ≡ old.places.items ++ Shows shown ∷ [] → new.replies ≡ old.replies → new.told ≡ old.told → new.marks ≡ old.marks → new.tasks ≡ old.tasks
         → new.lacks_memory ≡ old.lacks_memory → AnswersSoFar facts settles trace events old → AnswersSoFar facts settles trace (events ++ e ∷ []) new
-    shows_one events e old new shown free is items same marks tasks memory so_far =
+    shows_one events e old new shown free is items same told marks tasks memory so_far =
         let len = AllZip-long (IsPlaceOf facts settles old.marks) so_far.later old.places.items so_far.placed in
         let placed = zip_append (IsPlaceOf facts settles old.marks) so_far.later old.places.items (e ∷ []) (Shows shown ∷ []) so_far.placed (is, tt) in
         let ordered = overtakes_none old.marks e (Shows shown) (free_get old.marks e free) so_far.later old.places.items so_far.placed so_far.ordered in
@@ -477,7 +487,8 @@ module _ {D F : Type 0} (facts : Ghosts D F) (settles : Bool) where
           done = so_far.done;
           later = so_far.later ++ e ∷ [];
           whole = ap (λ (l : List Event). l ++ e ∷ []) so_far.whole ∙ append_assoc so_far.done so_far.later (e ∷ []);
-          replied = subst (λ v. AllZip (IsAnswer facts trace settles) so_far.done v.items) (sym same) so_far.replied;
+          replied = subst (λ (s : ToldState). AllZip (IsAnswer facts trace s settles) so_far.done new.replies.items) (sym told)
+              (subst (λ v. AllZip (IsAnswer facts trace old.told settles) so_far.done v.items) (sym same) so_far.replied);
           placed = subst (λ (m : KeyMarks). AllZip (IsPlaceOf facts settles m) (so_far.later ++ e ∷ []) new.places.items) (sym marks)
               (subst (λ (l : List Place). AllZip (IsPlaceOf facts settles old.marks) (so_far.later ++ e ∷ []) l) (sym items) placed);
           tasks = λ had.
@@ -489,20 +500,20 @@ module _ {D F : Type 0} (facts : Ghosts D F) (settles : Bool) where
 
     -- each event so far has its reply
     pub settles_all : (events : List Event) (old new : Pipeline D T F) → SettlesAll facts trace old new → AnswersSoFar facts settles trace events old
-        → AllZip (IsAnswer facts trace settles) events new.replies.items
+        → AllZip (IsAnswer facts trace new.told settles) events new.replies.items
     settles_all events old new all so_far =
         let go : (all.given ≡ map reply_without_tasks old.places.items)
-        ⊎ ((old.lacks_memory ≡ false) × SettlesEach facts trace old.places.items (requests_of old.tasks.items) all.given)
-        → AllZip (IsAnswer facts trace settles) so_far.later all.given = elim [
+        ⊎ ((old.lacks_memory ≡ false) × SettlesEach facts trace new.told old.places.items (requests_of old.tasks.items) all.given)
+        → AllZip (IsAnswer facts trace new.told settles) so_far.later all.given = elim [
           | inl none ↦
-              subst (λ (l : List PlainReply). AllZip (IsAnswer facts trace settles) so_far.later l) (sym none)
-              (refused_answer facts trace settles old.marks so_far.later old.places.items so_far.placed)
+              subst (λ (l : List PlainReply). AllZip (IsAnswer facts trace new.told settles) so_far.later l) (sym none)
+              (refused_answer facts trace new.told settles old.marks so_far.later old.places.items so_far.placed)
           | inr fits ↦
-              places_answer facts trace settles old.marks so_far.later old.places.items old.tasks.items all.given so_far.placed (so_far.tasks fits.0) fits.1
+              places_answer facts trace new.told settles old.marks so_far.later old.places.items old.tasks.items all.given so_far.placed (so_far.tasks fits.0) fits.1
         ] in
-        subst (λ (l : List Event). AllZip (IsAnswer facts trace settles) l new.replies.items) (sym so_far.whole)
-        (subst (λ (l : List PlainReply). AllZip (IsAnswer facts trace settles) (so_far.done ++ so_far.later) l) (sym all.replies)
-        (zip_append (IsAnswer facts trace settles) so_far.done old.replies.items so_far.later all.given so_far.replied (go all.fits)))
+        subst (λ (l : List Event). AllZip (IsAnswer facts trace new.told settles) l new.replies.items) (sym so_far.whole)
+        (subst (λ (l : List PlainReply). AllZip (IsAnswer facts trace new.told settles) (so_far.done ++ so_far.later) l) (sym all.replies)
+        (zip_append (IsAnswer facts trace new.told settles) so_far.done old.replies.items so_far.later all.given (answers_more facts trace settles old.told new.told all.told so_far.done old.replies.items so_far.replied) (go all.fits)))
 
     -- what was settled, or not, is as before
     pub settles_some : (events : List Event) (old new : Pipeline D T F) → MaySettle facts trace old new → AnswersSoFar facts settles trace events old → AnswersSoFar facts settles trace events new
@@ -519,9 +530,9 @@ module _ {D F : Type 0} (facts : Ghosts D F) (settles : Bool) where
 
     -- the last requests have their replies
     pub settles_last : {X E : Type 0} (result : Result X E) (events done : List Event) (old new : Pipeline D T F) → done ≡ events → AnswersSoFar facts settles trace done old
-        → OnOk result (SettlesAll facts trace old new) → OnOk result (AllZip (IsAnswer facts trace settles) events new.replies.items)
+        → OnOk result (SettlesAll facts trace old new) → OnOk result (AllZip (IsAnswer facts trace new.told settles) events new.replies.items)
     settles_last (Ok x) events done old new is some all =
-        subst (λ (l : List Event). AllZip (IsAnswer facts trace settles) l new.replies.items) is (settles_all done old new all some)
+        subst (λ (l : List Event). AllZip (IsAnswer facts trace new.told settles) l new.replies.items) is (settles_all done old new all some)
     settles_last (Err e) events done old new is some all = all
 
 -- ---- room
@@ -542,7 +553,7 @@ module _ {D F T : Type 0} (facts : Ghosts D F) (trace : TraceOf T) where
   room_settled old new n all room =
       let count : vec_len new.replies ≡ vec_len old.replies + deque_len old.places =
       new.replies.ok.0 ∙ ap length all.replies ∙ length-append old.replies.items all.given ∙ ap (λ (k : ℕ). k + length all.given) (sym old.replies.ok.0)
-      ∙ ap (λ (k : ℕ). vec_len old.replies + k) (given_long facts trace old.lacks_memory old.places.items (requests_of old.tasks.items) all.given all.fits ∙ sym old.places.ok.0) in
+      ∙ ap (λ (k : ℕ). vec_len old.replies + k) (given_long facts trace new.told old.lacks_memory old.places.items (requests_of old.tasks.items) all.given all.fits ∙ sym old.places.ok.0) in
       let empty : deque_len new.places ≡ 0 = new.places.ok.0 ∙ ap length all.settled.0 in
       (omega (arith, room.0, count, empty, all.replies_room), omega (arith, room.1, empty, all.places_room))
 

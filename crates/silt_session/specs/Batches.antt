@@ -1,5 +1,5 @@
 -- What is done for a batch of jobs.
-use Rattle.std.specs.Prelude.{◌≡◌, ◌≢◌, ◌≤◌, ◌&&◌, ◌||◌, ◌⊎◌, ℕ, zero, suc, ◌+◌, Bool, true, false, MatchOption, List, [], ◌∷◌, ◌++◌, drop, length, take, Option, Some, Err, vec_capacity, vec_len}
+use Rattle.std.specs.Prelude.{◌≡◌, ◌≢◌, ◌≤◌, ◌&&◌, ◌||◌, ◌⊎◌, ℕ, zero, suc, Bool, true, false, MatchOption, List, [], ◌∷◌, ◌++◌, drop, length, take, Option, Some, Err, vec_capacity, vec_len}
 use Rattle.std.specs.List.{AllZip}
 use Rattle.silt_disk.specs.declared.disk.Disk.{Ghosts}
 use Rattle.silt_inbox.specs.Books.{counted}

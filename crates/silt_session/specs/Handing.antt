@@ -5,6 +5,7 @@ use Rattle.silt_event.specs.declared.event.Event.{Event}
 use Rattle.silt_desk.specs.declared.trace.Trace.{Ghosts as TraceOf}
 use Rattle.silt_session.specs.Pipelines.{AnswersSoFar, NothingWaits, flush_if}
 use Rattle.silt_session.specs.Requests.{requests_of}
+use Rattle.silt_session.specs.Tolds.{AsksBehind, ToldState}
 use Rattle.silt_session.specs.Asked.{AskedState}
 use Rattle.silt_session.specs.declared.job.Awaited.{Awaited}
 use Rattle.silt_session.specs.declared.job.Request.{Request}
@@ -24,13 +25,15 @@ Hands old handed =
 
 -- nothing waits any more, and each event still has its reply or its place
 abbrev pub IsHanded : {D T F : Type 0} → Pipeline D T F → Pipeline D T F → Type 0
-IsHanded old new = NothingWaits new × (new.replies ≡ old.replies) × (new.places ≡ old.places)
+IsHanded old new = NothingWaits new × (new.replies ≡ old.replies) × (new.places ≡ old.places) × (new.told ≡ old.told)
 
 -- the same, and what waited was handed over, unless that failed
 abbrev pub HasHanded : {D T N F : Type 0} → Pipeline D T F → Pipeline D T F → Result (Handed D T N F) Unanswered → Type 0
 HasHanded old new handed = IsHanded old new × IfOk handed (Hands old)
 
-module _ {D F : Type 0} (facts : Ghosts D F) (settles : Bool) {T : Type 0} (trace : TraceOf T) where
-  -- these events were asked: each has its reply, or its request was handed over, with all that waited in their pipeline
+module _ {D F : Type 0} (facts : Ghosts D F) (settles : Bool) {T : Type 0} (trace : TraceOf T) (told : ToldState) where
+  -- These events were asked, by a session that was told so much: each has its reply, or its request was handed over, with all that waited in
+  -- their pipeline.
   abbrev pub AreAsked : {N : Type 0} → List Event → AskedState D T N F → Type 0
-  AreAsked events asked = (before : Pipeline D T F) × AnswersSoFar facts settles trace events before × HasHanded before asked.pipeline asked.handed
+  AreAsked events asked =
+      (before : Pipeline D T F) × AnswersSoFar facts settles trace events before × AsksBehind told before.told × HasHanded before asked.pipeline asked.handed

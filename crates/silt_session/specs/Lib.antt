@@ -1,5 +1,6 @@
 pub mod Requests
 pub mod Origins
+pub mod Tolds
 pub mod JobLogs
 pub mod Batches
 pub mod Marks

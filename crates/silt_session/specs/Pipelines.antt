@@ -15,9 +15,9 @@ use Rattle.silt_store_set.specs.Replies.{get_reply}
 use Rattle.silt_store_set.specs.declared.store_core.Look.{Look}
 use Rattle.silt_desk.specs.declared.trace.Trace.{Ghosts as TraceOf}
 use Rattle.silt_session.specs.Marks.{IsMarked, mark_of}
-use Rattle.silt_session.specs.Origins.{Origin}
+use Rattle.silt_session.specs.Tolds.{IsToldMore, ToldState}
 use Rattle.silt_session.specs.Requests.{IsNew, TaskState, asked_event, changed_key, requests_of}
-use Rattle.silt_session.specs.Sessions.{AnswersGet, IsAnswer, IsKept, IsReplyOf}
+use Rattle.silt_session.specs.Sessions.{AnswersGet, IsAnswer, IsKept, IsReplyOf, IsToldTo}
 use Rattle.silt_session.specs.declared.job.Request.{Request}
 use Rattle.silt_session.specs.declared.job.Request.TheVariants.{Flush}
 use Rattle.silt_session.specs.declared.key_marks.KeyMarks.{KeyMarks}
@@ -52,11 +52,11 @@ abbrev pub reply_without_tasks : Place → PlainReply
 reply_without_tasks (Shows shown) = if is_some shown.until then Refused NoMemory else shown.reply
 reply_without_tasks Waits = Refused NoMemory
 
-module _ {D F T : Type 0} (facts : Ghosts D F) (trace : TraceOf T) where
+module _ {D F T : Type 0} (facts : Ghosts D F) (trace : TraceOf T) (told : ToldState) where
   -- what a place takes of the tasks that came back, the next one if its request waited, and its reply
   abbrev pub FillsOne : Option PlainReply → List TaskState → Place → PlainReply → List TaskState → Type 0
   FillsOne flushed tasks (Shows shown) reply left = (given_by flushed shown ≡ Some reply) × (left ≡ tasks)
-  FillsOne flushed tasks Waits reply left = (task : TaskState) × (tasks ≡ task ∷ left) × IsReplyOf facts trace task reply
+  FillsOne flushed tasks Waits reply left = (task : TaskState) × (tasks ≡ task ∷ left) × IsReplyOf facts trace told task reply
 
   -- the same of places in order
   abbrev pub Fills : Option PlainReply → List TaskState → List Place → List PlainReply → List TaskState → Type 0
@@ -67,7 +67,7 @@ module _ {D F T : Type 0} (facts : Ghosts D F) (trace : TraceOf T) where
 
   -- the last task leaves, with this reply
   abbrev pub TakesLast : List TaskState → List TaskState → PlainReply → Type 0
-  TakesLast tasks left reply = (task : TaskState) × (tasks ≡ left ++ task ∷ []) × IsReplyOf facts trace task reply
+  TakesLast tasks left reply = (task : TaskState) × (tasks ≡ left ++ task ∷ []) × IsReplyOf facts trace told task reply
 
   -- Places have these replies by the tasks that came back: each task of a request fills the next place that waits. The last task is that of
   -- the flush if there is one.
@@ -79,7 +79,7 @@ module _ {D F T : Type 0} (facts : Ghosts D F) (trace : TraceOf T) where
 
   -- there was no flush, or this reply comes from one
   abbrev pub IsFlushedBy : Option PlainReply → Type 0
-  IsFlushedBy flushed = IfSome flushed (Origin facts trace Flush)
+  IsFlushedBy flushed = IfSome flushed (IsToldTo facts trace told Flush)
 
   -- what is shown has this reply, by the reply to the flush that it waits for
   abbrev pub SettlesShown : Shown → PlainReply → Type 0
@@ -90,7 +90,7 @@ module _ {D F T : Type 0} (facts : Ghosts D F) (trace : TraceOf T) where
   abbrev pub SettlesEach : List Place → List Request → List PlainReply → Type 0
   SettlesEach [] [] [] = Unit {0}
   SettlesEach (Shows shown ∷ places) requests (reply ∷ replies) = SettlesShown shown reply × SettlesEach places requests replies
-  SettlesEach (Waits ∷ places) (request ∷ requests) (reply ∷ replies) = Origin facts trace request reply × SettlesEach places requests replies
+  SettlesEach (Waits ∷ places) (request ∷ requests) (reply ∷ replies) = IsToldTo facts trace told request reply × SettlesEach places requests replies
   SettlesEach places requests replies = ⊥
 
 -- the request of a flush, if it is needed
@@ -133,7 +133,8 @@ module _ {D F T : Type 0} (facts : Ghosts D F) (trace : TraceOf T) where
     pub given : List PlainReply
     pub replies : new.replies.items ≡ old.replies.items ++ given
     pub fits : (given ≡ map reply_without_tasks old.places.items)
-        ⊎ ((old.lacks_memory ≡ false) × SettlesEach facts trace old.places.items (requests_of old.tasks.items) given)
+        ⊎ ((old.lacks_memory ≡ false) × SettlesEach facts trace new.told old.places.items (requests_of old.tasks.items) given)
+    pub told : IsToldMore old.told new.told
     pub settled : IsSettled new
     pub replies_room : vec_capacity new.replies ≡ vec_capacity old.replies
     pub places_room : deque_capacity new.places ≡ deque_capacity old.places
@@ -209,7 +210,7 @@ module _ {D F : Type 0} (facts : Ghosts D F) (settles : Bool) where
       pub done : List Event
       pub later : List Event
       pub whole : events ≡ done ++ later
-      pub replied : AllZip (IsAnswer facts trace settles) done pipeline.replies.items
+      pub replied : AllZip (IsAnswer facts trace pipeline.told settles) done pipeline.replies.items
       pub placed : AllZip (IsPlaceOf pipeline.marks) later pipeline.places.items
       pub tasks : pipeline.lacks_memory ≡ false → AllZip IsTaskOf (waiting_events later pipeline.places.items) pipeline.tasks.items
       pub ordered : NoneOvertakes later pipeline.places.items

@@ -6,8 +6,8 @@ ghost use Rattle.silt_event.specs.declared.event.Event.TheVariants as event_case
 ghost use Rattle.silt_session.specs.Handing.{AreAsked};
 ghost use Rattle.silt_session.specs.Pipelines.{AnswersSoFar, HasRoom, IsFree, IsSettled, IsShown, Looks, MaySettle, SettlesShown, awaited, shown_of};
 ghost use Rattle.silt_session.specs.Requests.{IsNoRequest, requests_of};
-ghost use Rattle.silt_session.specs.Origins.{Origin};
-ghost use Rattle.silt_session.specs.Sessions.{IsAnswer};
+ghost use Rattle.silt_session.specs.Sessions.{IsAnswer, IsToldTo};
+ghost use Rattle.silt_session.specs.Tolds.{AsksBehind, IsToldMore, ToldState};
 ghost use Rattle.silt_store_set.specs.CoreState.{CoreState};
 ghost use Rattle.silt_store_set.specs.Facts.{facts_of};
 
@@ -18,6 +18,7 @@ use crate::pipeline::{Pipeline, reply_alone};
 use crate::place::Shown;
 use crate::session::Session;
 use crate::task::Task;
+use crate::told::Told;
 use crate::unanswered::Unanswered;
 use silt_desk::{Desk, DeskId, Look, Trace};
 use silt_disk::Disk;
@@ -93,6 +94,11 @@ fn alone<D: Disk, T: Trace>(alloc: Global, request: Request) -> Result<Vec<Task<
 }
 
 impl<D: Disk, T: Trace, N: DeskId + InboxId + LogId, R: Wait> Session<'_, D, T, N, R> {
+    /// All that is seen now of the desk's calls.
+    pub fn told(&self) -> Told<T> {
+        Told::of(self.desk.read(self.rt).trace())
+    }
+
     /// The facts of the desk's store at this moment.
     pub fn facts(&self) -> Facts
         ensures { (core : CoreState D) × (result ≡ facts_of core) }
@@ -101,24 +107,26 @@ impl<D: Disk, T: Trace, N: DeskId + InboxId + LogId, R: Wait> Session<'_, D, T, 
     }
 
     // Has one request done, and returns its reply.
-    fn request(&self, request: Request) -> Result<Reply<()>, Unanswered>
-        ensures { IfOk result (Origin D.Disk T.Trace request) }
+    fn request(&self, request: Request, told: &mut Told<T>) -> Result<Reply<()>, Unanswered>
+        ensures told { IsToldMore told.old told.new }
+        ensures reply { IfOk result (IsToldTo D.Disk T.Trace told.new request) }
     {
         let Ok(tasks) = alone(self.alloc, request) else {
             return Err(Unanswered::NoMemory);
         };
         match self.writer.commit(tasks) {
-            Ok(tasks) => reply_alone(tasks).ok_or(Unanswered::Lost),
+            Ok(tasks) => reply_alone(tasks, told).ok_or(Unanswered::Lost),
             Err(lack) => Err(lack),
         }
     }
 
     // The reply to an event that is not for the writer, after a flush if it waits for one.
-    fn give(&self, shown: Shown) -> Result<Reply<()>, Unanswered>
-        ensures { IfOk result (SettlesShown D.Disk T.Trace shown) }
+    fn give(&self, shown: Shown, told: &mut Told<T>) -> Result<Reply<()>, Unanswered>
+        ensures told { IsToldMore told.old told.new }
+        ensures reply { IfOk result (SettlesShown D.Disk T.Trace told.new shown) }
     {
         let flushed = match shown.until {
-            Some(_) => Some(self.request(Request::Flush)?),
+            Some(_) => Some(self.request(Request::Flush, told)?),
             None => None,
         };
         shown.given(&flushed).ok_or(Unanswered::Lost)
@@ -154,17 +162,20 @@ impl<D: Disk, T: Trace, N: DeskId + InboxId + LogId, R: Wait> Session<'_, D, T, 
     }
 
     /// The reply to an event. A get is looked up, a put, a delete, a swap and a flush are a job of the writer, and steps are
-    /// not served. If gets settle what they show, one that a crash may undo waits for a flush.
+    /// not served. If gets settle what they show, one that a crash may undo waits for a flush. The calls that the reply speaks of
+    /// stand behind all that was told before.
     ///
     /// # Errors
     ///
     /// No reply comes, or one that does not fit the event; or out of memory for the job.
-    pub fn answer(&self, event: Event) -> Result<Reply<()>, Unanswered>
-        ensures { IfOk result (IsAnswer D.Disk T.Trace self.now.settles_gets event) }
+    pub fn answer(&self, event: Event, told: &mut Told<T>) -> Result<Reply<()>, Unanswered>
+        ensures told { AsksBehind told.old told.new }
+        ensures reply { IfOk result (IsAnswer D.Disk T.Trace told.new self.now.settles_gets event) }
     {
+        *told = told.asked();
         match Request::of(event) {
-            Ok(request) => self.request(request),
-            Err(event) => self.give(self.answer_here(&event)),
+            Ok(request) => self.request(request, told),
+            Err(event) => self.give(self.answer_here(&event), told),
         }
     }
 
@@ -174,6 +185,7 @@ impl<D: Disk, T: Trace, N: DeskId + InboxId + LogId, R: Wait> Session<'_, D, T, 
         requires room { HasRoom pipeline.old 1 }
         ensures answers { OnOk result ((events : List EventOf) → AnswersSoFar D.Disk self.now.settles_gets T.Trace events pipeline.old → AnswersSoFar D.Disk self.now.settles_gets T.Trace (events ++ event.now ∷ []) pipeline.new) }
         ensures room { OnOk result ((n : ℕ) → HasRoom pipeline.old (n + 1) → HasRoom pipeline.new n) }
+        ensures told { OnOk result (IsToldMore pipeline.old.told pipeline.new.told) }
     {
         self.settle_for(pipeline, event)?;
         pipeline.push(self.answer_here(event));
@@ -185,6 +197,7 @@ impl<D: Disk, T: Trace, N: DeskId + InboxId + LogId, R: Wait> Session<'_, D, T, 
         requires { HasRoom pipeline.old 1 }
         ensures answers { OnOk result ((events : List EventOf) → AnswersSoFar D.Disk self.now.settles_gets T.Trace events pipeline.old → AnswersSoFar D.Disk self.now.settles_gets T.Trace (events ++ event ∷ []) pipeline.new) }
         ensures room { OnOk result ((n : ℕ) → HasRoom pipeline.old (n + 1) → HasRoom pipeline.new n) }
+        ensures told { OnOk result (IsToldMore pipeline.old.told pipeline.new.told) }
     {
         match Request::of(event) {
             Ok(request) => {
@@ -202,6 +215,7 @@ impl<D: Disk, T: Trace, N: DeskId + InboxId + LogId, R: Wait> Session<'_, D, T, 
         requires room { HasRoom pipeline.old (vec_len events) }
         ensures answers { OnOk result (AnswersSoFar D.Disk self.now.settles_gets T.Trace events.items pipeline.new) }
         ensures room { OnOk result (HasRoom pipeline.new 0) }
+        ensures told { OnOk result (IsToldMore pipeline.old.told pipeline.new.told) }
     {
         for event in events {
             self.take(pipeline, event)?;
@@ -211,15 +225,20 @@ impl<D: Disk, T: Trace, N: DeskId + InboxId + LogId, R: Wait> Session<'_, D, T, 
 
     /// Asks for the replies to events. Puts, deletes, swaps and flushes are gathered into one job of the writer, which is handed over. A
     /// get is looked up at once, but if one of these may change its key, only when they are done. Steps are not served. If gets
-    /// settle what they show, those that a crash may undo wait for a flush, one for all of them.
+    /// settle what they show, those that a crash may undo wait for a flush, one for all of them. The calls that the replies speak of
+    /// stand behind all that was told before.
     ///
     /// # Errors
     ///
     /// No reply comes, or one that does not fit its event; or out of memory for the replies.
-    pub fn begin(&self, events: Vec<Event>) -> Result<AskedEvents<D, T, N>, Unanswered>
-        ensures { IfOk result (AreAsked D.Disk self.now.settles_gets T.Trace events.items) }
+    pub fn begin(
+        &self,
+        events: Vec<Event>,
+        told: &Told<T>,
+    ) -> Result<AskedEvents<D, T, N>, Unanswered>
+        ensures { IfOk result (AreAsked D.Disk self.now.settles_gets T.Trace told.now events.items) }
     {
-        let Ok(mut pipeline) = Pipeline::new(self.alloc, events.len()) else {
+        let Ok(mut pipeline) = Pipeline::new(self.alloc, events.len(), told.asked()) else {
             return Err(Unanswered::NoMemory);
         };
         self.take_all(&mut pipeline, events)?;
@@ -227,21 +246,24 @@ impl<D: Disk, T: Trace, N: DeskId + InboxId + LogId, R: Wait> Session<'_, D, T, 
         Ok(AskedEvents { pipeline, handed })
     }
 
-    /// Waits for the replies to events that were asked for, in order.
+    /// Waits for the replies to events that were asked for, in order. Returns them, and what the session is told then.
     ///
     /// # Errors
     ///
     /// No reply comes, or one that does not fit its event.
-    pub fn finish(&self, asked: AskedEvents<D, T, N>) -> Result<Vec<Reply<()>>, Unanswered>
-        ensures { (events : List EventOf) → AreAsked D.Disk self.now.settles_gets T.Trace events asked
-            → IfOk result (λ replies. AllZip (IsAnswer D.Disk T.Trace self.now.settles_gets) events replies.items) }
+    pub fn finish(
+        &self,
+        asked: AskedEvents<D, T, N>,
+    ) -> Result<(Vec<Reply<()>>, Told<T>), Unanswered>
+        ensures { (told : ToldState) (events : List EventOf) → AreAsked D.Disk self.now.settles_gets T.Trace told events asked
+            → IfOk result (λ given. AsksBehind told given.1 × AllZip (IsAnswer D.Disk T.Trace given.1 self.now.settles_gets) events given.0.items) }
     {
         let AskedEvents {
             mut pipeline,
             handed,
         } = asked;
         pipeline.settle_by(self.rt, self.alloc, handed)?;
-        Ok(pipeline.replies)
+        Ok((pipeline.replies, pipeline.told))
     }
 
     /// The replies to events, in order: asks for them, as [`Session::begin`] does, and waits for them.
@@ -249,10 +271,17 @@ impl<D: Disk, T: Trace, N: DeskId + InboxId + LogId, R: Wait> Session<'_, D, T, 
     /// # Errors
     ///
     /// No reply comes, or one that does not fit its event; or out of memory for the replies.
-    pub fn answer_all(&self, events: Vec<Event>) -> Result<Vec<Reply<()>>, Unanswered>
-        ensures { IfOk result (λ replies. AllZip (IsAnswer D.Disk T.Trace self.now.settles_gets) events.items replies.items) }
+    pub fn answer_all(
+        &self,
+        events: Vec<Event>,
+        told: &mut Told<T>,
+    ) -> Result<Vec<Reply<()>>, Unanswered>
+        ensures told { OnOk result (AsksBehind told.old told.new) }
+        ensures replies { IfOk result (λ replies. AllZip (IsAnswer D.Disk T.Trace told.new self.now.settles_gets) events.items replies.items) }
     {
-        let asked = self.begin(events)?;
-        self.finish(asked)
+        let asked = self.begin(events, told)?;
+        let (replies, now_told) = self.finish(asked)?;
+        *told = now_told;
+        Ok(replies)
     }
 }

@@ -2,7 +2,8 @@
 ghost use Rattle.std.specs.Prelude.{◌≡◌, ◌≢◌, ◌≤◌, [], true, false, length, IfSome, IsSomeAnd, List, vec_capacity, vec_len};
 ghost use Rattle.silt_session.specs.Batches.{EndsRound, IsBatch, IsDueAt, KeepsLeft, MayMakeRoom, PerformsAll, PerformsRequest, PerformsTask, ServesBatch, StepsThrough, TriesAgain, TriesOnce, done_in, left_in, writer_at};
 ghost use Rattle.silt_session.specs.Origins.{Flushes, Performs};
-ghost use Rattle.silt_session.specs.Requests.{compared};
+ghost use Rattle.silt_session.specs.Requests.{acknowledged, compared};
+ghost use Rattle.silt_session.specs.Tolds.{reply_place, answer_place};
 ghost use Rattle.silt_session.specs.declared.job.Job.{Job as JobOf};
 
 use crate::board::Board;
@@ -12,7 +13,7 @@ use crate::job_log::LogId;
 use crate::room::{HearsRoom, RoomWait};
 use crate::tally::is_failure;
 use crate::task::{Answer, Task};
-use silt_desk::{Desk, DeskId, Due, Gate, Seat, Shared, Spot, Trace, plain};
+use silt_desk::{CallPlace, Desk, DeskId, Due, Gate, Seat, Shared, Spot, Trace, plain};
 use silt_disk::Disk;
 use silt_event::{Refusal, bytes_of};
 use std::alloc::Global;
@@ -42,6 +43,26 @@ fn compared(answer: Result<u64, Refusal<()>>) -> Answer
     match answer {
         Ok(count) => Ok(Some(count)),
         Err(refusal) => Err(refusal),
+    }
+}
+
+// Where the last call from this seat stands, if it has this result and was recorded.
+fn call_place<N: DeskId>(answer: &Option<Answer>, seat: &Seat<N>) -> Option<CallPlace>
+    ensures { result ≡ answer_place answer.now seat.now.last }
+{
+    match answer {
+        None | Some(Err(Refusal::NoMemory | Refusal::HistoryFull)) => None,
+        Some(_) => seat.last(),
+    }
+}
+
+// The same of a flush.
+fn flush_place<N: DeskId>(flushed: &Result<u64, Refusal<()>>, seat: &Seat<N>) -> Option<CallPlace>
+    ensures { result ≡ reply_place (acknowledged flushed.now) seat.now.last }
+{
+    match flushed {
+        Err(Refusal::NoMemory | Refusal::HistoryFull) => None,
+        _ => seat.last(),
     }
 }
 
@@ -221,7 +242,7 @@ impl<D: Disk, T: Trace, N: DeskId + LogId, G: Gate, H: HearsRoom, R: Wait + Cloc
         self.gate.pass(Spot::Writer);
         let least = self.gate.merges_at();
         let (flushed, _) = flush(&mut *self.shared.write(self.rt), self.alloc, seat, least);
-        batch.send_done(self.rt, &flushed);
+        batch.send_done(self.rt, &flushed, &flush_place(&flushed, seat));
     }
 
     // Does a request. If it is refused for want of room that a worker may make, it waits for room, and so that the jobs
@@ -261,7 +282,8 @@ impl<D: Disk, T: Trace, N: DeskId + LogId, G: Gate, H: HearsRoom, R: Wait + Cloc
     {
         for task in tasks.iter_mut() {
             let answer = self.perform_request(seat, batch, task.request());
-            task.finish(answer);
+            let call = call_place(&answer, seat);
+            task.finish(answer, call);
         }
     }
 
@@ -322,7 +344,7 @@ impl<D: Disk, T: Trace, N: DeskId + LogId, G: Gate, H: HearsRoom, R: Wait + Cloc
         let least = self.gate.merges_at();
         let (flushed, due) = flush(&mut *self.shared.write(self.rt), self.alloc, seat, least);
         let mut jobs = batch.into_jobs();
-        reply_to_all(&mut jobs, &flushed);
+        reply_to_all(&mut jobs, &flushed, &flush_place(&flushed, seat));
         self.note_flush(&flushed);
         (jobs, due)
     }

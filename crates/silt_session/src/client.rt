@@ -19,8 +19,8 @@ pub trait Asking: Drop {
     /// Events may be sent through it.
     ghost can_ask: { Self → Type 0 };
 
-    /// An event and a reply that is given to it.
-    ghost gives: { Self → EventOf → PlainReply → Type 0 };
+    /// An event and a reply that is given to it, in the first state and up to the second one.
+    ghost gives: { Self → Self → EventOf → PlainReply → Type 0 };
 
     /// The facts that it gives.
     ghost informs: { Self → FactsOf → Type 0 };
@@ -30,56 +30,70 @@ pub trait Asking: Drop {
     /// # Errors
     ///
     /// No reply comes, or out of memory before the event is done.
-    fn ask(&self, event: Event) -> Result<Reply<()>, Unanswered>
-        requires { can_ask self.now }
-        ensures { IfOk result (gives self.now event) };
+    fn ask(&mut self, event: Event) -> Result<Reply<()>, Unanswered>
+        requires { can_ask self.old }
+        ensures can { can_ask self.new }
+        ensures reply { IfOk result (gives self.old self.new event) };
 
     /// The replies to events that are asked at once, in order.
     ///
     /// # Errors
     ///
     /// No reply comes to one of them, or out of memory before any of them is done.
-    fn ask_all(&self, events: Vec<Event>) -> Result<Vec<Reply<()>>, Unanswered>
-        requires { can_ask self.now }
-        ensures { IfOk result (λ replies. AllZip (gives self.now) events.items replies.items) };
+    fn ask_all(&mut self, events: Vec<Event>) -> Result<Vec<Reply<()>>, Unanswered>
+        requires { can_ask self.old }
+        ensures can { can_ask self.new }
+        ensures replies { IfOk result (λ replies. AllZip (gives self.old self.new) events.items replies.items) };
 
     /// The facts of the store at this moment.
     fn facts(&self) -> Facts
         requires { can_ask self.now }
         ensures { informs self.now result };
+
+    ghost gives_in: { (a b : Self) (event : EventOf) (reply : PlainReply) → gives a b event reply → gives b b event reply };
 }
 
-/// Asks one event by a closure, several at once by another one, and for facts by a third. If the second gives another number
-/// of replies than it is asked for, these do not count.
+/// Asks one event by a closure, several at once by another one, and for facts by a third. The first two are given what the client
+/// was told before, and return what it is told then. If the second gives another number of replies than it is asked for,
+/// these do not count.
 #[derive(Drop)]
-pub struct AskBy<'a, F, G, H> {
+pub struct AskBy<'a, F, G, H, X: Drop> {
     pub one: &'a F,
     pub all: &'a G,
     pub facts: &'a H,
+    pub told: X,
 }
 
 impl<
-    F: Fn(Event) -> Result<Reply<()>, Unanswered>,
-    G: Fn(Vec<Event>) -> Result<Vec<Reply<()>>, Unanswered>,
+    X: Drop,
+    F: Fn(Event, &X) -> (Result<Reply<()>, Unanswered>, X),
+    G: Fn(Vec<Event>, &X) -> (Result<Vec<Reply<()>>, Unanswered>, X),
     H: Fn() -> Facts,
-> Asking for AskBy<'_, F, G, H> {
-    ghost use Rattle.std.specs.Prelude.{◌⊎◌, Ok};
-    ghost use Rattle.silt_session.specs.Sessions.{ArePaired};
+> Asking for AskBy<'_, F, G, H, X> {
+    ghost use Rattle.std.specs.Prelude.{◌≡◌, ◌⊎◌, Ok};
+    ghost use Rattle.silt_session.specs.Sessions.{ArePaired, is_known};
 
     ghost can_ask = { λ by. F.IsAlwaysCallable by.one.now × G.IsAlwaysCallable by.all.now × H.IsAlwaysCallable by.facts.now };
 
-    ghost gives = { λ by event reply. F.post by.one.now event (Ok reply)
-        ⊎ ((events : _) × (replies : _) × G.post by.all.now events (Ok replies) × ArePaired events.items replies.items event reply) };
+    ghost gives = { λ old new event reply. (told : _) × ((told.now ≡ old.told) ⊎ (new.told ≡ old.told))
+        × (F.post new.one.now event told (Ok reply, new.told)
+        ⊎ ((events : _) × (replies : _) × G.post new.all.now events told (Ok replies, new.told) × ArePaired events.items replies.items event reply)) };
 
     ghost informs = { λ by facts. H.post by.facts.now facts };
 
-    fn ask(&self, event: Event) -> Result<Reply<()>, Unanswered> {
-        (self.one)(event)
+    ghost gives_in = { λ a b event reply given. (given.0, is_known b.told, given.2) };
+
+    fn ask(&mut self, event: Event) -> Result<Reply<()>, Unanswered> {
+        let (given, told) = (self.one)(event, &self.told);
+        self.told = told;
+        given
     }
 
-    fn ask_all(&self, events: Vec<Event>) -> Result<Vec<Reply<()>>, Unanswered> {
+    fn ask_all(&mut self, events: Vec<Event>) -> Result<Vec<Reply<()>>, Unanswered> {
         let count = events.len();
-        let replies = (self.all)(events)?;
+        let (given, told) = (self.all)(events, &self.told);
+        self.told = told;
+        let replies = given?;
         if replies.len() != count {
             return Err(Unanswered::Lost);
         }

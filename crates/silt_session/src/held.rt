@@ -2,13 +2,16 @@
 ghost use Rattle.std.specs.Prelude.{◌≡◌, ◌+◌, ◌<◌, ◌++◌, ◌∷◌, [], List, MatchOption, vec_capacity, vec_len};
 ghost use Rattle.std.specs.List.{AllZip};
 ghost use Rattle.silt_session.specs.Batches.{IsBatch, KeepsLeft, RepliesTo, RepliesToAll, done_in, left_in};
+ghost use Rattle.silt_desk.specs.CallLogs.{PlacesEvent};
+ghost use Rattle.silt_event.specs.declared.event.Event.TheVariants as event_case;
 ghost use Rattle.silt_session.specs.Origins.{WasFlushed};
+ghost use Rattle.silt_session.specs.Requests.{acknowledged};
 ghost use Rattle.silt_session.specs.declared.job.Job.{Job as JobOf};
 
 use crate::job::{Job, Tasks};
 use crate::job_log::LogId;
 use crate::task::Task;
-use silt_desk::Trace;
+use silt_desk::{CallPlace, Trace};
 use silt_disk::Disk;
 use silt_event::Refusal;
 use std::sync::Wait;
@@ -59,10 +62,16 @@ impl<D: Disk, T: Trace, N: LogId> Batch<D, T, N> {
         self.jobs.push_reserved(job);
     }
 
-    /// Sends the replies to the jobs that are done, by the result of the flush after them.
-    pub(crate) fn send_done<R: Wait>(&mut self, rt: &R, flushed: &Result<u64, Refusal<()>>)
+    /// Sends the replies to the jobs that are done, by the result of the flush after them, at this place of the trace's log.
+    pub(crate) fn send_done<R: Wait>(
+        &mut self,
+        rt: &R,
+        flushed: &Result<u64, Refusal<()>>,
+        flush: &Option<CallPlace>,
+    )
         requires within { IsBatch self.old }
         requires flushed { WasFlushed D.Disk T.Trace flushed.now }
+        requires flush { PlacesEvent T.log event_case.Flush (acknowledged flushed.now) flush.now }
         ensures replies { (replied : List (JobOf D T N D.Fault)) × RepliesToAll flushed.now (done_in self.old) replied }
         ensures none { done_in self.new ≡ [] }
         ensures left { KeepsLeft self.old self.new }
@@ -71,7 +80,7 @@ impl<D: Disk, T: Trace, N: LogId> Batch<D, T, N> {
             let Some(mut done) = self.jobs.pop() else {
                 return;
             };
-            reply_to_job(&mut done.tasks, flushed);
+            reply_to_job(&mut done.tasks, flushed, flush);
             done.send(rt);
         }
     }
@@ -89,12 +98,14 @@ impl<D: Disk, T: Trace, N: LogId> Batch<D, T, N> {
 fn reply_to_tasks<D: Disk, T: Trace>(
     tasks: &mut Vec<Task<D, T>>,
     flushed: &Result<u64, Refusal<()>>,
+    flush: &Option<CallPlace>,
 )
-    requires { WasFlushed D.Disk T.Trace flushed.now }
+    requires flushed { WasFlushed D.Disk T.Trace flushed.now }
+    requires flush { PlacesEvent T.log event_case.Flush (acknowledged flushed.now) flush.now }
     ensures { AllZip (RepliesTo flushed.now) tasks.old.items tasks.new.items }
 {
     for task in tasks.iter_mut() {
-        task.reply(flushed);
+        task.reply(flushed, flush);
     }
 }
 
@@ -102,23 +113,27 @@ fn reply_to_tasks<D: Disk, T: Trace>(
 fn reply_to_job<D: Disk, T: Trace, N: LogId>(
     tasks: &mut Tasks<D, T, N>,
     flushed: &Result<u64, Refusal<()>>,
+    flush: &Option<CallPlace>,
 )
-    requires { WasFlushed D.Disk T.Trace flushed.now }
+    requires flushed { WasFlushed D.Disk T.Trace flushed.now }
+    requires flush { PlacesEvent T.log event_case.Flush (acknowledged flushed.now) flush.now }
     ensures replies { AllZip (RepliesTo flushed.now) tasks.old.items tasks.new.items }
     ensures ticket { tasks.new.ticket ≡ tasks.old.ticket }
 {
-    reply_to_tasks(&mut tasks.items, flushed);
+    reply_to_tasks(&mut tasks.items, flushed, flush);
 }
 
 /// Gives the tasks of each job their replies.
 pub(crate) fn reply_to_all<D: Disk, T: Trace, N: LogId>(
     jobs: &mut Vec<Job<D, T, N>>,
     flushed: &Result<u64, Refusal<()>>,
+    flush: &Option<CallPlace>,
 )
-    requires { WasFlushed D.Disk T.Trace flushed.now }
+    requires flushed { WasFlushed D.Disk T.Trace flushed.now }
+    requires flush { PlacesEvent T.log event_case.Flush (acknowledged flushed.now) flush.now }
     ensures { RepliesToAll flushed.now jobs.old.items jobs.new.items }
 {
     for job in jobs.iter_mut() {
-        reply_to_job(&mut job.tasks, flushed);
+        reply_to_job(&mut job.tasks, flushed, flush);
     }
 }

@@ -1,7 +1,7 @@
 // The log of all jobs: it numbers them, and contracts see what each of them asked. Only its length is kept in memory.
 ghost use Rattle.std.specs.Prelude.{◌≡◌, ◌+◌, ◌<◌, ◌≤◌, ◌^◌, ◌++◌, ◌∷◌, ◌⊎◌, [], length, MatchBool};
 ghost use mathlib.Core.List.{IsPrefix};
-ghost use Rattle.silt_session.specs.JobLogs.{IsLonger, log_word};
+ghost use Rattle.silt_desk.specs.CallLogs.{IsLonger, log_word};
 ghost use Rattle.silt_session.specs.Requests.{requests_of};
 
 use crate::job::Request;
@@ -18,9 +18,9 @@ struct IsLength;
 impl Rule<LinkedList<Request>, u64> for IsLength {
     ghost use Rattle.std.specs.Prelude.{[]};
     ghost use base.Fml.{ftrue};
-    ghost use Rattle.silt_session.specs.JobLogs.{IsKept};
+    ghost use Rattle.silt_desk.specs.CallLogs.{CountsLog};
 
-    ghost holds = { λ cells log. IsKept cells log };
+    ghost holds = { λ cells log. CountsLog cells log };
 
     ghost first = { [] };
 
@@ -46,9 +46,9 @@ impl Gain<LinkedList<Request>, u64> for GivesNothing {
 struct Append;
 
 impl Play<LinkedList<Request>, u64> for Append {
-    ghost use Rattle.silt_session.specs.JobLogs.{AppendsJob};
+    ghost use Rattle.silt_desk.specs.CallLogs.{AddsEntry};
 
-    ghost then = { AppendsJob };
+    ghost then = { AddsEntry };
 }
 
 impl<D: Disk, T: Trace> Plain<Vec<Task<D, T>>, LinkedList<Request>, u64> for Append {
@@ -81,7 +81,7 @@ pub struct LogStart {
 impl Model for LogStart {
     ghost use Rattle.std.specs.Prelude.{◌≡◌, []};
     ghost use Rattle.logbook.specs.Pages.{Book};
-    ghost use Rattle.silt_session.specs.JobLogs.{log_word};
+    ghost use Rattle.silt_desk.specs.CallLogs.{log_word};
 
     ghost Value = { Book };
 

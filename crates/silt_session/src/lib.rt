@@ -19,7 +19,8 @@
 //! failed, and waits for no room once that gate is closed. Nothing is proved of the board.
 //!
 //! The contract of [`Workplace::serve_batch`] states the replies to a batch of jobs, and that of [`Session::answer_all`] that each
-//! reply comes from its own request: a [`Task`] keeps which calls its reply comes from, and a [`Ticket`] says whose job it is.
+//! reply comes from its own request: a [`Task`] keeps which calls its reply comes from, and where they stand in the log of the desk's calls; a
+//! [`Ticket`] says whose job it is; and [`Told`] is what a session was told of the calls, among which those of its replies are.
 //! Nothing is proved of whether messages arrive.
 #![tactic(auto)]
 
@@ -44,6 +45,7 @@ mod set;
 mod tally;
 mod task;
 mod ticket;
+mod told;
 mod unanswered;
 mod work;
 
@@ -62,5 +64,6 @@ pub use session_slots::{SessionSlot, free_slot, slots_of};
 pub use set::{AskAheadBy, AskingAhead, SetAsking};
 pub use task::Task;
 pub use ticket::Ticket;
+pub use told::Told;
 pub use unanswered::Unanswered;
 pub use work::Jobs;

@@ -7,6 +7,7 @@ ghost use Rattle.silt_session.specs.Pipelines.{AddsFlush, Fills, FillsAll, Gathe
 ghost use Rattle.silt_session.specs.Pipelines.{SettlesAll, TakesLast, reply_without_tasks};
 ghost use Rattle.silt_session.specs.Requests.{TaskState, asked_event, changed_key, requests_of};
 ghost use Rattle.silt_session.specs.Sessions.{IsReplyOf};
+ghost use Rattle.silt_session.specs.Tolds.{IsToldMore};
 ghost use Rattle.silt_session.specs.declared.job.Request.{Request as RequestOf};
 ghost use Rattle.silt_session.specs.declared.pipeline.Pipeline.{Pipeline as PipelineOf};
 ghost use Rattle.silt_session.specs.declared.place.Place.TheVariants as place;
@@ -17,6 +18,7 @@ use crate::key_marks::KeyMarks;
 use crate::place::{Place, Shown};
 use crate::session::Session;
 use crate::task::Task;
+use crate::told::Told;
 use crate::unanswered::Unanswered;
 use silt_desk::{DeskId, Trace};
 use silt_disk::Disk;
@@ -39,6 +41,8 @@ pub struct Pipeline<D: Disk, T: Trace> {
     pub marks: KeyMarks,
     /// Whether a reply waits for a flush.
     pub needs_flush: bool,
+    /// What was told of the calls at the desk. Those that the replies speak of are among them.
+    pub told: Told<T>,
 }
 
 /// The tasks that were handed over, if there were any, and whether the last of them is that of a flush.
@@ -61,12 +65,13 @@ impl<D: Disk, T: Trace, N: LogId> Handed<D, T, N> {
 }
 
 impl<D: Disk, T: Trace> Pipeline<D, T> {
-    /// A pipeline for this many events. All memory for their replies is reserved.
-    pub fn new(alloc: Global, count: usize) -> Result<Pipeline<D, T>, AllocError>
+    /// A pipeline for this many events, to a session that was told so much. All memory for their replies is reserved.
+    pub fn new(alloc: Global, count: usize, told: Told<T>) -> Result<Pipeline<D, T>, AllocError>
         ensures settled { IfOk result IsSettled }
         ensures none { IfOk result (λ pipeline. pipeline.replies.items ≡ []) }
         ensures replies { IfOk result (λ pipeline. count ≤ vec_capacity pipeline.replies) }
         ensures places { IfOk result (λ pipeline. count ≤ deque_capacity pipeline.places) }
+        ensures told { IfOk result (λ pipeline. pipeline.told ≡ told) }
     {
         Ok(Pipeline {
             replies: Vec::with_capacity(alloc, count)?,
@@ -75,6 +80,7 @@ impl<D: Disk, T: Trace> Pipeline<D, T> {
             lacks_memory: false,
             marks: KeyMarks::new(),
             needs_flush: false,
+            told,
         })
     }
 
@@ -95,7 +101,7 @@ impl<D: Disk, T: Trace> Pipeline<D, T> {
         ensures tasks { self.new.lacks_memory ≡ false → GathersTask self.old self.new request }
         ensures marks { MarksToo self.old.marks (changed_key (asked_event request)) self.new.marks }
         ensures room { deque_capacity self.new.places ≡ deque_capacity self.old.places }
-        ensures same { (self.new.replies ≡ self.old.replies) × (self.new.needs_flush ≡ self.old.needs_flush) }
+        ensures same { (self.new.replies ≡ self.old.replies) × (self.new.needs_flush ≡ self.old.needs_flush) × (self.new.told ≡ self.old.told) }
     {
         self.mark(&request);
         self.places.push_back_reserved(Place::Waits);
@@ -170,6 +176,16 @@ impl<D: Disk, T: Trace> Pipeline<D, T> {
         }
     }
 
+    // Is told of all calls up to those that the tasks' replies come from.
+    fn learn(&mut self, tasks: &Vec<Task<D, T>>)
+        ensures told { IsToldMore self.old.told self.new.told }
+        ensures same { self.new ≡ record self.old { told = self.new.told } }
+    {
+        for task in tasks {
+            self.told.learn(&task.last_place());
+        }
+    }
+
     // Waits until the tasks come back, and moves each place to the replies.
     fn fill_by<N: LogId, R: Wait>(
         &mut self,
@@ -182,7 +198,10 @@ impl<D: Disk, T: Trace> Pipeline<D, T> {
     {
         let has_flush = handed.has_flush;
         match handed.wait(rt, alloc) {
-            Ok(tasks) => self.fill(tasks, has_flush),
+            Ok(tasks) => {
+                self.learn(&tasks);
+                self.fill(tasks, has_flush)
+            }
             Err(lack) => Err(lack),
         }
     }
@@ -192,7 +211,7 @@ impl<D: Disk, T: Trace> Pipeline<D, T> {
     fn take_tasks(&mut self, alloc: Global) -> Option<Vec<Task<D, T>>>
         ensures tasks { IfSome result (λ tasks. (self.old.lacks_memory ≡ false) × AddsFlush self.old.needs_flush self.old.tasks.items tasks.items) }
         ensures none { NothingWaits self.new }
-        ensures same { (self.new.replies ≡ self.old.replies) × (self.new.places ≡ self.old.places) }
+        ensures same { (self.new.replies ≡ self.old.replies) × (self.new.places ≡ self.old.places) × (self.new.told ≡ self.old.told) }
     {
         let tasks = mem::replace(&mut self.tasks, Vec::new(alloc));
         let lacks_memory = mem::replace(&mut self.lacks_memory, false);
@@ -217,7 +236,7 @@ impl<D: Disk, T: Trace> Pipeline<D, T> {
     ) -> Result<Handed<D, T, N>, Unanswered>
         ensures asked { IfOk result (Hands self.old) }
         ensures none { NothingWaits self.new }
-        ensures same { (self.new.replies ≡ self.old.replies) × (self.new.places ≡ self.old.places) }
+        ensures same { (self.new.replies ≡ self.old.replies) × (self.new.places ≡ self.old.places) × (self.new.told ≡ self.old.told) }
     {
         let has_flush = self.needs_flush;
         let Some(tasks) = self.take_tasks(session.alloc) else {
@@ -239,14 +258,14 @@ impl<D: Disk, T: Trace> Pipeline<D, T> {
     // Moves each place to the replies, by the tasks that came back. The last of them is a flush's if there is one.
     fn fill(&mut self, tasks: Vec<Task<D, T>>, has_flush: bool) -> Result<(), Unanswered>
         requires { vec_len self.old.replies + deque_len self.old.places ≤ vec_capacity self.old.replies }
-        ensures replies { OnOk result ((given : List PlainReply) × (self.new.replies.items ≡ self.old.replies.items ++ given) × FillsAll D.Disk T.Trace has_flush tasks.items self.old.places.items given) }
+        ensures replies { OnOk result ((given : List PlainReply) × (self.new.replies.items ≡ self.old.replies.items ++ given) × FillsAll D.Disk T.Trace self.old.told has_flush tasks.items self.old.places.items given) }
         ensures moved { OnOk result (MovesPlaces self.old self.new) }
     {
         let mut tasks = VecDeque::from(tasks);
         if !has_flush {
             return self.fill_places(tasks, &None);
         }
-        let Some(flushed) = take_last(&mut tasks) else {
+        let Some(flushed) = take_last(&mut tasks, &self.told) else {
             return Err(Unanswered::Lost);
         };
         self.fill_places(tasks, &Some(flushed))
@@ -259,12 +278,12 @@ impl<D: Disk, T: Trace> Pipeline<D, T> {
         flushed: &Option<Reply<()>>,
     ) -> Result<(), Unanswered>
         requires { vec_len self.old.replies + deque_len self.old.places ≤ vec_capacity self.old.replies }
-        ensures replies { OnOk result ((given : List PlainReply) × (self.new.replies.items ≡ self.old.replies.items ++ given) × Fills D.Disk T.Trace flushed.now tasks.items self.old.places.items given []) }
+        ensures replies { OnOk result ((given : List PlainReply) × (self.new.replies.items ≡ self.old.replies.items ++ given) × Fills D.Disk T.Trace self.old.told flushed.now tasks.items self.old.places.items given []) }
         ensures moved { OnOk result (MovesPlaces self.old self.new) }
     {
         let mut tasks = tasks;
         while let Some(place) = self.places.pop_front() {
-            let Some(reply) = place.given(&mut tasks, flushed) else {
+            let Some(reply) = place.given(&mut tasks, flushed, &self.told) else {
                 return Err(Unanswered::Lost);
             };
             self.replies.push_reserved(reply);
@@ -300,19 +319,28 @@ fn with_flush<D: Disk, T: Trace>(tasks: Vec<Task<D, T>>) -> Option<Vec<Task<D, T
 }
 
 // Takes the last task, and returns its reply.
-fn take_last<D: Disk, T: Trace>(tasks: &mut VecDeque<Task<D, T>>) -> Option<Reply<()>>
-    ensures { IfSome result (TakesLast D.Disk T.Trace tasks.old.items tasks.new.items) }
+fn take_last<D: Disk, T: Trace>(
+    tasks: &mut VecDeque<Task<D, T>>,
+    told: &Told<T>,
+) -> Option<Reply<()>>
+    ensures { IfSome result (TakesLast D.Disk T.Trace told.now tasks.old.items tasks.new.items) }
 {
-    tasks.pop_back()?.into_reply()
+    tasks.pop_back()?.tell(told)
 }
 
-// The reply of a task that came back alone.
-pub(crate) fn reply_alone<D: Disk, T: Trace>(tasks: Vec<Task<D, T>>) -> Option<Reply<()>>
-    ensures { IfSome result (λ reply. (task : TaskState) × (tasks.items ≡ task ∷ []) × IsReplyOf D.Disk T.Trace task reply) }
+// The reply of a task that came back alone. The session is told of all calls up to those that it comes from.
+pub(crate) fn reply_alone<D: Disk, T: Trace>(
+    tasks: Vec<Task<D, T>>,
+    told: &mut Told<T>,
+) -> Option<Reply<()>>
+    ensures told { IsToldMore told.old told.new }
+    ensures reply { IfSome result (λ reply. (task : TaskState) × (tasks.items ≡ task ∷ []) × IsReplyOf D.Disk T.Trace told.new task reply) }
 {
     let mut tasks = tasks;
     if tasks.len() != 1 {
         return None;
     }
-    tasks.pop()?.into_reply()
+    let task = tasks.pop()?;
+    told.learn(&task.last_place());
+    task.tell(told)
 }

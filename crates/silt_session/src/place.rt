@@ -3,6 +3,7 @@ ghost use Rattle.std.specs.Prelude.{◌≡◌, IfSome};
 ghost use Rattle.silt_session.specs.Pipelines.{FillsOne, given_by, reply_without_tasks};
 
 use crate::task::Task;
+use crate::told::Told;
 use silt_desk::Trace;
 use silt_disk::Disk;
 use silt_event::{Refusal, Reply};
@@ -62,17 +63,18 @@ impl Shown {
 
 impl Place {
     /// The reply, by the tasks that came back in order, of which it takes the next one if its request waited, and by the
-    /// reply to the flush behind them. None if that task is missing, or has no reply.
+    /// reply to the flush behind them. None if that task is missing, or has no reply that fits what was told.
     pub(crate) fn given<D: Disk, T: Trace>(
         self,
         tasks: &mut VecDeque<Task<D, T>>,
         flushed: &Option<Reply<()>>,
+        told: &Told<T>,
     ) -> Option<Reply<()>>
-        ensures { IfSome result (λ reply. FillsOne D.Disk T.Trace flushed.now tasks.old.items self reply tasks.new.items) }
+        ensures { IfSome result (λ reply. FillsOne D.Disk T.Trace told.now flushed.now tasks.old.items self reply tasks.new.items) }
     {
         match self {
             Place::Shows(shown) => shown.given(flushed),
-            Place::Waits => tasks.pop_front()?.into_reply(),
+            Place::Waits => tasks.pop_front()?.tell(told),
         }
     }
 

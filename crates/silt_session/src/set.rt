@@ -366,32 +366,15 @@ impl<A: AskingAhead> SetAsking<'_, A> {
         let Ok(events) = vec![in self.alloc; Event::Flush] else {
             return Err(Unanswered::NoMemory);
         };
-        let mut replies = self.ask_all(events)?;
+        let mut replies = self.ask_each(events)?;
         replies.pop().ok_or(Unanswered::Lost)
     }
-}
 
-impl<A: AskingAhead> Asking for SetAsking<'_, A> {
-    ghost use Rattle.std.specs.Prelude.{All, length};
-    ghost use Rattle.silt_shards.specs.Routing.{IsShardCount};
-    ghost use Rattle.silt_session.specs.SetAnswers.{SetGives, SumsFacts};
-
-    ghost can_ask = { λ set. IsShardCount (length set.shards.now) × All A.can_ask set.shards.now };
-
-    ghost gives = { λ set event reply. SetGives A.gives set.shards.now event reply };
-
-    ghost informs = { λ set facts. SumsFacts A.informs set.shards.now facts };
-
-    fn ask(&self, event: Event) -> Result<Reply<()>, Unanswered> {
-        let count = self.shards.len() as u32;
-        match route_of(count, &event) {
-            Route::One(shard) => self.shards[shard as usize].ask(event),
-            Route::All => self.flush(),
-            Route::Nowhere => Ok(Reply::NotServed),
-        }
-    }
-
-    fn ask_all(&self, events: Vec<Event>) -> Result<Vec<Reply<()>>, Unanswered> {
+    // Asks the shards, each for the replies to its events.
+    fn ask_each(&self, events: Vec<Event>) -> Result<Vec<Reply<()>>, Unanswered>
+        requires can { IsShardCount (length self.now.shards.now) × All A.can_ask self.now.shards.now }
+        ensures { IfOk result (λ replies. AllZip (SetGives A.gives self.now.shards.now) events.items replies.items) }
+    {
         let shards = self.shards;
         let Ok(room) = SetRoom::new(self.alloc, events.len(), shards.len()) else {
             return Err(Unanswered::NoMemory);
@@ -402,6 +385,33 @@ impl<A: AskingAhead> Asking for SetAsking<'_, A> {
         let asked = begin_each(shards, dealt.parts, room.asked)?;
         let told = finish_each(shards, asked, room.told)?;
         weave(dealt.routes, told, room.replies).ok_or(Unanswered::Lost)
+    }
+}
+
+impl<A: AskingAhead> Asking for SetAsking<'_, A> {
+    ghost use Rattle.std.specs.Prelude.{All, length};
+    ghost use Rattle.silt_shards.specs.Routing.{IsShardCount};
+    ghost use Rattle.silt_session.specs.SetAnswers.{SetGives, SumsFacts};
+
+    ghost can_ask = { λ set. IsShardCount (length set.shards.now) × All A.can_ask set.shards.now };
+
+    ghost gives = { λ old new event reply. SetGives A.gives new.shards.now event reply };
+
+    ghost informs = { λ set facts. SumsFacts A.informs set.shards.now facts };
+
+    ghost gives_in = { λ a b event reply given. given };
+
+    fn ask(&mut self, event: Event) -> Result<Reply<()>, Unanswered> {
+        let count = self.shards.len() as u32;
+        match route_of(count, &event) {
+            Route::One(shard) => self.shards[shard as usize].ask(event),
+            Route::All => self.flush(),
+            Route::Nowhere => Ok(Reply::NotServed),
+        }
+    }
+
+    fn ask_all(&mut self, events: Vec<Event>) -> Result<Vec<Reply<()>>, Unanswered> {
+        self.ask_each(events)
     }
 
     fn facts(&self) -> Facts {

@@ -1,12 +1,16 @@
 // A request in progress, and its reply.
-ghost use Rattle.std.specs.Prelude.{◌≡◌, None, IfNone, IfSome};
+ghost use Rattle.std.specs.Prelude.{◌≡◌, None, IfNone, IfSome, true};
+ghost use Rattle.silt_desk.specs.CallLogs.{PlacesEvent};
+ghost use Rattle.silt_event.specs.declared.event.Event.TheVariants as event_case;
 ghost use Rattle.silt_session.specs.Batches.{RepliesTo};
 ghost use Rattle.silt_session.specs.Origins.{HasDone, WasFlushed};
-ghost use Rattle.silt_session.specs.Requests.{IsNew, acknowledged, changed, reply_due};
+ghost use Rattle.silt_session.specs.Requests.{IsNew, acknowledged, asked_event, changed, reply_due};
 ghost use Rattle.silt_session.specs.Sessions.{IsReplyOf};
+ghost use Rattle.silt_session.specs.Tolds.{CallsAt, IsInLog, TellsAt, ToldOf};
 
 use crate::job::Request;
-use silt_desk::Trace;
+use crate::told::Told;
+use silt_desk::{CallPlace, Trace};
 use silt_disk::Disk;
 use silt_event::{Refusal, Reply};
 use std::marker::{Model, PhantomData};
@@ -14,25 +18,40 @@ use std::marker::{Model, PhantomData};
 /// The result of a command at the desk: the number of an accepted one, or `None` if a swap's old value differs.
 pub(crate) type Answer = Result<Option<u64>, Refusal<()>>;
 
+/// A reply, and where the call and the flush stand that it comes from, if they were recorded.
+#[derive(Drop)]
+struct Placed {
+    reply: Reply<()>,
+    call: Option<CallPlace>,
+    flush: Option<CallPlace>,
+}
+
 /// A request in progress: its result at the desk, and its reply. Its type says where they come from: a desk of a store on
 /// such a disk, with such a trace, did this request with this result, and the reply is due by that and a flush of the desk.
+/// If the trace has a log, the task knows where the call and the flush stand in it.
 #[derive(Drop)]
 pub struct Task<D: Disk, T: Trace> {
     request: Request,
     answer: Option<Answer>,
-    reply: Option<Reply<()>>,
+    call: Option<CallPlace>,
+    reply: Option<Placed>,
     of: PhantomData<(D, T)>,
 }
 
 impl<D: Disk, T: Trace> Model for Task<D, T> {
+    ghost use Rattle.std.specs.Prelude.{IfSome};
+    ghost use Rattle.std.specs.Option.{option_map};
     ghost use Rattle.silt_session.specs.Origins.{HasDone, HasOrigin};
-    ghost use Rattle.silt_session.specs.Requests.{TaskState};
+    ghost use Rattle.silt_session.specs.Requests.{TaskState, asked_event};
+    ghost use Rattle.silt_session.specs.Tolds.{CallsAt, IsInLog, TellsAt};
 
     ghost Value = { TaskState };
 
-    ghost view = { λ t. record { request = t.request; answer = t.answer; reply = t.reply } };
+    ghost view = { λ t. record { request = t.request; answer = t.answer; reply = option_map (λ placed. placed.reply) t.reply } };
 
-    ghost invariant = { λ t. HasDone D.Disk T.Trace t.request t.answer × HasOrigin D.Disk T.Trace t.request t.reply };
+    ghost invariant = { λ t. HasDone D.Disk T.Trace t.request t.answer × HasOrigin D.Disk T.Trace t.request (option_map (λ placed. placed.reply) t.reply)
+        × CallsAt T.log t.request t.answer t.call
+        × IfSome t.reply (λ placed. TellsAt T.log (asked_event t.request) placed.reply placed.call placed.flush × IsInLog T.log placed.call × IsInLog T.log placed.flush) };
 }
 
 impl<D: Disk, T: Trace> Task<D, T> {
@@ -43,6 +62,7 @@ impl<D: Disk, T: Trace> Task<D, T> {
         Task {
             request,
             answer: None,
+            call: None,
             reply: None,
             of: PhantomData,
         }
@@ -55,28 +75,84 @@ impl<D: Disk, T: Trace> Task<D, T> {
         &self.request
     }
 
-    /// The request is done with this result, or none is to be had.
-    pub(crate) fn finish(&mut self, answer: Option<Answer>)
-        requires { HasDone D.Disk T.Trace self.old.request answer }
+    /// The request is done with this result, at this place of the trace's log, or no result is to be had.
+    pub(crate) fn finish(&mut self, answer: Option<Answer>, call: Option<CallPlace>)
+        requires done { HasDone D.Disk T.Trace self.old.request answer }
+        requires call { CallsAt T.log self.old.request answer call }
         ensures { self.new ≡ record self.old { answer = answer } }
     {
         self.answer = answer;
+        self.call = call;
     }
 
-    /// Gives the task its reply, by its own result and that of the flush.
-    pub(crate) fn reply(&mut self, flushed: &Result<u64, Refusal<()>>)
-        requires { WasFlushed D.Disk T.Trace flushed.now }
+    /// Gives the task its reply, by its own result and that of the flush at this place of the trace's log.
+    pub(crate) fn reply(&mut self, flushed: &Result<u64, Refusal<()>>, flush: &Option<CallPlace>)
+        requires flushed { WasFlushed D.Disk T.Trace flushed.now }
+        requires flush { PlacesEvent T.log event_case.Flush (acknowledged flushed.now) flush.now }
         ensures { RepliesTo flushed.now self.old self.new }
     {
-        self.reply = reply_after(&self.request, &self.answer, flushed);
+        self.reply = match reply_after(&self.request, &self.answer, flushed) {
+            Some(reply) => Some(Placed {
+                reply,
+                call: again(&self.call),
+                flush: again(flush),
+            }),
+            None => None,
+        };
     }
 
-    /// The reply, if there is one.
-    pub fn into_reply(self) -> Option<Reply<()>>
-        ensures reply { IfSome result (IsReplyOf D.Disk T.Trace self) }
-        ensures none { IfNone result (self.reply ≡ None) }
+    /// Where the last call stands that its reply comes from: the flush, or its own call if no flush was recorded.
+    pub(crate) fn last_place(&self) -> Option<CallPlace>
+        ensures { IsInLog T.log result }
     {
-        self.reply
+        match &self.reply {
+            Some(placed) if placed.flush.is_some() => again(&placed.flush),
+            Some(placed) => again(&placed.call),
+            None => None,
+        }
+    }
+
+    /// The reply, if there is one, and if the calls that it speaks of are among those that were told.
+    pub fn tell(self, told: &Told<T>) -> Option<Reply<()>>
+        ensures reply { IfSome result (IsReplyOf D.Disk T.Trace told.now self) }
+        ensures none { told.now.calls ≡ None → IfNone result (self.reply ≡ None) }
+    {
+        let Placed { reply, call, flush } = self.reply?;
+        stands(told, &self.request, &reply, &call, &flush).then_some(reply)
+    }
+}
+
+// A copy of a place.
+fn again(place: &Option<CallPlace>) -> Option<CallPlace>
+    ensures { result ≡ place.now }
+{
+    match place {
+        Some(place) => Some(place.again()),
+        None => None,
+    }
+}
+
+// Whether the calls that a reply speaks of are among those that were told.
+fn stands<T: Trace>(
+    told: &Told<T>,
+    request: &Request,
+    reply: &Reply<()>,
+    call: &Option<CallPlace>,
+    flush: &Option<CallPlace>,
+) -> bool
+    requires tells { TellsAt T.log (asked_event request.now) reply.now call.now flush.now }
+    requires named { IsInLog T.log call.now × IsInLog T.log flush.now }
+    ensures told { result ≡ true → ToldOf told.now (asked_event request.now) reply.now }
+    ensures all { told.now.calls ≡ None → result ≡ true }
+{
+    match (reply, request) {
+        (Reply::Accepted(_), _) => told.has_both(call, flush),
+        (Reply::Unsettled(_) | Reply::Differs, _) => told.has(call),
+        (Reply::Acknowledged(_), _) => told.has(flush),
+        (Reply::Refused(Refusal::NoMemory | Refusal::HistoryFull), _) => true,
+        (Reply::Refused(_), Request::Flush) => told.has(flush),
+        (Reply::Refused(_), _) => told.has(call),
+        (_, _) => true,
     }
 }
 

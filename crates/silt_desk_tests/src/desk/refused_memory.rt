@@ -3,7 +3,7 @@ ghost use Rattle.std.specs.Prelude.{◌≡◌};
 
 use crate::desk::{Look, NO_MEMORY, get, look, plain, put, swap};
 use crate::same;
-use silt_desk::{Count, Desk, DeskId, Kept, NotPrepared, Note, Room, Seat, Trace};
+use silt_desk::{CallView, Count, Desk, DeskId, Kept, NotPrepared, Note, Room, Seat, Trace};
 use silt_device::Disk;
 use silt_event::Refusal;
 use silt_fixtures::{key, opened};
@@ -20,6 +20,10 @@ struct Lacking<T: Trace> {
 }
 
 impl<T: Trace> Trace for Lacking<T> {
+    ghost log = { T.log };
+
+    ghost logs = { λ l calls. T.logs l.trace calls };
+
     ghost agrees = { λ l s. T.agrees l.trace s };
 
     ghost counts = { λ l n m. T.counts l.trace n m };
@@ -36,6 +40,8 @@ impl<T: Trace> Trace for Lacking<T> {
 
     ghost counts_after = { λ a b c n m k l counts extends more accepted. T.counts_after a.trace b.trace c n m k l counts extends more accepted };
 
+    ghost logs_after = { λ a b c calls extends logged. T.logs_after a.trace b.trace c calls extends logged };
+
     fn prepare(&self, _alloc: Global, _len: usize, _second: usize) -> Result<Room, NotPrepared> {
         Err(NotPrepared::NoMemory)
     }
@@ -46,6 +52,10 @@ impl<T: Trace> Trace for Lacking<T> {
 
     fn numbers(&self) -> (u64, u64) {
         self.trace.numbers()
+    }
+
+    fn view(&self) -> Option<CallView> {
+        self.trace.view()
     }
 }
 

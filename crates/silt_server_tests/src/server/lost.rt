@@ -92,15 +92,18 @@ fn end_with<R: Wait + Clock>(
     pipelines: bool,
     lines: &[u8],
 ) -> SessionEnd {
-    let one = |_event: Event| -> Result<Reply<()>, Unanswered> { reply_of(back) };
-    let all = |_events: Vec<Event>| -> Result<Vec<Reply<()>>, Unanswered> {
-        replies_of(alloc, back)
+    let one = |_event: Event, _told: &u64| -> (Result<Reply<()>, Unanswered>, u64) {
+        (reply_of(back), 0)
+    };
+    let all = |_events: Vec<Event>, _told: &u64| -> (Result<Vec<Reply<()>>, Unanswered>, u64) {
+        (replies_of(alloc, back), 0)
     };
     let facts = || -> Facts { FACTS };
     let asking = AskBy {
         one: &one,
         all: &all,
         facts: &facts,
+        told: 0_u64,
     };
     end_of(rt, alloc, &stream, asking, pipelines, lines)
 }

@@ -9,7 +9,7 @@ use silt_event::Reply;
 use silt_fixtures::{formatted, key, opened_on};
 use silt_frame::Value;
 use silt_session::{
-    Board, Job, JobLog, LogId, LogStart, Request, RoomWait, Task, Workplace, room_channel,
+    Board, Job, JobLog, LogId, LogStart, Request, RoomWait, Task, Told, Workplace, room_channel,
 };
 use silt_store_set::Core;
 use std::alloc::{AllocError, Global};
@@ -132,7 +132,7 @@ fn got_of(reply: Reply<()>) -> Got {
 
 // The reply to this task.
 fn got_by<D: Disk>(task: Task<D, Count>) -> Got {
-    match task.into_reply() {
+    match task.tell(&Told::nothing()) {
         Some(reply) => got_of(reply),
         None => Got::Nothing,
     }

@@ -1,4 +1,4 @@
-use Rattle.std.proofs.Common.{◌≡◌, ◌≤◌, ◌+◌, length, take, drop}
+use Rattle.std.proofs.Common.{◌≡◌, ◌≤◌, length, take, drop}
 use Rattle.std.specs.Prelude.{IsSomeAnd, slice_get, vec_capacity, vec_len}
 use Rattle.silt_session.specs.SetAnswers.{EachShard}
 use Rattle.silt_session.proofs.set.begin_each.Given as goal

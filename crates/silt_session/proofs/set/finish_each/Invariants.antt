@@ -1,4 +1,4 @@
-use Rattle.std.proofs.Common.{◌≡◌, ◌≤◌, ◌+◌, List, length, take, drop}
+use Rattle.std.proofs.Common.{◌≡◌, ◌≤◌, List, length, take, drop}
 use Rattle.std.specs.List.{AllZip}
 use Rattle.std.specs.Prelude.{IsSomeAnd, slice_get, vec_capacity, vec_len}
 use Rattle.silt_event.specs.declared.event.Event.{Event as EventOf}

@@ -11,4 +11,5 @@ returns-clause-past g c =
       calls = [];
       leads = subst (λ named. LeadsFrom named [] store) (sym c.requires.first) (leads_none store c.standing.ensures.has_map c.standing.ensures.few c.standing.ensures.begun);
       counted = c.requires.trace.1;
+      logged = c.requires.log.1;
     }

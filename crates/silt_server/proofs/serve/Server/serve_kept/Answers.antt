@@ -8,7 +8,7 @@ pub returns-in-Ok-clause-served : goal.returns-in-Ok-clause-served
 returns-in-Ok-clause-served g c = λ is. let printed = c.serve_traced.ensures.traced.printed is in (printed.0, printed.1, printed.2 % 2 ^ 64, printed.5, c.serve_traced.ensures.left)
 
 pub returns-in-Ok-clause-kept : goal.returns-in-Ok-clause-kept
-returns-in-Ok-clause-kept g c = λ is. let traced = c.serve_traced.ensures.traced in (traced.last, traced.trace, traced.is, traced.agreed, traced.printed is)
+returns-in-Ok-clause-kept g c = λ is. let traced = c.serve_traced.ensures.traced in (traced.last, traced.state.trace, traced.is, traced.agreed, traced.printed is)
 
 pub returns-in-Ok-clause-calls : goal.returns-in-Ok-clause-calls
 returns-in-Ok-clause-calls g c = λ is. calls_served g.D.Disk _ _ _ _ _ _ _ _ (λ trace n m k l one other. ap (λ (x : ℕ). x % 2 ^ 64) (sym one.0 ∙ other.0)) c.serve_traced.ensures.traced is

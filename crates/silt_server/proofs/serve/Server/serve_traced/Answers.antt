@@ -11,10 +11,10 @@ returns-in-Some g c =
     record {
       traced = record {
         last = desk.core;
-        trace = desk.trace.trace;
+        state = desk.trace;
         is = sym c.close-in-Ok.ensures.disk;
         agreed = c.trace-in-Ok.ensures.agrees.0;
-        past = subst (λ named. HasPast named g.T.Trace.counts desk.trace.trace (seen g.D.Disk desk.core)) c.requires.trace.0 c.trace-in-Ok.ensures.agrees.1;
+        past = subst (λ named. HasPast named g.T.Trace.counts desk.trace (seen g.D.Disk desk.core)) c.requires.trace.0 c.trace-in-Ok.ensures.agrees.1;
         printed = c.serve_desk-desk.ensures.served;
       };
       printed = c.serve_desk-desk.ensures.printed;
@@ -26,21 +26,21 @@ returns-in_default-clause-traced g c =
     let desk = c.in-Ok.desk in
     record {
       last = desk.core;
-      trace = desk.trace.trace;
+      state = desk.trace;
       is = sym c.close.ensures.disk;
       agreed = c.trace.ensures.agrees.0;
-      past = subst (λ named. HasPast named g.T.Trace.counts desk.trace.trace (seen g.D.Disk desk.core)) c.requires.trace.0 c.trace.ensures.agrees.1;
+      past = subst (λ named. HasPast named g.T.Trace.counts desk.trace (seen g.D.Disk desk.core)) c.requires.trace.0 c.trace.ensures.agrees.1;
       printed = never_done _ c.refuse-status.result c.refuse-status.ensures;
     }
 
 pub returns-in-Err-clause-traced : goal.returns-in-Err-clause-traced
 returns-in-Err-clause-traced g c =
-    let trace = c.new-trace.result.trace in
+    let state = c.new-trace.result in
     record {
       last = c.args.core;
-      trace = trace;
+      state = state;
       is = sym (c.close-in-Err.ensures.disk ∙ ap (λ (core : CoreState _). core.disk) c.in-Err.ensures.err.0);
       agreed = c.new-trace.ensures.agrees;
-      past = subst (λ named. HasPast named g.T.Trace.counts trace (seen g.D.Disk c.args.core)) c.requires.trace.0 c.new-trace.ensures.past;
+      past = subst (λ named. HasPast named g.T.Trace.counts state (seen g.D.Disk c.args.core)) c.requires.trace.0 c.new-trace.ensures.past;
       printed = never_done _ c.refuse-status-in-Err.result c.refuse-status-in-Err.ensures;
     }

@@ -2,7 +2,7 @@ use mir.Syntax.{of_param}
 use Rattle.std.proofs.Common.{rules, get_or, refl, sym, ◌∙◌}
 use Rattle.std.proofs.lemmas.List.{length-set}
 use Rattle.silt_session.specs.Batches.{PerformsTask, StepsThrough, writer_at}
-use Rattle.silt_session.proofs.Batches.{keeps_none, keeps_both, task_done, task_performed}
+use Rattle.silt_session.proofs.Batches.{keeps_none, keeps_both, task_done, task_performed, task_placed}
 use Rattle.silt_session.proofs.Lists.{changed_all, steps_next, rest_next}
 use Rattle.silt_session.proofs.batch.Workplace.perform_tasks.Goals as goal
 
@@ -21,9 +21,11 @@ loop-task-preserved g c =
 
 pub finish-requires : goal.finish-requires
 finish-requires g c =
-    let done = task_done g.D.Disk g.T.Trace _ _ _ _ _ _ c.perform_request-answer.result c.request.ensures c.perform_request-answer.ensures.does in (
+    let does = c.perform_request-answer.ensures.does in
+    let done = task_done g.D.Disk g.T.Trace _ _ _ _ _ _ c.perform_request-answer.result c.request.ensures does in
+    let placed = task_placed g.D.Disk g.T.Trace _ _ _ _ _ _ c.perform_request-answer.result c.call_place-call.result c.request.ensures c.call_place-call.ensures does in (
       search rules,
-      (record { owned = c.type_bounds.send-D-Fault.owned; leaving = λ k. c.type_bounds.send-D-Fault.leaving (λ s. k (of_param 2)) }, (search rules, done)),
+      (record { owned = c.type_bounds.send-D-Fault.owned; leaving = λ k. c.type_bounds.send-D-Fault.leaving (λ s. k (of_param 2)) }, (search rules, (done, placed))),
     )
 
 pub returns-clause-steps : goal.returns-clause-steps

@@ -1,9 +1,7 @@
-use Rattle.std.specs.Prelude.{Result}
-use Rattle.silt_event.specs.Events.{PlainReply}
-use Rattle.silt_session.specs.declared.unanswered.Unanswered.{Unanswered}
-use Rattle.silt_session.proofs.Clients.{given_alone}
+use Rattle.std.proofs.Common.{refl}
+use Rattle.silt_session.proofs.Clients.{given_one}
 use Rattle.silt_session.proofs.client.AskByAsking.ask.Goals as goal
 
-pub returns : goal.returns
-returns g c =
-    given_alone c.one.result (λ (r : Result PlainReply Unanswered). g.F.Fn.post c.args.self.now.one.now (c.args.event, tt) r) _ c.one.ensures
+pub returns-clause-reply : goal.returns-clause-reply
+returns-clause-reply g c =
+    given_one (λ told. told.now) c.one-given.result c.args.self.now.told _ (λ told given. g.F.Fn.post c.args.self.now.one.now (c.args.event, (told, tt)) given) _ refl c.one-given.ensures

@@ -1,6 +1,6 @@
 use Rattle.silt_session.specs.Requests.{requests_of}
 use Rattle.std.proofs.Common.{sym, ◌∙◌, ap}
-use Rattle.silt_session.proofs.JobLogs.{adds_moves}
+use Rattle.silt_desk.proofs.CallLogs.{adds_moves}
 use Rattle.silt_session.proofs.job_log.LogView.append.Goals as goal
 
 pub compare_exchange-found-requires : goal.compare_exchange-found-requires

@@ -1,7 +1,7 @@
 use Rattle.silt_session.specs.declared.job.Request.{Request}
 use Rattle.std.proofs.Common.{◌≤◌, ap, subst, arith, length, List}
 use mathlib.Core.List.{IsPrefix}
-use Rattle.silt_session.proofs.JobLogs.{prefix_shorter}
+use Rattle.silt_desk.proofs.CallLogs.{prefix_shorter}
 use Rattle.silt_session.proofs.job_log.LogView.longer.Goals as goal
 
 pub returns-then-self-other-clause-this : goal.returns-then-self-other-clause-this

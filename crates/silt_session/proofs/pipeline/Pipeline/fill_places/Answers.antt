@@ -1,7 +1,9 @@
-use Rattle.std.proofs.Common.{rules, ◌++◌, ◌∷◌, [], List, append_assoc, refl, sym, ◌∙◌, ap}
+use Rattle.std.proofs.Common.{rules, ◌++◌, ◌∷◌, [], List, append_assoc, refl, subst, sym, ◌∙◌, ap}
 use Rattle.std.proofs.lemmas.List.{append-nil}
 use Rattle.silt_session.specs.declared.pipeline.Pipeline.{Pipeline}
 use Rattle.silt_session.specs.declared.place.Place.{Place}
+use Rattle.silt_session.specs.Pipelines.{FillsOne}
+use Rattle.silt_session.specs.Tolds.{ToldState}
 use Rattle.silt_session.proofs.Pipelines.{fills_more}
 use Rattle.silt_session.proofs.pipeline.Pipeline.fill_places.Goals as goal
 
@@ -24,6 +26,7 @@ loop-place-preserved g c =
         given ++ reply ∷ [],
         append_assoc done (place ∷ []) c.pop_front.new.self.items ∙ ap (λ (l : List Place). done ++ l) (sym c.in-Some.ensures.items) ∙ whole,
         c.push_reserved.ensures.items ∙ ap (λ l. l ++ reply ∷ []) was ∙ append_assoc _ given (reply ∷ []),
-        fills_more g.D.Disk g.T.Trace _ _ _ _ done given place reply fills c.in-Some-given.ensures,
+        fills_more g.D.Disk g.T.Trace _ _ _ _ _ done given place reply fills
+            (subst (λ (s : ToldState). FillsOne g.D.Disk g.T.Trace s c.args.flushed.now c.loop-place.tasks.items place reply c.given.new.tasks.items) (ap (λ (p : Pipeline _ _ _). p.told) before.same) c.in-Some-given.ensures),
       );
     }

@@ -13,7 +13,7 @@ invariant-loop-place g l = record {
   replies_room : vec_capacity l.self.replies ≡ vec_capacity l.initial.self.replies;
   places_room : deque_capacity l.self.places ≡ deque_capacity l.initial.self.places;
   so_far : (done : List Place) × (given : List PlainReply) × (done ++ l.self.places.items ≡ l.initial.self.places.items)
-      × (l.self.replies.items ≡ l.initial.self.replies.items ++ given) × Fills g.D.Disk g.T.Trace l.flushed l.initial.tasks.items done given l.tasks.items;
+      × (l.self.replies.items ≡ l.initial.self.replies.items ++ given) × Fills g.D.Disk g.T.Trace l.initial.self.told l.flushed l.initial.tasks.items done given l.tasks.items;
 }
 
 abbrev pub decreases-loop-place : goal.decreases-loop-place

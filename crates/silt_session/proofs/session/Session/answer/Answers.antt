@@ -3,12 +3,19 @@ use Rattle.std.specs.Prelude.{IfOk}
 use Rattle.silt_event.specs.declared.event.Event.{Event as EventOf}
 use Rattle.silt_session.specs.Sessions.{IsAnswer}
 use Rattle.silt_session.proofs.Pipelines.{given_answers, requested_answers}
+use Rattle.silt_session.proofs.Tolds.{asked_more}
 use Rattle.silt_session.proofs.session.Session.answer.Goals as goal
 
-pub returns-in-Ok : goal.returns-in-Ok
-returns-in-Ok g c = requested_answers g.D.Disk g.T.Trace _ c.in-Ok.request c.args.event c.request.result c.in-Ok.ensures c.request.ensures
+pub returns-in-Ok-clause-told : goal.returns-in-Ok-clause-told
+returns-in-Ok-clause-told g c = asked_more c.args.told.now c.asked.result c.request.new.told c.asked.ensures c.request.ensures.told
 
-pub returns-in-Err : goal.returns-in-Err
-returns-in-Err g c =
-    subst (λ (e : EventOf). IfOk c.give.result (IsAnswer g.D.Disk g.T.Trace c.args.self.now.settles_gets e)) c.in-Err.ensures.0
-    (given_answers g.D.Disk g.T.Trace _ c.in-Err.event c.answer_here.result c.give.result c.answer_here.ensures c.give.ensures)
+pub returns-in-Ok-clause-reply : goal.returns-in-Ok-clause-reply
+returns-in-Ok-clause-reply g c = requested_answers g.D.Disk g.T.Trace _ _ c.in-Ok.request c.args.event c.request.result c.in-Ok.ensures c.request.ensures.reply
+
+pub returns-in-Err-clause-told : goal.returns-in-Err-clause-told
+returns-in-Err-clause-told g c = asked_more c.args.told.now c.asked.result c.give.new.told c.asked.ensures c.give.ensures.told
+
+pub returns-in-Err-clause-reply : goal.returns-in-Err-clause-reply
+returns-in-Err-clause-reply g c =
+    subst (λ (e : EventOf). IfOk c.give.result (IsAnswer g.D.Disk g.T.Trace c.give.new.told c.args.self.now.settles_gets e)) c.in-Err.ensures.0
+    (given_answers g.D.Disk g.T.Trace _ _ c.in-Err.event c.answer_here.result c.give.result c.answer_here.ensures c.give.ensures.reply)

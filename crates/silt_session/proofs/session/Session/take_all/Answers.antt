@@ -4,6 +4,7 @@ use Rattle.std.specs.Vec.Iter.{into_iter_items}
 use Rattle.silt_event.specs.declared.event.Event.{Event as EventOf}
 use Rattle.silt_session.specs.Pipelines.{AnswersSoFar}
 use Rattle.silt_session.proofs.Pipelines.{answers_none}
+use Rattle.silt_session.proofs.Tolds.{more_both, more_none}
 use Rattle.silt_session.proofs.session.Session.take_all.Goals as goal
 
 pub loop-event-init : goal.loop-event-init
@@ -14,6 +15,7 @@ loop-event-init g c =
       finite = tt;
       room = (omega (arith, c.requires.room.0, ap length given.0, c.args.events.ok.0), omega (arith, c.requires.room.1, ap length given.0, c.args.events.ok.0));
       so_far = ([], refl, answers_none g.D.Disk _ g.T.Trace c.args.pipeline.now c.requires.settled c.requires.none);
+      told = more_none c.args.pipeline.now.told;
     }
 
 pub loop-event-preserved : goal.loop-event-preserved
@@ -30,6 +32,7 @@ loop-event-preserved g c =
         append_assoc done (c.in-Some.event ∷ []) (into_iter_items c.next.new.self) ∙ ap (λ (l : List EventOf). done ++ l) (sym items) ∙ whole,
         c.in_ok-take.ensures.answers done some,
       );
+      told = more_both _ _ _ before.told c.in_ok-take.ensures.told;
     }
 
 pub returns-clause-answers : goal.returns-clause-answers
@@ -40,3 +43,6 @@ returns-clause-answers g c =
     let ended = nil_from_length (into_iter_items left) (omega (arith, c.in-None.ensures.steps.0, left.rest.ok.0)) in
     subst (λ (l : List EventOf). AnswersSoFar g.D.Disk c.args.self.now.settles_gets g.T.Trace l c.loop-event.pipeline)
     (sym (append-nil done) ∙ ap (λ (l : List EventOf). done ++ l) (sym ended) ∙ whole ∙ given.0) some
+
+pub returns-clause-told : goal.returns-clause-told
+returns-clause-told g c = c.loop-event.invariant.told

@@ -1,7 +1,7 @@
 use Rattle.std.proofs.Common.{Vec, arith}
 use Rattle.std.specs.declared.collections.VecDeque.{VecDeque}
 use Rattle.silt_session.proofs.Sets.{set_answers}
-use Rattle.silt_session.proofs.set.SetAskingAsking.ask_all.Goals as goal
+use Rattle.silt_session.proofs.set.SetAsking.ask_each.Goals as goal
 
 pub returns : goal.returns
 returns g c =

@@ -1,0 +1,316 @@
+-- What a session is told, and more of it.
+use Rattle.std.proofs.Common.{◌≡◌, ◌⊎◌, inl, inr, ℕ, zero, suc, ◌≤◌, Bool, true, false, cond, List, [], ◌∷◌, ◌++◌, append_assoc, length, refl, sym, ◌∙◌, ap, subst, Option, Some, None, Result, Ok, Err, slice_get}
+use Rattle.std.specs.List.{AllZip}
+use Rattle.std.specs.Bool.{then_some}
+use Rattle.std.specs.Option.{option_map}
+use Rattle.std.specs.Prelude.{IfSome, MatchBool, if◌then◌else◌, nat_le}
+use Rattle.std.proofs.lemmas.Bool.{leb-true}
+use Rattle.std.proofs.lemmas.List.{append-nil}
+use mathlib.Core.List.{IsPrefix}
+use Rattle.logbook.specs.Pages.{Book}
+use Rattle.silt_disk.specs.declared.disk.Disk.{Ghosts}
+use Rattle.silt_event.specs.Events.{PlainReply, plain}
+use Rattle.silt_event.specs.declared.event.Event.{Event}
+use Rattle.silt_frame.specs.declared.key.Key.{Key}
+use Rattle.silt_store_set.specs.CoreState.{CoreState}
+use Rattle.silt_event.specs.declared.event.Event.TheVariants as event
+use Rattle.silt_event.specs.declared.refusal.Refusal.{Refusal}
+use Rattle.silt_event.specs.declared.refusal.Refusal.TheVariants.{NotFormatted, BadGeometry, Damaged, Crowded, Device, NoMemory, StoreFull, NoRoom, Failed, Spent, HistoryFull}
+use Rattle.silt_event.specs.declared.reply.Reply.{Reply}
+use Rattle.silt_event.specs.declared.reply.Reply.TheVariants.{Accepted, Acknowledged, Found, Absent, Differs, Progress, Refused, Unsettled, NotServed}
+use Rattle.silt_store_set.specs.Replies.{change_reply, flush_reply, swap_reply}
+use Rattle.silt_desk.specs.declared.call.RecordedCall.{RecordedCall}
+use Rattle.silt_desk.specs.declared.trace.Trace.{Ghosts as TraceOf}
+use Rattle.silt_desk.specs.CallLogs.{PlaceState, PlacesCall, PlacesEvent}
+use Rattle.silt_desk.specs.DeskState.{DeskState, Refuses, Records, Serves}
+use Rattle.silt_desk.specs.History.{call, is_recorded}
+use Rattle.silt_desk.specs.Notes.{plain_answer}
+use Rattle.silt_desk.specs.Seats.{SeatState}
+use Rattle.silt_session.specs.Batches.{FindsNoRoom, PerformsLast, PerformsRequest, WriterState}
+use Rattle.silt_session.specs.Origins.{Flushes, HasDone, HasOrigin, Performs, WasFlushed}
+use Rattle.silt_session.specs.declared.task.Placed.{Placed}
+use Rattle.silt_session.specs.Requests.{Answer, Flushed, acknowledged, asked_event, changed, compared, reply_due}
+use Rattle.silt_session.specs.Sessions.{IsAnswer, IsKept, IsToldTo}
+use Rattle.silt_session.specs.Tolds.{AsksBehind, CallsAt, ExtendsCalls, IsInLog, IsTold, IsToldMore, HasCallAt, TellsAt, ToldOf, ToldState, reply_place, answer_place}
+use Rattle.silt_session.specs.declared.job.Request.{Request}
+use Rattle.silt_session.specs.declared.job.Request.TheVariants.{Put, Delete, Swap, Flush}
+
+-- ---- more calls
+
+get_more : {A : Type 0} (xs zs : List A) (k : ℕ) (x : A) → slice_get xs k ≡ Some x → slice_get (xs ++ zs) k ≡ Some x
+get_more [] zs k x at = absurd (cc)
+get_more (y ∷ xs) zs zero x at = at
+get_more (y ∷ xs) zs (suc k) x at = get_more xs zs k x at
+
+module _ (from : ℕ) (calls more : List RecordedCall) (begins : IsPrefix calls more) where
+  stands_more : (k : ℕ) (e : Event) (r : PlainReply) → HasCallAt from calls k e r → HasCallAt from more k e r
+  stands_more k e r (late, at) =
+      (late, (at.0, subst (λ (l : List RecordedCall). slice_get l k ≡ Some (call at.0 e r)) begins.1 (get_more calls begins.0 k (call at.0 e r) at.1)))
+
+  -- what stands in a beginning of the calls stands in them
+  pub told_more : (e : Event) (r : PlainReply) → IsTold from calls e r → IsTold from more e r
+  told_more e (Accepted n) (place, at, (behind, m, order, covers, flush)) =
+      (place, stands_more place e (Accepted n) at, (behind, m, order, covers, stands_more behind event.Flush (Acknowledged m) flush))
+  told_more e (Unsettled n) (place, at) = (place, stands_more place e (Accepted n) at)
+  told_more e Differs (place, at) = (place, stands_more place e Differs at)
+  told_more e (Acknowledged m) (place, at) = (place, stands_more place event.Flush (Acknowledged m) at)
+  told_more e (Refused NoMemory) told = tt
+  told_more e (Refused HistoryFull) told = tt
+  told_more e (Refused NotFormatted) (place, at) = (place, stands_more place e (Refused NotFormatted) at)
+  told_more e (Refused BadGeometry) (place, at) = (place, stands_more place e (Refused BadGeometry) at)
+  told_more e (Refused (Damaged part)) (place, at) = (place, stands_more place e (Refused (Damaged part)) at)
+  told_more e (Refused Crowded) (place, at) = (place, stands_more place e (Refused Crowded) at)
+  told_more e (Refused (Device fault)) (place, at) = (place, stands_more place e (Refused (Device fault)) at)
+  told_more e (Refused StoreFull) (place, at) = (place, stands_more place e (Refused StoreFull) at)
+  told_more e (Refused NoRoom) (place, at) = (place, stands_more place e (Refused NoRoom) at)
+  told_more e (Refused Failed) (place, at) = (place, stands_more place e (Refused Failed) at)
+  told_more e (Refused Spent) (place, at) = (place, stands_more place e (Refused Spent) at)
+  told_more e (Found value) told = tt
+  told_more e Absent told = tt
+  told_more e (Progress progress) told = tt
+  told_more e NotServed told = tt
+
+of_more : (from : ℕ) (e : Event) (r : PlainReply) (old new : Option (List RecordedCall)) → ExtendsCalls old new → IfSome old (λ calls. IsTold from calls e r) → IfSome new (λ calls. IsTold from calls e r)
+of_more from e r None None goes told = tt
+of_more from e r None (Some more) goes told = absurd (cc)
+of_more from e r (Some calls) None goes told = absurd goes
+of_more from e r (Some calls) (Some more) goes told = told_more from calls more goes e r told
+
+-- what was told stays told
+pub told_stays : (old new : ToldState) → IsToldMore old new → (e : Event) (r : PlainReply) → ToldOf old e r → ToldOf new e r
+told_stays old new more e r told =
+    subst (λ (n : ℕ). IfSome new.calls (λ calls. IsTold n calls e r)) (sym more.from) (of_more old.from e r old.calls new.calls more.calls told)
+
+-- ---- what goes on
+
+goes_none : (calls : Option (List RecordedCall)) → ExtendsCalls calls calls
+goes_none None = refl
+goes_none (Some calls) = ([], append-nil calls)
+
+goes_both : (a b c : Option (List RecordedCall)) → ExtendsCalls a b → ExtendsCalls b c → ExtendsCalls a c
+goes_both None None c first second = second
+goes_both None (Some calls) c first second = absurd (cc)
+goes_both (Some calls) None c first second = absurd first
+goes_both (Some calls) (Some more) None first second = absurd second
+goes_both (Some calls) (Some more) (Some most) first second =
+    (first.0 ++ second.0, sym (append_assoc calls first.0 second.0) ∙ ap (λ (l : List RecordedCall). l ++ second.0) first.1 ∙ second.1)
+
+pub more_none : (told : ToldState) → IsToldMore told told
+more_none told = record { from = refl; calls = goes_none told.calls }
+
+pub more_both : (a b c : ToldState) → IsToldMore a b → IsToldMore b c → IsToldMore a c
+more_both a b c first second = record { from = second.from ∙ first.from; calls = goes_both a.calls b.calls c.calls first.calls second.calls }
+
+asked_from : (old : Option (List RecordedCall)) (a b : ℕ) → b ≡ a → IfSome old (λ calls. a ≡ length calls) → IfSome old (λ calls. b ≡ length calls)
+asked_from None a b same is = tt
+asked_from (Some calls) a b same is = same ∙ is
+
+-- events that were asked behind what was told, and more is told then
+pub asked_more : (a b c : ToldState) → AsksBehind a b → IsToldMore b c → AsksBehind a c
+asked_more a b c asks more = record { from = asked_from a.calls b.from c.from more.from asks.from; calls = goes_both a.calls b.calls c.calls asks.calls more.calls }
+
+-- ---- answers
+
+module _ {D F T : Type 0} (facts : Ghosts D F) (trace : TraceOf T) (settles : Bool) (old new : ToldState) (more : IsToldMore old new) where
+  to_more : (request : Request) (r : PlainReply) → IsToldTo facts trace old request r → IsToldTo facts trace new request r
+  to_more request r (origin, told) = (origin, told_stays old new more (asked_event request) r told)
+
+  look_more : (core : CoreState D) (key : Key) (r : PlainReply) → IsKept facts core key r ⊎ ((n : ℕ) × IsToldTo facts trace old Flush (Acknowledged n) × (core.count ≤ n))
+      → IsKept facts core key r ⊎ ((n : ℕ) × IsToldTo facts trace new Flush (Acknowledged n) × (core.count ≤ n))
+  look_more core key r (inl is) = inl is
+  look_more core key r (inr (n, came, covers)) = inr (n, to_more Flush (Acknowledged n) came, covers)
+
+  -- an answer stays one
+  pub answer_more : (e : Event) (r : PlainReply) → IsAnswer facts trace old settles e r → IsAnswer facts trace new settles e r
+  answer_more (event.Get key) r (inl none) = inl none
+  answer_more (event.Get key) r (inr (inl (core, gets, kept))) = inr (inl (core, gets, λ so. look_more core key r (kept so)))
+  answer_more (event.Get key) r (inr (inr (so, refused, came))) = inr (inr (so, refused, to_more Flush r came))
+  answer_more event.Convert r is = is
+  answer_more event.Merge r is = is
+  answer_more (event.Put key value) r (inl none) = inl none
+  answer_more (event.Put key value) r (inr (request, asks, came)) = inr (request, asks, to_more request r came)
+  answer_more (event.Delete key) r (inl none) = inl none
+  answer_more (event.Delete key) r (inr (request, asks, came)) = inr (request, asks, to_more request r came)
+  answer_more (event.Swap key was is) r (inl none) = inl none
+  answer_more (event.Swap key was is) r (inr (request, asks, came)) = inr (request, asks, to_more request r came)
+  answer_more event.Flush r (inl none) = inl none
+  answer_more event.Flush r (inr (request, asks, came)) = inr (request, asks, to_more request r came)
+
+  pub answers_more : (events : List Event) (replies : List PlainReply) → AllZip (IsAnswer facts trace old settles) events replies → AllZip (IsAnswer facts trace new settles) events replies
+  answers_more [] [] are = tt
+  answers_more (e ∷ events) (r ∷ replies) are = (answer_more e r are.0, answers_more events replies are.1)
+  answers_more [] (r ∷ replies) are = absurd are
+  answers_more (e ∷ events) [] are = absurd are
+
+-- ---- where a call stands
+
+-- what a place is known by
+places_event : (named : Option Book) (seat : ℕ) (e : Event) (r : PlainReply) (place : Option PlaceState) → PlacesCall named (call seat e r) place → PlacesEvent named e r place
+places_event named seat e r None places = tt
+places_event named seat e r (Some place) places = (places.0, (seat, places.1))
+
+recorded_plain : {F : Type 0} (r : Reply F) → is_recorded (plain r) ≡ is_recorded r
+recorded_plain (Accepted n) = refl
+recorded_plain (Acknowledged n) = refl
+recorded_plain (Found value) = refl
+recorded_plain Absent = refl
+recorded_plain Differs = refl
+recorded_plain (Progress progress) = refl
+recorded_plain (Unsettled n) = refl
+recorded_plain NotServed = refl
+recorded_plain (Refused NotFormatted) = refl
+recorded_plain (Refused BadGeometry) = refl
+recorded_plain (Refused (Damaged part)) = refl
+recorded_plain (Refused Crowded) = refl
+recorded_plain (Refused (Device fault)) = refl
+recorded_plain (Refused NoMemory) = refl
+recorded_plain (Refused StoreFull) = refl
+recorded_plain (Refused NoRoom) = refl
+recorded_plain (Refused Failed) = refl
+recorded_plain (Refused Spent) = refl
+recorded_plain (Refused HistoryFull) = refl
+
+module _ {D F T : Type 0} (facts : Ghosts D F) (trace : TraceOf T) where
+  -- the seat has the place of a call that was recorded
+  served_place : (old new : DeskState D T) (seat after : SeatState) (e : Event) (r : Reply F) → Serves facts trace old new seat after e r → PlacesEvent trace.log e (plain r) (reply_place (plain r) after.last)
+  served_place old new seat after e r serves =
+      let go : (b : Bool) → is_recorded r ≡ b → MatchBool b (Records facts trace old new seat after e r) (Refuses facts trace old new seat after e r)
+      → PlacesEvent trace.log e (plain r) (if b then after.last else None) = elim [
+        | true ↦ λ is records. places_event trace.log seat.number e (plain r) after.last records.seated.place
+        | false ↦ λ is refuses. tt
+      ] in
+      subst (λ (b : Bool). PlacesEvent trace.log e (plain r) (if b then after.last else None)) (sym (recorded_plain r)) (go (is_recorded r) refl serves)
+
+  change_told : (answer : Result ℕ (Refusal F)) → swap_reply (compared (plain_answer answer)) ≡ plain (change_reply answer)
+  change_told (Ok n) = refl
+  change_told (Err refusal) = refl
+
+  swap_told : (answer : Result (Option ℕ) (Refusal F)) → swap_reply (plain_answer answer) ≡ plain (swap_reply answer)
+  swap_told (Ok (Some n)) = refl
+  swap_told (Ok None) = refl
+  swap_told (Err refusal) = refl
+
+  flush_told : (answer : Result ℕ (Refusal F)) → acknowledged (plain_answer answer) ≡ plain (flush_reply answer)
+  flush_told (Ok n) = refl
+  flush_told (Err refusal) = refl
+
+  place_as : (e : Event) (r s : PlainReply) (last : Option PlaceState) → s ≡ r → PlacesEvent trace.log e r (reply_place r last) → PlacesEvent trace.log e s (reply_place s last)
+  place_as e r s last is places = subst (λ (x : PlainReply). PlacesEvent trace.log e x (reply_place x last)) (sym is) places
+
+  -- the seat has the place of a request's call
+  performed_place : (old new : DeskState D T) (seat after : SeatState) (request : Request) (answer : Option Answer) → Performs facts trace old new seat after request answer
+      → CallsAt trace.log request answer (answer_place answer after.last)
+  performed_place old new seat after request None performs = refl
+  performed_place old new seat after (Put key value) (Some answer) (reported, is, serves, agrees) =
+      place_as (event.Put key value) (plain (change_reply reported)) (swap_reply answer) after.last (ap swap_reply is ∙ change_told reported) (served_place old new seat after (event.Put key value) (change_reply reported) serves)
+  performed_place old new seat after (Delete key) (Some answer) (reported, is, serves, agrees) =
+      place_as (event.Delete key) (plain (change_reply reported)) (swap_reply answer) after.last (ap swap_reply is ∙ change_told reported) (served_place old new seat after (event.Delete key) (change_reply reported) serves)
+  performed_place old new seat after (Swap key expected value) (Some answer) (reported, is, serves, agrees) =
+      place_as (event.Swap key expected value) (plain (swap_reply reported)) (swap_reply answer) after.last (ap swap_reply is ∙ swap_told reported) (served_place old new seat after (event.Swap key expected value) (swap_reply reported) serves)
+  performed_place old new seat after Flush (Some answer) performs = absurd performs
+
+  -- the seat has the place of a flush
+  pub flushed_place : (old new : DeskState D T) (seat after : SeatState) (flushed : Flushed) → Flushes facts trace old new seat after flushed
+      → PlacesEvent trace.log event.Flush (acknowledged flushed) (reply_place (acknowledged flushed) after.last)
+  flushed_place old new seat after flushed (reported, is, serves, agrees) =
+      place_as event.Flush (plain (flush_reply reported)) (acknowledged flushed) after.last (ap acknowledged is ∙ flush_told reported) (served_place old new seat after event.Flush (flush_reply reported) serves)
+
+  last_place : (seat after : SeatState) (request : Request) (answer : Option Answer) → PerformsLast facts trace seat request answer after → CallsAt trace.log request answer (answer_place answer after.last)
+  last_place seat after request answer (before, later, performs, none) = performed_place before later seat after request answer performs
+
+  refused_place : (seat after : SeatState) (request : Request) (answer : Option Answer) → answer ≡ Some (Err NoRoom) → FindsNoRoom facts trace seat request after
+      → CallsAt trace.log request answer (answer_place answer after.last)
+  refused_place seat after request answer is (before, later, performs, same, work) =
+      subst (λ (a : Option Answer). CallsAt trace.log request a (answer_place a after.last)) (sym is) (performed_place before later seat after request (Some (Err NoRoom)) performs)
+
+  -- the seat has the place of the last call of a request that was done
+  pub done_place : {N : Type 0} (seconds : ℕ) (is_over : Type 0) (writer after : WriterState D T N F) (request : Request) (answer : Option Answer)
+      → PerformsRequest facts trace seconds is_over writer request answer after → CallsAt trace.log request answer (answer_place answer after.seat.last)
+  done_place seconds is_over writer after request answer (inl (same, inl last)) = last_place writer.seat after.seat request answer last
+  done_place seconds is_over writer after request answer (inl (same, inr (is, finds, none))) = refused_place writer.seat after.seat request answer is finds
+  done_place seconds is_over writer after request answer (inr (waits, first, second, finds, ends, none, (times, mid, few, tried, inl last))) = last_place mid after.seat request answer last
+  done_place seconds is_over writer after request answer (inr (waits, first, second, finds, ends, none, (times, mid, few, tried, inr (is, again, over)))) = refused_place mid after.seat request answer is again
+
+-- ---- the reply of a task
+
+-- the reply that is due to a command speaks of its call and of the flush
+changed_tells : (named : Option Book) (e : Event) (answer : Answer) (flushed : Flushed) (call flush : Option PlaceState)
+    → ((refusal : Refusal (Unit {0})) → PlacesEvent named e (Refused refusal) call → TellsAt named e (Refused refusal) call flush)
+    → PlacesEvent named e (swap_reply answer) call → PlacesEvent named event.Flush (acknowledged flushed) flush → TellsAt named e (changed answer flushed) call flush
+changed_tells named e (Err refusal) flushed call flush refused at behind = refused refusal at
+changed_tells named e (Ok None) flushed call flush refused at behind = at
+changed_tells named e (Ok (Some n)) (Ok m) call flush refused at behind =
+    let go : (b : Bool) → nat_le n m ≡ b → TellsAt named e (cond b (Accepted n) (Unsettled n)) call flush = elim [
+      | true ↦ λ covers. (at, (m, leb-true n m covers, behind))
+      | false ↦ λ few. at
+    ] in
+    go (nat_le n m) refl
+changed_tells named e (Ok (Some n)) (Err refusal) call flush refused at behind = at
+
+flush_tells : (named : Option Book) (flushed : Flushed) (call flush : Option PlaceState) → PlacesEvent named event.Flush (acknowledged flushed) flush
+    → TellsAt named event.Flush (acknowledged flushed) call flush
+flush_tells named (Ok m) call flush behind = behind
+flush_tells named (Err refusal) call flush behind = behind
+
+module _ (named : Option Book) (flushed : Flushed) (reply : PlainReply) (call flush : Option PlaceState) (behind : PlacesEvent named event.Flush (acknowledged flushed) flush) where
+  its_reply : (e : Event) (due : PlainReply) → Some due ≡ Some reply → TellsAt named e due call flush → TellsAt named e reply call flush
+  its_reply e due is tells = let same : due ≡ reply = cc in subst (λ (r : PlainReply). TellsAt named e r call flush) same tells
+
+  -- a task's reply speaks of its call and of the flush
+  pub due_tells : (request : Request) (answer : Option Answer) → reply_due request answer flushed ≡ Some reply → CallsAt named request answer call
+      → TellsAt named (asked_event request) reply call flush
+  due_tells Flush answer due at = its_reply event.Flush (acknowledged flushed) due (flush_tells named flushed call flush behind)
+  due_tells (Put key value) None due at = absurd (cc)
+  due_tells (Put key value) (Some (Ok None)) due at = absurd (cc)
+  due_tells (Put key value) (Some (Ok (Some n))) due at =
+      its_reply (event.Put key value) (changed (Ok (Some n)) flushed) due (changed_tells named (event.Put key value) (Ok (Some n)) flushed call flush (λ refusal is. is) at behind)
+  due_tells (Put key value) (Some (Err refusal)) due at =
+      its_reply (event.Put key value) (changed (Err refusal) flushed) due (changed_tells named (event.Put key value) (Err refusal) flushed call flush (λ refusal is. is) at behind)
+  due_tells (Delete key) None due at = absurd (cc)
+  due_tells (Delete key) (Some (Ok None)) due at = absurd (cc)
+  due_tells (Delete key) (Some (Ok (Some n))) due at =
+      its_reply (event.Delete key) (changed (Ok (Some n)) flushed) due (changed_tells named (event.Delete key) (Ok (Some n)) flushed call flush (λ refusal is. is) at behind)
+  due_tells (Delete key) (Some (Err refusal)) due at =
+      its_reply (event.Delete key) (changed (Err refusal) flushed) due (changed_tells named (event.Delete key) (Err refusal) flushed call flush (λ refusal is. is) at behind)
+  due_tells (Swap key old new) None due at = absurd (cc)
+  due_tells (Swap key old new) (Some answer) due at =
+      its_reply (event.Swap key old new) (changed answer flushed) due (changed_tells named (event.Swap key old new) answer flushed call flush (λ refusal is. is) at behind)
+
+named_place : (named : Option Book) (e : Event) (r : PlainReply) (place : Option PlaceState) → PlacesEvent named e r place → IsInLog named place
+named_place named e r None places = tt
+named_place named e r (Some place) places = places.0
+
+named_call : (named : Option Book) (request : Request) (answer : Option Answer) (place : Option PlaceState) → CallsAt named request answer place → IsInLog named place
+named_call named request None place at = subst (λ (p : Option PlaceState). IsInLog named p) (sym at) tt
+named_call named request (Some answer) place at = named_place named (asked_event request) (swap_reply answer) place at
+
+module _ {D F T : Type 0} (facts : Ghosts D F) (trace : TraceOf T) (request : Request) (answer : Option Answer) (call : Option PlaceState) where
+  -- what a task with a reply knows
+  abbrev pub IsReplied : Option Placed → Type 0
+  IsReplied placed =
+      HasDone facts trace request answer × HasOrigin facts trace request (option_map (λ (p : Placed). p.reply) placed) × CallsAt trace.log request answer call
+      × IfSome placed (λ p. TellsAt trace.log (asked_event request) p.reply p.call p.flush × IsInLog trace.log p.call × IsInLog trace.log p.flush)
+
+  -- a reply with these places
+  abbrev pub placed_at : PlainReply → Option PlaceState → Option PlaceState → Option Placed
+  placed_at reply at behind = Some (record { reply = reply; call = at; flush = behind })
+
+  -- it is given its reply
+  pub replies_so : (flushed : Flushed) (flush : Option PlaceState) (reply : PlainReply) (placed : Option Placed) → HasDone facts trace request answer → CallsAt trace.log request answer call
+      → WasFlushed facts trace flushed → PlacesEvent trace.log event.Flush (acknowledged flushed) flush → reply_due request answer flushed ≡ Some reply
+      → placed ≡ placed_at reply call flush → IsReplied placed
+  replies_so flushed flush reply placed done at flushes behind due is = subst IsReplied (sym is) (
+    done,
+    record { answer = answer; flushed = flushed; done = done; flush = flushes; due = due },
+    at,
+    (
+      due_tells trace.log flushed reply call flush behind request answer due at,
+      named_call trace.log request answer call at,
+      named_place trace.log event.Flush (acknowledged flushed) flush behind,
+    ),
+  )
+
+-- what is shown only if this is true
+pub shows_then : {X : Type 0} (P : X → Type 0) (b : Bool) (x : X) (found : Option X) → found ≡ then_some b x → (b ≡ true → P x) → IfSome found P
+shows_then P true x found is holds = subst (λ (o : Option _). IfSome o P) (sym is) (holds refl)
+shows_then P false x found is holds = subst (λ (o : Option _). IfSome o P) (sym is) tt

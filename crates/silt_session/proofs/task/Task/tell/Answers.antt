@@ -1,0 +1,22 @@
+use Rattle.std.proofs.Common.{Option, ap, subst}
+use Rattle.std.specs.Option.{option_map}
+use Rattle.silt_session.specs.Origins.{HasOrigin}
+use Rattle.silt_session.specs.Requests.{TaskState}
+use Rattle.silt_session.specs.Sessions.{IsReplyOf}
+use Rattle.silt_session.specs.declared.task.Placed.{Placed}
+use Rattle.silt_session.proofs.Tolds.{shows_then}
+use Rattle.silt_session.proofs.task.Task.tell.Goals as goal
+
+pub returns-clause-reply : goal.returns-clause-reply
+returns-clause-reply g c =
+    let placed = c.in_ok-reply.field-0 in
+    let task : TaskState = record { request = c.self.inside.request; answer = c.self.inside.answer; reply = option_map (λ (p : Placed). p.reply) c.self.inside.reply } in
+    rw (← c.self.view_is)
+    (shows_then (IsReplyOf g.D.Disk g.T.Trace c.args.told.now task) c.stands.result placed.reply c.then_some.result c.then_some.ensures
+    (λ stands. (
+      ap (option_map (λ (p : Placed). p.reply)) c.in_ok-reply.was,
+      (
+        subst (λ (o : Option Placed). HasOrigin g.D.Disk g.T.Trace c.self.inside.request (option_map (λ (p : Placed). p.reply) o)) c.in_ok-reply.was c.self.invariant.1,
+        c.stands.ensures.told stands,
+      ),
+    )))
