@@ -1,13 +1,13 @@
 -- What clap is given, and what is read from its matches.
 use Rattle.std.proofs.Common.{◌≡◌, ◌∙◌, ◌||◌, Bool, true, false, cond, List, [], ◌∷◌, map, Option, Some, None, option_map, option_and_then, refl, ap, ap₂, subst, sym, find, inl, inr}
-use Rattle.std.specs.Prelude.{slice_get, MatchResult, Result, Ok, Err, IfOk, IsOkAnd}
+use Rattle.std.specs.Prelude.{slice_get, MatchResult, Result, Ok, Err, IfOk}
 use Rattle.std.specs.declared.alloc.AllocError.{AllocError}
 use Rattle.clap.specs.declared.builder.Command.{Command}
 use Rattle.clap.specs.declared.builder.Arg.{Arg}
 use Rattle.std.specs.Option.{ok_or}
 use Rattle.std.specs.Str.{bytes_eq}
 use Rattle.std.specs.Borrow.{Bor}
-use Rattle.clap.specs.Words.{AddsArg, AddsSubcommand, App, Rule, app_of, rule_of, shape_of, with_rule, with_subcommand, HasKind, IsAmong, Kinds, kind_of, Row, Text, fault_of, first_of, first_value, rows_of, subcommand_of}
+use Rattle.clap.specs.Words.{AddsArg, App, Rule, app_of, rule_of, with_rule, HasKind, IsAmong, Kinds, kind_of, Row, Text, fault_of, first_of, first_value, rows_of, subcommand_of}
 use Rattle.clap.specs.Walk.{row_of}
 use Rattle.clap.specs.declared.error.Error.{Error}
 use Rattle.clap.specs.declared.error.kind.ErrorKind.{ErrorKind}
@@ -15,7 +15,8 @@ use Rattle.clap.specs.declared.error.kind.ErrorKind.TheVariants.{OutOfMemory}
 use Rattle.silt_words.specs.Jobs.{named}
 use Rattle.silt_words.specs.declared.job.Job.{Job}
 use Rattle.silt_words.specs.declared.job.WordsError.TheVariants.{Usage}
-use Rattle.silt_words.specs.Commands.{JoinsAs, job_met, job_named, silt, unless_refused}
+use Rattle.silt_words.specs.Forms.{Adds, Stands}
+use Rattle.silt_words.specs.Commands.{job_met, job_named, silt, unless_refused}
 use Rattle.clap.specs.declared.parser.matches.Found.{Found}
 use Rattle.clap.specs.declared.parser.matches.MatchedArg.{MatchedArg}
 
@@ -23,33 +24,13 @@ use Rattle.clap.specs.declared.parser.matches.MatchedArg.{MatchedArg}
 pub stays_local : {new old global : Bool} → new ≡ (old || global) → old ≡ false → global ≡ false → new ≡ false
 stays_local is o g = is ∙ ap₂ (λ (a b : Bool). a || b) o g
 
--- what was made, if it was, is this app, and has no global part
-abbrev pub Stands : (Command → Bool) → App → Result Command AllocError → Type 0
-Stands is_global app made = IfOk made (λ command. (app_of command ≡ app) × (is_global command ≡ false))
-
--- with one more rule it is the app with that rule
-pub one_more : {is_global : Command → Bool} (app : App) (rule : Rule)
-    → ((old : Command) (arg : Arg) (new : Command) → AddsArg old arg new → is_global new ≡ (is_global old || arg.global))
-    → (before after : Result Command AllocError)
-    → IfOk after (λ new. IsOkAnd before (λ old. (arg : Arg) × (rule_of arg ≡ rule) × (arg.global ≡ false) × AddsArg old arg new))
-    → Stands is_global app before → Stands is_global (with_rule app rule) after
-one_more app rule globals (Ok old) (Ok new) (arg, ruled, local, adds) (shape, none) =
-    (adds.shape local ∙ ap₂ with_rule shape ruled, stays_local (globals old arg new adds) none local)
-one_more app rule globals (Err error) (Ok new) adds stands = absurd adds
-one_more app rule globals before (Err error) adds stands = tt
-
--- it joins others as this app
-pub joins_as : {is_global : Command → Bool} (app : App)
-    → ((old sub new : Command) → AddsSubcommand old sub new → is_global sub ≡ false → app_of new ≡ with_subcommand (app_of old) (shape_of sub))
-    → (made : Result Command AllocError) → Stands is_global app made → IfOk made (JoinsAs app)
-joins_as app joined (Ok sub) (shape, none) = λ old new joins. joined old sub new joins none ∙ ap (λ (a : App). with_subcommand (app_of old) a.top) shape
-joins_as app joined (Err error) stands = tt
-
--- the app with one more command
-pub joined : (app : App) (old new : Command) (added : Result Command AllocError) → IfOk added (JoinsAs app) → IsOkAnd added (λ sub. AddsSubcommand old sub new)
-    → app_of new ≡ with_subcommand (app_of old) app.top
-joined app old new (Ok sub) joins adds = joins old new adds
-joined app old new (Err error) joins adds = absurd adds
+-- with one more rule, and then by a step, it is made by both
+pub then_adds : (rule : Rule) (step : App → App) (old : Command) (arg : Arg) (added after : Result Command AllocError)
+    → rule_of arg ≡ rule → arg.global ≡ false → IfOk added (AddsArg old arg) → Adds step added after → Adds (λ app. step (with_rule app rule)) (Ok old) after
+then_adds rule step old arg (Ok new) (Ok last) ruled local adds more = λ none.
+    subst (λ (app : App). Stands (step app) last) (adds.shape local ∙ ap (with_rule (app_of old)) ruled) (more (stays_local adds.globals none local))
+then_adds rule step old arg (Err error) (Ok last) ruled local adds more = absurd more
+then_adds rule step old arg added (Err error) ruled local adds more = tt
 
 first_mapped : (texts : List (Bor Text)) → option_map (λ s. s.now) (slice_get texts 0) ≡ slice_get (map (λ s. s.now) texts) 0
 first_mapped [] = refl

@@ -1,9 +1,8 @@
 -- The commands of the program, as clap reads them.
-use Rattle.std.specs.Prelude.{◌≡◌, ℕ, Bool, List, [], ◌∷◌, Option, Some, None, true, false, codes, is_some, not, ◌&&◌, ◌==◌, nat_le, if◌then◌else◌, option_map, option_and_then}
+use Rattle.std.specs.Prelude.{ℕ, Bool, List, [], ◌∷◌, Option, Some, None, true, false, codes, is_some, not, ◌&&◌, ◌==◌, nat_le, if◌then◌else◌, option_map, option_and_then}
 use Rattle.std.specs.Option.{option_map_or}
 use Rattle.std.specs.Str.{bytes_eq}
-use Rattle.clap.specs.Words.{AddsSubcommand, App, Row, Rule, Text, app_of, Kinds, fault_of, first_of, new_app, new_rule, subcommand_of, with_rule, with_subcommand}
-use Rattle.clap.specs.declared.builder.Command.{Command}
+use Rattle.clap.specs.Words.{App, Row, Rule, Text, Kinds, fault_of, first_of, new_app, new_rule, subcommand_of, with_rule, with_subcommand}
 use Rattle.clap.specs.declared.builder.ArgAction.TheVariants.{Set, SetTrue}
 use Rattle.silt_wire.specs.Numbers.{number_of}
 use Rattle.silt_words.specs.Addresses.{is_address, is_contact, is_loopback}
@@ -87,11 +86,7 @@ info_app = contact_app (codes "info")
 -- the program
 abbrev pub silt : App
 silt = with_subcommand (with_subcommand (with_subcommand (with_subcommand (with_subcommand (with_subcommand (with_subcommand (with_subcommand (with_subcommand (with_subcommand (new_app (codes "silt"))
-    format_app.top) script_app.top) run_app.top) tend_app.top) check_app.top) dump_app.top) plan_app.top) serve_app.top) stop_app.top) info_app.top
-
--- the command joins others as this one
-abbrev pub JoinsAs : App → Command → Type 0
-JoinsAs app command = (old new : Command) → AddsSubcommand old command new → app_of new ≡ with_subcommand (app_of old) app.top
+    format_app.top) run_app.top) tend_app.top) check_app.top) dump_app.top) plan_app.top) script_app.top) serve_app.top) stop_app.top) info_app.top
 
 -- ---- what is read of a command's matches
 

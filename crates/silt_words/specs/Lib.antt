@@ -1,4 +1,5 @@
 pub mod Addresses
 pub mod Backups
 pub mod Commands
+pub mod Forms
 pub mod Jobs

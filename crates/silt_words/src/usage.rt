@@ -2,7 +2,7 @@
 
 use crate::address::{is_address, is_contact, is_loopback};
 use crate::backup::is_draft;
-use crate::forms::{Form, Forms, MOST_OPTIONS, form_of};
+use crate::forms::{Form, Forms, MOST_OPTIONS, Operand, form_of};
 use crate::words::{FEWEST_SHARDS, MOST_CLIENTS, MOST_SCRUB, MOST_SCRUB_RATE, MOST_SHARDS};
 use silt_wire::number_of;
 use std::fmt;
@@ -26,10 +26,10 @@ pub enum Complaint<'a> {
     /// What has to follow this option is missing.
     Lacks {
         name: &'static str,
-        operand: &'static str,
+        operand: Operand,
     },
     /// This option is given a second time.
-    Twice(&'a str),
+    Twice(&'static str),
     /// This option is given without that one.
     Needs {
         name: &'static str,
@@ -46,7 +46,12 @@ pub enum Complaint<'a> {
     },
     /// The word for this value is none: no number, one that is too great, or no address.
     NoValue {
-        name: &'a str,
+        name: &'static str,
+        word: &'a str,
+    },
+    /// The word behind this option is not what follows it.
+    NoOperand {
+        name: &'static str,
         word: &'a str,
     },
 }
@@ -59,9 +64,9 @@ impl fmt::Display for Complaint<'_> {
             Complaint::Missing(name) => write!(f, "{name} is missing"),
             Complaint::TooMany(word) => write!(f, "'{word}' is one word too many"),
             Complaint::UnknownOption(word) => write!(f, "'{word}' is no option here"),
-            Complaint::Lacks { name, operand } => write!(f, "{name} needs {operand} behind it"),
-            Complaint::Twice(name) => write!(f, "{name} is given twice"),
-            Complaint::Needs { name, other } => write!(f, "{name} needs {other}"),
+            Complaint::Lacks { name, operand } => write!(f, "--{name} needs {operand} behind it"),
+            Complaint::Twice(name) => write!(f, "--{name} is given twice"),
+            Complaint::Needs { name, other } => write!(f, "--{name} needs --{other}"),
             Complaint::Unguarded(address) => write!(
                 f,
                 "--bind {address} needs --password-file: other machines reach this address"
@@ -75,19 +80,26 @@ impl fmt::Display for Complaint<'_> {
             Complaint::NoValue { name, word } => {
                 write!(f, "{name} cannot be '{word}': {}", why_no_value(name, word))
             }
+            Complaint::NoOperand { name, word } => {
+                write!(
+                    f,
+                    "--{name} cannot be '{word}': {}",
+                    why_no_value(name, word)
+                )
+            }
         }
     }
 }
 
-// Why a word cannot be the value of this name.
+// Why a word cannot be the value of this name, or follow the option of this name.
 fn why_no_value(name: &str, word: &str) -> &'static str {
-    if name == "--bind" {
+    if name == "bind" {
         return "an address is written in digits, as 10.0.0.1";
     }
     if name == "ADDRESS" {
         return "it is a port, or an IP address and a port, as 10.0.0.1:7379 or [::1]:7379";
     }
-    if name == "--backup" {
+    if name == "backup" {
         return "a file has a name";
     }
     why_no_number(name, word)
@@ -107,15 +119,15 @@ fn why_no_number(name: &str, word: &str) -> &'static str {
 // Which limits of this name a number exceeds.
 fn why_out_of_limits(name: &str, word: &str) -> &'static str {
     match name {
-        "PORT" | "--metrics" => "a port is at most 65535",
-        "--shards" => "a set has 2 to 64 shards",
-        "--clients" => "a server has 1 to 1024 clients at once",
-        "--scrub" => "a store is scrubbed each 1 to 8760 hours",
-        "--scrub-rate" => "a scrub reads 1 to 10000 megabytes a second",
-        "--merge-at" if number_of(word.as_bytes()) == Some(0) => {
+        "PORT" | "metrics" => "a port is at most 65535",
+        "shards" => "a set has 2 to 64 shards",
+        "clients" => "a server has 1 to 1024 clients at once",
+        "scrub" => "a store is scrubbed each 1 to 8760 hours",
+        "scrub-rate" => "a scrub reads 1 to 10000 megabytes a second",
+        "merge-at" if number_of(word.as_bytes()) == Some(0) => {
             "a merge is of at least one hash store"
         }
-        "--mergers" if number_of(word.as_bytes()) == Some(0) => {
+        "mergers" if number_of(word.as_bytes()) == Some(0) => {
             "at least one shard is merged at a time"
         }
         _ => "a number has at most ten digits, and is at most 4294967295",
@@ -191,7 +203,7 @@ struct Walk<'a> {
     /// How many values were met.
     place: usize,
     /// The option whose operand is the next word, and what that is.
-    awaited: Option<(&'static str, &'static str)>,
+    awaited: Option<(&'static str, Operand)>,
     /// Which options of the form were met.
     met: [bool; MOST_OPTIONS],
     /// Whether the word `--` was met. After it every word is a value.
@@ -230,24 +242,30 @@ impl<'a> Walk<'a> {
     }
 
     fn take_operand(&mut self, name: &'static str, word: &'a str) -> Option<Complaint<'a>> {
-        if name == "--bind" && !is_loopback(word) {
+        if name == "bind" && !is_loopback(word) {
             self.open_address = Some(word);
         }
-        if name == "--backup" {
+        if name == "backup" {
             self.backup = Some(word);
         }
-        value_complaint(name, word)
+        if is_value(name, word) {
+            return None;
+        }
+        Some(Complaint::NoOperand { name, word })
     }
 
     fn take_value(&mut self, word: &'a str) -> Option<Complaint<'a>> {
-        let Some(name) = self.form.values.get(self.place) else {
+        let Some(&name) = self.form.values.get(self.place) else {
             return Some(Complaint::TooMany(word));
         };
         self.place += 1;
-        if *name == "FILE" {
+        if name == "FILE" {
             self.file = Some(word);
         }
-        value_complaint(*name, word)
+        if is_value(name, word) {
+            return None;
+        }
+        Some(Complaint::NoValue { name, word })
     }
 
     fn take_option(&mut self, word: &'a str) -> Option<Complaint<'a>> {
@@ -259,8 +277,9 @@ impl<'a> Walk<'a> {
             Some((name, operand)) => (name, Some(operand)),
             None => (word, None),
         };
+        let name = name.strip_prefix("--");
         for (option, met) in self.form.options.iter().zip(self.met.iter_mut()) {
-            if option.name != name {
+            if name != Some(option.name) {
                 continue;
             }
             if *met {
@@ -305,7 +324,7 @@ impl<'a> Walk<'a> {
             }
         }
         match self.open_address {
-            Some(address) if !self.has_met("--password-file") => {
+            Some(address) if !self.has_met("password-file") => {
                 Some(Complaint::Unguarded(address))
             }
             _ => self.record_of_set(),
@@ -314,7 +333,7 @@ impl<'a> Walk<'a> {
 
     // That a record is asked for, and a set has none.
     fn record_of_set(&self) -> Option<Complaint<'a>> {
-        if self.has_met("--audit") && self.has_met("--shards") {
+        if self.has_met("audit") && self.has_met("shards") {
             return Some(Complaint::RecordOfSet);
         }
         self.backup_in_store()
@@ -345,20 +364,12 @@ impl<'a> Walk<'a> {
     }
 }
 
-// What is wrong with a word as the value of this name.
-fn value_complaint<'a>(name: &'static str, word: &'a str) -> Option<Complaint<'a>> {
-    if is_value(name, word) {
-        return None;
-    }
-    Some(Complaint::NoValue { name, word })
-}
-
-// Whether a word may be the value of this name.
+// Whether a word may be the value of this name, or follow the option of this name.
 fn is_value(name: &str, word: &str) -> bool {
     match name {
-        "FILE" | "--password-file" => true,
-        "--bind" => is_address(word),
-        "--backup" => !word.is_empty(),
+        "FILE" | "password-file" => true,
+        "bind" => is_address(word),
+        "backup" => !word.is_empty(),
         "ADDRESS" => is_contact(word),
         _ => number_of(word.as_bytes()).is_some_and(|number| is_number(name, number)),
     }
@@ -367,12 +378,12 @@ fn is_value(name: &str, word: &str) -> bool {
 // Whether a number may be the value of this name.
 fn is_number(name: &str, number: u32) -> bool {
     match name {
-        "PORT" | "--metrics" => number <= 65_535,
-        "--shards" => FEWEST_SHARDS <= number && number <= MOST_SHARDS,
-        "--clients" => 0 < number && number <= MOST_CLIENTS,
-        "--scrub" => 0 < number && number <= MOST_SCRUB,
-        "--scrub-rate" => 0 < number && number <= MOST_SCRUB_RATE,
-        "--merge-at" | "--mergers" => 0 < number,
+        "PORT" | "metrics" => number <= 65_535,
+        "shards" => FEWEST_SHARDS <= number && number <= MOST_SHARDS,
+        "clients" => 0 < number && number <= MOST_CLIENTS,
+        "scrub" => 0 < number && number <= MOST_SCRUB,
+        "scrub-rate" => 0 < number && number <= MOST_SCRUB_RATE,
+        "merge-at" | "mergers" => 0 < number,
         _ => true,
     }
 }
