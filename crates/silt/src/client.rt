@@ -2,14 +2,17 @@
 ghost use Rattle.std.specs.Prelude.{◌≡◌, ℕ, IfErr, IfOk, IfSome, List, option_map};
 ghost use Rattle.std.specs.Io.KnownBytes.{Appends};
 ghost use Rattle.silt_words.specs.Jobs.{named_contact};
-ghost use Rattle.silt.specs.Clients.{AsksServer, HasLine, IsAnswered, IsAt, IsNoContact, plain_reply, printed, reply_status};
+ghost use Rattle.silt.specs.Clients.{HasLine, IsAnswered, IsAt, IsNoContact, plain_reply, printed, reply_status};
 
 use crate::client_text::{
     Call, is_refusal, let_in, plain_reply, printed, reply_status, request_of,
 };
 use crate::listener::{NoEntrance, THIS_MACHINE, tell_no_entrance};
+use crate::machine::Machine;
 use crate::password::password_at;
 use crate::standard_streams::StandardStreams;
+use silt_device::DiskSource;
+use silt_disk::Disk;
 use silt_jobs::{Ended, StreamError, Tells, Why, write_out};
 use silt_wire::number_of;
 use silt_words::Contact;
@@ -177,26 +180,36 @@ fn ask<
     }
 }
 
-/// Asks the server that a contact names, and prints what it replies. Returns how the job ended: with the status 0 if it did that,
-/// and a server that is to end has ended; and 1 if the server refused, cannot be reached, gave no reply or did not end.
-pub fn ask_server<
-    E: Drop,
-    F: Drop,
+impl<H, S> Machine<'_, H, S>
+where
     H: Net<Listener = TcpListener, Stream = TcpStream>
         + AllocGlobal
         + Clock
         + Wait
         + StandardStreams,
-    W: Write,
-    T: Tells,
->(rt: &H, call: Call, contact: &Contact<'_>, writer: &mut W, people: &mut T) -> Ended<E, F>
-    ensures { AsksServer (T.told people.old people.new) (people.new ≡ people.old) call (named_contact contact.now) result (W.contents writer.old) (W.contents writer.new) }
+    S: DiskSource,
 {
-    match server_at(rt, contact) {
-        Ok(server) => ask(rt, call, &server, writer),
-        Err(why) => {
-            tell_no_entrance("", why, people);
-            Ended::refuse(rt.alloc(), Why::NotAsked, writer)
+    ghost use Rattle.std.specs.Prelude.{◌≡◌};
+    ghost use Rattle.silt_words.specs.Jobs.{named_contact};
+    ghost use Rattle.silt.specs.Clients.{AsksServer};
+
+    /// Asks the server that a contact names, and prints what it replies. Returns how the job ended: with the status 0 if it did
+    /// that, and a server that is to end has ended; and 1 if the server refused, cannot be reached, gave no reply or did not end.
+    pub fn ask_server<W: Write, T: Tells>(
+        &self,
+        call: Call,
+        contact: &Contact<'_>,
+        writer: &mut W,
+        people: &mut T,
+    ) -> Ended<S::Error, <S::Disk as Disk>::Fault>
+        ensures { AsksServer (T.told people.old people.new) (people.new ≡ people.old) call (named_contact contact.now) result (W.contents writer.old) (W.contents writer.new) }
+    {
+        match server_at(self.rt, contact) {
+            Ok(server) => ask(self.rt, call, &server, writer),
+            Err(why) => {
+                tell_no_entrance("", why, people);
+                Ended::refuse(self.rt.alloc(), Why::NotAsked, writer)
+            }
         }
     }
 }

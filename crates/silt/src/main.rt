@@ -43,6 +43,7 @@ mod early_sync;
 mod file_identity;
 mod file_systems;
 mod listener;
+mod machine;
 mod merge_gate;
 mod merge_holds;
 mod merge_places;
@@ -55,7 +56,8 @@ mod set_service;
 mod standard_streams;
 
 use file_systems::tell_weakness;
-use program::{program, refuse_words};
+use machine::Machine;
+use program::refuse_words;
 use silt_device::FileDisks;
 use silt_jobs::{
     AfterProgress, KeepsLines, Progress, Subject, WatchedFiles, WatchedReader, WatchedWriter,
@@ -117,9 +119,10 @@ fn done<
         let mut people = at_once;
         tell_weakness(rt.alloc(), rt, &job, &mut people);
     }
-    let files = WatchedFiles::new(FileDisks::new(rt, &progress), at_once, &progress);
+    let source = WatchedFiles::new(FileDisks::new(rt, &progress), at_once, &progress);
     let mut reader = WatchedReader::new(rt.alloc(), rt.reader());
-    let (file, ends) = program(rt, files, words, &mut reader, &mut writer, &mut errors);
+    let machine = Machine { rt, source };
+    let (file, ends) = machine.do_words(words, &mut reader, &mut writer, &mut errors);
     let subject = Subject {
         words,
         file: file.unwrap_or(""),

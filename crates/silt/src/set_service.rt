@@ -69,15 +69,14 @@ where
         shards,
     };
     match open_files(alloc, source, &files, false) {
-        Ok(disks) => serve_disks(rt, disks, service, writer, people),
+        Ok(disks) => serve_disks::<S, H, W, T>(rt, disks, service, writer, people),
         Err((shard, why)) => (Vec::new(alloc), refuse_at(alloc, shard, why, writer)),
     }
 }
 
 // Serves the set on these disks to the connections of a port. It binds the port before the opening, which may be long.
 fn serve_disks<
-    E: Drop,
-    D: Watched,
+    S: DiskSources,
     H: Net<Listener = TcpListener, Stream = TcpStream>
         + AllocGlobal
         + Clock
@@ -89,13 +88,15 @@ fn serve_disks<
     T: Tells,
 >(
     rt: &H,
-    disks: Vec<D>,
+    disks: Vec<S::Disk>,
     service: &Service<'_>,
     writer: &mut W,
     people: &mut T,
-) -> (Vec<D>, Ended<E, D::Fault>)
+) -> (Vec<S::Disk>, Ended<S::Error, <S::Disk as Disk>::Fault>)
+where
+    S::Disk: Watched,
     requires { IsShardCount (vec_len disks) }
-    ensures { ServesDisks D.Disk (HasFailed D.kept_read D.last_failure) service.now
+    ensures { ServesDisks S.Disk.Disk (HasFailed S.Disk.Watched.kept_read S.Disk.Watched.last_failure) service.now
         (T.told people.old people.new) (people.new ≡ people.old) disks.items result.0.items result.1 (W.contents writer.old) (W.contents writer.new) }
 {
     let entrance = entrance_of(rt, service, people);

@@ -1,4 +1,4 @@
-use Rattle.silt.proofs.program.do_set_job.Goals as goal
+use Rattle.silt.proofs.machine.Machine.do_set_job.Goals as goal
 
 pub returns-in-Format : goal.returns-in-Format
 returns-in-Format g c = rw (c.in-Format.is, c.of.ensures.1) (c.of.ensures.0, c.format_named-ended.ensures)
