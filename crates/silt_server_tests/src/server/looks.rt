@@ -1,7 +1,7 @@
 // Gets of two sessions are looked up at the same time.
 
 use crate::server::{Clients, ask_lines, connected, is_served, read_lines};
-use silt_desk::OpenGate;
+use silt_desk::{Gate, Spot};
 use silt_device::{Disk, Geometry, MemDisk};
 use silt_event::Facts;
 use silt_fixtures::{formatted, reaches};
@@ -96,17 +96,36 @@ impl Viewed for Meeting<'_, MemDisk, HostRuntime> {
     }
 }
 
-/// A client that puts a key. Then it and another one ask for the key at once.
+/// A gate that is open, and counts how often a worker rests.
+#[derive(Drop)]
+struct Resting<'a> {
+    rests: &'a AtomicU64,
+}
+
+impl Gate for Resting<'_> {
+    fn pass(&self, _spot: Spot) {}
+
+    fn rest(&self, spot: Spot) {
+        if spot != Spot::Writer {
+            self.rests.fetch_add(1, Ordering::SeqCst);
+        }
+    }
+}
+
+/// A client that puts a key. Then it and another one ask for the key at once, when both workers rest: a worker that waits for the
+/// store would let no second get in.
 #[derive(Drop)]
 struct AskBoth<'a, R> {
     rt: &'a R,
     reads: &'a Reads,
+    rests: &'a AtomicU64,
 }
 
-impl<R: Net<Stream = TcpStream> + Sync> Clients for AskBoth<'_, R> {
+impl<R: Net<Stream = TcpStream> + Clock + Sync> Clients for AskBoth<'_, R> {
     fn ask(&self, addr: SocketAddr, got: &mut Vec<u8>) -> io::Result<()> {
         let mut first = connected(self.rt, addr)?;
         let mut second = connected(self.rt, addr)?;
+        let _ = reaches(self.rt, self.rests, 2);
         ask_both(&mut first, &mut second, self.reads, got)
     }
 }
@@ -138,12 +157,15 @@ fn two_looks(rt: HostRuntime) -> Result<(), Fail> {
         rt: &rt,
         reads: &reads,
     };
+    let rests = AtomicU64::new(0);
+    let gate = Resting { rests: &rests };
     let clients = AskBoth {
         rt: &rt,
         reads: &reads,
+        rests: &rests,
     };
     let due = b"accepted 1\nvalue 0102\nvalue 0102\n";
-    let both_find = is_served(&rt, rt.alloc(), disk, 2, &OpenGate, &clients, due)?;
+    let both_find = is_served(&rt, rt.alloc(), disk, 2, &gate, &clients, due)?;
     assert!(rt; both_find);
     assert!(rt; reads.missed.load(Ordering::SeqCst) == 0);
     Ok(())
