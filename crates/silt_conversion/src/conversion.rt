@@ -1,8 +1,9 @@
 // A log's rows, written into a hash region slot by slot.
-ghost use Rattle.std.specs.Prelude.{◌≡◌, ◌==◌, ◌+◌, ◌*◌, ◌<◌, ◌≤◌, ◌^◌, true, false, [], ◌∷◌, filter, Some, length, replicate, None, IsTrue, IfOk, IfErr, IfSome, OnOk, OnErr, MatchResult};
+ghost use Rattle.std.specs.Prelude.{◌≡◌, ◌==◌, ◌+◌, ◌*◌, ◌<◌, ◌≤◌, ◌^◌, true, false, [], ◌∷◌, filter, Some, length, replicate, None, IsTrue, IfOk, IfErr, IfSome, OnOk, OnErr};
 ghost use Rattle.sha1.specs.Sha1.{Holds};
-ghost use Rattle.silt_disk.specs.Disk.{Content, ChangesWithin, Costs, CountsFault, GaveAny, size};
+ghost use Rattle.silt_disk.specs.Disk.{Content, CountsFault, GaveAny, size};
 ghost use Rattle.silt_disk.specs.Layout.{device_size, row_len};
+ghost use Rattle.silt_disk.specs.Wrote.{WroteOr};
 ghost use Rattle.silt_conversion.specs.Conversion.{converted_row, converted_rows, with_entry};
 ghost use Rattle.silt_frame.specs.Rows.{put_count, has_known_kind, row_of};
 ghost use Rattle.silt_hash_store.specs.Slots.{hash_rows};
@@ -195,14 +196,12 @@ impl Conversion {
         requires more { self.old.next < 4 * self.old.shape.buckets }
         requires shape { self.old.shape ≡ log.now.log.shape }
         requires size { device_size self.old.shape ≤ size (D.content disk.old) }
-        ensures size { size (D.content disk.new) ≡ size (D.content disk.old) }
-        ensures changes { ChangesWithin (hash_slot_at self.old.shape self.old.region self.old.next) (row_len self.old.shape) (D.content disk.old) (D.content disk.new) }
+        ensures wrote { WroteOr D.Disk (FailsStep (GaveAny D.gave) (CountsFault D.failures D.gave disk.old disk.new) disk.old disk.new)
+            (hash_slot_at self.old.shape self.old.region self.old.next) (row_len self.old.shape) 1 0 disk.old disk.new result }
         ensures ok { OnOk result (Steps log.now (D.content disk.old) (D.content disk.new) self.old self.new) }
         ensures err { OnErr result (self.new ≡ self.old) }
         ensures written { IsFrozenStore (D.content disk.old) log.now → HasWritten (D.content disk.old) log.now self.old → HasWritten (D.content disk.new) log.now self.new }
         ensures frozen { IsFrozenStore (D.content disk.old) log.now → IsFrozenStore (D.content disk.new) log.now }
-        ensures made { Costs D.writes D.syncs 1 0 disk.old disk.new result }
-        ensures failures { MatchResult result (λ _. D.failures disk.new ≡ D.failures disk.old) (FailsStep (GaveAny D.gave) (CountsFault D.failures D.gave disk.old disk.new) disk.old disk.new) }
     {
         let slot = self.next;
         let puts = match read_due(log, disk, slot, &mut self.row) {

@@ -311,14 +311,6 @@ within_wider from long low high changes = record {
       (before.0, before.1, torn_wider from long low high before.2);
 }
 
--- a write, followed by its sync
-pub write_then_sync_within : {at count : ℕ} {old between new : Content} → Tears at count old between → Settles between new → ChangesWithin at count old new
-write_then_sync_within {at} {count} tears settles = within_trans (write_within tears) (sync_within at count settles)
-
--- a write, followed by a sync that fails
-pub write_then_failed_sync_within : {at count : ℕ} {old between new : Content} → Tears at count old between → Stays between new → ChangesWithin at count old new
-write_then_failed_sync_within {at} {count} tears stays = within_trans (write_within tears) (failed_sync_within at count stays)
-
 -- each image keeps what no bytes in the range can break
 pub within_leaves : {at count : ℕ} {old new : Content} {P Q : List ℕ → Type 0} → ChangesWithin at count old new → LeavesOnly old P → ((before after : List ℕ) → P before → Torn at count before after → Q after) → LeavesOnly new Q
 within_leaves changes leaves step = record {

@@ -3,3 +3,4 @@ pub mod Images
 pub mod Laws
 pub mod Products
 pub mod Regions
+pub mod Wrote

@@ -2,3 +2,4 @@ pub mod Disk
 pub mod Header
 pub mod Layout
 pub mod Numbers
+pub mod Wrote

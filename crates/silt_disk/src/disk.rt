@@ -1,8 +1,8 @@
 // A disk as the store sees it: what a read gives, and the possible crash images.
-ghost use Rattle.std.specs.Prelude.{◌≡◌, ◌+◌, ◌%◌, ◌^◌, ◌≤◌, ◌⊎◌, ℕ, length, slice_range, IfErr, OnOk, OnErr, MatchResult, IsTrue};
+ghost use Rattle.std.specs.Prelude.{◌≡◌, ◌+◌, ◌%◌, ◌^◌, ◌≤◌, ℕ, length, slice_range, IfErr, OnOk, OnErr, MatchResult, IsTrue};
 ghost use Rattle.silt_disk.specs.declared.disk.Call.{Call};
 ghost use Rattle.silt_disk.specs.declared.disk.Call.TheVariants.{Read, Write, Sync};
-ghost use Rattle.silt_disk.specs.Disk.{Content, Tears, Writes, Settles, Stays, Rests, Restarts, ChangesWithin, Makes, Costs, size};
+ghost use Rattle.silt_disk.specs.Disk.{Content, Tears, Writes, Settles, Stays, Restarts, Makes, size};
 
 use std::fmt;
 
@@ -96,22 +96,4 @@ pub trait Stoppable: Disk {
         ensures content { Restarts (Self.content self) (Self.content result) }
         ensures failures { Self.failures result ≡ Self.failures self }
         ensures made { Makes Self.writes Self.syncs 0 0 self result };
-}
-
-/// Writes bytes from `at` on and syncs. After Ok all that the disk shows is settled. After a fault of either call, each possible
-/// crash image is one that was possible before, except for the bytes in the range.
-pub fn write_synced<D: Disk>(disk: &mut D, at: u64, bytes: &[u8]) -> Result<(), D::Fault>
-    requires { at + length bytes.now ≤ size (D.content disk.old) }
-    ensures size { size (D.content disk.new) ≡ size (D.content disk.old) }
-    ensures changes { ChangesWithin at (length bytes.now) (D.content disk.old) (D.content disk.new) }
-    ensures written { OnOk result (Writes at bytes.now (D.content disk.old) (D.content disk.new)) }
-    ensures rests { OnOk result (Rests (D.content disk.new)) }
-    ensures made { Costs D.writes D.syncs 1 1 disk.old disk.new result }
-    ensures failures { MatchResult result (λ _. D.failures disk.new ≡ D.failures disk.old)
-        (λ fault. (D.failures disk.new ≡ (D.failures disk.old + 1) % 2 ^ 64)
-        × (D.gave disk.new fault Write at (length bytes.now) ⊎ D.gave disk.new fault Sync 0 (size (D.content disk.new)))) }
-{
-    disk.write(at, bytes)?;
-    disk.sync()?;
-    Ok(())
 }

@@ -18,6 +18,9 @@
 //! **Honesty.** An *honest* disk is one that obeys the crash model. Promises about bytes hold for honest disks, and a call leaves
 //! a disk as honest as it was. `silt_device` has the disks themselves, and says which of them are honest.
 //!
+//! **What a call that writes does.** One record says it for all of them, `Wrote` (`specs/Wrote.antt`): the range that changed, how
+//! many writes and syncs were made, and which failure was counted.
+//!
 //! `write_synced` is a write with the sync that settles it. Nearly all changes of a device use it. `Geometry` is the six numbers
 //! of a store, with the offset of each of its parts on a device. The header of a device holds these numbers.
 #![tactic(auto)]
@@ -25,7 +28,9 @@
 mod disk;
 mod geometry;
 mod header;
+mod synced;
 
-pub use disk::{Call, CallAt, Disk, Stoppable, write_synced};
+pub use disk::{Call, CallAt, Disk, Stoppable};
 pub use geometry::{BadGeometry, Geometry, REGIONS_AT, SECTOR, regions_law, slot_start};
 pub use header::{HEADER_LEN, Version, geometry_of, header_bytes, is_formatted, version_of};
+pub use synced::write_synced;

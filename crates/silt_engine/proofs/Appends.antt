@@ -134,7 +134,7 @@ module _ (old new : Content) (s : EngineState) (after : LogStoreState) (kind : K
   same_disk = record { size = sizes; honest = changes.honest }
 
   -- the row was taken
-  module _ (takes : TakesRow (stored_row kind key value) old new s.active after) (counted : charge ≡ s.charge + puts_of kind) (most : s.charge + puts_of kind ≤ s.manifest.shape.sorted_capacity) where
+  module _ (takes : TakesRow kind key value old new s.active after) (counted : charge ≡ s.charge + puts_of kind) (most : s.charge + puts_of kind ≤ s.manifest.shape.sorted_capacity) where
     shape_same : after.log.shape ≡ s.active.log.shape
     shape_same = ap (λ (l : LogState). l.shape) takes.log.log
 

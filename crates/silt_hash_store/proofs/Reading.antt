@@ -3,9 +3,9 @@ use Rattle.std.proofs.Common.{◌≡◌, ◌≢◌, ℕ, ◌+◌, ◌*◌, ◌�
 use Rattle.std.proofs.lemmas.Bool.{cases_lt}
 use Rattle.std.proofs.lemmas.List.Edits.{get_or-between}
 use Rattle.std.proofs.Math.Nat.{add-mul, mul-le-mul_right}
-use Rattle.silt_disk.specs.Disk.{Content, ChangesWithin, Tears, Torn, Writes, size}
+use Rattle.silt_disk.specs.Disk.{Content, Torn, Writes, size}
 use Rattle.silt_disk.specs.Layout.{Shape, hash_at, row_len}
-use Rattle.silt_disk.proofs.Images.{splice_slice, torn_slice_after, torn_slice_before, write_within}
+use Rattle.silt_disk.proofs.Images.{splice_slice, torn_slice_after, torn_slice_before}
 use Rattle.silt_frame.specs.Rows.{row_of}
 use Rattle.silt_log.proofs.Bodies.{body_before}
 use Rattle.silt_log.proofs.Parts.{drop_front, slice_of_slice, slice_to_end}
@@ -68,12 +68,7 @@ slots_read s region slot count at n image bytes here long fits read = λ i below
     slice_of_slice image at n (i * len) len (omega (arith, inside, long)) fits ∙ ap (λ b. slice_range b (i * len) (i * len + len)) (sym read) in
     ap (λ k. row_of (slice_range image k (k + len))) (sym there) ∙ ap row_of part
 
--- a write of a slot changes only that slot
-pub slot_changes : (s : Shape) (region slot at count : ℕ) (old new : Content) → at ≡ hash_slot_at s region slot → count ≡ row_len s → Tears at count old new → ChangesWithin (hash_slot_at s region slot) (row_len s) old new
-slot_changes s region slot at count old new same long tears =
-    subst (λ (n : ℕ). ChangesWithin n (row_len s) old new) same (subst (λ (n : ℕ). ChangesWithin at n old new) long (write_within tears))
-
--- and the slot then shows what was written
+-- a slot that was written shows the row of its bytes
 pub slot_written : (s : Shape) (region slot at : ℕ) (bytes : List ℕ) (old new : Content) → at ≡ hash_slot_at s region slot → length bytes ≡ row_len s → at + row_len s ≤ size old → Writes at bytes old new
     → IsTrue old.honest → slot_row s region new.shown slot ≡ row_of bytes
 unfolding slot_row

@@ -1,7 +1,8 @@
 // A hash region on a device: the offsets of its slots, and how to read or write one.
-ghost use Rattle.std.specs.Prelude.{◌≡◌, ◌+◌, ◌*◌, ◌<◌, ◌≤◌, ◌^◌, length, drop, slice_index, IsTrue, IfOk, IfErr, OnOk, MatchResult};
-ghost use Rattle.silt_disk.specs.Disk.{ChangesWithin, Costs, CountsFault, GaveAny, size};
+ghost use Rattle.std.specs.Prelude.{◌≡◌, ◌+◌, ◌*◌, ◌<◌, ◌≤◌, ◌^◌, length, drop, slice_index, IsTrue, IfOk, IfErr, OnOk};
+ghost use Rattle.silt_disk.specs.Disk.{GaveAny, size};
 ghost use Rattle.silt_disk.specs.Layout.{device_size, row_len};
+ghost use Rattle.silt_disk.specs.Wrote.{Wrote};
 ghost use Rattle.silt_hash_store.specs.Lookup.{IsRowAt};
 ghost use Rattle.silt_hash_store.specs.Slots.{HeadSays, HoldsSlots, hash_slot_at, slot_row};
 ghost use Rattle.silt_frame.specs.Rows.{row_of};
@@ -176,11 +177,8 @@ impl HashRegion {
         requires slot { slot < 4 * self.now.geometry.buckets }
         requires row { length row.now ≡ row_len self.now.geometry }
         requires size { device_size self.now.geometry ≤ size (D.content disk.old) }
-        ensures size { size (D.content disk.new) ≡ size (D.content disk.old) }
-        ensures changes { ChangesWithin (hash_slot_at self.now.geometry self.now.number slot) (row_len self.now.geometry) (D.content disk.old) (D.content disk.new) }
+        ensures wrote { Wrote D.Disk (hash_slot_at self.now.geometry self.now.number slot) (row_len self.now.geometry) 1 0 disk.old disk.new result }
         ensures written { IsTrue (D.content disk.old).honest → OnOk result (slot_row self.now.geometry self.now.number (D.content disk.new).shown slot ≡ row_of row.now) }
-        ensures made { Costs D.writes D.syncs 1 0 disk.old disk.new result }
-        ensures failures { MatchResult result (λ _. D.failures disk.new ≡ D.failures disk.old) (CountsFault D.failures D.gave disk.old disk.new) }
     {
         disk.write(self.slot_at(slot), row)?;
         Ok(())

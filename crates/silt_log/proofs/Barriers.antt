@@ -1,7 +1,7 @@
 -- A write after a sync.
 use Rattle.std.proofs.Common.{◌≡◌, ℕ, List, sym, ap, subst, ◌∙◌, inl, inr}
 use Rattle.silt_disk.specs.Disk.{Content, Torn, ChangesWithin, Writes, Settles, Stays, splice}
-use Rattle.silt_disk.proofs.Images.{shown_left, left_after_sync, left_after_failed_sync, torn_refl}
+use Rattle.silt_disk.proofs.Images.{left_after_sync, left_after_failed_sync, torn_refl}
 use Rattle.silt_log.specs.Calls.{SyncsAndTears}
 
 -- the sync failed
@@ -27,17 +27,6 @@ pub written_after_sync : (at : ℕ) (bytes : List ℕ) (old between new : Conten
 written_after_sync at bytes old between new settles writes = record {
   honest = writes.honest ∙ settles.honest;
   shown = λ honest. writes.shown (settles.honest ∙ honest) ∙ ap (λ (image : List ℕ). splice at bytes image) (settles.shown honest);
-}
-
--- only the range is changed
-pub barrier_within : (at count : ℕ) (old new : Content) → SyncsAndTears at count old new → ChangesWithin at count old new
-barrier_within at count old new tears = record {
-  honest = tears.honest;
-  shown = tears.shown;
-  left = λ honest image left. elim (tears.left honest image left) [
-    | inl before ↦ (image, before, torn_refl at count image)
-    | inr torn ↦ (old.shown, shown_left old, torn)
-  ];
 }
 
 -- a range under another name

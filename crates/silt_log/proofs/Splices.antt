@@ -2,8 +2,8 @@
 use Rattle.std.proofs.Common.{◌≡◌, ℕ, ◌+◌, ◌-◌, ◌≤◌, List, ◌++◌, length, take, drop, replicate, sym, ap, ◌∙◌, subst, inl, inr, arith}
 use Rattle.std.proofs.lemmas.Bool.{cases_lt}
 use Rattle.std.proofs.lemmas.List.{ext_get_or, append_assoc, length-append, length-take-le, take_at, drop_at, drop-drop}
-use Rattle.silt_disk.specs.Disk.{Content, Torn, ChangesWithin, Tears, Writes, size, splice}
-use Rattle.silt_disk.proofs.Images.{torn_splice, splice_byte, write_within, within_wider, within_trans}
+use Rattle.silt_disk.specs.Disk.{Content, Torn, ChangesWithin, Writes, size, splice}
+use Rattle.silt_disk.proofs.Images.{torn_splice, splice_byte}
 use Rattle.silt_frame.specs.Frame.{head_bytes, kind_byte}
 use Rattle.silt_frame.specs.declared.key.Key.{Key}
 use Rattle.silt_frame.specs.declared.key.Kind.{Kind}
@@ -42,16 +42,7 @@ spliced_twice at first second image fits =
     ∙ ap (λ (l : List ℕ). front ++ second ++ l) left
     ∙ ap (λ (l : List ℕ). l ++ drop (at + length (first ++ second)) image) (append_assoc (take at image) first second)
 
--- the first of two writes that follow each other
-pub first_write_within : (at first second : ℕ) (old new : Content) → Tears at first old new → ChangesWithin at (first + second) old new
-first_write_within at first second old new tears = within_wider at (first + second) (omega arith) (omega arith) (write_within tears)
-
--- both of them
-pub both_writes_within : (at first second : ℕ) (old between new : Content) → Tears at first old between → Tears (at + first) second between new → ChangesWithin at (first + second) old new
-both_writes_within at first second old between new tears later =
-    within_trans (first_write_within at first second old between tears) (within_wider at (first + second) (omega arith) (omega arith) (write_within later))
-
--- both of them, each with Ok
+-- two writes that follow each other, each with Ok
 pub both_written : (at : ℕ) (first second : List ℕ) (old between new : Content) → at + (length first + length second) ≤ size old → Writes at first old between → Writes (at + length first) second between new → Writes at (first ++ second) old new
 both_written at first second old between new fits writes later = record {
   honest = later.honest ∙ writes.honest;

@@ -1,7 +1,8 @@
 // Writes of gates and of rows, at offsets.
-ghost use Rattle.std.specs.Prelude.{◌≡◌, ◌==◌, ◌+◌, ◌<◌, ◌≤◌, ◌++◌, length, drop, replicate, IsTrue, IfOk, IfErr, OnOk, MatchResult};
+ghost use Rattle.std.specs.Prelude.{◌≡◌, ◌==◌, ◌+◌, ◌<◌, ◌≤◌, ◌++◌, length, drop, replicate, IsTrue, IfOk, IfErr, OnOk};
 ghost use Rattle.std.specs.List.{list_any, prefix_len};
-ghost use Rattle.silt_disk.specs.Disk.{ChangesWithin, Costs, CountsFault, GaveAny, Rests, Writes, size};
+ghost use Rattle.silt_disk.specs.Disk.{GaveAny, Rests, Writes, size};
+ghost use Rattle.silt_disk.specs.Wrote.{Wrote};
 ghost use Rattle.silt_frame.specs.Gate.{gate_open, is_open};
 ghost use Rattle.silt_log.specs.Rows.{gate_bytes};
 ghost use Rattle.silt_log.specs.Calls.{SyncsAndTears};
@@ -17,12 +18,9 @@ pub fn write_gates<D: Disk>(
     gate: u8,
 ) -> Result<(), D::Fault>
     requires { at + length buffer.old ≤ size (D.content disk.old) }
-    ensures size { size (D.content disk.new) ≡ size (D.content disk.old) }
-    ensures changes { ChangesWithin at (length buffer.old) (D.content disk.old) (D.content disk.new) }
+    ensures wrote { Wrote D.Disk at (length buffer.old) 1 1 disk.old disk.new result }
     ensures written { OnOk result (Writes at (replicate (length buffer.old) gate) (D.content disk.old) (D.content disk.new)) }
     ensures rests { OnOk result (Rests (D.content disk.new)) }
-    ensures made { Costs D.writes D.syncs 1 1 disk.old disk.new result }
-    ensures failures { MatchResult result (λ _. D.failures disk.new ≡ D.failures disk.old) (CountsFault D.failures D.gave disk.old disk.new) }
 {
     buffer.fill(gate);
     write_synced(disk, at, buffer)?;
@@ -33,12 +31,10 @@ pub fn write_gates<D: Disk>(
 #[tactic(auto, using(crate::proofs::Barriers::not_begun, crate::proofs::Barriers::begun, crate::proofs::Barriers::written_after_sync))]
 pub fn open_behind_sync<D: Disk>(disk: &mut D, at: u64, buffer: &mut [u8]) -> Result<(), D::Fault>
     requires { at + length buffer.old ≤ size (D.content disk.old) }
-    ensures size { size (D.content disk.new) ≡ size (D.content disk.old) }
+    ensures wrote { Wrote D.Disk at (length buffer.old) 1 2 disk.old disk.new result }
     ensures begun { SyncsAndTears at (length buffer.old) (D.content disk.old) (D.content disk.new) }
     ensures written { OnOk result (Writes at (replicate (length buffer.old) gate_open) (D.content disk.old) (D.content disk.new)) }
     ensures rests { OnOk result (Rests (D.content disk.new)) }
-    ensures made { Costs D.writes D.syncs 1 2 disk.old disk.new result }
-    ensures failures { MatchResult result (λ _. D.failures disk.new ≡ D.failures disk.old) (CountsFault D.failures D.gave disk.old disk.new) }
 {
     disk.sync()?;
     write_gates(disk, at, buffer, GATE_OPEN)?;
@@ -48,11 +44,8 @@ pub fn open_behind_sync<D: Disk>(disk: &mut D, at: u64, buffer: &mut [u8]) -> Re
 // Writes the head of a row and then its value.
 pub fn write_row<D: Disk>(disk: &mut D, at: u64, head: &[u8], value: &[u8]) -> Result<(), D::Fault>
     requires { at + (length head.now + length value.now) ≤ size (D.content disk.old) }
-    ensures size { size (D.content disk.new) ≡ size (D.content disk.old) }
-    ensures changes { ChangesWithin at (length head.now + length value.now) (D.content disk.old) (D.content disk.new) }
+    ensures wrote { Wrote D.Disk at (length head.now + length value.now) 2 0 disk.old disk.new result }
     ensures written { OnOk result (Writes at (head.now ++ value.now) (D.content disk.old) (D.content disk.new)) }
-    ensures made { Costs D.writes D.syncs 2 0 disk.old disk.new result }
-    ensures failures { MatchResult result (λ _. D.failures disk.new ≡ D.failures disk.old) (CountsFault D.failures D.gave disk.old disk.new) }
 {
     let _size = disk.len(); // so no place within it passes a word
     disk.write(at, head)?;

@@ -1,7 +1,8 @@
 // A log region as the store holds it in memory, and the calls that change it.
 ghost use Rattle.std.specs.Prelude.{vec_len, ◌≡◌, ◌==◌, ◌+◌, ◌-◌, ◌<◌, ◌≤◌, ◌++◌, length, drop, replicate, nat_lt, cond, false, IsTrue, IfOk, IfErr, OnOk, OnErr, MatchResult};
-ghost use Rattle.silt_disk.specs.Disk.{ChangesWithin, Costs, CountsFault, GaveAny, LeavesOnly, Rests, Writes, size};
+ghost use Rattle.silt_disk.specs.Disk.{GaveAny, LeavesOnly, Rests, Writes, size};
 ghost use Rattle.silt_disk.specs.Layout.{device_size, gates_at, row_len};
+ghost use Rattle.silt_disk.specs.Wrote.{Wrote};
 ghost use Rattle.silt_frame.specs.Gate.{gate_open};
 ghost use Rattle.silt_frame.specs.Frame.{head_bytes};
 ghost use Rattle.silt_log.specs.Rows.{AreRows, FirstUnknown, IsValueOf, body_at, log_rows, open_count, row_at, row_head};
@@ -134,14 +135,11 @@ impl Log {
     /// The fault of the write or of the sync.
     pub fn prepare<D: Disk>(&mut self, disk: &mut D) -> Result<(), D::Fault>
         requires size { device_size self.old.shape ≤ size (D.content disk.old) }
-        ensures size { size (D.content disk.new) ≡ size (D.content disk.old) }
-        ensures changes { ChangesWithin (gates_at self.old.shape self.old.region) self.old.shape.log_capacity (D.content disk.old) (D.content disk.new) }
+        ensures wrote { Wrote D.Disk (gates_at self.old.shape self.old.region) self.old.shape.log_capacity 1 1 disk.old disk.new result }
         ensures written { OnOk result (Writes (gates_at self.old.shape self.old.region) (replicate self.old.shape.log_capacity 0) (D.content disk.old) (D.content disk.new)) }
         ensures rests { OnOk result (Rests (D.content disk.new)) }
         ensures ok { OnOk result (Empties (D.content disk.new) self.old self.new) }
         ensures err { OnErr result (self.new ≡ self.old) }
-        ensures made { Costs D.writes D.syncs 1 1 disk.old disk.new result }
-        ensures failures { MatchResult result (λ _. D.failures disk.new ≡ D.failures disk.old) (CountsFault D.failures D.gave disk.old disk.new) }
     {
         let at = self.geometry.gates_at(self.region);
         write_gates(disk, at, &mut self.gates, GATE_CLOSED)?;
@@ -169,14 +167,11 @@ impl Log {
         requires zeros { IsValueOf kind value.now }
         requires size { device_size self.old.shape ≤ size (D.content disk.old) }
         requires log { IsLog (D.content disk.old) self.old }
-        ensures size { size (D.content disk.new) ≡ size (D.content disk.old) }
-        ensures changes { ChangesWithin (body_at self.old.shape self.old.region self.old.used) (row_len self.old.shape) (D.content disk.old) (D.content disk.new) }
+        ensures wrote { Wrote D.Disk (body_at self.old.shape self.old.region self.old.used) (row_len self.old.shape) 2 0 disk.old disk.new result }
         ensures written { OnOk result (Writes (body_at self.old.shape self.old.region self.old.used) (head_bytes kind key.now ++ value.now) (D.content disk.old) (D.content disk.new)) }
         ensures images { LeavesOnly (D.content disk.new) (λ image. log_rows self.old.shape self.old.region image ≡ settled_rows (D.content disk.old) self.old) }
-        ensures ok { OnOk result (Appends (stored_row kind key.now value.now) (D.content disk.old) (D.content disk.new) self.old self.new) }
-        ensures err { OnErr result (KeepsRows (D.content disk.old) (D.content disk.new) self.old self.new) }
-        ensures made { Costs D.writes D.syncs 2 0 disk.old disk.new result }
-        ensures failures { MatchResult result (λ _. D.failures disk.new ≡ D.failures disk.old) (CountsFault D.failures D.gave disk.old disk.new) }
+        ensures log { MatchResult result (λ _. Appends (stored_row kind key.now value.now) (D.content disk.old) (D.content disk.new) self.old self.new)
+            (λ _. KeepsRows (D.content disk.old) (D.content disk.new) self.old self.new) }
     {
         let at = self.body_at(self.used);
         write_row(disk, at, &head_bytes(kind, key), value)?;
@@ -193,15 +188,12 @@ impl Log {
         requires waiting { self.old.settled < self.old.used }
         requires size { device_size self.old.shape ≤ size (D.content disk.old) }
         requires log { IsLog (D.content disk.old) self.old }
-        ensures size { size (D.content disk.new) ≡ size (D.content disk.old) }
-        ensures changes { ChangesWithin (gates_at self.old.shape self.old.region + self.old.settled) (self.old.used - self.old.settled) (D.content disk.old) (D.content disk.new) }
+        ensures wrote { Wrote D.Disk (gates_at self.old.shape self.old.region + self.old.settled) (self.old.used - self.old.settled) 1 2 disk.old disk.new result }
         ensures written { OnOk result (Writes (gates_at self.old.shape self.old.region + self.old.settled)
             (replicate (self.old.used - self.old.settled) gate_open) (D.content disk.old) (D.content disk.new)) }
         ensures rests { OnOk result (Rests (D.content disk.new)) }
         ensures ok { OnOk result (OpensGates (D.content disk.old) (D.content disk.new) self.old self.new) }
         ensures err { OnErr result (OpensSome (D.content disk.old) (D.content disk.new) self.old self.new) }
-        ensures made { Costs D.writes D.syncs 1 2 disk.old disk.new result }
-        ensures failures { MatchResult result (λ _. D.failures disk.new ≡ D.failures disk.old) (CountsFault D.failures D.gave disk.old disk.new) }
     {
         let at = self.geometry.gates_at(self.region) + u64::from(self.settled);
         let waiting = (self.used - self.settled) as usize;
@@ -220,17 +212,13 @@ impl Log {
         requires size { device_size self.old.shape ≤ size (D.content disk.old) }
         requires rests { Rests (D.content disk.old) }
         requires scanned { IsTrue (D.content disk.old).honest → IsScanned (D.content disk.old) self.old }
-        ensures size { size (D.content disk.new) ≡ size (D.content disk.old) }
-        ensures changes { ChangesWithin (gates_at self.old.shape self.old.region + self.old.used + 1) (self.old.shape.log_capacity - (self.old.used + 1)) (D.content disk.old) (D.content disk.new) }
+        ensures wrote { Wrote D.Disk (gates_at self.old.shape self.old.region + self.old.used + 1) (self.old.shape.log_capacity - (self.old.used + 1)) (cond self.old.stale 1 0) (cond self.old.stale 1 0) disk.old disk.new result }
         ensures images { LeavesOnly (D.content disk.new) (λ image. log_rows self.old.shape self.old.region image ≡ log_rows self.old.shape self.old.region (D.content disk.old).shown) }
         ensures quiet { self.old.stale ≡ false → disk.new ≡ disk.old }
         ensures written { IsTrue self.old.stale → OnOk result (Writes (gates_at self.old.shape self.old.region + self.old.used + 1)
             (replicate (self.old.shape.log_capacity - (self.old.used + 1)) 0) (D.content disk.old) (D.content disk.new)) }
         ensures rests { OnOk result (Rests (D.content disk.new)) }
-        ensures ok { OnOk result (Seals (D.content disk.old) (D.content disk.new) self.old self.new) }
-        ensures err { OnErr result ((self.new ≡ self.old) × IsTrue self.old.stale) }
-        ensures made { Costs D.writes D.syncs (cond self.old.stale 1 0) (cond self.old.stale 1 0) disk.old disk.new result }
-        ensures failures { MatchResult result (λ _. D.failures disk.new ≡ D.failures disk.old) (CountsFault D.failures D.gave disk.old disk.new) }
+        ensures log { MatchResult result (λ _. Seals (D.content disk.old) (D.content disk.new) self.old self.new) (λ _. (self.new ≡ self.old) × IsTrue self.old.stale) }
     {
         if !self.stale {
             return Ok(());

@@ -114,13 +114,14 @@ empties_store new store log empties empty no_puts =
 pub takes_row : (old new : Content) (store : LogStoreState) (log : LogState) (table : Slots) (puts : ℕ) (kind : Kind) (key : Key) (value : List ℕ) (placing : Placing) → new.honest ≡ old.honest → IsIndexed old store
     → IsPlacingFor old store key.0 placing → puts ≡ store.puts + puts_of kind
     → entered store.table placing store.log.used ≡ Some table
-    → Appends (stored_row kind key value) old new store.log log → TakesRow (stored_row kind key value) old new store (record { log = log; table = table; puts = puts })
+    → Appends (stored_row kind key value) old new store.log log → TakesRow kind key value old new store (record { log = log; table = table; puts = puts })
 takes_row old new store log table puts kind key value placing same index at more placed appends =
     let row : StoredRow = stored_row kind key value in
     let rows : List StoredRow = all_rows old store.log in
     let shape : log.shape ≡ store.log.shape = ap (λ (l : LogState). l.shape) appends.log in
     record {
       log = appends;
+      puts = more;
       stands = record {
         log = appends.stands;
         index = record {

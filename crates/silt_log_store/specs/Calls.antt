@@ -1,9 +1,11 @@
 -- What the calls of a log store do to it and to the disk.
-use Rattle.std.specs.Prelude.{◌≡◌, ◌<◌, ◌⊎◌, ℕ, IsTrue, IsSome, List, [], ◌∷◌, ◌++◌, None}
+use Rattle.std.specs.Prelude.{◌≡◌, ◌+◌, ◌<◌, ◌⊎◌, ℕ, IsTrue, IsSome, List, [], ◌∷◌, ◌++◌, None}
 use Rattle.silt_cuckoo.specs.Index.{index_of_keys}
 use Rattle.silt_disk.specs.Disk.{Content, CountsFault, GaveAny}
 use Rattle.silt_disk.specs.declared.disk.Disk.{Ghosts}
-use Rattle.silt_frame.specs.Rows.{StoredRow, keys_of}
+use Rattle.silt_frame.specs.declared.key.Key.{Key}
+use Rattle.silt_frame.specs.declared.key.Kind.{Kind}
+use Rattle.silt_frame.specs.Rows.{keys_of, puts_of, stored_row}
 use Rattle.silt_log.specs.State.{all_rows}
 use Rattle.silt_log.specs.Calls.{Empties, Appends, KeepsRows, OpensGates, OpensSome, Seals}
 use Rattle.silt_log_store.specs.State.{LogStoreState, IsIndexed, IsLogStore}
@@ -19,9 +21,10 @@ pub record EmptiesStore (new : Content) (before after : LogStoreState) : Type 0 
   pub puts : after.puts ≡ before.puts
   pub stands : IsLogStore new after
 
--- one more row waits, and its key is in the table
-pub record TakesRow (row : StoredRow) (old new : Content) (before after : LogStoreState) : Type 0 where
-  pub log : Appends row old new before.log after.log
+-- one more row waits, its key is in the table, and a put is counted
+pub record TakesRow (kind : Kind) (key : Key) (value : List ℕ) (old new : Content) (before after : LogStoreState) : Type 0 where
+  pub log : Appends (stored_row kind key value) old new before.log after.log
+  pub puts : after.puts ≡ before.puts + puts_of kind
   pub stands : IsLogStore new after
 
 -- the store is as before, with the same rows

@@ -4,13 +4,14 @@ ghost use Rattle.std.specs.Prelude.{IsOkAnd, IfOk, IfErr, OnOk, OnErr, MatchResu
 ghost use Rattle.std.specs.List.{list_all};
 ghost use Rattle.silt_cuckoo.specs.Slots.{empty_slots, entry_at};
 ghost use Rattle.silt_cuckoo.specs.Index.{index_of_keys};
-ghost use Rattle.silt_disk.specs.Disk.{Content, ChangesWithin, Costs, CountsFault, GaveAny, LeavesOnly, Rests, Writes, size};
+ghost use Rattle.silt_disk.specs.Disk.{Content, GaveAny, LeavesOnly, Rests, Writes, size};
 ghost use Rattle.silt_disk.specs.Layout.{device_size, gates_at, row_len};
+ghost use Rattle.silt_disk.specs.Wrote.{Wrote, WroteOr};
 ghost use Rattle.silt_frame.specs.Gate.{gate_open};
 ghost use Rattle.silt_frame.specs.Frame.{head_bytes};
 ghost use Rattle.silt_log.specs.Calls.{HasBeginning};
 ghost use Rattle.silt_log.specs.Rows.{IsValueOf, body_at, log_rows, row_at};
-ghost use Rattle.silt_frame.specs.Rows.{has_known_kind, stored_row, row_of, puts_of};
+ghost use Rattle.silt_frame.specs.Rows.{has_known_kind, row_of};
 ghost use Rattle.silt_log.specs.State.{IsScanned, all_rows, settled_rows};
 
 use crate::index::KeyIndex;
@@ -150,14 +151,11 @@ impl LogStore {
         requires empty { self.old.table ≡ empty_slots self.old.log.shape.buckets }
         requires puts { self.old.puts ≡ 0 }
         requires size { device_size self.old.log.shape ≤ size (D.content disk.old) }
-        ensures size { size (D.content disk.new) ≡ size (D.content disk.old) }
-        ensures changes { ChangesWithin (gates_at self.old.log.shape self.old.log.region) self.old.log.shape.log_capacity (D.content disk.old) (D.content disk.new) }
+        ensures wrote { Wrote D.Disk (gates_at self.old.log.shape self.old.log.region) self.old.log.shape.log_capacity 1 1 disk.old disk.new result }
         ensures written { OnOk result (Writes (gates_at self.old.log.shape self.old.log.region) (replicate self.old.log.shape.log_capacity 0) (D.content disk.old) (D.content disk.new)) }
         ensures rests { OnOk result (Rests (D.content disk.new)) }
         ensures ok { OnOk result (EmptiesStore (D.content disk.new) self.old self.new) }
         ensures err { OnErr result (self.new ≡ self.old) }
-        ensures made { Costs D.writes D.syncs 1 1 disk.old disk.new result }
-        ensures failures { MatchResult result (λ _. D.failures disk.new ≡ D.failures disk.old) (CountsFault D.failures D.gave disk.old disk.new) }
     {
         self.log.prepare(disk)?;
         Ok(())
@@ -172,15 +170,12 @@ impl LogStore {
         requires waiting { self.old.log.settled < self.old.log.used }
         requires size { device_size self.old.log.shape ≤ size (D.content disk.old) }
         requires store { IsLogStore (D.content disk.old) self.old }
-        ensures size { size (D.content disk.new) ≡ size (D.content disk.old) }
-        ensures changes { ChangesWithin (gates_at self.old.log.shape self.old.log.region + self.old.log.settled) (self.old.log.used - self.old.log.settled) (D.content disk.old) (D.content disk.new) }
+        ensures wrote { Wrote D.Disk (gates_at self.old.log.shape self.old.log.region + self.old.log.settled) (self.old.log.used - self.old.log.settled) 1 2 disk.old disk.new result }
         ensures written { OnOk result (Writes (gates_at self.old.log.shape self.old.log.region + self.old.log.settled)
             (replicate (self.old.log.used - self.old.log.settled) gate_open) (D.content disk.old) (D.content disk.new)) }
         ensures rests { OnOk result (Rests (D.content disk.new)) }
         ensures ok { OnOk result (OpensStore (D.content disk.old) (D.content disk.new) self.old self.new) }
         ensures err { OnErr result (OpensSomeOfStore (D.content disk.old) (D.content disk.new) self.old self.new) }
-        ensures made { Costs D.writes D.syncs 1 2 disk.old disk.new result }
-        ensures failures { MatchResult result (λ _. D.failures disk.new ≡ D.failures disk.old) (CountsFault D.failures D.gave disk.old disk.new) }
     {
         self.log.open_gates(disk)?;
         Ok(())
@@ -196,18 +191,13 @@ impl LogStore {
         requires size { device_size self.old.log.shape ≤ size (D.content disk.old) }
         requires rests { Rests (D.content disk.old) }
         requires scanned { IsTrue (D.content disk.old).honest → IsScanned (D.content disk.old) self.old.log }
-        ensures size { size (D.content disk.new) ≡ size (D.content disk.old) }
-        ensures changes { ChangesWithin (gates_at self.old.log.shape self.old.log.region + self.old.log.used + 1)
-            (self.old.log.shape.log_capacity - (self.old.log.used + 1)) (D.content disk.old) (D.content disk.new) }
+        ensures wrote { Wrote D.Disk (gates_at self.old.log.shape self.old.log.region + self.old.log.used + 1) (self.old.log.shape.log_capacity - (self.old.log.used + 1)) (cond self.old.log.stale 1 0) (cond self.old.log.stale 1 0) disk.old disk.new result }
         ensures images { LeavesOnly (D.content disk.new) (λ image. log_rows self.old.log.shape self.old.log.region image ≡ log_rows self.old.log.shape self.old.log.region (D.content disk.old).shown) }
         ensures quiet { self.old.log.stale ≡ false → disk.new ≡ disk.old }
         ensures written { IsTrue self.old.log.stale → OnOk result (Writes (gates_at self.old.log.shape self.old.log.region + self.old.log.used + 1)
             (replicate (self.old.log.shape.log_capacity - (self.old.log.used + 1)) 0) (D.content disk.old) (D.content disk.new)) }
         ensures rests { OnOk result (Rests (D.content disk.new)) }
-        ensures ok { OnOk result (SealsStore (D.content disk.old) (D.content disk.new) self.old self.new) }
-        ensures err { OnErr result ((self.new ≡ self.old) × IsTrue self.old.log.stale) }
-        ensures made { Costs D.writes D.syncs (cond self.old.log.stale 1 0) (cond self.old.log.stale 1 0) disk.old disk.new result }
-        ensures failures { MatchResult result (λ _. D.failures disk.new ≡ D.failures disk.old) (CountsFault D.failures D.gave disk.old disk.new) }
+        ensures store { MatchResult result (λ _. SealsStore (D.content disk.old) (D.content disk.new) self.old self.new) (λ _. (self.new ≡ self.old) × IsTrue self.old.log.stale) }
     {
         self.log.seal(disk)?;
         Ok(())
@@ -362,17 +352,11 @@ impl LogStore {
         requires zeros { IsValueOf kind value.now }
         requires size { device_size self.old.log.shape ≤ size (D.content disk.old) }
         requires store { IsLogStore (D.content disk.old) self.old }
-        ensures size { size (D.content disk.new) ≡ size (D.content disk.old) }
-        ensures changes { ChangesWithin (body_at self.old.log.shape self.old.log.region self.old.log.used) (row_len self.old.log.shape) (D.content disk.old) (D.content disk.new) }
+        ensures wrote { WroteOr D.Disk (FailsTake D.Disk disk.old disk.new self.old self.new key.now.0) (body_at self.old.log.shape self.old.log.region self.old.log.used) (row_len self.old.log.shape) 2 0 disk.old disk.new result }
         ensures written { OnOk result (Writes (body_at self.old.log.shape self.old.log.region self.old.log.used) (head_bytes kind key.now ++ value.now) (D.content disk.old) (D.content disk.new)) }
         ensures images { LeavesOnly (D.content disk.new) (λ image. log_rows self.old.log.shape self.old.log.region image ≡ settled_rows (D.content disk.old) self.old.log) }
-        ensures can { OnOk result (CanTake (D.content disk.old) self.old key.now.0) }
-        ensures ok { OnOk result (TakesRow (stored_row kind key.now value.now) (D.content disk.old) (D.content disk.new) self.old self.new) }
-        ensures puts { OnOk result (self.new.puts ≡ self.old.puts + puts_of kind) }
-        ensures made { Costs D.writes D.syncs 2 0 disk.old disk.new result }
-        ensures failures { OnOk result (D.failures disk.new ≡ D.failures disk.old) }
-        ensures kept { OnErr result (self.new ≡ self.old) }
-        ensures err { IfErr result (FailsTake D.Disk disk.old disk.new self.old self.new key.now.0) }
+        ensures store { MatchResult result (λ _. CanTake (D.content disk.old) self.old key.now.0 × TakesRow kind key.now value.now (D.content disk.old) (D.content disk.new) self.old self.new)
+            (λ _. self.new ≡ self.old) }
         ensures first { self.old.log.used ≡ 0 → IfErr result IsFailedWrite }
     {
         match self.placing(disk, key) {
@@ -419,15 +403,11 @@ impl LogStore {
         requires zeros { IsValueOf kind value.now }
         requires size { device_size self.old.log.shape ≤ size (D.content disk.old) }
         requires store { IsLogStore (D.content disk.old) self.old }
-        ensures size { size (D.content disk.new) ≡ size (D.content disk.old) }
-        ensures changes { ChangesWithin (body_at self.old.log.shape self.old.log.region self.old.log.used) (row_len self.old.log.shape) (D.content disk.old) (D.content disk.new) }
+        ensures wrote { Wrote D.Disk (body_at self.old.log.shape self.old.log.region self.old.log.used) (row_len self.old.log.shape) 2 0 disk.old disk.new result }
         ensures written { OnOk result (Writes (body_at self.old.log.shape self.old.log.region self.old.log.used) (head_bytes kind key.now ++ value.now) (D.content disk.old) (D.content disk.new)) }
         ensures images { LeavesOnly (D.content disk.new) (λ image. log_rows self.old.log.shape self.old.log.region image ≡ settled_rows (D.content disk.old) self.old.log) }
-        ensures ok { OnOk result (TakesRow (stored_row kind key.now value.now) (D.content disk.old) (D.content disk.new) self.old self.new) }
-        ensures puts { OnOk result (self.new.puts ≡ self.old.puts + puts_of kind) }
-        ensures err { OnErr result (KeepsStore (D.content disk.old) (D.content disk.new) self.old self.new) }
-        ensures made { Costs D.writes D.syncs 2 0 disk.old disk.new result }
-        ensures failures { MatchResult result (λ _. D.failures disk.new ≡ D.failures disk.old) (CountsFault D.failures D.gave disk.old disk.new) }
+        ensures store { MatchResult result (λ _. TakesRow kind key.now value.now (D.content disk.old) (D.content disk.new) self.old self.new)
+            (λ _. KeepsStore (D.content disk.old) (D.content disk.new) self.old self.new) }
     {
         let _capacity = self.log.capacity(); // fits its word, and so does the count of the puts
         let place = self.log.len();

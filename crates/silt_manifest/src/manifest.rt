@@ -1,8 +1,9 @@
 // The manifest in memory, and the calls that read and write it.
 ghost use Rattle.std.specs.Prelude.{◌≡◌, ◌+◌, ◌<◌, ◌≤◌, ◌↔◌, IsTrue, Some, None, true, false, IfOk, IfErr, OnOk, OnErr, MatchResult};
-ghost use Rattle.silt_disk.specs.Disk.{ChangesWithin, Costs, CountsFault, GaveAny, LeavesOnly, Rests, Shows, size};
+ghost use Rattle.silt_disk.specs.Disk.{GaveAny, LeavesOnly, Rests, Shows, size};
 ghost use Rattle.silt_disk.specs.Header.{header_of, version_of};
 ghost use Rattle.silt_disk.specs.Layout.{slot_at, sector};
+ghost use Rattle.silt_disk.specs.Wrote.{Wrote};
 ghost use Rattle.silt_manifest.specs.Body.{is_well_formed};
 ghost use Rattle.silt_manifest.specs.Digests.{long_record};
 ghost use Rattle.silt_manifest.specs.Current.{ClosedSlotLaw, OtherRecordsLaw, OtherRegionsLaw, is_slot_open, is_sound_record};
@@ -174,16 +175,12 @@ impl Manifest {
         requires size { slot_at 1 + sector ≤ size (D.content disk.old) }
         requires current { IsCurrent self.old (D.content disk.old) }
         requires next { IsNext self.old next }
-        ensures size { size (D.content disk.new) ≡ size (D.content disk.old) }
-        ensures changes { ChangesWithin (slot_at (spare_slot self.old)) sector (D.content disk.old) (D.content disk.new) }
+        ensures wrote { Wrote D.Disk (slot_at (spare_slot self.old)) sector 2 2 disk.old disk.new result }
         ensures each { LeavesOnly (D.content disk.new) (RecordIsCurrent self.old) }
         ensures written { OnOk result (WritesNext self.old next digests (D.content disk.old) (D.content disk.new)) }
         ensures ready { OnOk result (CanCommit self.new (D.content disk.new)) }
         ensures rests { OnOk result (Rests (D.content disk.new)) }
-        ensures state { OnOk result (self.new ≡ record self.old { spare_closed = true; prepared = Some (long_record next digests) }) }
-        ensures unchanged { OnErr result (self.new ≡ self.old) }
-        ensures made { Costs D.writes D.syncs 2 2 disk.old disk.new result }
-        ensures failures { MatchResult result (λ _. D.failures disk.new ≡ D.failures disk.old) (CountsFault D.failures D.gave disk.old disk.new) }
+        ensures state { MatchResult result (λ _. self.new ≡ record self.old { spare_closed = true; prepared = Some (long_record next digests) }) (λ _. self.new ≡ self.old) }
     {
         let _limits = self.geometry.logs(); // at most eight
         let slot = self.spare_slot();
@@ -206,16 +203,13 @@ impl Manifest {
     pub fn commit_next<D: Disk>(&mut self, disk: &mut D) -> Result<(), D::Fault>
         requires size { slot_at 1 + sector ≤ size (D.content disk.old) }
         requires prepared { CanCommit self.old (D.content disk.old) }
-        ensures size { size (D.content disk.new) ≡ size (D.content disk.old) }
-        ensures changes { ChangesWithin (slot_at (spare_slot self.old)) 1 (D.content disk.old) (D.content disk.new) }
+        ensures wrote { Wrote D.Disk (slot_at (spare_slot self.old)) 1 1 1 disk.old disk.new result }
         ensures each { LeavesOnly (D.content disk.new) (OldOrNewIsCurrent self.old) }
         ensures current { OnOk result (IsCurrent self.new (D.content disk.new)) }
         ensures rests { OnOk result (Rests (D.content disk.new)) }
         ensures new { OnOk result (Some (current_record self.new) ≡ self.old.prepared) }
         ensures state { OnOk result ((self.new.shape ≡ self.old.shape) × (self.new.spare_closed ≡ false) × (self.new.prepared ≡ None)) }
         ensures unchanged { OnErr result (self.new ≡ self.old) }
-        ensures made { Costs D.writes D.syncs 1 1 disk.old disk.new result }
-        ensures failures { MatchResult result (λ _. D.failures disk.new ≡ D.failures disk.old) (CountsFault D.failures D.gave disk.old disk.new) }
     {
         let Some(next) = self.prepared else {
             unreachable!()
@@ -239,12 +233,9 @@ impl Manifest {
 pub fn write_first<D: Disk>(disk: &mut D, digests: &Digests) -> Result<(), D::Fault>
     requires size { slot_at 1 + sector ≤ size (D.content disk.old) }
     requires closed { LeavesOnly (D.content disk.old) (λ image. is_slot_open image 1 ≡ false) }
-    ensures size { size (D.content disk.new) ≡ size (D.content disk.old) }
-    ensures changes { ChangesWithin (slot_at 0) sector (D.content disk.old) (D.content disk.new) }
+    ensures wrote { Wrote D.Disk (slot_at 0) sector 3 3 disk.old disk.new result }
     ensures current { OnOk result (LeavesOnly (D.content disk.new) (IsFirst digests.now)) }
     ensures rests { OnOk result (Rests (D.content disk.new)) }
-    ensures made { Costs D.writes D.syncs 3 3 disk.old disk.new result }
-    ensures failures { MatchResult result (λ _. D.failures disk.new ≡ D.failures disk.old) (CountsFault D.failures D.gave disk.old disk.new) }
 {
     write_gate(disk, 0, GATE_CLOSED)?;
     write_record(disk, 0, &record_bytes(&Body::first(), digests))?;

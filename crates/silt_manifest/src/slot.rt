@@ -1,7 +1,8 @@
 // The two slots of a manifest.
-ghost use Rattle.std.specs.Prelude.{◌≡◌, ◌+◌, ◌<◌, ◌≤◌, true, false, Some, [], ◌∷◌, IfOk, IfErr, IfSome, IfNone, OnOk, MatchResult};
-ghost use Rattle.silt_disk.specs.Disk.{ChangesWithin, Costs, CountsFault, GaveAny, Rests, Shows, Writes, size};
+ghost use Rattle.std.specs.Prelude.{◌≡◌, ◌+◌, ◌<◌, ◌≤◌, true, false, Some, [], ◌∷◌, IfOk, IfErr, IfSome, IfNone, OnOk};
+ghost use Rattle.silt_disk.specs.Disk.{GaveAny, Rests, Shows, Writes, size};
 ghost use Rattle.silt_disk.specs.Layout.{slot_at, sector};
+ghost use Rattle.silt_disk.specs.Wrote.{Wrote};
 ghost use Rattle.silt_manifest.specs.Body.{FitsSlot};
 ghost use Rattle.silt_manifest.specs.Digests.{FitsDigests, record_bytes, record_of};
 ghost use Rattle.silt_manifest.specs.Current.{HasSlot, has_due_digests, is_sound_record, record_behind};
@@ -132,12 +133,9 @@ pub(crate) fn read_slot<D: Disk>(
 pub(crate) fn write_gate<D: Disk>(disk: &mut D, slot: u32, gate: u8) -> Result<(), D::Fault>
     requires slot { slot < 2 }
     requires size { slot_at 1 + sector ≤ size (D.content disk.old) }
-    ensures size { size (D.content disk.new) ≡ size (D.content disk.old) }
-    ensures changes { ChangesWithin (slot_at slot) 1 (D.content disk.old) (D.content disk.new) }
+    ensures wrote { Wrote D.Disk (slot_at slot) 1 1 1 disk.old disk.new result }
     ensures written { OnOk result (Writes (slot_at slot) (gate ∷ []) (D.content disk.old) (D.content disk.new)) }
     ensures rests { OnOk result (Rests (D.content disk.new)) }
-    ensures made { Costs D.writes D.syncs 1 1 disk.old disk.new result }
-    ensures failures { MatchResult result (λ _. D.failures disk.new ≡ D.failures disk.old) (CountsFault D.failures D.gave disk.old disk.new) }
 {
     write_synced(disk, slot_start(slot), &[gate])?;
     Ok(())
@@ -164,12 +162,9 @@ pub(crate) fn write_record<D: Disk>(
 ) -> Result<(), D::Fault>
     requires slot { slot < 2 }
     requires size { slot_at 1 + sector ≤ size (D.content disk.old) }
-    ensures size { size (D.content disk.new) ≡ size (D.content disk.old) }
-    ensures changes { ChangesWithin (slot_at slot + 1) 460 (D.content disk.old) (D.content disk.new) }
+    ensures wrote { Wrote D.Disk (slot_at slot + 1) 460 1 1 disk.old disk.new result }
     ensures written { OnOk result (Writes (slot_at slot + 1) bytes.now (D.content disk.old) (D.content disk.new)) }
     ensures rests { OnOk result (Rests (D.content disk.new)) }
-    ensures made { Costs D.writes D.syncs 1 1 disk.old disk.new result }
-    ensures failures { MatchResult result (λ _. D.failures disk.new ≡ D.failures disk.old) (CountsFault D.failures D.gave disk.old disk.new) }
 {
     write_synced(disk, slot_start(slot) + 1, bytes)?;
     Ok(())

@@ -1,8 +1,13 @@
 -- How many writes a step of a merge makes.
-use Rattle.std.proofs.Common.{◌≡◌, ℕ, ◌+◌, ◌-◌, ◌≤◌, Bool, true, false, subst, arith}
+use Rattle.std.proofs.Common.{◌≡◌, ℕ, ◌+◌, ◌-◌, ◌≤◌, Bool, true, false, cond, subst, arith}
 use Rattle.silt_disk.specs.Disk.{Makes}
 use Rattle.silt_disk.proofs.Costs.{none_made}
 use Rattle.silt_merge.specs.State.{written_after}
+
+-- of one entry at most one is written
+pub one_most : (is_written : Bool) → cond is_written 1 0 ≤ 1
+one_most true = omega arith
+one_most false = omega arith
 
 -- a key adds at most one entry
 pub grown : (is_written : Bool) (old new : ℕ) → new ≡ written_after is_written old → (old ≤ new) × (new ≤ old + 1)

@@ -1,6 +1,7 @@
 // The header of a device: its gate, and the six numbers behind it.
 ghost use Rattle.std.specs.Prelude.{◌≡◌, ◌∷◌, ◌≤◌, IsTrue, IfOk, IfErr, OnOk, Ok, Err};
-ghost use Rattle.silt_disk.specs.Disk.{ChangesWithin, Costs, GaveAny, LeavesOnly, Rests, size};
+ghost use Rattle.silt_disk.specs.Disk.{GaveAny, LeavesOnly, Rests, size};
+ghost use Rattle.silt_disk.specs.Wrote.{Wrote};
 ghost use Rattle.silt_disk.specs.Layout.{device_size};
 ghost use Rattle.silt_frame.specs.Gate.{gate_open};
 ghost use Rattle.silt_disk.specs.Header.{header_bytes, header_of, version_of};
@@ -68,13 +69,10 @@ pub fn read_geometry<D: Disk>(disk: &D) -> Result<Header, OpenError<D::Fault>>
 pub fn write_header<D: Disk>(disk: &mut D, geometry: &Geometry) -> Result<(), D::Fault>
     requires size { 12288 ≤ size (D.content disk.old) }
     requires closed { LeavesOnly (D.content disk.old) IsGateClosed }
-    ensures size { size (D.content disk.new) ≡ size (D.content disk.old) }
-    ensures changes { ChangesWithin 0 37 (D.content disk.old) (D.content disk.new) }
+    ensures wrote { Wrote D.Disk 0 37 2 2 disk.old disk.new result }
     ensures header { IsTrue (D.content disk.new).honest → OnOk result (header_of (D.content disk.new).shown ≡ gate_open ∷ header_bytes geometry.now) }
     ensures stopped { LeavesOnly (D.content disk.new) (HasHeaderOrNone geometry.now) }
     ensures rests { OnOk result (Rests (D.content disk.new)) }
-    ensures made { Costs D.writes D.syncs 2 2 disk.old disk.new result }
-    ensures fault { IfErr result (GaveAny D.gave disk.new) }
 {
     let header = header_bytes(geometry);
     write_synced(disk, 1, &header)?;

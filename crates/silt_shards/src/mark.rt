@@ -1,7 +1,8 @@
 // The mark of a file, which says of which set it is a shard, and which one.
 ghost use Rattle.std.specs.Prelude.{◌≡◌, ◌+◌, ◌∷◌, ◌≤◌, IsTrue, IfOk, IfErr, OnOk};
-ghost use Rattle.silt_disk.specs.Disk.{ChangesWithin, Costs, GaveAny, LeavesOnly, Rests, size};
+ghost use Rattle.silt_disk.specs.Disk.{GaveAny, LeavesOnly, Rests, size};
 ghost use Rattle.silt_disk.specs.Layout.{Shape};
+ghost use Rattle.silt_disk.specs.Wrote.{Wrote};
 ghost use Rattle.silt_event.specs.Commands.{Map};
 ghost use Rattle.silt_image.specs.Meaning.{StandsFor};
 ghost use Rattle.silt_shards.specs.Marks.{IsHalfMarked, IsShardMark, IsMarkClosed, IsMarkedOrNot, is_shard, mark_at, mark_bytes, mark_len, marking_in, marking_of};
@@ -113,13 +114,11 @@ pub fn read_mark<D: Disk>(disk: &D) -> Result<Marking, D::Fault>
 /// The fault of the write or the sync. Each crash image that is then possible was possible before, but for the gate.
 pub fn close_mark<D: Disk>(disk: &mut D) -> Result<(), D::Fault>
     requires { mark_at + mark_len ≤ size (D.content disk.old) }
-    ensures size { size (D.content disk.new) ≡ size (D.content disk.old) }
-    ensures changes { ChangesWithin mark_at 1 (D.content disk.old) (D.content disk.new) }
+    ensures wrote { Wrote D.Disk mark_at 1 1 1 disk.old disk.new result }
     ensures closed { OnOk result (LeavesOnly (D.content disk.new) IsMarkClosed) }
     ensures unmarked { OnOk result (LeavesOnly (D.content disk.new) (λ image. marking_of image ≡ Unmarked)) }
     ensures stands { (shape : Shape) (map : Map) → LeavesOnly (D.content disk.old) (StandsFor shape map) → LeavesOnly (D.content disk.new) (StandsFor shape map) }
     ensures rests { OnOk result (Rests (D.content disk.new)) }
-    ensures made { Costs D.writes D.syncs 1 1 disk.old disk.new result }
     ensures fault { IfErr result (GaveAny D.gave disk.new) }
 {
     write_synced(disk, MARK_AT, &[GATE_CLOSED])?;
@@ -131,13 +130,10 @@ fn write_behind<D: Disk>(disk: &mut D, mark: &Mark) -> Result<(), D::Fault>
     requires size { mark_at + mark_len ≤ size (D.content disk.old) }
     requires mark { IsShardMark mark.now }
     requires closed { LeavesOnly (D.content disk.old) IsMarkClosed }
-    ensures size { size (D.content disk.new) ≡ size (D.content disk.old) }
-    ensures changes { ChangesWithin mark_at mark_len (D.content disk.old) (D.content disk.new) }
+    ensures wrote { Wrote D.Disk mark_at mark_len 2 2 disk.old disk.new result }
     ensures marked { OnOk result (LeavesOnly (D.content disk.new) (λ image. marking_of image ≡ Marked mark.now)) }
     ensures stopped { LeavesOnly (D.content disk.new) (IsMarkedOrNot mark.now) }
     ensures rests { OnOk result (Rests (D.content disk.new)) }
-    ensures made { Costs D.writes D.syncs 2 2 disk.old disk.new result }
-    ensures fault { IfErr result (GaveAny D.gave disk.new) }
 {
     let bytes = mark_bytes(mark);
     write_synced(disk, MARK_AT + 1, &bytes)?;
@@ -155,13 +151,11 @@ fn write_behind<D: Disk>(disk: &mut D, mark: &Mark) -> Result<(), D::Fault>
 pub fn write_mark<D: Disk>(disk: &mut D, mark: &Mark) -> Result<(), D::Fault>
     requires size { mark_at + mark_len ≤ size (D.content disk.old) }
     requires mark { IsShardMark mark.now }
-    ensures size { size (D.content disk.new) ≡ size (D.content disk.old) }
-    ensures changes { ChangesWithin mark_at mark_len (D.content disk.old) (D.content disk.new) }
+    ensures wrote { Wrote D.Disk mark_at mark_len 3 3 disk.old disk.new result }
     ensures marked { OnOk result (LeavesOnly (D.content disk.new) (λ image. marking_of image ≡ Marked mark.now)) }
     ensures stopped { LeavesOnly (D.content disk.new) (IsHalfMarked (D.content disk.old) mark.now) }
     ensures stands { (shape : Shape) (map : Map) → LeavesOnly (D.content disk.old) (StandsFor shape map) → LeavesOnly (D.content disk.new) (StandsFor shape map) }
     ensures rests { OnOk result (Rests (D.content disk.new)) }
-    ensures made { Costs D.writes D.syncs 3 3 disk.old disk.new result }
     ensures fault { IfErr result (GaveAny D.gave disk.new) }
 {
     close_mark(disk)?;

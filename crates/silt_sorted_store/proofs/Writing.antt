@@ -2,9 +2,8 @@
 use Rattle.std.proofs.Common.{◌≡◌, ℕ, ◌+◌, ◌*◌, ◌<◌, ◌≤◌, ◌&&◌, nat_lt, Bool, true, false, cond, IsTrue, List, [], ◌∷◌, ◌++◌, length, take, slice_range, sym, subst, ap, ◌∙◌, arith, append-nil}
 use Rattle.std.proofs.lemmas.Bool.{le-ltb, lt-ltb}
 use Rattle.std.proofs.lemmas.List.{length-append, take-append-le, take_all}
-use Rattle.silt_disk.specs.Disk.{ChangesWithin, Content, Makes, Tears, Writes, size, splice}
+use Rattle.silt_disk.specs.Disk.{ChangesWithin, Content, Tears, Writes, size, splice}
 use Rattle.silt_disk.specs.Layout.{Shape, device_size, entry_len, sorted_at}
-use Rattle.silt_disk.proofs.Costs.{none_made}
 use Rattle.silt_disk.proofs.Images.{splice_slice, within_wider, write_within}
 use Rattle.silt_sorted_store.specs.State.{sorted_rows, sorted_entry_at}
 use Rattle.silt_frame.specs.Rows.{entry_row, StoredRow}
@@ -81,11 +80,3 @@ none_counted written place none = subst (λ w. place ≡ place + cond w 1 0) (sy
 
 pub one_counted : (written : Bool) (place : ℕ) → written ≡ true → place + 1 ≡ place + cond written 1 0
 one_counted written place one = subst (λ w. place + 1 ≡ place + cond w 1 0) (sym one) (omega arith)
-
--- the writes of an entry that is not written, and of one that is
-module _ {D : Type 0} {writes_of syncs_of : D → ℕ} where
-  pub none_costs : {old : D} (written : Bool) → written ≡ false → Makes writes_of syncs_of (cond written 1 0) 0 old old
-  none_costs {old} written none = subst (λ w. Makes writes_of syncs_of (cond w 1 0) 0 old old) (sym none) none_made
-
-  pub one_costs : {old new : D} (written : Bool) → written ≡ true → Makes writes_of syncs_of 1 0 old new → Makes writes_of syncs_of (cond written 1 0) 0 old new
-  one_costs {old} {new} written one made = subst (λ w. Makes writes_of syncs_of (cond w 1 0) 0 old new) (sym one) made

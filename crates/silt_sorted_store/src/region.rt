@@ -1,7 +1,8 @@
 // A sorted region on a device: the offsets of its entries, and how to write one.
-ghost use Rattle.std.specs.Prelude.{◌≡◌, ◌+◌, ◌*◌, ◌<◌, ◌≤◌, ◌^◌, ◌++◌, cond, length, take, IsTrue, IfOk, MatchResult};
-ghost use Rattle.silt_disk.specs.Disk.{ChangesWithin, CountsFault, Makes, MakesAtMost, size};
+ghost use Rattle.std.specs.Prelude.{◌≡◌, ◌+◌, ◌*◌, ◌<◌, ◌≤◌, ◌^◌, ◌++◌, cond, length, take, IsTrue, IfOk};
+ghost use Rattle.silt_disk.specs.Disk.{ChangesWithin, size};
 ghost use Rattle.silt_disk.specs.Layout.{device_size, entry_len, sorted_at};
+ghost use Rattle.silt_disk.specs.Wrote.{Wrote};
 ghost use Rattle.silt_sorted_store.specs.State.{sorted_rows, sorted_entry_at};
 ghost use Rattle.silt_sorted_store.specs.Region.{due_rows, is_written};
 
@@ -42,8 +43,8 @@ impl SortedRegion {
         requires place { place ≤ self.now.geometry.sorted_capacity }
         requires entry { length entry.now ≡ entry_len self.now.geometry }
         requires size { device_size self.now.geometry ≤ size (D.content disk.old) }
-        ensures size { size (D.content disk.new) ≡ size (D.content disk.old) }
-        ensures changes { ChangesWithin (sorted_entry_at self.now.geometry self.now.number place) (entry_len self.now.geometry) (D.content disk.old) (D.content disk.new) }
+        ensures wrote { Wrote D.Disk (sorted_entry_at self.now.geometry self.now.number place) (entry_len self.now.geometry)
+            (cond (is_written is_due place self.now.geometry.sorted_capacity) 1 0) 0 disk.old disk.new result }
         ensures region { ChangesWithin (sorted_at self.now.geometry self.now.number) (self.now.geometry.sorted_capacity * entry_len self.now.geometry) (D.content disk.old) (D.content disk.new) }
         ensures kept { IsTrue (D.content disk.old).honest
             → sorted_rows self.now.geometry self.now.number place (D.content disk.new).shown ≡ sorted_rows self.now.geometry self.now.number place (D.content disk.old).shown }
@@ -51,9 +52,6 @@ impl SortedRegion {
             ≡ take self.now.geometry.sorted_capacity (sorted_rows self.now.geometry self.now.number place (D.content disk.old).shown ++ due_rows is_due entry.now)) }
         ensures most { IfOk result (λ count. count ≤ self.now.geometry.sorted_capacity) }
         ensures count { IfOk result (λ count. count ≡ place + cond (is_written is_due place self.now.geometry.sorted_capacity) 1 0) }
-        ensures made { MatchResult result (λ _. Makes D.writes D.syncs (cond (is_written is_due place self.now.geometry.sorted_capacity) 1 0) 0 disk.old disk.new)
-            (λ _. MakesAtMost D.writes D.syncs 1 0 disk.old disk.new) }
-        ensures failures { MatchResult result (λ _. D.failures disk.new ≡ D.failures disk.old) (CountsFault D.failures D.gave disk.old disk.new) }
     {
         if !is_due {
             return Ok(place);

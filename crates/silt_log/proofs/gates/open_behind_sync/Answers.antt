@@ -1,21 +1,25 @@
 use Rattle.std.proofs.Common.{rules, arith}
-use Rattle.silt_disk.specs.Disk.{MakesAtMost}
-use Rattle.silt_disk.proofs.Costs.{most_made, most_both}
+use Rattle.silt_disk.proofs.Wrote.{sync_wrote, wrote_err, wrote_ok, wrote_then}
 use Rattle.silt_log.proofs.Barriers.{begun}
 use Rattle.silt_log.proofs.gates.open_behind_sync.Goals as goal
+
+pub returns-in_err-sync-clause-wrote : goal.returns-in_err-sync-clause-wrote
+returns-in_err-sync-clause-wrote g c =
+    let synced = sync_wrote _ _ c.sync.result c.sync.ensures.size c.sync.ensures.made c.sync.ensures.settled c.sync.ensures.unchanged c.sync.ensures.failures in
+    wrote_err c.in_err-sync.was c.from_residual.ensures.1 (omega arith) (omega arith) synced
+
+pub returns-in_err-write_gates-clause-wrote : goal.returns-in_err-write_gates-clause-wrote
+returns-in_err-write_gates-clause-wrote g c =
+    let synced = sync_wrote _ _ c.sync.result c.sync.ensures.size c.sync.ensures.made c.sync.ensures.settled c.sync.ensures.unchanged c.sync.ensures.failures in
+    wrote_err c.in_err-write_gates.was c.from_residual-in_err-write_gates.ensures.1 (omega arith) (omega arith) (wrote_then c.in_ok-sync.was synced c.write_gates.ensures.wrote)
+
+pub returns-clause-wrote : goal.returns-clause-wrote
+returns-clause-wrote g c =
+    let synced = sync_wrote _ _ c.sync.result c.sync.ensures.size c.sync.ensures.made c.sync.ensures.settled c.sync.ensures.unchanged c.sync.ensures.failures in
+    wrote_ok c.in_ok-write_gates.was (wrote_then c.in_ok-sync.was synced c.write_gates.ensures.wrote)
 
 pub returns-in_err-write_gates-clause-begun : goal.returns-in_err-write_gates-clause-begun
 returns-in_err-write_gates-clause-begun g c = search (rules, begun)
 
 pub returns-clause-begun : goal.returns-clause-begun
-returns-clause-begun g c = begun _ _ _ _ _ c.in_ok-sync.ensures.settled c.write_gates.ensures.changes
-
-pub returns-in_err-sync-clause-made : goal.returns-in_err-sync-clause-made
-returns-in_err-sync-clause-made g c =
-    let most : MakesAtMost g.D.Disk.writes g.D.Disk.syncs 1 2 c.args.disk.now c.sync.new.self = most_made c.sync.ensures.made (omega arith) (omega arith) in
-    search (rules, most)
-
-pub returns-in_err-write_gates-clause-made : goal.returns-in_err-write_gates-clause-made
-returns-in_err-write_gates-clause-made g c =
-    let most : MakesAtMost g.D.Disk.writes g.D.Disk.syncs 1 2 c.args.disk.now c.write_gates.new.disk = most_both c.sync.new.self c.in_ok-sync.ensures.made c.in_err-write_gates.ensures.made (omega arith) (omega arith) in
-    search (rules, most)
+returns-clause-begun g c = begun _ _ _ _ _ c.in_ok-sync.ensures.settled c.write_gates.ensures.wrote.changes

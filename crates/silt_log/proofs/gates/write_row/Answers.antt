@@ -1,27 +1,25 @@
-use Rattle.std.proofs.Common.{rules, refl, arith}
-use Rattle.silt_disk.specs.Disk.{MakesAtMost}
-use Rattle.silt_disk.proofs.Costs.{made_both, most_made}
-use Rattle.silt_log.proofs.Splices.{first_write_within, both_writes_within, both_written}
+use Rattle.std.proofs.Common.{arith}
+use Rattle.silt_disk.proofs.Wrote.{write_wrote, wrote_err, wrote_ok, wrote_then, wrote_wider}
+use Rattle.silt_log.proofs.Splices.{both_written}
 use Rattle.silt_log.proofs.gates.write_row.Goals as goal
 
-pub returns-in_err-write-clause-changes : goal.returns-in_err-write-clause-changes
-returns-in_err-write-clause-changes g c = first_write_within _ _ _ _ _ c.write.ensures.torn
+pub returns-in_err-write-clause-wrote : goal.returns-in_err-write-clause-wrote
+returns-in_err-write-clause-wrote g c =
+    let head = write_wrote c.write.result c.write.ensures.size c.write.ensures.made c.write.ensures.torn c.write.ensures.failures in
+    wrote_err c.in_err-write.was c.from_residual.ensures.1 (omega arith) (omega arith) (wrote_wider _ _ (omega arith) (omega arith) head)
 
-pub returns-in_err-write-2-clause-changes : goal.returns-in_err-write-2-clause-changes
-returns-in_err-write-2-clause-changes g c = both_writes_within _ _ _ _ _ _ c.write.ensures.torn c.write-2.ensures.torn
+pub returns-in_err-write-2-clause-wrote : goal.returns-in_err-write-2-clause-wrote
+returns-in_err-write-2-clause-wrote g c =
+    let head = write_wrote c.write.result c.write.ensures.size c.write.ensures.made c.write.ensures.torn c.write.ensures.failures in
+    let value = write_wrote c.write-2.result c.write-2.ensures.size c.write-2.ensures.made c.write-2.ensures.torn c.write-2.ensures.failures in
+    wrote_err c.in_err-write-2.was c.from_residual-in_err-write-2.ensures.1 (omega arith) (omega arith)
+    (wrote_then c.in_ok-write.was (wrote_wider _ _ (omega arith) (omega arith) head) (wrote_wider _ _ (omega arith) (omega arith) value))
 
-pub returns-clause-changes : goal.returns-clause-changes
-returns-clause-changes g c = both_writes_within _ _ _ _ _ _ c.write.ensures.torn c.write-2.ensures.torn
+pub returns-clause-wrote : goal.returns-clause-wrote
+returns-clause-wrote g c =
+    let head = write_wrote c.write.result c.write.ensures.size c.write.ensures.made c.write.ensures.torn c.write.ensures.failures in
+    let value = write_wrote c.write-2.result c.write-2.ensures.size c.write-2.ensures.made c.write-2.ensures.torn c.write-2.ensures.failures in
+    wrote_ok c.in_ok-write-2.was (wrote_then c.in_ok-write.was (wrote_wider _ _ (omega arith) (omega arith) head) (wrote_wider _ _ (omega arith) (omega arith) value))
 
 pub returns-clause-written : goal.returns-clause-written
 returns-clause-written g c = both_written _ _ _ _ _ _ c.requires c.in_ok-write.ensures.written c.in_ok-write-2.ensures.written
-
-pub returns-in_err-write-clause-made : goal.returns-in_err-write-clause-made
-returns-in_err-write-clause-made g c =
-    let most : MakesAtMost g.D.Disk.writes g.D.Disk.syncs 2 0 c.args.disk.now c.write.new.self = most_made c.write.ensures.made (omega arith) (omega arith) in
-    search (rules, most)
-
-pub returns-in_err-write-2-clause-made : goal.returns-in_err-write-2-clause-made
-returns-in_err-write-2-clause-made g c =
-    let most : MakesAtMost g.D.Disk.writes g.D.Disk.syncs 2 0 c.args.disk.now c.write-2.new.self = most_made (made_both c.write.new.self c.write.ensures.made c.write-2.ensures.made refl refl) (omega arith) (omega arith) in
-    search (rules, most)

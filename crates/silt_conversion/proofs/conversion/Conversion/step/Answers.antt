@@ -1,8 +1,8 @@
-use Rattle.std.proofs.Common.{◌≡◌, IsTrue, drop, length, ap, sym, ◌∙◌, arith}
+use Rattle.std.proofs.Common.{◌≡◌, IsTrue, drop, length, ap, sym, ◌∙◌, rules, arith}
 use Rattle.std.proofs.lemmas.List.{take_at}
 use Rattle.silt_cuckoo.specs.Slots.{entry_at}
 use Rattle.silt_disk.specs.Layout.{Shape}
-use Rattle.silt_disk.proofs.Costs.{most_none}
+use Rattle.silt_disk.proofs.Wrote.{wrote_refused}
 use Rattle.silt_frame.specs.Rows.{row_of}
 use Rattle.silt_log.specs.State.{all_rows}
 use Rattle.silt_log_store.specs.State.{IsFrozenStore}
@@ -16,14 +16,14 @@ returns-in-Err-write_slot-clause-written g c =
     let below = rw (← c.self.view_is) at c.requires.more in
     let same = rw (← c.self.view_is) at c.requires.shape in
     let fits = rw (← c.self.view_is) at c.requires.size in
-    rw (← c.self.view_is) (λ frozen. written_kept _ _ c.args.log.now conversion c.read_due.ensures.held.bounds same fits c.write_slot.ensures.changes c.self.invariant.there below)
+    rw (← c.self.view_is) (λ frozen. written_kept _ _ c.args.log.now conversion c.read_due.ensures.held.bounds same fits c.write_slot.ensures.wrote.changes c.self.invariant.there below)
 
 pub returns-in-Err-write_slot-clause-frozen : goal.returns-in-Err-write_slot-clause-frozen
 returns-in-Err-write_slot-clause-frozen g c =
     let conversion : ConversionState = record { shape = c.self.inside.region.geometry; region = c.self.inside.region.number; tags = c.self.inside.tags; next = c.self.inside.next; puts = c.self.inside.puts; hasher = c.self.inside.hasher } in
     let same = rw (← c.self.view_is) at c.requires.shape in
     let fits = rw (← c.self.view_is) at c.requires.size in
-    frozen_kept _ _ c.args.log.now conversion c.read_due.ensures.held.bounds same fits c.write_slot.ensures.changes
+    frozen_kept _ _ c.args.log.now conversion c.read_due.ensures.held.bounds same fits c.write_slot.ensures.wrote.changes
 
 pub invariant_of-self-2 : goal.invariant_of-self-2
 invariant_of-self-2 g c =
@@ -58,14 +58,14 @@ returns-clause-written g c =
     let steps = step_made c.args.log.now content (g.D.Disk.content c.write_slot.new.disk) conversion c.note_entry.new.tags c.in-Ok.puts c.update.new.self c.read_due.new.out c.deref.result.now c.deref-2.result.now
     tags due c.in-Ok.ensures.puts c.in_default.ensures.written (c.deref.ensures.value ∙ row) c.update.ensures (c.deref-2.ensures.value ∙ row) (omega (arith, c.self.invariant.buffer)) in
     rw (← c.self.view_is)
-    (λ frozen. written_step _ _ c.args.log.now conversion c.read_due.ensures.held.bounds same fits c.write_slot.ensures.changes _ c.self.invariant.there below c.self.invariant.long (c.self.invariant.later conversion.next (omega arith)) steps frozen)
+    (λ frozen. written_step _ _ c.args.log.now conversion c.read_due.ensures.held.bounds same fits c.write_slot.ensures.wrote.changes _ c.self.invariant.there below c.self.invariant.long (c.self.invariant.later conversion.next (omega arith)) steps frozen)
 
 pub returns-clause-frozen : goal.returns-clause-frozen
 returns-clause-frozen g c =
     let conversion : ConversionState = record { shape = c.self.inside.region.geometry; region = c.self.inside.region.number; tags = c.self.inside.tags; next = c.self.inside.next; puts = c.self.inside.puts; hasher = c.self.inside.hasher } in
     let same = rw (← c.self.view_is) at c.requires.shape in
     let fits = rw (← c.self.view_is) at c.requires.size in
-    frozen_kept _ _ c.args.log.now conversion c.read_due.ensures.held.bounds same fits c.write_slot.ensures.changes
+    frozen_kept _ _ c.args.log.now conversion c.read_due.ensures.held.bounds same fits c.write_slot.ensures.wrote.changes
 
-pub returns-in-Err-clause-made : goal.returns-in-Err-clause-made
-returns-in-Err-clause-made g c = most_none
+pub returns-in-Err-clause-wrote : goal.returns-in-Err-clause-wrote
+returns-in-Err-clause-wrote g c = wrote_refused _ _ _ _ _ _ (search rules)

@@ -56,11 +56,11 @@ returns-in_err-step-clause-err g c =
     let stands = subst (λ (v : EngineState). Stands (g.D.Disk.content c.args.disk.now) v) (sym c.self.view_is) c.requires.stands in
     let turn = begin_turn stores c.in-Some.oldest.now c.current.result c.hashes.result c.in-Some-lowest_free_hash.region read none c.self.invariant.whole c.current.ensures.sound c.current.ensures.value hashes c.in-Some-lowest_free_hash.ensures.some in
     let breaks = first_failed_breaks stores c.in-Some.oldest.now c.current.result c.hashes.result c.in-Some-lowest_free_hash.region read none c.self.invariant.whole c.current.ensures.sound c.current.ensures.value hashes c.in-Some-lowest_free_hash.ensures.some
-    c.in-Ok.conversion c.in-Ok.ensures.start limits _ _ c.step.new.self stands (c.in-Ok.ensures.written (g.D.Disk.content c.args.disk.now)) c.step.ensures.size c.step.ensures.changes in
+    c.in-Ok.conversion c.in-Ok.ensures.start limits _ _ c.step.new.self stands (c.in-Ok.ensures.written (g.D.Disk.content c.args.disk.now)) c.step.ensures.wrote.size c.step.ensures.wrote.changes in
     let remaps = first_failed_map stores c.in-Some.oldest.now c.current.result c.hashes.result c.in-Some-lowest_free_hash.region read none c.self.invariant.whole c.current.ensures.sound c.current.ensures.value hashes c.in-Some-lowest_free_hash.ensures.some
-    c.in-Ok.conversion c.in-Ok.ensures.start limits _ _ c.step.new.self stands (c.in-Ok.ensures.written (g.D.Disk.content c.args.disk.now)) c.step.ensures.size c.step.ensures.changes in
+    c.in-Ok.conversion c.in-Ok.ensures.start limits _ _ c.step.new.self stands (c.in-Ok.ensures.written (g.D.Disk.content c.args.disk.now)) c.step.ensures.wrote.size c.step.ensures.wrote.changes in
     rw (← c.self.view_is) (on_error c.from_residual.result (refusal_of_step c.in_err-step.field-0.0) _ c.from_residual.ensures.1
-    (step_cause g.D.Disk c.args.disk.now c.step.new.disk stores stores c.in_err-step.field-0.0 c.in_err-step.ensures.failures refl turn breaks remaps))
+    (step_cause g.D.Disk c.args.disk.now c.step.new.disk stores stores c.in_err-step.field-0.0 c.in_err-step.ensures.wrote.failures refl turn breaks remaps))
 
 pub invariant_of-self : goal.invariant_of-self
 invariant_of-self g c =
@@ -71,7 +71,7 @@ invariant_of-self g c =
     let limits = subst InLimits c.geometry-geometry.ensures.value c.hashes.ensures.limits in
     let stands = subst (λ (v : EngineState). Stands (g.D.Disk.content c.args.disk.now) v) (sym c.self.view_is) c.requires.stands in
     let goes = first_advances stores c.in-Some.oldest.now c.current.result c.hashes.result c.in-Some-lowest_free_hash.region read none c.self.invariant.whole c.current.ensures.sound c.current.ensures.value hashes c.in-Some-lowest_free_hash.ensures.some
-    c.in-Ok.conversion c.in-Ok.ensures.start limits _ _ c.step.new.self stands (c.in-Ok.ensures.written (g.D.Disk.content c.args.disk.now)) c.step.ensures.size c.step.ensures.changes c.in_ok-step.ensures.ok c.step.ensures.written in
+    c.in-Ok.conversion c.in-Ok.ensures.start limits _ _ c.step.new.self stands (c.in-Ok.ensures.written (g.D.Disk.content c.args.disk.now)) c.step.ensures.wrote.size c.step.ensures.wrote.changes c.in_ok-step.ensures.ok c.step.ensures.written in
     record { whole = goes.stands.whole; enough = c.self.invariant.enough; enough_hashes = c.self.invariant.enough_hashes }
 
 pub returns-clause-works : goal.returns-clause-works
@@ -82,9 +82,9 @@ returns-clause-works g c =
     let hashes = c.hashes.ensures.value ∙ ap (λ (sh : Shape). sh.hashes) c.geometry-geometry.ensures.value in
     let limits = subst InLimits c.geometry-geometry.ensures.value c.hashes.ensures.limits in
     let stands = subst (λ (v : EngineState). Stands (g.D.Disk.content c.args.disk.now) v) (sym c.self.view_is) c.requires.stands in
-    rw (← c.self.view_is) (went g.D.Disk [] c.args.disk.now c.step.new.disk stores _ _ (record { size = c.step.ensures.size; honest = c.step.ensures.changes.honest }) stands c.in_ok-step.ensures.failures
+    rw (← c.self.view_is) (went g.D.Disk [] c.args.disk.now c.step.new.disk stores _ _ (record { size = c.step.ensures.wrote.size; honest = c.step.ensures.wrote.changes.honest }) stands c.in_ok-step.ensures.wrote.failures
     (first_advances stores c.in-Some.oldest.now c.current.result c.hashes.result c.in-Some-lowest_free_hash.region read none c.self.invariant.whole c.current.ensures.sound c.current.ensures.value hashes c.in-Some-lowest_free_hash.ensures.some
-    c.in-Ok.conversion c.in-Ok.ensures.start limits _ _ c.step.new.self stands (c.in-Ok.ensures.written (g.D.Disk.content c.args.disk.now)) c.step.ensures.size c.step.ensures.changes c.in_ok-step.ensures.ok c.step.ensures.written))
+    c.in-Ok.conversion c.in-Ok.ensures.start limits _ _ c.step.new.self stands (c.in-Ok.ensures.written (g.D.Disk.content c.args.disk.now)) c.step.ensures.wrote.size c.step.ensures.wrote.changes c.in_ok-step.ensures.ok c.step.ensures.written))
 
 pub returns-clause-converts : goal.returns-clause-converts
 returns-clause-converts g c =
@@ -121,9 +121,9 @@ returns-in_err-step-clause-made g c =
     let turn = begin_turn stores c.in-Some.oldest.now c.current.result c.hashes.result c.in-Some-lowest_free_hash.region read none c.self.invariant.whole c.current.ensures.sound c.current.ensures.value hashes c.in-Some-lowest_free_hash.ensures.some in
     let due : convert_turn c.args.self.now ≡ Moved = subst (λ (v : EngineState). convert_turn v ≡ Moved) c.self.view_is turn in
     let most : MakesAtMost g.D.Disk.writes g.D.Disk.syncs (step_writes (convert_turn c.args.self.now)) (step_syncs (convert_turn c.args.self.now)) c.args.disk.now c.step.new.disk
-    = subst (λ (p : Progress). MakesAtMost g.D.Disk.writes g.D.Disk.syncs (step_writes p) (step_syncs p) c.args.disk.now c.step.new.disk) (sym due) c.in_err-step.ensures.made in
+    = subst (λ (p : Progress). MakesAtMost g.D.Disk.writes g.D.Disk.syncs (step_writes p) (step_syncs p) c.args.disk.now c.step.new.disk) (sym due) c.in_err-step.ensures.wrote.made in
     search (rules, most)
 
 pub returns-clause-made : goal.returns-clause-made
 returns-clause-made g c =
-    subst (λ (p : Progress). Makes g.D.Disk.writes g.D.Disk.syncs (step_writes p) (step_syncs p) c.args.disk.now c.step.new.disk) (returns-clause-converts g c).due c.in_ok-step.ensures.made
+    subst (λ (p : Progress). Makes g.D.Disk.writes g.D.Disk.syncs (step_writes p) (step_syncs p) c.args.disk.now c.step.new.disk) (returns-clause-converts g c).due c.in_ok-step.ensures.wrote.made

@@ -11,18 +11,18 @@ pub returns-in_err-open_gates-clause-err : goal.returns-in_err-open_gates-clause
 returns-in_err-open_gates-clause-err g c =
     let stands = subst (λ (v : EngineState). Stands (g.D.Disk.content c.args.disk.now) v) (sym c.self.view_is) c.requires.stands in
     on_error c.from_residual.result c.in_err-open_gates.field-0.0 _ c.from_residual.ensures.1 (rw (← c.self.view_is) (record {
-      counted = c.in_err-open_gates.ensures.failures;
-      breaks = flush_breaks _ _ _ c.open_gates.new.self stands c.open_gates.ensures.size c.open_gates.ensures.changes c.in_err-open_gates.ensures.err;
-      map = flush_failed_map _ _ _ c.open_gates.new.self stands c.open_gates.ensures.size c.open_gates.ensures.changes c.in_err-open_gates.ensures.err;
+      counted = c.in_err-open_gates.ensures.wrote.failures;
+      breaks = flush_breaks _ _ _ c.open_gates.new.self stands c.open_gates.ensures.wrote.size c.open_gates.ensures.wrote.changes c.in_err-open_gates.ensures.err;
+      map = flush_failed_map _ _ _ c.open_gates.new.self stands c.open_gates.ensures.wrote.size c.open_gates.ensures.wrote.changes c.in_err-open_gates.ensures.err;
     }))
 
 pub returns-clause-works : goal.returns-clause-works
 returns-clause-works g c =
     let stands = subst (λ (v : EngineState). Stands (g.D.Disk.content c.args.disk.now) v) (sym c.self.view_is) c.requires.stands in
-    rw (← c.self.view_is) (went g.D.Disk [] c.args.disk.now c.open_gates.new.disk (state_of c.self.inside) _ _ (record { size = c.open_gates.ensures.size; honest = c.open_gates.ensures.changes.honest }) stands c.in_ok-open_gates.ensures.failures
-    (flushed _ _ _ c.open_gates.new.self stands c.open_gates.ensures.size c.open_gates.ensures.changes c.in_ok-open_gates.ensures.ok))
+    rw (← c.self.view_is) (went g.D.Disk [] c.args.disk.now c.open_gates.new.disk (state_of c.self.inside) _ _ (record { size = c.open_gates.ensures.wrote.size; honest = c.open_gates.ensures.wrote.changes.honest }) stands c.in_ok-open_gates.ensures.wrote.failures
+    (flushed _ _ _ c.open_gates.new.self stands c.open_gates.ensures.wrote.size c.open_gates.ensures.wrote.changes c.in_ok-open_gates.ensures.ok))
 
 pub returns-clause-quiet : goal.returns-clause-quiet
 returns-clause-quiet g c =
     let stands = subst (λ (v : EngineState). Stands (g.D.Disk.content c.args.disk.now) v) (sym c.self.view_is) c.requires.stands in
-    flushed_quiet (g.D.Disk.content c.args.disk.now) _ _ c.open_gates.new.self stands c.open_gates.ensures.size c.open_gates.ensures.changes c.in_ok-open_gates.ensures.ok
+    flushed_quiet (g.D.Disk.content c.args.disk.now) _ _ c.open_gates.new.self stands c.open_gates.ensures.wrote.size c.open_gates.ensures.wrote.changes c.in_ok-open_gates.ensures.ok

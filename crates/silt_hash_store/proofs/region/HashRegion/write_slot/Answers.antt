@@ -1,23 +1,18 @@
-use Rattle.std.proofs.Common.{rules, arith}
-use Rattle.silt_disk.specs.Disk.{MakesAtMost}
-use Rattle.silt_disk.proofs.Costs.{most_made}
-use Rattle.silt_hash_store.proofs.Reading.{slot_changes, slot_written}
+use Rattle.std.proofs.Common.{arith}
+use Rattle.silt_disk.proofs.Wrote.{write_wrote, wrote_at, wrote_err, wrote_ok}
+use Rattle.silt_hash_store.proofs.Reading.{slot_written}
 use Rattle.silt_hash_store.proofs.region.HashRegion.write_slot.Goals as goal
 
-pub returns-in_err-write-clause-changes : goal.returns-in_err-write-clause-changes
-returns-in_err-write-clause-changes g c = slot_changes c.args.self.now.geometry c.args.self.now.number c.args.slot _ _ _ _ c.slot_at.ensures.value c.requires.row c.write.ensures.torn
+pub returns-in_err-write-clause-wrote : goal.returns-in_err-write-clause-wrote
+returns-in_err-write-clause-wrote g c =
+    let wrote = write_wrote c.write.result c.write.ensures.size c.write.ensures.made c.write.ensures.torn c.write.ensures.failures in
+    wrote_err c.in_err-write.was c.from_residual.ensures.1 (omega arith) (omega arith) (wrote_at c.slot_at.ensures.value c.requires.row wrote)
 
-pub returns-clause-changes : goal.returns-clause-changes
-returns-clause-changes g c = slot_changes c.args.self.now.geometry c.args.self.now.number c.args.slot _ _ _ _ c.slot_at.ensures.value c.requires.row c.write.ensures.torn
+pub returns-clause-wrote : goal.returns-clause-wrote
+returns-clause-wrote g c =
+    let wrote = write_wrote c.write.result c.write.ensures.size c.write.ensures.made c.write.ensures.torn c.write.ensures.failures in
+    wrote_ok c.in_ok-write.was (wrote_at c.slot_at.ensures.value c.requires.row wrote)
 
 pub returns-clause-written : goal.returns-clause-written
 returns-clause-written g c = λ honest.
     slot_written c.args.self.now.geometry c.args.self.now.number c.args.slot _ _ _ _ c.slot_at.ensures.value c.requires.row (omega (arith, c.slot_at.ensures.fits, c.requires.size)) c.in_ok-write.ensures.written honest
-
-pub returns-in_err-write-clause-made : goal.returns-in_err-write-clause-made
-returns-in_err-write-clause-made g c =
-    let most : MakesAtMost g.D.Disk.writes g.D.Disk.syncs 1 0 c.args.disk.now c.write.new.self = most_made c.write.ensures.made (omega arith) (omega arith) in
-    search (rules, most)
-
-pub returns-clause-made : goal.returns-clause-made
-returns-clause-made g c = c.write.ensures.made

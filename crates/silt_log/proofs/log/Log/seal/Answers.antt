@@ -1,5 +1,6 @@
-use Rattle.std.proofs.Common.{◌≡◌, true, false, refl, ap, sym, subst, ◌∙◌}
+use Rattle.std.proofs.Common.{◌≡◌, true, false, refl, ap, sym, subst, ◌∙◌, arith}
 use Rattle.std.proofs.lemmas.Bool.{false≢true}
+use Rattle.silt_disk.proofs.Wrote.{wrote_at, wrote_err, wrote_ok}
 use Rattle.silt_log.specs.State.{LogState, InBounds, IsHeld}
 use Rattle.silt_log.proofs.Named.{past_place, past_count}
 use Rattle.silt_log.proofs.SealExits.{seal_images, seal_done, seals_as, quiet_images, quiet_done}
@@ -11,17 +12,19 @@ returns-then-not-self-clause-images g c =
     let bounds : InBounds c.args.self.now = subst InBounds c.self.view_is c.self.invariant.bounds in
     quiet_images _ c.args.self.now bounds c.requires.size c.requires.rests c.requires.scanned
 
-pub returns-then-not-self-clause-ok : goal.returns-then-not-self-clause-ok
-returns-then-not-self-clause-ok g c =
+pub returns-then-not-self-clause-log : goal.returns-then-not-self-clause-log
+returns-then-not-self-clause-log g c =
     let bounds : InBounds c.args.self.now = subst InBounds c.self.view_is c.self.invariant.bounds in
     quiet_done _ c.args.self.now bounds c.requires.size c.requires.rests c.requires.scanned (ap (λ (l : LogState). l.stale) (sym c.self.view_is) ∙ c.if-not-self.true)
 
-pub returns-in_err-write_gates-clause-changes : goal.returns-in_err-write_gates-clause-changes
-returns-in_err-write_gates-clause-changes g c =
+pub returns-in_err-write_gates-clause-wrote : goal.returns-in_err-write_gates-clause-wrote
+returns-in_err-write_gates-clause-wrote g c =
     let log : LogState = c.args.self.now in
     let at = past_place _ log _ _ c.self.view_is c.gates_at.ensures.value c.from.ensures in
     let count = past_count _ log _ _ c.self.view_is c.log_capacity.ensures.value (subst (IsHeld _) (sym c.deref_mut.ensures.len) c.self.invariant) in
-    within_at _ _ _ _ _ _ at count c.write_gates.ensures.changes
+    let stale : log.stale ≡ true = ap (λ (l : LogState). l.stale) (sym c.self.view_is) ∙ c.if-not-self.false in
+    let written = wrote_err c.in_err-write_gates.was c.from_residual.ensures.1 (omega arith) (omega arith) (wrote_at at count c.write_gates.ensures.wrote) in
+    rw stale written
 
 pub returns-in_err-write_gates-clause-images : goal.returns-in_err-write_gates-clause-images
 returns-in_err-write_gates-clause-images g c =
@@ -30,7 +33,7 @@ returns-in_err-write_gates-clause-images g c =
     let stale : log.stale ≡ true = ap (λ (l : LogState). l.stale) (sym c.self.view_is) ∙ c.if-not-self.false in
     let at = past_place _ log _ _ c.self.view_is c.gates_at.ensures.value c.from.ensures in
     let count = past_count _ log _ _ c.self.view_is c.log_capacity.ensures.value (subst (IsHeld _) (sym c.deref_mut.ensures.len) c.self.invariant) in
-    seal_images _ _ log bounds c.requires.size c.requires.rests c.requires.scanned _ (bounds.gap stale) refl (within_at _ _ _ _ _ _ at count c.write_gates.ensures.changes)
+    seal_images _ _ log bounds c.requires.size c.requires.rests c.requires.scanned _ (bounds.gap stale) refl (within_at _ _ _ _ _ _ at count c.write_gates.ensures.wrote.changes)
 
 pub returns-clause-written : goal.returns-clause-written
 returns-clause-written g c = λ stale.
@@ -42,12 +45,14 @@ returns-clause-written g c = λ stale.
 pub returns-then-not-self-clause-written : goal.returns-then-not-self-clause-written
 returns-then-not-self-clause-written g c = λ stale. absurd (false≢true (sym (ap (λ (l : LogState). l.stale) (sym c.self.view_is) ∙ c.if-not-self.true) ∙ stale))
 
-pub returns-clause-changes : goal.returns-clause-changes
-returns-clause-changes g c =
+pub returns-clause-wrote : goal.returns-clause-wrote
+returns-clause-wrote g c =
     let log : LogState = c.args.self.now in
     let at = past_place _ log _ _ c.self.view_is c.gates_at.ensures.value c.from.ensures in
     let count = past_count _ log _ _ c.self.view_is c.log_capacity.ensures.value (subst (IsHeld _) (sym c.deref_mut.ensures.len) c.self.invariant) in
-    within_at _ _ _ _ _ _ at count c.write_gates.ensures.changes
+    let stale : log.stale ≡ true = ap (λ (l : LogState). l.stale) (sym c.self.view_is) ∙ c.if-not-self.false in
+    let written = wrote_ok c.in_ok-write_gates.was (wrote_at at count c.write_gates.ensures.wrote) in
+    rw stale written
 
 pub returns-clause-images : goal.returns-clause-images
 returns-clause-images g c =
@@ -56,7 +61,7 @@ returns-clause-images g c =
     let stale : log.stale ≡ true = ap (λ (l : LogState). l.stale) (sym c.self.view_is) ∙ c.if-not-self.false in
     let at = past_place _ log _ _ c.self.view_is c.gates_at.ensures.value c.from.ensures in
     let count = past_count _ log _ _ c.self.view_is c.log_capacity.ensures.value (subst (IsHeld _) (sym c.deref_mut.ensures.len) c.self.invariant) in
-    seal_images _ _ log bounds c.requires.size c.requires.rests c.requires.scanned _ (bounds.gap stale) refl (within_at _ _ _ _ _ _ at count c.write_gates.ensures.changes)
+    seal_images _ _ log bounds c.requires.size c.requires.rests c.requires.scanned _ (bounds.gap stale) refl (within_at _ _ _ _ _ _ at count c.write_gates.ensures.wrote.changes)
 
 pub invariant_of-self-2 : goal.invariant_of-self-2
 invariant_of-self-2 g c = record {
@@ -64,12 +69,12 @@ invariant_of-self-2 g c = record {
   buffer = c.self.invariant.buffer;
 }
 
-pub returns-clause-ok : goal.returns-clause-ok
-returns-clause-ok g c =
+pub returns-clause-log : goal.returns-clause-log
+returns-clause-log g c =
     let log : LogState = c.args.self.now in
     let bounds : InBounds log = subst InBounds c.self.view_is c.self.invariant.bounds in
     let stale : log.stale ≡ true = ap (λ (l : LogState). l.stale) (sym c.self.view_is) ∙ c.if-not-self.false in
     let at = past_place _ log _ _ c.self.view_is c.gates_at.ensures.value c.from.ensures in
     let count = past_count _ log _ _ c.self.view_is c.log_capacity.ensures.value (subst (IsHeld _) (sym c.deref_mut.ensures.len) c.self.invariant) in
-    let done = seal_done _ _ log bounds c.requires.size c.requires.rests c.requires.scanned _ (bounds.gap stale) count c.write_gates.ensures.size (writes_at _ _ _ _ _ at c.in_ok-write_gates.ensures.written) c.in_ok-write_gates.ensures.rests in
+    let done = seal_done _ _ log bounds c.requires.size c.requires.rests c.requires.scanned _ (bounds.gap stale) count c.write_gates.ensures.wrote.size (writes_at _ _ _ _ _ at c.in_ok-write_gates.ensures.written) c.in_ok-write_gates.ensures.rests in
     seals_as _ _ _ _ _ (ap (λ (l : LogState). let sealed : LogState = record l { stale = false } in sealed) c.self.view_is) done

@@ -1,21 +1,29 @@
-use Rattle.std.proofs.Common.{◌≡◌, false, Some, sym, ap, subst, ◌∙◌}
+use Rattle.std.proofs.Common.{◌≡◌, false, Some, refl, sym, ap, subst, ◌∙◌, arith}
 use Rattle.silt_disk.specs.Layout.{slot_at}
+use Rattle.silt_disk.proofs.Wrote.{wrote_at, wrote_err, wrote_ok}
 use Rattle.silt_manifest.specs.Digests.{long_record}
 use Rattle.silt_manifest.specs.Standing.{IsCurrent, with_current, spare_slot}
 use Rattle.silt_manifest.proofs.CommitExits.{gate_fails, all_committed}
 use Rattle.silt_manifest.proofs.manifest.Manifest.commit_next.Goals as goal
 
+pub returns-in_err-write_gate-clause-wrote : goal.returns-in_err-write_gate-clause-wrote
+returns-in_err-write_gate-clause-wrote g c =
+    wrote_err c.in_err-write_gate.was c.from_residual.ensures.1 (omega arith) (omega arith) (wrote_at (ap slot_at c.spare_slot.ensures.value) refl c.write_gate.ensures.wrote)
+
+pub returns-clause-wrote : goal.returns-clause-wrote
+returns-clause-wrote g c = wrote_ok c.in_ok-write_gate.was (wrote_at (ap slot_at c.spare_slot.ensures.value) refl c.write_gate.ensures.wrote)
+
 pub returns-in_err-write_gate-clause-each : goal.returns-in_err-write_gate-clause-each
 returns-in_err-write_gate-clause-each g c =
     let m = c.args.self.now in
     let start : slot_at c.spare_slot.result ≡ slot_at (spare_slot m) = ap slot_at c.spare_slot.ensures.value in
-    gate_fails m c.requires.prepared.next c.requires.prepared.digests _ _ (slot_at c.spare_slot.result) c.requires.size c.requires.prepared.prepared start c.in_err-write_gate.ensures.changes
+    gate_fails m c.requires.prepared.next c.requires.prepared.digests _ _ (slot_at c.spare_slot.result) c.requires.size c.requires.prepared.prepared start c.in_err-write_gate.ensures.wrote.changes
 
 pub returns-clause-each : goal.returns-clause-each
 returns-clause-each g c =
     let m = c.args.self.now in
     let start : slot_at c.spare_slot.result ≡ slot_at (spare_slot m) = ap slot_at c.spare_slot.ensures.value in
-    gate_fails m c.requires.prepared.next c.requires.prepared.digests _ _ (slot_at c.spare_slot.result) c.requires.size c.requires.prepared.prepared start c.in_ok-write_gate.ensures.changes
+    gate_fails m c.requires.prepared.next c.requires.prepared.digests _ _ (slot_at c.spare_slot.result) c.requires.size c.requires.prepared.prepared start c.in_ok-write_gate.ensures.wrote.changes
 
 pub returns-clause-current : goal.returns-clause-current
 returns-clause-current g c =

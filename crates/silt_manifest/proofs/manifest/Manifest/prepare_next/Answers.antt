@@ -1,8 +1,6 @@
-use Rattle.std.proofs.Common.{◌+◌, length, refl, sym, ap, subst, ◌∙◌, rules, arith}
-use Rattle.silt_disk.specs.Disk.{MakesAtMost}
+use Rattle.std.proofs.Common.{◌+◌, length, refl, sym, ap, subst, ◌∙◌, arith}
 use Rattle.silt_disk.specs.Layout.{InLimits, slot_at}
-use Rattle.silt_disk.proofs.Costs.{made_both, most_both, most_more}
-use Rattle.silt_disk.proofs.Laws.{changes_wider, changes_joined}
+use Rattle.silt_disk.proofs.Wrote.{wrote_err, wrote_ok, wrote_then, wrote_wider}
 use Rattle.silt_manifest.specs.Body.{FitsSlot}
 use Rattle.silt_manifest.specs.Digests.{FitsDigests}
 use Rattle.silt_manifest.specs.Standing.{spare_slot}
@@ -15,40 +13,42 @@ pub record_bytes-requires : goal.record_bytes-requires
 record_bytes-requires g c =
     fits_slot c.args.self.now.shape (spare_slot c.args.self.now) c.args.next (subst (λ state. InLimits state.shape) c.self.view_is c.logs-limits.ensures.limits) c.requires.next.sound
 
-pub returns-in_err-write_synced-clause-changes : goal.returns-in_err-write_synced-clause-changes
-returns-in_err-write_synced-clause-changes g c =
+pub returns-in_err-write_synced-clause-wrote : goal.returns-in_err-write_synced-clause-wrote
+returns-in_err-write_synced-clause-wrote g c =
     let place = c.closing_place.ensures in
-    changes_wider c.closing_place.result 1 (slot_at (spare_slot c.args.self.now)) 4096 _ _ c.in_err-write_synced.ensures.changes place.least (omega (arith, place.most))
+    wrote_err c.in_err-write_synced.was c.from_residual.ensures.1 (omega arith) (omega arith) (wrote_wider _ _ place.least (omega (arith, place.most)) c.write_synced.ensures.wrote)
+
+pub returns-in_err-write_record-clause-wrote : goal.returns-in_err-write_record-clause-wrote
+returns-in_err-write_record-clause-wrote g c =
+    let place = c.closing_place.ensures in
+    let start = ap slot_at c.spare_slot-slot.ensures.value in
+    let closed = wrote_wider (slot_at (spare_slot c.args.self.now)) 4096 place.least (omega (arith, place.most)) c.write_synced.ensures.wrote in
+    wrote_err c.in_err-write_record.was c.from_residual-in_err-write_record.ensures.1 (omega arith) (omega arith)
+    (wrote_then c.in_ok-write_synced.was closed (wrote_wider _ _ (omega (arith, start)) (omega (arith, start)) c.write_record.ensures.wrote))
+
+pub returns-clause-wrote : goal.returns-clause-wrote
+returns-clause-wrote g c =
+    let place = c.closing_place.ensures in
+    let start = ap slot_at c.spare_slot-slot.ensures.value in
+    let closed = wrote_wider (slot_at (spare_slot c.args.self.now)) 4096 place.least (omega (arith, place.most)) c.write_synced.ensures.wrote in
+    wrote_ok c.in_ok-write_record.was
+    (wrote_then c.in_ok-write_synced.was closed (wrote_wider _ _ (omega (arith, start)) (omega (arith, start)) c.write_record.ensures.wrote))
 
 pub returns-in_err-write_synced-clause-each : goal.returns-in_err-write_synced-clause-each
 returns-in_err-write_synced-clause-each g c =
-    close_fails c.args.self.now c.closing_place.result _ _ c.requires.size c.requires.current c.closing_place.ensures.value c.in_err-write_synced.ensures.changes
-
-pub returns-in_err-write_record-clause-changes : goal.returns-in_err-write_record-clause-changes
-returns-in_err-write_record-clause-changes g c =
-    let place = c.closing_place.ensures in
-    let start = ap slot_at c.spare_slot-slot.ensures.value in
-    changes_joined c.closing_place.result 1 (slot_at c.spare_slot-slot.result + 1) 460 (slot_at (spare_slot c.args.self.now)) 4096 _ _ _
-    c.in_ok-write_synced.ensures.changes c.in_err-write_record.ensures.changes place.least (omega (arith, place.most)) (omega arith) (omega arith)
+    close_fails c.args.self.now c.closing_place.result _ _ c.requires.size c.requires.current c.closing_place.ensures.value c.in_err-write_synced.ensures.wrote.changes
 
 pub returns-in_err-write_record-clause-each : goal.returns-in_err-write_record-clause-each
 returns-in_err-write_record-clause-each g c =
     let start = ap (λ slot. slot_at slot + 1) c.spare_slot-slot.ensures.value in
     bytes_fail c.args.self.now c.closing_place.result (slot_at c.spare_slot-slot.result + 1) 460 _ _ _ c.requires.size c.requires.current c.closing_place.ensures.value start refl
-    c.in_ok-write_synced.ensures.written c.in_ok-write_synced.ensures.rests c.in_err-write_record.ensures.changes
-
-pub returns-clause-changes : goal.returns-clause-changes
-returns-clause-changes g c =
-    let place = c.closing_place.ensures in
-    let start = ap slot_at c.spare_slot-slot.ensures.value in
-    changes_joined c.closing_place.result 1 (slot_at c.spare_slot-slot.result + 1) 460 (slot_at (spare_slot c.args.self.now)) 4096 _ _ _
-    c.in_ok-write_synced.ensures.changes c.in_ok-write_record.ensures.changes place.least (omega (arith, place.most)) (omega arith) (omega arith)
+    c.in_ok-write_synced.ensures.written c.in_ok-write_synced.ensures.rests c.in_err-write_record.ensures.wrote.changes
 
 pub returns-clause-each : goal.returns-clause-each
 returns-clause-each g c =
     let start = ap (λ slot. slot_at slot + 1) c.spare_slot-slot.ensures.value in
     bytes_fail c.args.self.now c.closing_place.result (slot_at c.spare_slot-slot.result + 1) 460 _ _ _ c.requires.size c.requires.current c.closing_place.ensures.value start refl
-    c.in_ok-write_synced.ensures.written c.in_ok-write_synced.ensures.rests c.in_ok-write_record.ensures.changes
+    c.in_ok-write_synced.ensures.written c.in_ok-write_synced.ensures.rests c.in_ok-write_record.ensures.wrote.changes
 
 pub returns-clause-written : goal.returns-clause-written
 returns-clause-written g c =
@@ -69,16 +69,3 @@ returns-clause-ready g c =
       prepared = prepared_state m c.self.inside.geometry c.self.inside.current c.args.next c.self.inside.digests c.args.digests _
           (sym (ap (λ state. state.shape) c.self.view_is)) (sym (ap (λ state. state.current) c.self.view_is)) (sym (ap (λ state. state.digests) c.self.view_is)) c.requires.next fits fits_digests ready;
     }
-
-pub returns-in_err-write_synced-clause-made : goal.returns-in_err-write_synced-clause-made
-returns-in_err-write_synced-clause-made g c =
-    let most : MakesAtMost g.D.Disk.writes g.D.Disk.syncs 2 2 c.args.disk.now c.write_synced.new.disk = most_more c.in_err-write_synced.ensures.made (omega arith) (omega arith) in
-    search (rules, most)
-
-pub returns-in_err-write_record-clause-made : goal.returns-in_err-write_record-clause-made
-returns-in_err-write_record-clause-made g c =
-    let most : MakesAtMost g.D.Disk.writes g.D.Disk.syncs 2 2 c.args.disk.now c.write_record.new.disk = most_both c.write_synced.new.disk c.in_ok-write_synced.ensures.made c.in_err-write_record.ensures.made (omega arith) (omega arith) in
-    search (rules, most)
-
-pub returns-clause-made : goal.returns-clause-made
-returns-clause-made g c = made_both c.write_synced.new.disk c.in_ok-write_synced.ensures.made c.in_ok-write_record.ensures.made refl refl

@@ -5,6 +5,7 @@ use Rattle.std.proofs.lemmas.List.{take_at}
 use Rattle.sha1.specs.Sha1.{Holds}
 use Rattle.silt_disk.specs.Disk.{Content}
 use Rattle.silt_disk.specs.Layout.{Shape, entry_len}
+use Rattle.silt_disk.proofs.Costs.{most_more}
 use Rattle.silt_event.specs.declared.place.Place.TheVariants.{SortedDigest}
 use Rattle.silt_hash_store.specs.State.{HashState}
 use Rattle.silt_sorted_store.specs.Region.{due_rows, is_written}
@@ -21,7 +22,7 @@ use Rattle.silt_merge.proofs.Choosing.{offered}
 use Rattle.silt_merge.proofs.Comparing.{compared_key}
 use Rattle.silt_merge.proofs.Ending.{held_with, merged_noted, merged_step, next_puts, nothing_left, offered_inside, skipped_inside}
 use Rattle.silt_merge.proofs.Keys.{count_written}
-use Rattle.silt_merge.proofs.Making.{made_added}
+use Rattle.silt_merge.proofs.Making.{made_added, one_most}
 use Rattle.silt_merge.proofs.Reading.{each_source}
 use Rattle.silt_merge.proofs.Stepped.{broke, decided_on, refused}
 use Rattle.silt_merge.proofs.Taking.{entry_finds, entry_skipped, may_be}
@@ -119,8 +120,8 @@ returns-in-Err-write_due g c =
     let merge : MergeState = state_of c.self.inside in
     let all = rw (← c.self.view_is) at c.requires.gathered in
     rw (← c.self.view_is)
-    (broke g.D.Disk c.args.stores.now c.args.sorted.now c.args.digest.now.0 c.args.disk.now c.write_due.new.disk merge (let m : MergeState = record merge { index = c.index_key.new.index } in m) (rw (← c.self.view_is) at c.requires.sound) c.write_due.ensures.size all (record { shape = refl; region = refl; stores = refl })
-    (held_with merge merge.slots merge.ahead c.index_key.new.index merge.hasher c.index_key.ensures.most c.self.invariant.0) c.write_due.ensures.changes c.write_due.ensures.region c.in-Err-write_due.fault refl refl c.in-Err-write_due.ensures.made c.in-Err-write_due.ensures.failures)
+    (broke g.D.Disk c.args.stores.now c.args.sorted.now c.args.digest.now.0 c.args.disk.now c.write_due.new.disk merge (let m : MergeState = record merge { index = c.index_key.new.index } in m) (rw (← c.self.view_is) at c.requires.sound) c.write_due.ensures.wrote.size all (record { shape = refl; region = refl; stores = refl })
+    (held_with merge merge.slots merge.ahead c.index_key.new.index merge.hasher c.index_key.ensures.most c.self.invariant.0) c.write_due.ensures.wrote.changes c.write_due.ensures.region c.in-Err-write_due.fault refl refl (most_more c.in-Err-write_due.ensures.wrote.made (one_most _) (omega arith)) c.in-Err-write_due.ensures.wrote.failures)
 
 pub invariant_of-self-in-Ok : goal.invariant_of-self-in-Ok
 invariant_of-self-in-Ok g c =
@@ -184,9 +185,9 @@ returns-in-Ok g c =
     let counted = count_written merge.shape.sorted_capacity merge.written (choice_puts choice.source) due c.in-Ok.field-0 c.is_due-is_due.ensures c.in-Ok.ensures.count in
     rw (← c.self.view_is)
     (subst (λ (m : MergeState). TakesStep g.D.Disk c.args.stores.now c.args.sorted.now c.args.digest.now.0 c.args.disk.now c.write_due.new.disk merge m (Ok tt)) (sym is)
-    (decided_on g.D.Disk c.args.stores.now c.args.sorted.now c.args.digest.now.0 c.args.disk.now c.write_due.new.disk merge noted sound c.write_due.ensures.size all (record { shape = refl; region = refl; stores = refl }) (subst IsHeldMerge is c.note-in-Ok.ensures.held)
-    c.write_due.ensures.changes c.write_due.ensures.region due tt (inr (choice.key, refl, offers.above)) refl
-    (made_added (cond (is_written due merge.written merge.shape.sorted_capacity) 1 0) c.in-Ok.field-0 merge.written (written_after due merge.written) c.in-Ok.ensures.count counted c.in-Ok.ensures.made) c.in-Ok.ensures.failures (omega arith)
+    (decided_on g.D.Disk c.args.stores.now c.args.sorted.now c.args.digest.now.0 c.args.disk.now c.write_due.new.disk merge noted sound c.write_due.ensures.wrote.size all (record { shape = refl; region = refl; stores = refl }) (subst IsHeldMerge is c.note-in-Ok.ensures.held)
+    c.write_due.ensures.wrote.changes c.write_due.ensures.region due tt (inr (choice.key, refl, offers.above)) refl
+    (made_added (cond (is_written due merge.written merge.shape.sorted_capacity) 1 0) c.in-Ok.field-0 merge.written (written_after due merge.written) c.in-Ok.ensures.count counted c.in-Ok.ensures.wrote.made) c.in-Ok.ensures.wrote.failures (omega arith)
     (λ was. merged_noted new c.args.stores.now c.args.sorted.now after (finding fits SortedDigest) (merged_step old new c.args.stores.now c.args.sorted.now merge c.self.invariant.0 c.next_entry-next.ensures.held large c.write_due.ensures.region c.first.result c.next_entry-next.result choice c.next_entry-next.new.out c.read_row.new.out
     c.mark_decided.new.self.waiting due c.in-Ok.field-0 c.index_key.new.index c.mark_decided.new.self.input c.hash_entry.new.hasher all c.first.ensures made c.next_entry-next.ensures.is_some next there read c.is_due-is_due.ensures c.in-Ok.ensures.count written
     c.mark_decided.ensures.gone c.in_default-index_key.ensures.index c.mark_decided.ensures.hashed hashes was))
