@@ -1,8 +1,10 @@
 -- A put or a delete as a whole, and why it is refused.
-use Rattle.std.specs.Prelude.{◌≡◌, ◌⊎◌, ℕ, IsTrue, List}
+use Rattle.std.specs.Prelude.{◌≡◌, ◌⊎◌, ◌+◌, ◌++◌, ◌∷◌, [], ℕ, IsTrue, List}
 use Rattle.silt_disk.specs.Disk.{Content, GaveAny}
 use Rattle.silt_disk.specs.declared.disk.Disk.{Ghosts}
 use Rattle.silt_event.specs.Commands.{Command, WaitsAlone, WaitsBehind}
+use Rattle.silt_frame.specs.declared.key.Kind.{Kind}
+use Rattle.silt_frame.specs.Rows.{puts_of}
 use Rattle.silt_log.specs.State.{all_rows}
 use Rattle.silt_log_store.specs.declared.log_store.TakeError.{TakeError}
 use Rattle.silt_log_store.specs.declared.log_store.TakeError.TheVariants as take_error
@@ -10,7 +12,7 @@ use Rattle.silt_engine.specs.declared.row_write.WriteError.{WriteError}
 use Rattle.silt_engine.specs.declared.row_write.WriteError.TheVariants.{Read, Write, NoRoom, Spent, NoMemory}
 use Rattle.silt_standing.specs.State.{EngineState}
 use Rattle.silt_standing.specs.Standing.{base_map, waiting_commands}
-use Rattle.silt_engine.specs.Calls.{BreaksOff, CannotTake, HasNoFreeLog, IsLastGeneration}
+use Rattle.silt_engine.specs.Calls.{BreaksOff, CannotTake, HasNoFreeLog, IsLastGeneration, StaysBehind}
 use Rattle.silt_engine.specs.NextLog.{IsLowestFree, next_body}
 
 -- the active log cannot take a row of this key
@@ -20,6 +22,19 @@ NeedsNext content s key = IsTrue content.honest → CannotTake s.manifest.shape 
 -- the active log can take a row of this key
 abbrev pub HasPlace : Content → EngineState → List ℕ → Type 0
 HasPlace content s key = IsTrue content.honest → CannotTake s.manifest.shape (all_rows content s.active.log) key → ⊥
+
+-- the active log took a row of this kind and key, which does this command: it waits behind the others, and a put is charged
+pub record JoinsActive (old new : Content) (before after : EngineState) (kind : Kind) (key : List ℕ) (command : Command) : Type 0 where
+  pub place : HasPlace old before key
+  pub waits : IsTrue old.honest → waiting_commands new after ≡ waiting_commands old before ++ command ∷ []
+  pub behind : StaysBehind before after
+  pub charge : after.charge ≡ before.charge + puts_of kind
+
+-- a row of this kind was taken: a put is charged, and background work in progress stays
+pub record CountsRow (before after : EngineState) (kind : Kind) : Type 0 where
+  pub charge : after.charge ≡ before.charge + puts_of kind
+  pub converting : after.converting ≡ before.converting
+  pub merging : after.merging ≡ before.merging
 
 -- the active log took a row of this key, under the same body
 pub record StaysFor (old new : Content) (before after : EngineState) (key : List ℕ) (command : Command) : Type 0 where

@@ -1,16 +1,16 @@
 // A put or a delete as a whole: a row in the active log, which is frozen first if it cannot take the row.
-ghost use Rattle.std.specs.Prelude.{◌≡◌, ◌+◌, ◌*◌, ◌≤◌, [], ◌∷◌, ◌++◌, length, IsTrue, IfOk, IfErr, OnOk, OnErr, MatchResult};
+ghost use Rattle.std.specs.Prelude.{◌≡◌, ◌+◌, ◌*◌, ◌≤◌, [], ◌∷◌, IfOk, IfErr, OnOk, OnErr, MatchResult};
 ghost use Rattle.silt_disk.specs.Disk.{Costs, MakesAtMost};
 ghost use Rattle.silt_event.specs.Rows.{command_of};
 ghost use Rattle.silt_frame.specs.Rows.{stored_row, puts_of};
-ghost use Rattle.silt_log.specs.Rows.{IsValueOf};
+ghost use Rattle.silt_log.specs.Rows.{IsRowValue};
 ghost use Rattle.silt_log_store.specs.Calls.{IsFailedWrite};
 ghost use Rattle.silt_standing.specs.State.{AreWhole};
-ghost use Rattle.silt_standing.specs.Standing.{IsQuiet, Stands, waiting_commands};
-ghost use Rattle.silt_engine.specs.Calls.{BreaksOff, StaysBehind, Works};
+ghost use Rattle.silt_standing.specs.Standing.{IsQuiet, Stands};
+ghost use Rattle.silt_engine.specs.Calls.{BreaksOff, Works};
 ghost use Rattle.silt_engine.specs.Costs.{RowMakes, freeze_syncs, freeze_writes, row_waits};
 ghost use Rattle.silt_engine.specs.NextLog.{HasFrozen, IsEmptied, IsNextLog, NoNextCause, active_replaced};
-ghost use Rattle.silt_engine.specs.RowWrite.{HasPlace, NeedsNext, TakeCause, TurnsFor, WriteCause, WritesKey};
+ghost use Rattle.silt_engine.specs.RowWrite.{CountsRow, JoinsActive, NeedsNext, TakeCause, TurnsFor, WriteCause, WritesKey};
 
 use crate::engine::{Engine, LAST_GENERATION};
 use crate::next_log::{NextLog, NoNextLog, lowest_free, next_body};
@@ -54,13 +54,10 @@ impl Engine {
         value: &[u8],
     ) -> Result<(), WriteError<D::Fault>>
         requires stands { Stands (D.content disk.old) self.old }
-        requires value { length value.now ≡ self.old.manifest.shape.value_len }
-        requires zeros { IsValueOf kind value.now }
+        requires value { IsRowValue self.old.manifest.shape.value_len kind value.now }
         requires charge { self.old.charge + puts_of kind ≤ self.old.manifest.shape.sorted_capacity }
         ensures works { Works D.Disk (command_of (stored_row kind key.now value.now) ∷ []) disk.old disk.new self.old self.new result }
-        ensures charge { OnOk result (self.new.charge ≡ self.old.charge + puts_of kind) }
-        ensures converting { OnOk result (self.new.converting ≡ self.old.converting) }
-        ensures merging { OnOk result (self.new.merging ≡ self.old.merging) }
+        ensures row { OnOk result (CountsRow self.old self.new kind) }
         ensures current { OnOk result (WritesKey (D.content disk.old) (D.content disk.new) self.old self.new key.now.0 (command_of (stored_row kind key.now value.now))) }
         ensures made { MatchResult result (λ _. RowMakes D.Disk disk.old disk.new self.old self.new)
             (λ _. MakesAtMost D.writes D.syncs (freeze_writes self.old) (freeze_syncs self.old) disk.old disk.new) }
@@ -84,15 +81,10 @@ impl Engine {
         value: &[u8],
     ) -> Result<(), TakeError<D::Fault>>
         requires stands { Stands (D.content disk.old) self.old }
-        requires value { length value.now ≡ self.old.manifest.shape.value_len }
-        requires zeros { IsValueOf kind value.now }
+        requires value { IsRowValue self.old.manifest.shape.value_len kind value.now }
         requires charge { self.old.charge + puts_of kind ≤ self.old.manifest.shape.sorted_capacity }
         ensures works { Works D.Disk (command_of (stored_row kind key.now value.now) ∷ []) disk.old disk.new self.old self.new result }
-        ensures place { OnOk result (HasPlace (D.content disk.old) self.old key.now.0) }
-        ensures waits { IsTrue (D.content disk.old).honest
-            → OnOk result (waiting_commands (D.content disk.new) self.new ≡ waiting_commands (D.content disk.old) self.old ++ command_of (stored_row kind key.now value.now) ∷ []) }
-        ensures behind { OnOk result (StaysBehind self.old self.new) }
-        ensures charge { OnOk result (self.new.charge ≡ self.old.charge + puts_of kind) }
+        ensures row { OnOk result (JoinsActive (D.content disk.old) (D.content disk.new) self.old self.new kind key.now.0 (command_of (stored_row kind key.now value.now))) }
         ensures made { Costs D.writes D.syncs 2 0 disk.old disk.new result }
         ensures err { IfErr result (TakeCause D.Disk disk.old disk.new self.old self.new key.now.0) }
         ensures first { self.old.active.log.used ≡ 0 → IfErr result IsFailedWrite }
@@ -114,14 +106,11 @@ impl Engine {
         value: &[u8],
     ) -> Result<(), WriteError<D::Fault>>
         requires stands { Stands (D.content disk.old) self.old }
-        requires value { length value.now ≡ self.old.manifest.shape.value_len }
-        requires zeros { IsValueOf kind value.now }
+        requires value { IsRowValue self.old.manifest.shape.value_len kind value.now }
         requires charge { self.old.charge + puts_of kind ≤ self.old.manifest.shape.sorted_capacity }
         requires needs { NeedsNext (D.content disk.old) self.old key.now.0 }
         ensures works { Works D.Disk (command_of (stored_row kind key.now value.now) ∷ []) disk.old disk.new self.old self.new result }
-        ensures charge { OnOk result (self.new.charge ≡ self.old.charge + puts_of kind) }
-        ensures converting { OnOk result (self.new.converting ≡ self.old.converting) }
-        ensures merging { OnOk result (self.new.merging ≡ self.old.merging) }
+        ensures row { OnOk result (CountsRow self.old self.new kind) }
         ensures current { OnOk result (TurnsFor (D.content disk.old) (D.content disk.new) self.old self.new key.now.0 (command_of (stored_row kind key.now value.now))) }
         ensures made { Costs D.writes D.syncs (freeze_writes self.old) (freeze_syncs self.old) disk.old disk.new result }
         ensures err { IfErr result (WriteCause D.Disk disk.old disk.new self.old self.new key.now.0) }

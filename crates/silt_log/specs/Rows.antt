@@ -16,6 +16,11 @@ abbrev pub IsValueOf : Kind → List ℕ → Type 0
 IsValueOf Put value = Unit {0}
 IsValueOf Delete value = value ≡ replicate (length value) 0
 
+-- a row of this kind may have this value in a store whose values are this long
+pub record IsRowValue (value_len : ℕ) (kind : Kind) (value : List ℕ) : Type 0 where
+  pub long : length value ≡ value_len
+  pub zeros : IsValueOf kind value
+
 -- the kind and the key of a row; none if its kind is unknown
 unfoldable pub row_head : StoredRow → Option (Kind × Key)
 row_head row = option_map (λ kind. (kind, record { 0 = row.key })) (kind_of row.kind)

@@ -5,7 +5,7 @@ ghost use Rattle.silt_disk.specs.Layout.{device_size, gates_at, row_len};
 ghost use Rattle.silt_disk.specs.Wrote.{Wrote};
 ghost use Rattle.silt_frame.specs.Gate.{gate_open};
 ghost use Rattle.silt_frame.specs.Frame.{head_bytes};
-ghost use Rattle.silt_log.specs.Rows.{AreRows, FirstUnknown, IsValueOf, body_at, log_rows, open_count, row_at, row_head};
+ghost use Rattle.silt_log.specs.Rows.{AreRows, FirstUnknown, IsRowValue, body_at, log_rows, open_count, row_at, row_head};
 ghost use Rattle.silt_frame.specs.Rows.{stored_row, row_of};
 ghost use Rattle.silt_log.specs.Scans.{IsScanRefused};
 
@@ -163,8 +163,7 @@ impl Log {
         value: &[u8],
     ) -> Result<(), D::Fault>
         requires room { self.old.used < self.old.shape.log_capacity }
-        requires value { length value.now ≡ self.old.shape.value_len }
-        requires zeros { IsValueOf kind value.now }
+        requires value { IsRowValue self.old.shape.value_len kind value.now }
         requires size { device_size self.old.shape ≤ size (D.content disk.old) }
         requires log { IsLog (D.content disk.old) self.old }
         ensures wrote { Wrote D.Disk (body_at self.old.shape self.old.region self.old.used) (row_len self.old.shape) 2 0 disk.old disk.new result }
@@ -212,7 +211,8 @@ impl Log {
         requires size { device_size self.old.shape ≤ size (D.content disk.old) }
         requires rests { Rests (D.content disk.old) }
         requires scanned { IsTrue (D.content disk.old).honest → IsScanned (D.content disk.old) self.old }
-        ensures wrote { Wrote D.Disk (gates_at self.old.shape self.old.region + self.old.used + 1) (self.old.shape.log_capacity - (self.old.used + 1)) (cond self.old.stale 1 0) (cond self.old.stale 1 0) disk.old disk.new result }
+        ensures wrote { Wrote D.Disk (gates_at self.old.shape self.old.region + self.old.used + 1) (self.old.shape.log_capacity - (self.old.used + 1))
+            (cond self.old.stale 1 0) (cond self.old.stale 1 0) disk.old disk.new result }
         ensures images { LeavesOnly (D.content disk.new) (λ image. log_rows self.old.shape self.old.region image ≡ log_rows self.old.shape self.old.region (D.content disk.old).shown) }
         ensures quiet { self.old.stale ≡ false → disk.new ≡ disk.old }
         ensures written { IsTrue self.old.stale → OnOk result (Writes (gates_at self.old.shape self.old.region + self.old.used + 1)

@@ -1,6 +1,7 @@
 -- The table of a log's keys as it grows in a rebuild.
 use Rattle.std.specs.Prelude.{◌≡◌, ℕ, ◌+◌, ◌≤◌, Bool, true, false, List, [], ◌∷◌, ◌++◌, length, Some, None}
 use Rattle.std.specs.List.{list_all}
+use Rattle.silt_disk.specs.Layout.{Shape}
 use Rattle.silt_frame.specs.declared.key.Kind.{Kind}
 use Rattle.silt_cuckoo.specs.Slots.{bucket_count}
 use Rattle.silt_cuckoo.specs.Index.{index_of_keys}
@@ -11,6 +12,12 @@ use Rattle.silt_log_store.specs.declared.index.KeyIndex.{KeyIndex}
 pub record IsKeyIndex (index : KeyIndex) : Type 0 where
   pub indexed : index_of_keys (bucket_count index.table) index.keys.items ≡ Some index.table
   pub most : index.puts ≤ length index.keys.items
+
+-- an index of this many keys, with the buckets of a store of this shape
+pub record IsKeyIndexOf (shape : Shape) (count : ℕ) (index : KeyIndex) : Type 0 where
+  pub sound : IsKeyIndex index
+  pub buckets : bucket_count index.table ≡ shape.buckets
+  pub keys : length index.keys.items ≡ count
 
 -- the keys are those of these rows, the rows are of known kinds, and this many of them are puts
 pub record IsOfRows (rows : List StoredRow) (index : KeyIndex) : Type 0 where

@@ -10,7 +10,7 @@ ghost use Rattle.silt_disk.specs.Wrote.{Wrote, WroteOr};
 ghost use Rattle.silt_frame.specs.Gate.{gate_open};
 ghost use Rattle.silt_frame.specs.Frame.{head_bytes};
 ghost use Rattle.silt_log.specs.Calls.{HasBeginning};
-ghost use Rattle.silt_log.specs.Rows.{IsValueOf, body_at, log_rows, row_at};
+ghost use Rattle.silt_log.specs.Rows.{IsRowValue, body_at, log_rows, row_at};
 ghost use Rattle.silt_frame.specs.Rows.{has_known_kind, row_of};
 ghost use Rattle.silt_log.specs.State.{IsScanned, all_rows, settled_rows};
 
@@ -191,7 +191,8 @@ impl LogStore {
         requires size { device_size self.old.log.shape ≤ size (D.content disk.old) }
         requires rests { Rests (D.content disk.old) }
         requires scanned { IsTrue (D.content disk.old).honest → IsScanned (D.content disk.old) self.old.log }
-        ensures wrote { Wrote D.Disk (gates_at self.old.log.shape self.old.log.region + self.old.log.used + 1) (self.old.log.shape.log_capacity - (self.old.log.used + 1)) (cond self.old.log.stale 1 0) (cond self.old.log.stale 1 0) disk.old disk.new result }
+        ensures wrote { Wrote D.Disk (gates_at self.old.log.shape self.old.log.region + self.old.log.used + 1) (self.old.log.shape.log_capacity - (self.old.log.used + 1))
+            (cond self.old.log.stale 1 0) (cond self.old.log.stale 1 0) disk.old disk.new result }
         ensures images { LeavesOnly (D.content disk.new) (λ image. log_rows self.old.log.shape self.old.log.region image ≡ log_rows self.old.log.shape self.old.log.region (D.content disk.old).shown) }
         ensures quiet { self.old.log.stale ≡ false → disk.new ≡ disk.old }
         ensures written { IsTrue self.old.log.stale → OnOk result (Writes (gates_at self.old.log.shape self.old.log.region + self.old.log.used + 1)
@@ -348,11 +349,11 @@ impl LogStore {
         key: &Key,
         value: &[u8],
     ) -> Result<(), TakeError<D::Fault>>
-        requires value { length value.now ≡ self.old.log.shape.value_len }
-        requires zeros { IsValueOf kind value.now }
+        requires value { IsRowValue self.old.log.shape.value_len kind value.now }
         requires size { device_size self.old.log.shape ≤ size (D.content disk.old) }
         requires store { IsLogStore (D.content disk.old) self.old }
-        ensures wrote { WroteOr D.Disk (FailsTake D.Disk disk.old disk.new self.old self.new key.now.0) (body_at self.old.log.shape self.old.log.region self.old.log.used) (row_len self.old.log.shape) 2 0 disk.old disk.new result }
+        ensures wrote { WroteOr D.Disk (FailsTake D.Disk disk.old disk.new self.old self.new key.now.0)
+            (body_at self.old.log.shape self.old.log.region self.old.log.used) (row_len self.old.log.shape) 2 0 disk.old disk.new result }
         ensures written { OnOk result (Writes (body_at self.old.log.shape self.old.log.region self.old.log.used) (head_bytes kind key.now ++ value.now) (D.content disk.old) (D.content disk.new)) }
         ensures images { LeavesOnly (D.content disk.new) (λ image. log_rows self.old.log.shape self.old.log.region image ≡ settled_rows (D.content disk.old) self.old.log) }
         ensures store { MatchResult result (λ _. CanTake (D.content disk.old) self.old key.now.0 × TakesRow kind key.now value.now (D.content disk.old) (D.content disk.new) self.old self.new)
@@ -399,8 +400,7 @@ impl LogStore {
         placing: &Placing,
     ) -> Result<(), D::Fault>
         requires placing { IsPlacingFor (D.content disk.old) self.old key.now.0 placing.now }
-        requires value { length value.now ≡ self.old.log.shape.value_len }
-        requires zeros { IsValueOf kind value.now }
+        requires value { IsRowValue self.old.log.shape.value_len kind value.now }
         requires size { device_size self.old.log.shape ≤ size (D.content disk.old) }
         requires store { IsLogStore (D.content disk.old) self.old }
         ensures wrote { Wrote D.Disk (body_at self.old.log.shape self.old.log.region self.old.log.used) (row_len self.old.log.shape) 2 0 disk.old disk.new result }

@@ -4,14 +4,14 @@ ghost use Rattle.std.specs.List.{list_all};
 ghost use Rattle.silt_cuckoo.specs.Index.{candidate_of_key};
 ghost use Rattle.silt_cuckoo.specs.Lookup.{candidates_of};
 ghost use Rattle.silt_cuckoo.specs.Keys.{first_bucket, second_bucket};
-ghost use Rattle.silt_cuckoo.specs.Slots.{PlacesBelow, bucket_count, place_at};
+ghost use Rattle.silt_cuckoo.specs.Slots.{bucket_count, place_at};
 ghost use Rattle.silt_disk.specs.Disk.{GaveAny, size};
 ghost use Rattle.silt_disk.specs.Layout.{device_size, row_len};
 ghost use Rattle.silt_log.specs.Rows.{row_at};
 ghost use Rattle.silt_frame.specs.Rows.{has_known_kind};
 ghost use Rattle.silt_log.specs.State.{all_rows};
 ghost use Rattle.silt_log_store.specs.declared.lookup.Match.{Match};
-ghost use Rattle.silt_log_store.specs.Lookup.{IsFirstMatch, candidate_of, has_candidate, kind_for, kind_with_key};
+ghost use Rattle.silt_log_store.specs.Lookup.{AreBucketsOf, IsFirstMatch, IsFrontOf, IsTableWithin, candidate_of, has_candidate, kind_for, kind_with_key};
 
 use silt_cuckoo::{Candidate, Table, key_buckets};
 use silt_disk::Disk;
@@ -50,8 +50,7 @@ fn kind_at<D: Disk>(
     front: &mut [u8],
 ) -> Result<Option<Kind>, D::Fault>
     requires place { place < log.now.shape.log_capacity }
-    requires least { 21 ≤ length front.old }
-    requires most { length front.old ≤ row_len log.now.shape }
+    requires front { IsFrontOf log.now.shape (length front.old) }
     requires size { device_size log.now.shape ≤ size (D.content disk.now) }
     ensures kind { IsTrue (D.content disk.now).honest → IfOk result (λ kind. kind ≡ kind_for (row_at log.now.shape log.now.region (D.content disk.now).shown place) key.now.0) }
     ensures value { IsTrue (D.content disk.now).honest → length front.old ≡ row_len log.now.shape
@@ -74,8 +73,7 @@ fn first_match<D: Disk>(
     requires size { device_size log.now.shape ≤ size (D.content disk.now) }
     requires places { All (λ c. c.place < log.now.used) candidates.now }
     requires room { log.now.used ≤ log.now.shape.log_capacity }
-    requires least { 21 ≤ length front.old }
-    requires most { length front.old ≤ row_len log.now.shape }
+    requires front { IsFrontOf log.now.shape (length front.old) }
     ensures among { IfOk result (λ found. IfSome found (λ m. Contains candidates.now (candidate_of m))) }
     ensures first { IsTrue (D.content disk.now).honest → list_all has_known_kind (all_rows (D.content disk.now) log.now) ≡ true
         → IfOk result (IsFirstMatch (all_rows (D.content disk.now) log.now) candidates.now key.now.0) }
@@ -116,10 +114,8 @@ pub fn look_up<D: Disk>(
     front: &mut [u8],
 ) -> Result<Option<Match>, D::Fault>
     requires size { device_size log.now.shape ≤ size (D.content disk.now) }
-    requires below { PlacesBelow table.now log.now.used }
-    requires room { log.now.used ≤ log.now.shape.log_capacity }
-    requires least { 21 ≤ length front.old }
-    requires most { length front.old ≤ row_len log.now.shape }
+    requires table { IsTableWithin table.now log.now }
+    requires front { IsFrontOf log.now.shape (length front.old) }
     ensures standing { IfOk result (λ found. IfSome found (λ m. place_at table.now m.slot ≡ Some m.found.place)) }
     ensures first { IsTrue (D.content disk.now).honest → list_all has_known_kind (all_rows (D.content disk.now) log.now) ≡ true
         → IfOk result (IsFirstMatch (all_rows (D.content disk.now) log.now) (candidates_of table.now (first_bucket (bucket_count table.now) key.now.0)
@@ -141,15 +137,10 @@ pub fn look_up_under<D: Disk>(
     buckets: (u32, u32),
     front: &mut [u8],
 ) -> Result<Option<Match>, D::Fault>
-    requires first { buckets.0 ≡ first_bucket (bucket_count table.now) key.now.0 }
-    requires second { buckets.1 ≡ second_bucket (bucket_count table.now) key.now.0 }
-    requires first_there { buckets.0 < bucket_count table.now }
-    requires second_there { buckets.1 < bucket_count table.now }
+    requires buckets { AreBucketsOf table.now key.now.0 buckets }
     requires size { device_size log.now.shape ≤ size (D.content disk.now) }
-    requires below { PlacesBelow table.now log.now.used }
-    requires room { log.now.used ≤ log.now.shape.log_capacity }
-    requires least { 21 ≤ length front.old }
-    requires most { length front.old ≤ row_len log.now.shape }
+    requires table { IsTableWithin table.now log.now }
+    requires front { IsFrontOf log.now.shape (length front.old) }
     ensures standing { IfOk result (λ found. IfSome found (λ m. place_at table.now m.slot ≡ Some m.found.place)) }
     ensures first { IsTrue (D.content disk.now).honest → list_all has_known_kind (all_rows (D.content disk.now) log.now) ≡ true
         → IfOk result (IsFirstMatch (all_rows (D.content disk.now) log.now) (candidates_of table.now (first_bucket (bucket_count table.now) key.now.0)

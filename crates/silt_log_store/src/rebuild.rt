@@ -1,11 +1,11 @@
 // A log store rebuilt from the device.
-ghost use Rattle.std.specs.Prelude.{◌≡◌, ◌+◌, ◌<◌, ◌≤◌, ◌^◌, ℕ, IsTrue, IfOk, IfErr, OnOk, length};
+ghost use Rattle.std.specs.Prelude.{◌≡◌, ◌+◌, ◌<◌, ◌≤◌, ◌^◌, ℕ, IsTrue, IfOk, IfErr, OnOk};
 ghost use Rattle.silt_cuckoo.specs.Slots.{bucket_count};
 ghost use Rattle.silt_disk.specs.Disk.{GaveAny, size};
 ghost use Rattle.silt_disk.specs.Layout.{device_size};
 ghost use Rattle.silt_log.specs.Rows.{first_rows};
 ghost use Rattle.silt_log.specs.State.{InBounds};
-ghost use Rattle.silt_log_store.specs.Growth.{IsKeyIndex, IsOfRows};
+ghost use Rattle.silt_log_store.specs.Growth.{IsKeyIndexOf, IsKeyIndex, IsOfRows};
 ghost use Rattle.silt_log_store.specs.State.{IsHeldStore};
 ghost use Rattle.silt_log_store.specs.Rebuild.{IsFirstCrowded, IsFirstDamaged, IsRefusedRebuild};
 
@@ -38,12 +38,8 @@ fn add_row<D: Disk>(
     requires bounds { InBounds log.now }
     requires place { place < log.now.used }
     requires small { log.now.used < 2 ^ 32 }
-    requires index { IsKeyIndex index.old }
-    requires buckets { bucket_count index.old.table ≡ log.now.shape.buckets }
-    requires keys { length index.old.keys.items ≡ place }
-    ensures index { OnOk result (IsKeyIndex index.new) }
-    ensures buckets { OnOk result (bucket_count index.new.table ≡ log.now.shape.buckets) }
-    ensures keys { OnOk result (length index.new.keys.items ≡ place + 1) }
+    requires index { IsKeyIndexOf log.now.shape place index.old }
+    ensures index { OnOk result (IsKeyIndexOf log.now.shape (place + 1) index.new) }
     ensures rows { IsTrue (D.content disk.now).honest → IsOfRows (first_rows log.now.shape log.now.region (D.content disk.now).shown place) index.old
         → OnOk result (IsOfRows (first_rows log.now.shape log.now.region (D.content disk.now).shown (place + 1)) index.new) }
     ensures err { IfErr result (IsRefusedRebuild

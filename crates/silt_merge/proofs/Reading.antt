@@ -1,5 +1,5 @@
 -- What the read of a row gives.
-use Rattle.std.proofs.Common.{◌≡◌, ℕ, ◌<◌, List, [], ◌++◌, length, get_or, drop, Option, Some, None, Result, Ok, Err, IfSome, OnErr, OnOk, refl, sym, ap, ◌∙◌, arith}
+use Rattle.std.proofs.Common.{◌≡◌, ℕ, ◌<◌, List, [], ◌++◌, length, get_or, drop, Option, Some, None, Result, Ok, Err, IfSome, OnOk, refl, sym, ap, ◌∙◌, arith}
 use Rattle.std.specs.List.{All}
 use Rattle.std.proofs.lemmas.List.{drop_at, get_or-map, take_at}
 use Rattle.silt_disk.specs.Layout.{Shape}
@@ -23,11 +23,6 @@ blank = record { shape = record { value_len = 0; buckets = 0; log_capacity = 0; 
 weaker_on_ok : {A E : Type 0} {P Q : Type 0} (result : Result A E) → (P → Q) → OnOk result P → OnOk result Q
 weaker_on_ok (Ok x) step is = step is
 weaker_on_ok (Err e) step is = tt
-
--- what is true holds if a call returned Err
-pub on_err : {A E P : Type 0} (result : Result A E) → P → OnErr result P
-on_err (Ok x) is = tt
-on_err (Err e) is = is
 
 -- a store of a list, by its place
 pub store_at : (stores : List HashState) (place : ℕ) (store : HashState) → place < length stores → store ≡ get_or stores place store → get_or (regions_of stores) place 0 ≡ store.region

@@ -1,6 +1,6 @@
 // A merge of hash stores and a sorted store, step by step.
 ghost use Rattle.std.specs.Prelude.{◌≡◌, ◌≢◌, ◌+◌, ◌*◌, ◌-◌, ◌<◌, ◌≤◌, ◌^◌, ◌↔◌, ◌++◌, ◌||◌, ℕ, List, [], Option, true, false, Some};
-ghost use Rattle.std.specs.Prelude.{None, cond, get_or, length, take, IsTrue, IfOk, IfErr, IfSome, IsSomeAnd, OnOk, OnErr, is_some, nat_lt};
+ghost use Rattle.std.specs.Prelude.{None, cond, get_or, length, take, IsTrue, IfOk, IfErr, IfSome, IsSomeAnd, OnOk, OnErr, MatchResult, is_some, nat_lt};
 ghost use Rattle.std.specs.List.{All};
 ghost use Rattle.std.specs.Str.{bytes_eq};
 ghost use Rattle.silt_disk.specs.Disk.{Content, GaveAny, size};
@@ -428,12 +428,10 @@ impl Merge {
         requires count { length stores.now ≡ self.old.stores }
         requires shapes { All (λ store. store.shape ≡ self.old.shape) stores.now }
         requires size { device_size self.old.shape ≤ size (D.content disk.now) }
-        ensures state { OnOk result (self.new ≡ record self.old { slots = self.new.slots }) }
-        ensures before { IfOk result (λ is_read. ahead_without is_read self.new.slots ≡ self.old.slots) }
-        ensures there { OnOk result (0 < length self.new.slots) }
+        ensures state { MatchResult result (λ _. self.new ≡ record self.old { slots = self.new.slots }) (λ _. self.new ≡ self.old) }
+        ensures slots { IfOk result (λ is_read. (ahead_without is_read self.new.slots ≡ self.old.slots) × (0 < length self.new.slots)) }
         ensures merged { (sorted : SortedState) → OnOk result (HasMerged (D.content disk.now) stores.now sorted self.old → HasMerged (D.content disk.now) stores.now sorted self.new) }
         ensures held { IsHeldMerge self.new }
-        ensures err { OnErr result (self.new ≡ self.old) }
         ensures fault { IfErr result (GaveAny D.gave disk.now) }
     {
         if !self.slots.is_empty() {
@@ -602,12 +600,11 @@ impl Merge {
     fn read_ahead<D: Disk>(&mut self, sorted: &SortedEntries, disk: &D) -> Result<bool, D::Fault>
         requires shape { sorted.now.shape ≡ self.old.shape }
         requires size { device_size self.old.shape ≤ size (D.content disk.now) }
-        ensures state { OnOk result (self.new ≡ record self.old { ahead = self.new.ahead }) }
+        ensures state { MatchResult result (λ _. self.new ≡ record self.old { ahead = self.new.ahead }) (λ _. self.new ≡ self.old) }
         ensures before { IfOk result (λ is_read. ahead_without is_read self.new.ahead ≡ self.old.ahead) }
         ensures there { OnOk result (self.old.passed < sorted.now.count → 0 < length self.new.ahead) }
         ensures merged { (stores : List HashState) → OnOk result (HasMerged (D.content disk.now) stores sorted.now self.old → HasMerged (D.content disk.now) stores sorted.now self.new) }
         ensures held { IsHeldMerge self.new }
-        ensures err { OnErr result (self.new ≡ self.old) }
         ensures fault { IfErr result (GaveAny D.gave disk.now) }
     {
         if !self.ahead.is_empty() {

@@ -21,6 +21,12 @@ abbrev pub IsKeyBefore : List StoredRow → ℕ → Option Key → Type 0
 IsKeyBefore rows place None = place ≡ 0
 IsKeyBefore rows place (Some key) = (0 < place) × (get_or (keys_of rows) (place - 1) [] ≡ key.0)
 
+-- a builder has no keys
+pub record IsEmptyBuilding (builder : Building) : Type 0 where
+  pub built : IsBuildingOf [] builder
+  pub last : builder.last ≡ None
+  pub counted : builder.count ≡ 0
+
 -- a builder has the keys of the rows before a place, and there is no finding in these
 pub record IsIndexing (rows : List StoredRow) (place : ℕ) (builder : Building) : Type 0 where
   pub built : IsBuildingOf (take place (keys_of rows)) builder

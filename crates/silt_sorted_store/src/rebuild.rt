@@ -6,10 +6,9 @@ ghost use Rattle.silt_frame.specs.Rows.{StoredRow, entries_bytes};
 ghost use Rattle.silt_sorted_store.specs.Findings.{sorted_findings};
 ghost use Rattle.silt_sorted_store.specs.State.{entries_of};
 ghost use Rattle.silt_sorted_store.specs.Index.{IsIndexOf};
-ghost use Rattle.silt_sorted_store.specs.Indexing.{HoldsKeys, IsIndexing, TakesKeys};
+ghost use Rattle.silt_sorted_store.specs.Indexing.{HoldsKeys, IsEmptyBuilding, IsIndexing, TakesKeys};
 ghost use Rattle.silt_sorted_store.specs.Rebuild.{IsFirstOutOfOrder};
 ghost use Rattle.silt_log.specs.Scans.{IsScanRefused};
-ghost use Rattle.silt_trie.specs.Building.{IsBuildingOf};
 ghost use Rattle.silt_frame.specs.Frame.{key_len};
 ghost use Rattle.sha1.specs.Sha1.{Holds};
 
@@ -63,9 +62,7 @@ fn take_entries<D: Disk>(
 ) -> Result<(), ScanError<D::Fault>>
     requires some { 0 < entries.now.count → 0 < most }
     requires buffer { most * entry_len entries.now.shape ≤ length buffer.old }
-    requires empty { IsBuildingOf [] builder.old }
-    requires none { builder.old.last ≡ None }
-    requires counted { builder.old.count ≡ 0 }
+    requires empty { IsEmptyBuilding builder.old }
     requires fresh { Holds hasher.old [] }
     requires size { device_size entries.now.shape ≤ size (D.content disk.now) }
     ensures hashed { IsTrue (D.content disk.now).honest → OnOk result (Holds hasher.new (entries_bytes (entries_of (D.content disk.now) entries.now))) }

@@ -15,9 +15,9 @@ pub loop-place-init : goal.loop-place-init
 loop-place-init g c = record {
   upto = omega arith;
   room = refl;
-  counted = c.requires.counted;
+  counted = c.requires.empty.counted;
   hashed = λ honest. c.requires.fresh;
-  taken = λ honest. indexing_none (entries_of (g.D.Disk.content c.args.disk.now) c.args.entries.now) c.args.builder.now c.requires.empty c.requires.none;
+  taken = λ honest. indexing_none (entries_of (g.D.Disk.content c.args.disk.now) c.args.entries.now) c.args.builder.now c.requires.empty.built c.requires.empty.last;
 }
 
 pub slice_bounds-chunk-end : goal.slice_bounds-chunk-end

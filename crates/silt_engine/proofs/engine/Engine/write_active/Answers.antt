@@ -1,4 +1,4 @@
-use Rattle.std.proofs.Common.{◌≡◌, ◌≤◌, ◌+◌, ℕ, ap, sym, subst}
+use Rattle.std.proofs.Common.{◌≡◌, ◌≤◌, ◌+◌, ℕ, ap, sym, subst, rules}
 use Rattle.silt_standing.specs.State.{EngineState}
 use Rattle.silt_standing.specs.Standing.{Stands}
 use Rattle.silt_frame.specs.Rows.{puts_of}
@@ -32,13 +32,10 @@ returns-clause-works g c =
     rw (← c.self.view_is) (went g.D.Disk _ c.args.disk.now c.take.new.disk (state_of c.self.inside) _ _ (record { size = c.take.ensures.wrote.size; honest = c.take.ensures.wrote.changes.honest }) stands c.in_ok-take.ensures.wrote.failures
     (appended _ _ _ c.take.new.self c.args.kind c.args.key.now c.args.value.now _ stands c.take.ensures.wrote.size c.in_ok-take.ensures.store.0.room c.take.ensures.wrote.changes c.take.ensures.images c.in_ok-take.ensures.store.1 (ap (λ (n : ℕ). c.self.inside.charge + n) c.puts.ensures.value) most))
 
-pub returns-clause-place : goal.returns-clause-place
-returns-clause-place g c =
-    let stands = subst (λ (v : EngineState). Stands (g.D.Disk.content c.args.disk.now) v) (sym c.self.view_is) c.requires.stands in
-    rw (← c.self.view_is) (has_place (g.D.Disk.content c.args.disk.now) (state_of c.self.inside) c.args.key.now.0 stands c.in_ok-take.ensures.store.0)
-
-pub returns-clause-waits : goal.returns-clause-waits
-returns-clause-waits g c =
+pub returns-clause-row : goal.returns-clause-row
+returns-clause-row g c =
     let stands = subst (λ (v : EngineState). Stands (g.D.Disk.content c.args.disk.now) v) (sym c.self.view_is) c.requires.stands in
     let most = subst (λ (v : EngineState). v.charge + puts_of c.args.kind ≤ v.manifest.shape.sorted_capacity) (sym c.self.view_is) c.requires.charge in
-    rw (← c.self.view_is) (appended_waits _ _ _ c.take.new.self c.args.kind c.args.key.now c.args.value.now _ stands c.take.ensures.wrote.size c.in_ok-take.ensures.store.0.room c.take.ensures.wrote.changes c.take.ensures.images c.in_ok-take.ensures.store.1 (ap (λ (n : ℕ). c.self.inside.charge + n) c.puts.ensures.value) most)
+    let place = has_place (g.D.Disk.content c.args.disk.now) (state_of c.self.inside) c.args.key.now.0 stands c.in_ok-take.ensures.store.0 in
+    let waits = appended_waits _ _ _ c.take.new.self c.args.kind c.args.key.now c.args.value.now _ stands c.take.ensures.wrote.size c.in_ok-take.ensures.store.0.room c.take.ensures.wrote.changes c.take.ensures.images c.in_ok-take.ensures.store.1 (ap (λ (n : ℕ). c.self.inside.charge + n) c.puts.ensures.value) most in
+    rw (← c.self.view_is) (record { place = place; waits = waits; behind = search rules; charge = ap (λ (n : ℕ). c.self.inside.charge + n) c.puts.ensures.value })

@@ -14,8 +14,8 @@ returns-in-Ok-write_active-clause-works g c =
 pub returns-in-Ok-write_active-clause-current : goal.returns-in-Ok-write_active-clause-current
 returns-in-Ok-write_active-clause-current g c =
     turns_for (command_of (stored_row c.args.kind c.args.key.now c.args.value.now)) (g.D.Disk.content c.args.disk.now) (g.D.Disk.content c.freeze.new.disk) (g.D.Disk.content c.write_active.new.disk)
-    c.args.self.now c.freeze.new.self c.write_active.new.self c.in-Ok.next c.args.key.now.0 c.freeze.ensures.works.same c.requires.needs c.in-Ok.ensures.ok c.in_default.ensures.frozen c.in-Ok-write_active.ensures.behind.manifest
-    (returns-in-Ok-write_active-clause-works g c).advances c.in-Ok-write_active.ensures.waits
+    c.args.self.now c.freeze.new.self c.write_active.new.self c.in-Ok.next c.args.key.now.0 c.freeze.ensures.works.same c.requires.needs c.in-Ok.ensures.ok c.in_default.ensures.frozen c.in-Ok-write_active.ensures.row.behind.manifest
+    (returns-in-Ok-write_active-clause-works g c).advances c.in-Ok-write_active.ensures.row.waits
 
 pub returns-in-Err-Write-clause-err : goal.returns-in-Err-Write-clause-err
 returns-in-Err-Write-clause-err g c = then_broke_off g.D.Disk c.args.disk.now c.freeze.new.disk c.write_active.new.disk c.args.self.now c.freeze.new.self c.write_active.new.self _ c.in-Err-Write.fault

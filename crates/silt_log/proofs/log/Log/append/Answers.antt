@@ -12,28 +12,28 @@ pub returns-in_err-write_row-clause-wrote : goal.returns-in_err-write_row-clause
 returns-in_err-write_row-clause-wrote g c =
     let log : LogState = c.args.self.now in
     let at = body_place _ log _ c.self.view_is c.body_at-at.ensures.value in
-    let count : length c.head_bytes.result + length c.args.value.now ≡ row_len log.shape = omega (arith, c.requires.value) in
+    let count : length c.head_bytes.result + length c.args.value.now ≡ row_len log.shape = omega (arith, c.requires.value.long) in
     wrote_err c.in_err-write_row.was c.from_residual.ensures.1 (omega arith) (omega arith) (wrote_at at count c.write_row.ensures.wrote)
 
 pub returns-clause-wrote : goal.returns-clause-wrote
 returns-clause-wrote g c =
     let log : LogState = c.args.self.now in
     let at = body_place _ log _ c.self.view_is c.body_at-at.ensures.value in
-    let count : length c.head_bytes.result + length c.args.value.now ≡ row_len log.shape = omega (arith, c.requires.value) in
+    let count : length c.head_bytes.result + length c.args.value.now ≡ row_len log.shape = omega (arith, c.requires.value.long) in
     wrote_ok c.in_ok-write_row.was (wrote_at at count c.write_row.ensures.wrote)
 
 pub returns-in_err-write_row-clause-images : goal.returns-in_err-write_row-clause-images
 returns-in_err-write_row-clause-images g c =
     let log : LogState = c.args.self.now in
     let at = body_place _ log _ c.self.view_is c.body_at-at.ensures.value in
-    let count : length c.head_bytes.result + length c.args.value.now ≡ row_len log.shape = omega (arith, c.requires.value) in
+    let count : length c.head_bytes.result + length c.args.value.now ≡ row_len log.shape = omega (arith, c.requires.value.long) in
     append_images _ _ log c.requires.log c.requires.size c.write_row.ensures.wrote.size c.requires.room (within_at _ _ _ _ _ _ at count c.write_row.ensures.wrote.changes)
 
 pub returns-in_err-write_row-clause-log : goal.returns-in_err-write_row-clause-log
 returns-in_err-write_row-clause-log g c =
     let log : LogState = c.args.self.now in
     let at = body_place _ log _ c.self.view_is c.body_at-at.ensures.value in
-    let count : length c.head_bytes.result + length c.args.value.now ≡ row_len log.shape = omega (arith, c.requires.value) in
+    let count : length c.head_bytes.result + length c.args.value.now ≡ row_len log.shape = omega (arith, c.requires.value.long) in
     let refused = err_from_is_err_and c.from_residual.result c.from_residual.ensures.1 in
     rw refused.1 (append_failed _ _ log c.requires.log c.requires.size c.write_row.ensures.wrote.size c.requires.room (within_at _ _ _ _ _ _ at count c.write_row.ensures.wrote.changes))
 
@@ -41,7 +41,7 @@ pub returns-clause-images : goal.returns-clause-images
 returns-clause-images g c =
     let log : LogState = c.args.self.now in
     let at = body_place _ log _ c.self.view_is c.body_at-at.ensures.value in
-    let count : length c.head_bytes.result + length c.args.value.now ≡ row_len log.shape = omega (arith, c.requires.value) in
+    let count : length c.head_bytes.result + length c.args.value.now ≡ row_len log.shape = omega (arith, c.requires.value.long) in
     append_images _ _ log c.requires.log c.requires.size c.write_row.ensures.wrote.size c.requires.room (within_at _ _ _ _ _ _ at count c.write_row.ensures.wrote.changes)
 
 pub returns-clause-written : goal.returns-clause-written
@@ -55,7 +55,7 @@ pub returns-clause-log : goal.returns-clause-log
 returns-clause-log g c =
     let log : LogState = c.args.self.now in
     let at = body_place _ log _ c.self.view_is c.body_at-at.ensures.value in
-    let count : length c.head_bytes.result + length c.args.value.now ≡ row_len log.shape = omega (arith, c.requires.value) in
+    let count : length c.head_bytes.result + length c.args.value.now ≡ row_len log.shape = omega (arith, c.requires.value.long) in
     let all : length (c.head_bytes.result ++ c.args.value.now) ≡ row_len log.shape = length-append c.head_bytes.result c.args.value.now ∙ count in
     let long : length c.head_bytes.result ≡ 21 = omega arith in
     let done = append_done _ _ log c.requires.log c.requires.size c.write_row.ensures.wrote.size c.requires.room (within_at _ _ _ _ _ _ at count c.write_row.ensures.wrote.changes) _ all (writes_at _ _ _ _ _ at c.in_ok-write_row.ensures.written) in

@@ -7,7 +7,7 @@ use Rattle.silt_merge.proofs.merge.Merge.decide.Goals as goal
 
 pub returns-in-Err : goal.returns-in-Err
 returns-in-Err g c =
-    refused g.D.Disk c.args.stores.now c.args.sorted.now c.args.digest.now.0 c.args.disk.now c.args.self.now c.read_ahead.new.self _ c.in-Err.ensures.err (subst IsHeldMerge c.in-Err.ensures.err c.read_ahead.ensures.held) c.requires.sound (refl, refl, c.in-Err.ensures.fault)
+    refused g.D.Disk c.args.stores.now c.args.sorted.now c.args.digest.now.0 c.args.disk.now c.args.self.now c.read_ahead.new.self _ c.in-Err.ensures.state (subst IsHeldMerge c.in-Err.ensures.state c.read_ahead.ensures.held) c.requires.sound (refl, refl, c.in-Err.ensures.fault)
 
 pub returns-in-Ok-decide_next : goal.returns-in-Ok-decide_next
 returns-in-Ok-decide_next g c =

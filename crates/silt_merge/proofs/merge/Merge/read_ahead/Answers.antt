@@ -1,7 +1,7 @@
 use Rattle.std.proofs.Common.{List, ℕ, sym, ap, ◌∙◌}
+use Rattle.std.proofs.lemmas.Result.{MatchResult-from_err}
 use Rattle.silt_merge.specs.State.{MergeState}
 use Rattle.silt_merge.proofs.Ending.{held_with, merged_ahead}
-use Rattle.silt_merge.proofs.Reading.{on_err}
 use Rattle.silt_merge.proofs.Viewing.{state_of}
 use Rattle.silt_merge.proofs.merge.Merge.read_ahead.Goals as goal
 
@@ -10,10 +10,10 @@ invariant_of-self g c =
     let merge : MergeState = state_of c.self.inside in
     (held_with merge merge.slots c.read_entries.new.self.parts merge.index merge.hasher c.self.invariant.0.index c.self.invariant.0, c.self.invariant.1, c.read_entries.ensures.len ∙ c.self.invariant.2, c.self.invariant.3, c.self.invariant.4)
 
-pub returns-in_err-read_entries-clause-err : goal.returns-in_err-read_entries-clause-err
-returns-in_err-read_entries-clause-err g c =
+pub returns-in_err-read_entries-clause-state : goal.returns-in_err-read_entries-clause-state
+returns-in_err-read_entries-clause-state g c =
     let merge : MergeState = state_of c.self.inside in
-    rw (← c.self.view_is) (on_err _ (ap (λ (a : List (List ℕ)). let m : MergeState = record merge { ahead = a } in m) (c.in_err-read_entries.ensures.err ∙ sym (c.is_empty.ensures.none c.if-not-is_empty.false))))
+    rw (← c.self.view_is) (MatchResult-from_err _ _ _ c.from_residual.ensures.0 (λ _. ap (λ (a : List (List ℕ)). let m : MergeState = record merge { ahead = a } in m) (c.in_err-read_entries.ensures.err ∙ sym (c.is_empty.ensures.none c.if-not-is_empty.false))))
 
 pub returns-clause-before : goal.returns-clause-before
 returns-clause-before g c = rw (← c.self.view_is) (sym (c.is_empty.ensures.none c.if-not-is_empty.false))

@@ -1,11 +1,12 @@
 use Rattle.std.proofs.Common.{◌≡◌, List, ℕ, get_or, sym, subst, ap, ◌∙◌, arith}
+use Rattle.std.proofs.lemmas.Result.{MatchResult-from_err}
 use Rattle.silt_disk.specs.Layout.{Shape}
 use Rattle.silt_hash_store.specs.State.{HashState}
 use Rattle.silt_merge.specs.Pieces.{AreSlots}
 use Rattle.silt_merge.specs.Rows.{regions_of}
 use Rattle.silt_merge.specs.State.{MergeState}
 use Rattle.silt_merge.proofs.Ending.{held_with, merged_slots}
-use Rattle.silt_merge.proofs.Reading.{on_err, store_at}
+use Rattle.silt_merge.proofs.Reading.{store_at}
 use Rattle.silt_merge.proofs.Viewing.{state_of}
 use Rattle.silt_merge.proofs.merge.Merge.read_slots.Goals as goal
 
@@ -14,13 +15,13 @@ invariant_of-self g c =
     let merge : MergeState = state_of c.self.inside in
     (held_with merge c.read_slots.new.self.parts merge.ahead merge.index merge.hasher c.self.invariant.0.index c.self.invariant.0, c.read_slots.ensures.len ∙ c.self.invariant.1, c.self.invariant.2, c.self.invariant.3, c.self.invariant.4)
 
-pub returns-in_err-read_slots-clause-err : goal.returns-in_err-read_slots-clause-err
-returns-in_err-read_slots-clause-err g c =
+pub returns-in_err-read_slots-clause-state : goal.returns-in_err-read_slots-clause-state
+returns-in_err-read_slots-clause-state g c =
     let merge : MergeState = state_of c.self.inside in
-    rw (← c.self.view_is) (on_err _ (ap (λ (a : List (List ℕ)). let m : MergeState = record merge { slots = a } in m) (c.in_err-read_slots.ensures.err ∙ sym (c.is_empty.ensures.none c.if-not-is_empty.false))))
+    rw (← c.self.view_is) (MatchResult-from_err _ _ _ c.from_residual.ensures.0 (λ _. ap (λ (a : List (List ℕ)). let m : MergeState = record merge { slots = a } in m) (c.in_err-read_slots.ensures.err ∙ sym (c.is_empty.ensures.none c.if-not-is_empty.false))))
 
-pub returns-clause-before : goal.returns-clause-before
-returns-clause-before g c = rw (← c.self.view_is) (sym (c.is_empty.ensures.none c.if-not-is_empty.false))
+pub returns-clause-slots : goal.returns-clause-slots
+returns-clause-slots g c = rw (← c.self.view_is) (sym (c.is_empty.ensures.none c.if-not-is_empty.false), c.in_ok-read_slots.ensures.some)
 
 pub returns-clause-merged : goal.returns-clause-merged
 returns-clause-merged g c =

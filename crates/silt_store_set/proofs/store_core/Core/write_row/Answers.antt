@@ -8,7 +8,7 @@ returns-in-Ok g c =
     let may = rw (← c.self.view_is) at c.requires.may in
     let working = may_working c.args.kind (seen_core g.D.Disk c.self.inside.disk c.self.inside.engine c.self.inside.count c.self.inside.failed c.self.inside.basis) may in
     rw (← c.self.view_is, working) (row_taken g.D.Disk c.self.inside.disk c.self.inside.engine c.self.inside.count
-    (c.self.invariant.stands working) c.write.new.disk c.write.new.self c.args.kind c.args.key.now c.args.value.now (rw working at may) c.write.ensures.works.same c.in-Ok.ensures.works.advances c.in-Ok.ensures.current c.in-Ok.ensures.converting c.in-Ok.ensures.merging c.in-Ok.ensures.works.failures c.in-Ok.ensures.made)
+    (c.self.invariant.stands working) c.write.new.disk c.write.new.self c.args.kind c.args.key.now c.args.value.now (rw working at may) c.write.ensures.works.same c.in-Ok.ensures.works.advances c.in-Ok.ensures.current c.in-Ok.ensures.row.converting c.in-Ok.ensures.row.merging c.in-Ok.ensures.works.failures c.in-Ok.ensures.made)
 
 pub returns-in-Err-Write : goal.returns-in-Err-Write
 returns-in-Err-Write g c =
