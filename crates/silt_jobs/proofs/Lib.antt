@@ -1,5 +1,6 @@
 pub mod Dumps
 pub mod Fits
+pub mod Headers
 pub mod Lives
 pub mod NewStores
 pub mod Openings

@@ -1,15 +1,14 @@
-// Where a damaged part of a disk lies, and what its header says.
-ghost use Rattle.std.specs.Prelude.{◌≡◌, ◌+◌, ◌*◌, ◌<◌, ◌≤◌, ◌^◌, Ok, Err, IsTrue, IfOk, IfSome, IfNone, MatchResult};
-ghost use Rattle.silt_disk.specs.Disk.{GaveAny, size};
+// Where a damaged part of a disk lies.
+ghost use Rattle.std.specs.Prelude.{◌≡◌, ◌+◌, ◌*◌, ◌<◌, ◌≤◌, ◌^◌, IsTrue, IfSome, IfNone};
+ghost use Rattle.silt_disk.specs.Disk.{size};
 ghost use Rattle.silt_disk.specs.Layout.{device_size, entry_len, row_len};
 ghost use Rattle.silt_disk.specs.Header.{header_of, version_of};
-ghost use Rattle.silt_image.specs.Stores.{shape_found};
 ghost use Rattle.silt_jobs.specs.Damage.{HasShape, LacksShape, part_at, offset_of, merge_offset_of, unsorted_offset_of};
 
-use silt_disk::{Disk, Geometry, HEADER_LEN, Version, slot_start, version_of};
-use silt_event::{Finding, Place, Refusal};
-use silt_image::read_header;
+use silt_disk::{Disk, Geometry, slot_start};
+use silt_event::{Place, Refusal};
 use silt_manifest::read_current;
+use silt_recovery::{Header, read_geometry};
 
 /// The offset of the six numbers of a header.
 const NUMBERS_AT: u64 = 13;
@@ -19,60 +18,26 @@ pub fn damage_at<D: Disk, F: Drop>(disk: &D, refusal: &Refusal<F>) -> Option<u64
     match refusal {
         Refusal::Damaged(Place::Header) => Some(NUMBERS_AT),
         Refusal::Damaged(place) => {
-            let header = whole_header_on(disk)?;
+            let header = header_on(disk)?;
             offset_of(&header.geometry, sorted_on(disk, &header), *place)
         }
         _ => None,
     }
 }
 
-// The contents of a disk's header: the six numbers, and the version of the layout.
-#[derive(Clone, Copy)]
-struct Header {
-    geometry: Geometry,
-    version: Version,
-}
-
-// The contents of a disk's header, or the fault in it. None if it cannot be read.
-fn header_on<D: Disk>(disk: &D) -> Option<Result<Header, Finding>>
-    ensures found { IsTrue (D.content disk.now).honest → IfSome result (λ found. MatchResult found
-        (λ header. shape_found (size (D.content disk.now)) (header_of (D.content disk.now).shown) ≡ Ok header.geometry)
-        (λ finding. shape_found (size (D.content disk.now)) (header_of (D.content disk.now).shown) ≡ Err finding)) }
-    ensures version { IsTrue (D.content disk.now).honest → IfSome result (λ found. IfOk found (λ header. header.version ≡ version_of (header_of (D.content disk.now).shown))) }
-    ensures size { IfSome result (λ found. IfOk found (λ header. size (D.content disk.now) ≡ device_size header.geometry)) }
-    ensures unread { IfNone result ((fault : D.Fault) × GaveAny D.gave disk.now fault) }
-{
-    if disk.len() < HEADER_LEN as u64 {
-        return Some(Err(Finding::NotFormatted));
-    }
-    let mut header = [0; HEADER_LEN];
-    match disk.read(0, &mut header) {
-        Ok(()) => Some(parse_header(disk.len(), &header)),
-        Err(_) => None,
-    }
-}
-
-// The contents of these bytes of a header on a disk of this length, or the fault in them.
-fn parse_header(len: u64, bytes: &[u8; HEADER_LEN]) -> Result<Header, Finding>
-    ensures found { MatchResult result (λ header. shape_found len bytes.now ≡ Ok header.geometry) (λ finding. shape_found len bytes.now ≡ Err finding) }
-    ensures version { IfOk result (λ header. header.version ≡ version_of bytes.now) }
-    ensures size { IfOk result (λ header. len ≡ device_size header.geometry) }
-{
-    let geometry = read_header(len, bytes)?;
-    let version = version_of(bytes);
-    Ok(Header { geometry, version })
-}
-
 // The contents of a disk's header, if it is whole and can be read.
-fn whole_header_on<D: Disk>(disk: &D) -> Option<Header>
+fn header_on<D: Disk>(disk: &D) -> Option<Header>
     ensures version { IsTrue (D.content disk.now).honest → IfSome result (λ header. header.version ≡ version_of (header_of (D.content disk.now).shown)) }
     ensures size { IfSome result (λ header. size (D.content disk.now) ≡ device_size header.geometry) }
     ensures found { IfSome result (λ header. HasShape (D.content disk.now) header.geometry) }
     ensures none { IfNone result (LacksShape D.Disk disk.now) }
 {
-    match header_on(disk)? {
+    match read_geometry(disk) {
         Ok(header) => Some(header),
-        Err(_) => None,
+        Err(error) => {
+            drop(error);
+            None
+        }
     }
 }
 
@@ -82,7 +47,7 @@ pub fn geometry_on<D: Disk>(disk: &D) -> Option<Geometry>
     ensures found { IfSome result (HasShape (D.content disk.now)) }
     ensures none { IfNone result (LacksShape D.Disk disk.now) }
 {
-    let header = whole_header_on(disk)?;
+    let header = header_on(disk)?;
     Some(header.geometry)
 }
 

@@ -8,6 +8,7 @@ ghost use Rattle.silt_disk.specs.Header.{header_bytes, header_of, version_of};
 ghost use Rattle.silt_image.specs.Stores.{shape_found};
 ghost use Rattle.silt_recovery.specs.Format.{HasHeaderOrNone, IsGateClosed};
 ghost use Rattle.silt_recovery.specs.Refusals.{IsRefusedLook};
+ghost use Rattle.silt_recovery.specs.declared.fault.OpenError.TheVariants.{NoMemory};
 
 use crate::fault::OpenError;
 use silt_disk::{Disk, Geometry, HEADER_LEN, Version, header_bytes, version_of, write_synced};
@@ -32,7 +33,8 @@ fn read_bytes<D: Disk>(disk: &D) -> Result<[u8; 37], D::Fault>
     Ok(header)
 }
 
-/// The geometry and the version in the header of a device. The device must have the length that this geometry asks for.
+/// The geometry and the version in the header of a device. The device must have the length that this geometry asks for. It takes no
+/// memory.
 ///
 /// # Errors
 ///
@@ -44,6 +46,7 @@ pub fn read_geometry<D: Disk>(disk: &D) -> Result<Header, OpenError<D::Fault>>
     ensures cause { IfErr result (IsRefusedLook
         (λ finding. IsTrue (D.content disk.now).honest → shape_found (size (D.content disk.now)) (header_of (D.content disk.now).shown) ≡ Err finding)
         (GaveAny D.gave disk.now)) }
+    ensures memory { IfErr result (λ error. error ≡ NoMemory → ⊥) }
 {
     if disk.len() < HEADER_LEN as u64 {
         return Err(OpenError::NotFormatted);

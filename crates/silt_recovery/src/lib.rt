@@ -27,5 +27,6 @@ mod report;
 pub use empty_store::format;
 pub use examination::{Holding, examine};
 pub use fault::{FormatError, FormatFault, OpenError, OpenFault};
+pub use header::{Header, read_geometry};
 pub use recovery::{Opened, open};
 pub use report::check;

@@ -1,6 +1,5 @@
-use Rattle.std.proofs.Common.{arith}
-use Rattle.silt_image.proofs.HeaderExits.{too_short}
+use Rattle.silt_jobs.proofs.Headers.{lacking}
 use Rattle.silt_jobs.proofs.damage.header_on.Goals as goal
 
-pub returns-then-len-clause-found : goal.returns-then-len-clause-found
-returns-then-len-clause-found g c = λ h. too_short _ _ (omega arith)
+pub returns-in-Err-clause-none : goal.returns-in-Err-clause-none
+returns-in-Err-clause-none g c = lacking g.D.Disk c.args.disk.now _ c.in-Err.ensures.cause c.in-Err.ensures.memory
