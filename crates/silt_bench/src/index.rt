@@ -28,7 +28,7 @@ fn index_of(alloc: Global, keys: &[Key]) -> Result<MarkedTrie, BenchError> {
             return Err(BenchError::Wrong);
         }
     }
-    Ok(builder.finish(alloc)?)
+    Ok(builder.finish()?)
 }
 
 // The place of a key, by the index and one look at the key at that place.

@@ -43,3 +43,5 @@ pub mod MergeSteps
 pub mod MergeTurns
 pub mod MergeSwaps
 pub mod Meaning
+pub mod Tries
+pub mod MergeSeals

@@ -32,7 +32,7 @@ use Rattle.silt_merge.proofs.Sounding.{sound_stores}
 use Rattle.silt_sorted_store.specs.Index.{IndexedState, IsIndexOf}
 use Rattle.silt_sorted_store.proofs.Entries.{entry_count}
 use Rattle.silt_engine.specs.Digests.{merged_digests}
-use Rattle.silt_engine.specs.Merge.{AreCompared, EndsMerge, IsDoneBySteps, charge_without, merge_sources, merged_body, puts_in}
+use Rattle.silt_engine.specs.Merge.{AreCompared, IsDoneBySteps, charge_without, merge_sources, merged_body, puts_in}
 use Rattle.silt_engine.specs.Merge as spec
 use Rattle.silt_standing.specs.State.{IsMerging, EngineState}
 use Rattle.silt_standing.specs.Standing.{HasGathered, Stands, base_map, full_image, shown_stores}
@@ -193,23 +193,3 @@ module _ (content : Content) (s : EngineState) (merge : MergeState) (stands : St
       }
 
 -- ---- its end
-
--- a merge that is done may end with a sorted store of its entries and their index
-pub may_end : (s : EngineState) (body : Body) (digests : Digests) (merge : MergeState) (store : IndexedState) → s.merging ≡ Some merge → is_done merge s.sorted ≡ true → merge.damaged ≡ None → s.manifest.current.generation < 2 ^ 63 - 1
-    → store.sorted ≡ record { shape = merge.shape; region = merge.region; count = merge.written } → body ≡ merged_body s.manifest.current merge.stores merge.region merge.written → digests ≡ merged_digests s merge.stores store
-    → ((content : Content) (stores : List HashState) (sorted : SortedState) → is_done merge sorted ≡ true → HasMerged content stores sorted merge → IsTrue content.honest → AreSound content.shown stores sorted
-    → IsIndexOf (entries_of content store.sorted) store.index)
-    → ((content : Content) (stores : List HashState) (sorted : SortedState) → HasMerged content stores sorted merge → HasDigest content store.sorted store.digest) → EndsMerge s body digests store
-may_end s body digests merge store was done sound unspent entries is digests_are indexed digested = record {
-  merge = merge;
-  was = was;
-  done = done;
-  unspent = unspent;
-  entries = entries;
-  located = λ content stands honest.
-      indexed content (oldest_stores merge.stores s.hashes) s.sorted done (gathered content s merge stands was done).0 honest (taken_sound content s stands honest merge.stores);
-  digested = λ content stands. digested content (oldest_stores merge.stores s.hashes) s.sorted (gathered content s merge stands was done).0;
-  is = is;
-  digests_are = digests_are;
-  sound = sound;
-}

@@ -131,7 +131,7 @@ module _ (old : Content) (s : EngineState) (body : Body) (digests : Digests) (st
     }
 
     pub may_stand_for : MayStandFor s m store
-    may_stand_for = record { merge = ends.merge; was = ends.was; most = under_way.most; whole = merged_whole }
+    may_stand_for = record { merge = ends.merge; was = ends.was; entries = ends.entries; sealed = ends.sealed; most = under_way.most; whole = merged_whole }
 
     -- the active log is as it was
     keeps : KeepsRows old new s.active.log s.active.log

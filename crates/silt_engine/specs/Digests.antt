@@ -4,7 +4,6 @@ use Rattle.std.specs.Option.{option_to_list}
 use Rattle.silt_frame.specs.declared.digest.Digest.{Digest}
 use Rattle.silt_hash_store.specs.State.{HashState}
 use Rattle.silt_manifest.specs.declared.digests.Digests.{Digests}
-use Rattle.silt_sorted_store.specs.Index.{IndexedState}
 use Rattle.silt_standing.specs.State.{EngineState}
 
 -- the digest in an unused place
@@ -32,5 +31,5 @@ abbrev pub converted_digests : EngineState → List ℕ → Digests
 converted_digests s digest = digests_with (Some (record { 0 = digest })) s.hashes (record { 0 = s.digest })
 
 -- without this many of the oldest hash stores, and with this sorted store
-abbrev pub merged_digests : EngineState → ℕ → IndexedState → Digests
-merged_digests s count store = digests_with None (take (length s.hashes - count) s.hashes) (record { 0 = store.digest })
+abbrev pub merged_digests : EngineState → ℕ → List ℕ → Digests
+merged_digests s count digest = digests_with None (take (length s.hashes - count) s.hashes) (record { 0 = digest })

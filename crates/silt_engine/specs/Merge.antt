@@ -16,9 +16,9 @@ use Rattle.silt_manifest.specs.declared.body.Body.{Body}
 use Rattle.silt_manifest.specs.declared.digests.Digests.{Digests}
 use Rattle.silt_engine.specs.Replacements.{taken_rows}
 use Rattle.silt_merge.specs.Comparing.{HasBytes}
-use Rattle.silt_merge.specs.Merging.{IsSameMerge}
+use Rattle.silt_merge.specs.Merging.{IsSameMerge, Seals}
 use Rattle.silt_merge.specs.Rows.{key_count, merged_rows, regions_of}
-use Rattle.silt_merge.specs.State.{MergeState, is_done, oldest_stores, steps_for, steps_of}
+use Rattle.silt_merge.specs.State.{MergeState, is_done, oldest_stores, sorted_in, steps_for, steps_of}
 use Rattle.silt_merge.specs.Steps.{TakesMemory, damaged_place}
 use Rattle.silt_merge.specs.declared.merge.StepError.{StepError}
 use Rattle.silt_merge.specs.declared.merge.StepError.TheVariants as step_error
@@ -143,6 +143,14 @@ module _ {D F : Type 0} (facts : Ghosts D F) (old new : D) (before after : Engin
 
 -- ---- between the steps
 
+-- the index of the merge in progress is made
+pub record SealsMerge (before after : EngineState) : Type 0 where
+  pub merge : MergeState
+  pub was : before.merging ≡ Some merge
+  pub sealed : MergeState
+  pub seals : Seals merge sealed
+  pub is : after ≡ record before { merging = Some sealed }
+
 -- the entries of this sorted store are those of a merge that has decided all keys, its index and its digest are theirs on each disk on
 -- which the stores stand, and this record ends the merge, with the digests of the hash stores that stay and that of the entries
 pub record EndsMerge (s : EngineState) (body : Body) (digests : Digests) (store : IndexedState) : Type 0 where
@@ -150,11 +158,13 @@ pub record EndsMerge (s : EngineState) (body : Body) (digests : Digests) (store 
   pub was : s.merging ≡ Some merge
   pub done : is_done merge s.sorted ≡ true
   pub unspent : s.manifest.current.generation < 2 ^ 63 - 1
-  pub entries : store.sorted ≡ record { shape = merge.shape; region = merge.region; count = merge.written }
+  pub entries : store.sorted ≡ sorted_in merge
   pub located : (content : Content) → Stands content s → HasIndex content store.sorted store.index
   pub digested : (content : Content) → Stands content s → HasDigest content store.sorted store.digest
   pub is : body ≡ merged_body s.manifest.current merge.stores merge.region merge.written
-  pub digests_are : digests ≡ merged_digests s merge.stores store
+  pub digests_are : digests ≡ merged_digests s merge.stores store.digest
+  -- its index is made
+  pub sealed : merge.index.sealed ≡ Some store.index
   -- it has found no store damaged
   pub sound : merge.damaged ≡ None
 
@@ -182,9 +192,11 @@ sorted_replaced s manifest count store = record {
   charge = s.charge - ((s.charge - charge_without s count) - store.sorted.count);
 }
 
--- the sorted store of a merge may replace what was merged, under this manifest
+-- the sorted store of a merge, whose index is made, may replace what was merged, under this manifest
 pub record MayStandFor (s : EngineState) (manifest : ManifestState) (store : IndexedState) : Type 0 where
   pub merge : MergeState
   pub was : s.merging ≡ Some merge
+  pub entries : store.sorted ≡ sorted_in merge
+  pub sealed : merge.index.sealed ≡ Some store.index
   pub most : merge.stores ≤ length s.hashes
   pub whole : AreWhole (sorted_replaced s manifest merge.stores store)

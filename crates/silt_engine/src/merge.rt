@@ -1,5 +1,5 @@
 // The merge of the hash stores and the sorted store into a new sorted store, one slot or one key a step.
-ghost use Rattle.std.specs.Prelude.{◌≡◌, ◌<◌, ◌≤◌, ◌-◌, ◌^◌, [], length, false, true, None, Some, Err, IsSome, IsTrue, IfOk, IfErr, IfSome, IsSomeAnd, OnOk, MatchResult};
+ghost use Rattle.std.specs.Prelude.{◌≡◌, ◌<◌, ◌≤◌, ◌-◌, ◌^◌, [], length, false, true, None, Some, Err, IsSome, IsTrue, IfOk, IfErr, IfSome, IsSomeAnd, OnErr, OnOk, MatchResult};
 ghost use Rattle.silt_disk.specs.Disk.{Costs, MakesAtMost};
 ghost use Rattle.silt_hasher.specs.Taking.{taken_after};
 ghost use Rattle.silt_event.specs.declared.progress.Progress.TheVariants.{Finished, Moved};
@@ -9,20 +9,21 @@ ghost use Rattle.silt_event.specs.declared.place.Place.{Place};
 ghost use Rattle.silt_engine.specs.Conversion.{is_work};
 ghost use Rattle.silt_engine.specs.Costs.{StepMakes, step_syncs, step_writes};
 ghost use Rattle.silt_engine.specs.Digests.{merged_digests};
-ghost use Rattle.silt_engine.specs.Merge.{EndsMerge, EndsMerged, HasMergedEntries, MayStandFor, MergeErrorCause, Merges, damaged_in, merge_turn, merged_body, puts_in, sorted_replaced};
-ghost use Rattle.silt_standing.specs.State.{AreWhole};
+ghost use Rattle.silt_engine.specs.Merge.{EndsMerge, EndsMerged, HasMergedEntries, MayStandFor, MergeErrorCause, Merges, SealsMerge, damaged_in, merge_turn, merged_body, puts_in, sorted_replaced};
+ghost use Rattle.silt_sorted_store.specs.Index.{IndexedState};
+ghost use Rattle.silt_standing.specs.State.{AreWhole, EngineState};
 ghost use Rattle.silt_standing.specs.Standing.{Stands};
 
 use crate::digests::digests_with;
 use crate::engine::{Engine, LAST_GENERATION};
 use silt_disk::Disk;
 use silt_event::{Place, Progress};
+use silt_frame::Digest;
 use silt_hash_store::HashStore;
 use silt_hasher::LentBytes;
 use silt_manifest::{Body, Digests, Manifest};
 use silt_merge::{Merge, StepError};
-use silt_sorted_store::SortedStore;
-use std::alloc::Global;
+use std::alloc::{AllocError, Global};
 
 /// Why a step of merging was not done.
 #[derive(Debug, Drop)]
@@ -172,17 +173,19 @@ impl Engine {
         Ok(Progress::Moved)
     }
 
-    // Takes a manifest that names the sorted store of the merge. It replaces the old one and the hash stores that were
-    // merged. Its entries count, and their puts no longer do.
-    fn replace_sorted(&mut self, manifest: Manifest, sorted: SortedStore)
-        requires { MayStandFor self.old manifest sorted }
-        ensures replaced { IfSome self.old.merging (λ merge. self.new ≡ sorted_replaced self.old manifest merge.stores sorted) }
+    // Takes a manifest that names the sorted store of the merge, whose index is made and whose bytes have this digest. It replaces the
+    // old one and the hash stores that were merged. Its entries count, and their puts no longer do.
+    fn replace_sorted(&mut self, manifest: Manifest, digest: Digest)
+        requires { (store : IndexedState) × (store.digest ≡ digest.0) × MayStandFor self.old manifest store }
+        ensures replaced { (store : IndexedState) → store.digest ≡ digest.0 → MayStandFor self.old manifest store
+            → IfSome self.old.merging (λ merge. self.new ≡ sorted_replaced self.old manifest merge.stores store) }
         ensures whole { AreWhole self.new }
     {
         let Some(merge) = self.merging.take() else {
             unreachable!()
         };
         let newer = self.hashes.len() - merge.stores() as usize;
+        let sorted = merge.into_store(digest);
         let left = without_puts(self.charge, &self.hashes[newer..]).saturating_sub(
             self.sorted.len(),
         );
@@ -193,28 +196,28 @@ impl Engine {
         self.manifest = manifest;
     }
 
-    // The digests of the stores without this many of the oldest hash stores, and with this sorted store.
-    fn merged_digests(&self, count: usize, sorted: &SortedStore) -> Digests
+    // The digests of the stores without this many of the oldest hash stores, and with a sorted store of this digest.
+    fn merged_digests(&self, count: usize, sorted: Digest) -> Digests
         requires { count ≤ length self.now.hashes }
-        ensures { result ≡ merged_digests self.now count sorted.now }
+        ensures { result ≡ merged_digests self.now count sorted.0 }
     {
         let _sound = self.manifest.current(); // so there are no more hash stores than regions
         let _limits = self.manifest.geometry().hashes();
         let newer = &self.hashes[..self.hashes.len() - count];
-        digests_with(None, newer, *sorted.digest())
+        digests_with(None, newer, sorted)
     }
 
-    // Ends the merge, all of whose keys are decided: syncs the entries, and then has the manifest name the new sorted store, with the
-    // digests of the hash stores that stay.
+    // Ends the merge, all of whose keys are decided and whose index is made: syncs the entries, and then has the manifest name the new
+    // sorted store, with this digest and those of the hash stores that stay.
     fn end_merge<D: Disk>(
         &mut self,
         disk: &mut D,
         body: &Body,
         digests: &Digests,
-        sorted: SortedStore,
+        digest: Digest,
     ) -> Result<(), D::Fault>
         requires stands { Stands (D.content disk.old) self.old }
-        requires ends { EndsMerge self.old body.now digests.now sorted }
+        requires ends { (store : IndexedState) × (store.digest ≡ digest.0) × EndsMerge self.old body.now digests.now store }
         ensures works { Works D.Disk [] disk.old disk.new self.old self.new result }
         ensures ends { OnOk result (EndsMerged self.old self.new) }
         ensures entries { OnOk result (IsTrue (D.content disk.old).honest → HasMergedEntries (D.content disk.old) (D.content disk.new) self.old self.new) }
@@ -223,28 +226,51 @@ impl Engine {
     {
         self.settle_work(disk)?;
         let manifest = self.change_manifest(disk, body, digests)?;
-        self.replace_sorted(manifest, sorted);
+        self.replace_sorted(manifest, digest);
         Ok(())
     }
 
-    // The memory that the merge in progress has kept for its index.
-    fn take_room(&mut self, alloc: Global) -> Vec<u8>
-        ensures { self.new ≡ self.old }
+    // Makes the index of the merge in progress. After an error nothing has changed.
+    fn seal_merge(&mut self) -> Result<(), AllocError>
+        requires { IsSome self.old.merging }
+        ensures made { OnOk result (SealsMerge self.old self.new) }
+        ensures err { OnErr result (self.new ≡ self.old) }
     {
-        match &mut self.merging {
-            Some(merge) => merge.take_room(alloc),
-            None => Vec::new(alloc),
-        }
+        let Some(merge) = &mut self.merging else {
+            unreachable!()
+        };
+        merge.seal()?;
+        Ok(())
+    }
+
+    // Finishes the merge, all of whose keys are decided and whose index is made.
+    fn finish_sealed<D: Disk>(&mut self, disk: &mut D) -> Result<(), D::Fault>
+        requires stands { Stands (D.content disk.old) self.old }
+        requires turn { merge_turn self.old ≡ Finished }
+        requires sound { damaged_in self.old.merging ≡ None }
+        requires unspent { self.old.manifest.current.generation < 2 ^ 63 - 1 }
+        requires sealed { (before : EngineState) × SealsMerge before self.old }
+        ensures works { Works D.Disk [] disk.old disk.new self.old self.new result }
+        ensures ends { OnOk result (EndsMerged self.old self.new) }
+        ensures entries { OnOk result (IsTrue (D.content disk.old).honest → HasMergedEntries (D.content disk.old) (D.content disk.new) self.old self.new) }
+        ensures made { Costs D.writes D.syncs 3 4 disk.old disk.new result }
+        ensures err { IfErr result (BreaksOff D.Disk disk.old disk.new self.old self.new) }
+    {
+        let Some(merge) = &self.merging else {
+            unreachable!()
+        };
+        let count = merge.stores() as usize;
+        let entries = merge.entries();
+        let digest = merge.digest();
+        let current = self.manifest.current();
+        let body = merged_body(&current, count, entries.region(), entries.len());
+        let digests = self.merged_digests(count, digest);
+        self.end_merge(disk, &body, &digests, digest)
     }
 
     // Finishes the merge, all of whose keys are decided, if the manifest has a generation left. The index of the new
-    // entries is finished first, with this memory, so if memory runs out the merge is as it was.
-    fn finish_merge<D: Disk>(
-        &mut self,
-        alloc: Global,
-        room: Vec<u8>,
-        disk: &mut D,
-    ) -> Result<Progress, MergeError<D::Fault>>
+    // entries is made first, so if memory runs out the merge is as it was.
+    fn finish_merge<D: Disk>(&mut self, disk: &mut D) -> Result<Progress, MergeError<D::Fault>>
         requires stands { Stands (D.content disk.old) self.old }
         requires turn { merge_turn self.old ≡ Finished }
         requires sound { damaged_in self.old.merging ≡ None }
@@ -259,16 +285,10 @@ impl Engine {
         if current.generation == LAST_GENERATION {
             return Err(MergeError::Spent);
         }
-        let Some(merge) = &self.merging else {
-            unreachable!()
-        };
-        let Ok(sorted) = merge.finish(alloc, room) else {
+        let Ok(()) = self.seal_merge() else {
             return Err(MergeError::NoMemory);
         };
-        let count = merge.stores() as usize;
-        let body = merged_body(&current, count, sorted.region(), sorted.len());
-        let digests = self.merged_digests(count, &sorted);
-        match self.end_merge(disk, &body, &digests, sorted) {
+        match self.finish_sealed(disk) {
             Ok(()) => Ok(Progress::Finished),
             Err(fault) => Err(MergeError::Write(fault)),
         }
@@ -304,8 +324,7 @@ impl Engine {
             return self.begin_merge(alloc, disk);
         };
         if merge.is_done(self.sorted.entries()) {
-            let room = self.take_room(alloc);
-            return self.finish_merge(alloc, room, disk);
+            return self.finish_merge(disk);
         }
         self.step_merge(disk)
     }

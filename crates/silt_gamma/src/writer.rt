@@ -57,21 +57,6 @@ impl BitWriter {
         BitReader::new(&self.bytes, start, count)
     }
 
-    /// A copy of these bits in place of the bytes of `room`, with room for this many bytes more. So these bytes need no further
-    /// memory, and if `room` is long enough, the copy needs none either.
-    pub fn copy_into(&self, room: Vec<u8>, more: usize) -> Result<BitWriter, AllocError>
-        ensures { IfOk result (λ copy. copy ≡ self.now) }
-    {
-        let mut bytes = room;
-        bytes.clear();
-        bytes.reserve(self.bytes.len().saturating_add(more))?;
-        bytes.extend_from_slice(&self.bytes)?;
-        Ok(BitWriter {
-            bytes,
-            len: self.len,
-        })
-    }
-
     /// Keeps the first `len` bits.
     pub fn truncate(&mut self, len: usize)
         requires { len ≤ length self.old }

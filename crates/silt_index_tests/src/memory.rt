@@ -1,6 +1,8 @@
 //! A builder whose requests for memory are refused. It stays as it was, and a second try succeeds.
 //! This test passes whichever one of its requests is refused, and also if none is. docs/testing.md
 //! says how to refuse each in turn.
+ghost use Rattle.std.specs.Prelude.{IsSome};
+
 use silt_frame::Key;
 use silt_trie::{MarkedTrie, MarkedTrieBuilder};
 use std::alloc::Global;
@@ -27,11 +29,23 @@ fn push(rt: &impl Abort, builder: &mut MarkedTrieBuilder, key: Key) {
     assert!(rt; taken);
 }
 
+/// The trie of a builder that has made it. The builder takes no further key.
+fn made(rt: &impl Abort, mut builder: MarkedTrieBuilder) -> MarkedTrie
+    requires { IsSome builder.sealed }
+{
+    assert!(rt; builder.len() < 1_000);
+    assert!(rt; builder.push(key(COUNT)).is_err());
+    builder.into_trie()
+}
+
 /// The trie of the keys that a builder has.
-fn finish(rt: &impl Abort, alloc: Global, builder: &MarkedTrieBuilder) -> MarkedTrie {
-    match builder.finish(alloc) {
-        Ok(made) => made,
-        Err(_) => builder.finish(alloc).expect(rt, "memory for a trie"),
+fn finish(rt: &impl Abort, mut builder: MarkedTrieBuilder) -> MarkedTrie {
+    match builder.seal() {
+        Ok(()) => made(rt, builder),
+        Err(_) => {
+            builder.seal().expect(rt, "memory for a trie");
+            made(rt, builder)
+        }
     }
 }
 
@@ -46,17 +60,13 @@ fn found(made: &MarkedTrie) -> (usize, u8, usize) {
     (made.len(), found, made.memory())
 }
 
-/// What is found in the trie of half of the keys, and then in that of all of them.
-fn build(rt: &impl Abort, alloc: Global) -> [(usize, u8, usize); 2] {
+/// What is found in the trie of the first keys.
+fn build(rt: &impl Abort, alloc: Global, count: u8) -> (usize, u8, usize) {
     let mut builder = MarkedTrieBuilder::new(alloc, usize::from(COUNT));
-    for number in 0..COUNT / 2 {
+    for number in 0..count {
         push(rt, &mut builder, key(number));
     }
-    let half = found(&finish(rt, alloc, &builder));
-    for number in COUNT / 2..COUNT {
-        push(rt, &mut builder, key(number));
-    }
-    [half, found(&finish(rt, alloc, &builder))]
+    found(&finish(rt, builder))
 }
 
 /// The code of eight keys of a group takes 23 bits, that of its first four 14, and that of its first two 9.
@@ -65,5 +75,6 @@ fn a_builder_lacks_memory(rt: HostRuntime) {
     let marks = 72 * 257;
     let half = (50, 50, marks + (6 * 23 + 9usize).div_ceil(8));
     let all = (100, 100, marks + (12 * 23 + 14usize).div_ceil(8));
-    assert_eq!(rt; build(&rt, rt.alloc()), [half, all]);
+    assert_eq!(rt; build(&rt, rt.alloc(), COUNT / 2), half);
+    assert_eq!(rt; build(&rt, rt.alloc(), COUNT), all);
 }

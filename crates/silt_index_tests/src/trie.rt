@@ -379,7 +379,7 @@ fn build(
     for key in keys {
         push(rt, &mut builder, *key)?;
     }
-    builder.finish(alloc)
+    builder.finish()
 }
 
 /// A builder takes a key.
@@ -458,7 +458,7 @@ fn build_refusing(
         push(rt, &mut builder, keys[at])?;
         refuse(rt, &mut builder, refused[at])?;
     }
-    builder.finish(alloc)
+    builder.finish()
 }
 
 #[test]

@@ -18,7 +18,7 @@ use Rattle.silt_hash_store.proofs.Slotting.{all_before, before_more}
 use Rattle.silt_sorted_store.specs.State.{SortedState}
 use Rattle.silt_sorted_store.proofs.Digested.{bytes_more}
 use Rattle.silt_sorted_store.proofs.Entries.{entry_count}
-use Rattle.silt_trie.specs.Building.{Building}
+use Rattle.silt_trie.specs.Building.{BuilderState}
 use Rattle.silt_merge.specs.Comparing.{HasCompared, MatchesDigests, MayTake}
 use Rattle.silt_merge.specs.Pieces.{AreEntries, AreSlots}
 use Rattle.silt_merge.specs.Rows.{entries_in, regions_of}
@@ -178,7 +178,7 @@ module _ (stores : List HashState) (sorted : SortedState) (digest : List ℕ) (m
           }
 
   -- a key more, with the next entry or without it
-  pub compared_key : (fits : Bool) (place : Place) → merge.damaged ≡ None → (passes : Bool) (waiting : List (Key × Source)) (written : ℕ) (index : Building) (decided : ℕ) (last : Option Key) (ahead : List (List ℕ)) (input : Taken) (hasher : Sha1) → IsHeldMerge merge → merge.store ≡ merge.stores
+  pub compared_key : (fits : Bool) (place : Place) → merge.damaged ≡ None → (passes : Bool) (waiting : List (Key × Source)) (written : ℕ) (index : BuilderState) (decided : ℕ) (last : Option Key) (ahead : List (List ℕ)) (input : Taken) (hasher : Sha1) → IsHeldMerge merge → merge.store ≡ merge.stores
       → (passes ≡ true → length (get_or merge.ahead 0 []) ≡ entry_len merge.shape)
       → ((bytes : List ℕ) → HasTaken merge.input bytes → MayTake (ends_entries passes merge.passed sorted.count) (bytes ++ get_or merge.ahead 0 []) digest fits)
       → ((bytes : List ℕ) → HasTaken merge.input bytes → HasTaken input (hashed_after passes bytes (get_or merge.ahead 0 []))) → HasCompared stores sorted digest merge

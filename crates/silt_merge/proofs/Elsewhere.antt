@@ -108,7 +108,7 @@ module _ (old new : List ℕ) (stores : List HashState) (sorted : SortedState) (
   pub merged_same : (merge : MergeState) → ((key : List ℕ) (source : Source) → source_at merge.waiting key ≡ Some source → (source.store < length (regions_of stores)) × (source.slot < 4 * sorted.shape.buckets))
       → (merge.store < length (regions_of stores)) ⊎ (merge.slot ≡ 0) → merge.slot ≤ 4 * sorted.shape.buckets
       → IsGatheredIn old stores sorted merge → sorted_rows merge.shape merge.region merge.written new ≡ take merge.shape.sorted_capacity (filter is_put_row (decided_rows old stores sorted merge.decided))
-      → IsBuildingOf (keys_of (sorted_rows merge.shape merge.region merge.written new)) merge.index → IsMergedIn new stores sorted merge
+      → IsBuildingOf (keys_of (sorted_rows merge.shape merge.region merge.written new)) merge.index.building → IsMergedIn new stores sorted merge
   merged_same merge inside some most is writes index =
       let decided : decided_rows new stores sorted merge.decided ≡ decided_rows old stores sorted merge.decided = ap (λ l. take merge.decided (newest_rows l)) sources_same in
       record {
@@ -211,7 +211,7 @@ merged_elsewhere stores sorted merge old new at count held_sorted held fits own 
       let same = same_outside stores sorted old.shown new.shown at count fits sound.there held_sorted behind outside torn in
       let so_far = is.merged was (sound_before old.shown new.shown stores sorted same sound) in
       merged_same old.shown new.shown stores sorted same merge (source_inside stores sorted merge held is.shape is.counted) (store_next stores merge held is.counted)
-      (subst (λ (s : Shape). merge.slot ≤ 4 * s.buckets) (sym is.shape) (omega (arith, held.slot))) so_far.gathered (kept honest ∙ so_far.writes) (subst (λ l. IsBuildingOf (keys_of l) merge.index) (sym (kept honest)) so_far.index);
+      (subst (λ (s : Shape). merge.slot ≤ 4 * s.buckets) (sym is.shape) (omega (arith, held.slot))) so_far.gathered (kept honest ∙ so_far.writes) (subst (λ l. IsBuildingOf (keys_of l) merge.index.building) (sym (kept honest)) so_far.index);
 }
   where
     -- what it wrote stays

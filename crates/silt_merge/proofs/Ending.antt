@@ -27,11 +27,12 @@ use Rattle.silt_sorted_store.specs.State.{sorted_rows, IsHeldSorted, SortedState
 use Rattle.silt_frame.specs.Rows.{StoredRow, entries_bytes, entry_row, is_put_row, keys_of}
 use Rattle.silt_merge.specs.Choice.{IsFirstWaiting, IsNextEntry, IsOffered, ReadsRow, choice_of, choice_puts}
 use Rattle.silt_sorted_store.specs.Region.{due_rows, is_written}
-use Rattle.silt_merge.specs.Merging.{AreSound, HasMerged, IsGatheredIn, IsMergeOf, source_row}
+use Rattle.silt_merge.specs.Merging.{AreSound, HasMerged, IsGatheredIn, IsMergeOf, Seals, source_row}
 use Rattle.silt_merge.specs.Pieces.{AreEntries, AreSlots, parts_after}
 use Rattle.silt_merge.specs.Rows.{entries_in, has_row_with, rows_of_hashes, key_count, merged_rows, newest_rows, regions_of, sources}
 use Rattle.silt_merge.specs.State.{IsHeldMerge, IsInside, MergeState, hashed_after, is_behind, is_done, keys_after, passed_after, source_at, steps_for, steps_of, written_after}
-use Rattle.silt_trie.specs.Building.{Building, IsBuildingOf, is_above}
+use Rattle.silt_trie.specs.Building.{BuilderState, IsBuildingOf, IsTrieOf, is_above}
+use Rattle.silt_trie.specs.Marks.{MarkedCode}
 use Rattle.silt_merge.specs.declared.choice.Choice.{Choice}
 use Rattle.silt_merge.specs.declared.source.Source.{Source}
 use Rattle.silt_merge.proofs.Choosing.{IsChosen, chosen}
@@ -306,14 +307,14 @@ module _ (old new : Content) (stores : List HashState) (sorted : SortedState) (m
   still_inside choice after gone key source is = (cond_some (bytes_eq choice.key.0 key) (source_at merge.waiting key) source (sym (gone key) ∙ is)).1
 
   -- a decided key, with its entry if it has one
-  pub merged_step : (first : Option (Key × Source)) (next : Option Key) (choice : Choice) (bytes row_bytes : List ℕ) (after : List (Key × Source)) (due : Bool) (count : ℕ) (index : Building) (input : Taken) (hasher : Sha1) → merge.store ≡ merge.stores → IsFirstWaiting merge.waiting first
+  pub merged_step : (first : Option (Key × Source)) (next : Option Key) (choice : Choice) (bytes row_bytes : List ℕ) (after : List (Key × Source)) (due : Bool) (count : ℕ) (index : BuilderState) (input : Taken) (hasher : Sha1) → merge.store ≡ merge.stores → IsFirstWaiting merge.waiting first
       → choice_of first next ≡ Some choice → is_some next ≡ nat_lt merge.passed sorted.count → (IsTrue old.honest → AreEntries (entries_of old sorted) merge.passed merge.ahead → IsNextEntry (entries_of old sorted) merge.passed bytes next)
       → (merge.passed < sorted.count → 0 < length merge.ahead)
       → (IsTrue old.honest → ReadsRow merge.shape old.shown (regions_of stores) choice.key.0 choice.source bytes row_bytes)
       → due ≡ is_written (choice_puts choice.source) merge.written merge.shape.sorted_capacity → count ≡ merge.written + cond (is_written due merge.written merge.shape.sorted_capacity) 1 0
       → (IsTrue old.honest → sorted_rows merge.shape merge.region count new.shown ≡ take merge.shape.sorted_capacity (sorted_rows merge.shape merge.region merge.written old.shown ++ due_rows due row_bytes))
       → ((key : List ℕ) → source_at after key ≡ cond (bytes_eq choice.key.0 key) None (source_at merge.waiting key))
-      → ((keys : List (List ℕ)) → IsBuildingOf keys merge.index → length keys ≡ merge.written → is_above merge.index.last choice.key.0 ≡ true → IsBuildingOf (keys_after due keys choice.key.0) index)
+      → ((keys : List (List ℕ)) → IsBuildingOf keys merge.index.building → length keys ≡ merge.written → is_above merge.index.building.last choice.key.0 ≡ true → IsBuildingOf (keys_after due keys choice.key.0) index.building)
       → ((hashed : List ℕ) → HasTaken merge.input hashed → HasTaken input (hashed_after choice.passes hashed (get_or merge.ahead 0 [])))
       → ((hashed : List ℕ) → Holds merge.hasher hashed → Holds hasher (hashed_after due hashed row_bytes))
       → HasMerged old stores sorted merge
@@ -347,8 +348,8 @@ module _ (old new : Content) (stores : List HashState) (sorted : SortedState) (m
         let writes = due_more (newest_rows (entries_in image sorted ++ rows_of_hashes sorted.shape image (regions_of stores))) merge.decided cap next_row.0 old_rows
         (due_rows (choice_puts choice.source) row_bytes) new_rows next_row.1 so_far.writes its_due (rows_due cap merge.written old_rows new_rows (choice_puts choice.source) due row_bytes due_is old_count held.room (written was)) in
         let keys = keys_written cap merge.written old_rows new_rows (choice_puts choice.source) due row_bytes due_is old_count held.room (written was) next_row.0 choice.key.0 its_due next_row.2 in
-        let above = above_index old_rows (newest_rows (entries_in image sorted ++ rows_of_hashes sorted.shape image (regions_of stores))) merge.index merge.decided cap next_row.0 choice.key.0 (rises_newest (entries_in image sorted ++ rows_of_hashes sorted.shape image (regions_of stores))) so_far.index so_far.writes next_row.1 next_row.2 in
-        let built : IsBuildingOf (keys_after due (keys_of old_rows) choice.key.0) index = indexes (keys_of old_rows) so_far.index (length-map old_rows (λ (r : StoredRow). r.key) ∙ old_count) above in
+        let above = above_index old_rows (newest_rows (entries_in image sorted ++ rows_of_hashes sorted.shape image (regions_of stores))) merge.index.building merge.decided cap next_row.0 choice.key.0 (rises_newest (entries_in image sorted ++ rows_of_hashes sorted.shape image (regions_of stores))) so_far.index so_far.writes next_row.1 next_row.2 in
+        let built : IsBuildingOf (keys_after due (keys_of old_rows) choice.key.0) index.building = indexes (keys_of old_rows) so_far.index (length-map old_rows (λ (r : StoredRow). r.key) ∙ old_count) above in
         let holds : HasTaken input (entries_bytes (take (passed_after choice.passes merge.passed) (entries_in image sorted))) =
         subst (HasTaken input) (sym (passed_bytes (entries_in image sorted) choice.passes merge.passed merge.ahead (λ passes. is_ahead (let it = choices.passes passes in omega (arith, it.0, long))) so_far.gathered.ahead))
         (takes (entries_bytes (take merge.passed (entries_in image sorted))) (so_far.gathered.entries_hashed (omega (arith, past, regions_count stores)))) in
@@ -356,7 +357,7 @@ module _ (old new : Content) (stores : List HashState) (sorted : SortedState) (m
         (omega (arith, none)) (gathered_of image stores sorted merge_after past none (omega (arith, below))
         (λ key is_key. last_decided (newest_rows (entries_in image sorted ++ rows_of_hashes sorted.shape image (regions_of stores))) merge.decided next_row.0 choice.key key next_row.1 next_row.2 is_key)
         (ahead_after (entries_in image sorted) choice.passes merge.passed merge.ahead so_far.gathered.ahead) holds after_it) (rows_after ∙ writes)
-        (subst (λ (l : List (List ℕ)). IsBuildingOf l index) (sym (ap keys_of rows_after ∙ keys)) built);
+        (subst (λ (l : List (List ℕ)). IsBuildingOf l index.building) (sym (ap keys_of rows_after ∙ keys)) built);
   }
     where
       cap : ℕ
@@ -398,7 +399,7 @@ next_puts content stores sorted merge first next choice bytes row_bytes held all
 -- ---- on any disk
 
 -- a merge with others ahead, another index with as many keys as there may be, and another hasher
-pub held_with : (merge : MergeState) (slots ahead : List (List ℕ)) (index : Building) (hasher : Sha1) → index.count ≤ merge.written + 1 → IsHeldMerge merge → IsHeldMerge (record merge { slots = slots; ahead = ahead; index = index; hasher = hasher })
+pub held_with : (merge : MergeState) (slots ahead : List (List ℕ)) (index : BuilderState) (hasher : Sha1) → index.building.count ≤ merge.written + 1 → IsHeldMerge merge → IsHeldMerge (record merge { slots = slots; ahead = ahead; index = index; hasher = hasher })
 held_with merge slots ahead index hasher most held = record {
   there = held.there;
   store = held.store;
@@ -622,3 +623,7 @@ module _ (merge : MergeState) (sorted : SortedState) where
   done_merge content stores held done is honest sound room =
       let all = done_entries content stores held done is honest sound ∙ take_all merge.shape.sorted_capacity (merged_rows (sources content.shown stores sorted)) room in
       subst (IsMergeOf (sources content.shown stores sorted)) (sym all) (merged_law (sources content.shown stores sorted))
+
+-- the index of a merge, in which only its builder changes
+pub seals : (old new : MergeState) → (made : MarkedCode) × (new ≡ record old { index = record { building = old.index.building; sealed = Some made } }) × IsTrieOf old.index.building made → Seals old new
+seals old new (made, same, trie) = record { made = made; same = same; indexed = λ content stores sorted done is honest sound. trie.keys _ (is.merged honest sound).index }

@@ -19,7 +19,7 @@ use Rattle.silt_merge.specs.Merging.{HasMerged, decided_rows, gathered_rows, sou
 use Rattle.silt_merge.specs.Pieces.{AreEntries, AreSlots, parts_after}
 use Rattle.silt_merge.specs.Rows.{entries_in, has_row_with, regions_of}
 use Rattle.silt_merge.specs.State.{IsHeldMerge, MergeState, ends_store, input_after, slot_after, source_at}
-use Rattle.silt_trie.specs.Building.{Building, IsBuildingOf, is_above}
+use Rattle.silt_trie.specs.Building.{BuilderState, IsBuildingOf, is_above}
 use Rattle.silt_merge.specs.declared.source.Source.{Source}
 use Rattle.silt_merge.proofs.Comparing.{slot_bytes}
 use Rattle.silt_merge.proofs.Elsewhere.{regions_count}
@@ -41,8 +41,8 @@ unfolding rows_before
 no_slots s region image = refl
 
 -- nothing is gathered, and nothing is due
-pub started : (content : Content) (stores : List HashState) (sorted : SortedState) (shape : Shape) (region : ℕ) (waiting : List (Key × Source)) (index : Building) (slots ahead : List (List ℕ)) (input : Taken) (hasher : Sha1) → shape ≡ sorted.shape → sorted.region ≢ region
-    → waiting ≡ [] → IsBuildingOf [] index → slots ≡ [] → ahead ≡ [] → HasTaken input [] → Holds hasher []
+pub started : (content : Content) (stores : List HashState) (sorted : SortedState) (shape : Shape) (region : ℕ) (waiting : List (Key × Source)) (index : BuilderState) (slots ahead : List (List ℕ)) (input : Taken) (hasher : Sha1) → shape ≡ sorted.shape → sorted.region ≢ region
+    → waiting ≡ [] → IsBuildingOf [] index.building → slots ≡ [] → ahead ≡ [] → HasTaken input [] → Holds hasher []
     → HasMerged content stores sorted (record { shape = shape; region = region; stores = length stores; store = 0; slot = 0; waiting = waiting; passed = 0; written = 0; index = index; decided = 0; last = None; slots = slots; ahead = ahead; input = input; hasher = hasher; damaged = None })
 started content stores sorted shape region waiting index slots ahead input hasher same apart none no_keys none_read none_ahead fresh_input fresh = record {
   shape = sym same;
@@ -63,7 +63,7 @@ started content stores sorted shape region waiting index slots ahead input hashe
       entries_hashed = λ past. fresh_input;
     };
     writes = nothing ∙ sym (take_all shape.sorted_capacity [] (omega arith));
-    index = subst (λ (rows : List StoredRow). IsBuildingOf (keys_of rows) index) (sym nothing) no_keys;
+    index = subst (λ (rows : List StoredRow). IsBuildingOf (keys_of rows) index.building) (sym nothing) no_keys;
   };
 }
   where

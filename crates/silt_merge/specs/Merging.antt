@@ -10,13 +10,15 @@ use Rattle.silt_event.specs.Rows.{newest_row, map_of_rows}
 use Rattle.silt_hash_store.specs.Findings.{hash_findings}
 use Rattle.silt_sorted_store.specs.Findings.{sorted_findings}
 use Rattle.silt_frame.specs.Rows.{StoredRow, entries_bytes, has_known_kind, is_put_row, keys_of, put_count, rows_bytes}
-use Rattle.silt_sorted_store.specs.State.{sorted_rows, SortedState}
+use Rattle.silt_sorted_store.specs.Index.{IsIndexOf}
+use Rattle.silt_sorted_store.specs.State.{entries_of, sorted_rows, SortedState}
 use Rattle.silt_frame.specs.declared.key.Key.{Key}
 use Rattle.silt_merge.specs.Pieces.{AreEntries, AreSlots}
 use Rattle.silt_merge.specs.Rows.{entries_in, has_row_with, rows_of_hashes, key_count, newest_rows, regions_of, sources}
-use Rattle.silt_merge.specs.State.{MergeState, source_at}
+use Rattle.silt_merge.specs.State.{MergeState, is_done, sorted_in, source_at}
 use Rattle.silt_merge.specs.declared.source.Source.{Source}
 use Rattle.silt_trie.specs.Building.{IsBuildingOf}
+use Rattle.silt_trie.specs.Marks.{MarkedCode}
 use Rattle.sha1.specs.Sha1.{Holds}
 use Rattle.silt_hasher.specs.Taking.{HasTaken}
 
@@ -59,7 +61,7 @@ pub record IsMergedIn (image : List ℕ) (stores : List HashState) (sorted : Sor
   pub gathered : IsGatheredIn image stores sorted merge
   pub writes : sorted_rows merge.shape merge.region merge.written image
       ≡ take merge.shape.sorted_capacity (filter is_put_row (decided_rows image stores sorted merge.decided))
-  pub index : IsBuildingOf (keys_of (sorted_rows merge.shape merge.region merge.written image)) merge.index
+  pub index : IsBuildingOf (keys_of (sorted_rows merge.shape merge.region merge.written image)) merge.index.building
 
 -- So far everything is gathered and written, if the disk is honest and there is no finding in the merged stores. On any honest disk
 -- the written entries are hashed.
@@ -82,3 +84,10 @@ pub record IsSameMerge (old new : MergeState) : Type 0 where
   pub shape : new.shape ≡ old.shape
   pub region : new.region ≡ old.region
   pub stores : new.stores ≡ old.stores
+
+-- The index of what a merge wrote is made, in the memory in which it was built. If the merge is done, it is that of the entries.
+pub record Seals (old new : MergeState) : Type 0 where
+  pub made : MarkedCode
+  pub same : new ≡ record old { index = record { building = old.index.building; sealed = Some made } }
+  pub indexed : (content : Content) (stores : List HashState) (sorted : SortedState) → is_done old sorted ≡ true → HasMerged content stores sorted old
+      → IsTrue content.honest → AreSound content.shown stores sorted → IsIndexOf (entries_of content (sorted_in old)) made

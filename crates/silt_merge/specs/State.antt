@@ -9,7 +9,7 @@ use Rattle.silt_frame.specs.declared.key.Key.{Key}
 use Rattle.silt_hash_store.specs.State.{HashState}
 use Rattle.silt_merge.specs.declared.source.Source.{Source}
 use Rattle.silt_sorted_store.specs.State.{SortedState}
-use Rattle.silt_trie.specs.Building.{Building, is_above}
+use Rattle.silt_trie.specs.Building.{BuilderState, is_above}
 use Rattle.sha1.specs.declared.Sha1.{Sha1}
 use Rattle.silt_hasher.specs.Taking.{Taken}
 
@@ -28,7 +28,7 @@ pub record MergeState : Type 0 where
   pub waiting : List (Key × Source)
   pub passed : ℕ
   pub written : ℕ
-  pub index : Building
+  pub index : BuilderState
   pub decided : ℕ
   pub last : Option Key
   pub slots : List (List ℕ)
@@ -36,6 +36,10 @@ pub record MergeState : Type 0 where
   pub input : Taken
   pub hasher : Sha1
   pub damaged : Option Place
+
+-- the sorted store that a merge writes
+abbrev pub sorted_in : MergeState → SortedState
+sorted_in merge = record { shape = merge.shape; region = merge.region; count = merge.written }
 
 -- the next entry's key is at most the last decided key
 abbrev pub is_behind : Option Key → Option Key → Bool
@@ -139,4 +143,4 @@ pub record IsHeldMerge (merge : MergeState) : Type 0 where
   pub inside : (key : List ℕ) (source : Source) → source_at merge.waiting key ≡ Some source → IsInside merge source
   pub room : merge.written ≤ merge.shape.sorted_capacity
   pub few : merge.decided + length merge.waiting ≤ gathered_count merge + merge.passed
-  pub index : merge.index.count ≤ merge.written + 1
+  pub index : merge.index.building.count ≤ merge.written + 1

@@ -58,8 +58,7 @@ pub enum StepError<F> {
 /// wrote, as far as it is built. It also holds a piece of the next slots and one of the next entries of the sorted store, each from
 /// one read. Each step uses the same buffer for an entry. One hasher gets what is taken of the store that is being read, to compare
 /// it with that store's digest, and one gets what is written, so that the new store's digest needs no further read. It remembers a store
-/// that does not fit its digest, and then takes no further step. It keeps room for a copy of the index, as long as the index is so far,
-/// so that its end needs no new memory for it.
+/// that does not fit its digest, and then takes no further step.
 #[derive(Drop)]
 pub struct Merge {
     target: SortedRegion,
@@ -78,7 +77,6 @@ pub struct Merge {
     hasher: Sha1,
     damaged: Option<Place>,
     made: Vec<u8>,
-    room: Vec<u8>,
 }
 
 impl Model for Merge {
@@ -299,10 +297,10 @@ fn index_key(
     is_due: bool,
 ) -> Result<(), AllocError>
     requires few { written ≤ 16777216 }
-    requires most { index.old.count ≤ written + 1 }
-    ensures index { OnOk result ((keys : List (List ℕ)) → IsBuildingOf keys index.old → length keys ≡ written → is_above index.old.last key.0 ≡ true
-        → IsBuildingOf (keys_after is_due keys key.0) index.new) }
-    ensures most { index.new.count ≤ written + 1 }
+    requires most { index.old.building.count ≤ written + 1 }
+    ensures index { OnOk result ((keys : List (List ℕ)) → IsBuildingOf keys index.old.building → length keys ≡ written → is_above index.old.building.last key.0 ≡ true
+        → IsBuildingOf (keys_after is_due keys key.0) index.new.building) }
+    ensures most { index.new.building.count ≤ written + 1 }
     ensures err { OnErr result (index.new ≡ index.old) }
     ensures due { OnErr result (is_due ≡ true) }
 {
@@ -355,7 +353,7 @@ impl Merge {
           hasher = merge.hasher;
           damaged = None;
         }) }
-        ensures levels { IfOk result (λ merge. SuitsKeys (most_entries stores.now sorted.now) merge.index.levels) }
+        ensures levels { IfOk result (λ merge. SuitsKeys (most_entries stores.now sorted.now) merge.index.building.levels) }
         ensures held { IfOk result IsHeldMerge }
         ensures merged { (content : Content) → IfOk result (HasMerged content stores.now sorted.now) }
         ensures compared { (digest : List ℕ) → IfOk result (HasCompared stores.now sorted.now digest) }
@@ -384,7 +382,6 @@ impl Merge {
             hasher: Sha1::new(),
             damaged: None,
             made: vec![in alloc; 0; geometry.entry_len()]?,
-            room: Vec::new(alloc),
         })
     }
 
@@ -717,31 +714,6 @@ impl Merge {
         self.damaged
     }
 
-    // Takes the next step, whatever room there is.
-    fn take_step<D: Disk>(
-        &mut self,
-        stores: &[HashStore],
-        sorted: &SortedEntries,
-        digest: &Digest,
-        disk: &mut D,
-    ) -> Result<(), StepError<D::Fault>>
-        requires more { is_done self.old sorted.now ≡ false }
-        requires count { self.old.stores ≤ length stores.now }
-        requires shapes { All (λ store. store.shape ≡ self.old.shape) (oldest_stores self.old.stores stores.now) }
-        requires shape { sorted.now.shape ≡ self.old.shape }
-        requires size { device_size self.old.shape ≤ size (D.content disk.old) }
-        ensures { TakesStep D.Disk (oldest_stores self.old.stores stores.now) sorted.now digest.now.0 disk.old disk.new self.old self.new result }
-    {
-        if let Some(place) = self.damaged {
-            return Err(StepError::Damaged(place));
-        }
-        let (_newer, taken) = stores.split_at(stores.len() - self.stores as usize);
-        if self.store < self.stores {
-            return self.gather(taken, disk);
-        }
-        self.decide(taken, sorted, digest, disk)
-    }
-
     /// Takes the next step: gathers one slot, or decides one key. It makes at most two reads and then at most one write, of one
     /// entry, and no sync. It allocates memory for at most one row or one key of the index. Slots and entries are read once, in
     /// pieces of at most 64 KiB. If the step that read a piece fails, the piece is read again.
@@ -772,8 +744,14 @@ impl Merge {
         requires size { device_size self.old.shape ≤ size (D.content disk.old) }
         ensures { TakesStep D.Disk (oldest_stores self.old.stores stores.now) sorted.now digest.now.0 disk.old disk.new self.old self.new result }
     {
-        self.keep_room();
-        self.take_step(stores, sorted, digest, disk)
+        if let Some(place) = self.damaged {
+            return Err(StepError::Damaged(place));
+        }
+        let (_newer, taken) = stores.split_at(stores.len() - self.stores as usize);
+        if self.store < self.stores {
+            return self.gather(taken, disk);
+        }
+        self.decide(taken, sorted, digest, disk)
     }
 
     /// Lends what is taken and not hashed yet, if it is 16 KiB or more, to be hashed elsewhere. Returns whether it did.

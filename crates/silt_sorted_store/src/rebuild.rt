@@ -34,12 +34,12 @@ fn take_keys(
 ) -> Result<Option<u32>, AllocError>
     requires len { key_len ≤ len }
     requires bytes { length bytes.now ≡ count * len }
-    requires counted { builder.old.count ≡ first }
+    requires counted { builder.old.building.count ≡ first }
     requires few { first + count ≤ 2 ^ 24 }
-    ensures counted { result ≡ Ok None → builder.new.count ≡ first + count }
+    ensures counted { result ≡ Ok None → builder.new.building.count ≡ first + count }
     ensures place { IfOk result (λ found. IfSome found (λ place. place < first + count)) }
     ensures taken { (rows : List StoredRow) → first + count ≤ length rows → HoldsKeys rows first count len bytes.now
-        → IsIndexing rows first builder.old → IfOk result (TakesKeys rows (first + count) builder.new) }
+        → IsIndexing rows first builder.old.building → IfOk result (TakesKeys rows (first + count) builder.new.building) }
 {
     for i in 0..count {
         let at = i as usize * len;
@@ -62,11 +62,11 @@ fn take_entries<D: Disk>(
 ) -> Result<(), ScanError<D::Fault>>
     requires some { 0 < entries.now.count → 0 < most }
     requires buffer { most * entry_len entries.now.shape ≤ length buffer.old }
-    requires empty { IsEmptyBuilding builder.old }
+    requires empty { IsEmptyBuilding builder.old.building }
     requires fresh { Holds hasher.old [] }
     requires size { device_size entries.now.shape ≤ size (D.content disk.now) }
     ensures hashed { IsTrue (D.content disk.now).honest → OnOk result (Holds hasher.new (entries_bytes (entries_of (D.content disk.now) entries.now))) }
-    ensures taken { IsTrue (D.content disk.now).honest → OnOk result (IsIndexing (entries_of (D.content disk.now) entries.now) entries.now.count builder.new) }
+    ensures taken { IsTrue (D.content disk.now).honest → OnOk result (IsIndexing (entries_of (D.content disk.now) entries.now) entries.now.count builder.new.building) }
     ensures err { IfErr result (IsScanRefused
         (λ place. (place < entries.now.count) × (IsTrue (D.content disk.now).honest → IsFirstOutOfOrder (entries_of (D.content disk.now) entries.now) place))
         (GaveAny D.gave disk.now)) }
@@ -113,7 +113,7 @@ pub fn index_entries<D: Disk>(
     };
     let mut builder = MarkedTrieBuilder::new(alloc, entries.len() as usize);
     take_entries(&mut builder, hasher, disk, entries, &mut buffer, most)?;
-    match builder.finish(alloc) {
+    match builder.finish() {
         Ok(index) => Ok(index),
         Err(_) => Err(ScanError::NoMemory),
     }

@@ -11,7 +11,7 @@ use Rattle.silt_trie.specs.Building.{Building, EndWith, HasGroups, IsBuildingOf,
 use Rattle.silt_trie.specs.Code.{Follows, IsCodable}
 use Rattle.silt_trie.specs.Coded.{bytes_of}
 use Rattle.silt_trie.specs.Marks.{marks_of}
-use Rattle.silt_trie.specs.declared.trie_builder.MarkedTrieBuilder.TheInside.{Inside}
+use Rattle.silt_trie.specs.declared.trie_builder.Groups.TheInside.{Inside}
 use Rattle.std.proofs.lemmas.Bool.{cases_lt}
 use Rattle.silt_trie.proofs.Codes.{bytes_at, length-bytes_of}
 use Rattle.silt_trie.proofs.Built.{ComesTo}

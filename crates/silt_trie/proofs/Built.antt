@@ -4,7 +4,7 @@ use Rattle.std.proofs.lemmas.List.{append-nil, length-append, take_all}
 use Rattle.std.proofs.lemmas.List.Elements.{All-append}
 use Rattle.std.proofs.lemmas.Result.{IfOk-weaker}
 use Rattle.silt_frame.specs.declared.key.Key.{Key}
-use Rattle.silt_trie.specs.Building.{Building, HasGroups, IsBuildingOf, group_of, group_under_way}
+use Rattle.silt_trie.specs.Building.{Building, HasGroups, IsBuildingOf, group_of, group_under_way, trie_in}
 use Rattle.silt_trie.specs.Code.{IsCodable, trie_code}
 use Rattle.silt_trie.specs.Coded.{Grows, bytes_of}
 use Rattle.silt_trie.specs.Marks.{IsMadeOf, MarkedCode, grouped_code, mark_behind, marks_of}
@@ -156,13 +156,13 @@ comes_to n from b now code marks keys none start later keys_are none_is is coded
     })
 
 -- code and marks with the mark behind all keys are made of the keys that a builder is built of, if they are its own once all groups are coded
-pub finished : {E : Type 0} (r : Result MarkedCode E) (b : Building) (from : ℕ) (copied code : List ℕ) (marked marks : List Mark) (keys : List Key) → from ≡ group_under_way b.last → copied ≡ b.code → marked ≡ b.marks → keys ≡ b.group → 8 ≤ b.levels
-    → ((all : List (List ℕ)) (last : Option Key) → HasGroups from all (record { code = copied; marks = marked; group = keys; count = b.count; last = last; levels = b.levels })
+pub finished : (b : Building) (from : ℕ) (code : List ℕ) (marks all_marks : List Mark) (keys : List Key) → from ≡ group_under_way b.last → keys ≡ b.group → 8 ≤ b.levels
+    → ((all : List (List ℕ)) (last : Option Key) → HasGroups from all (record { code = b.code; marks = b.marks; group = keys; count = b.count; last = last; levels = b.levels })
     → HasGroups 256 all (record { code = code; marks = marks; group = []; count = b.count; last = last; levels = b.levels }))
-    → IfOk r (λ made. made ≡ record { code = code; marks = marks ++ mark_behind code b.count ∷ []; count = b.count; depth = 0; groups = 8; levels = b.levels })
-    → IfOk r (λ made. (all : List (List ℕ)) → IsBuildingOf all b → IsMadeOf all made)
-finished r b from copied code marked marks keys start code_is marks_is keys_are most coded = IfOk-weaker r (λ made. made ≡ record { code = code; marks = marks ++ mark_behind code b.count ∷ []; count = b.count; depth = 0; groups = 8; levels = b.levels })
-    (λ made. (all : List (List ℕ)) → IsBuildingOf all b → IsMadeOf all made)
-    (λ made made_is all building.
-    let has : HasGroups from all (record { code = copied; marks = marked; group = keys; count = b.count; last = b.last; levels = b.levels }) = rw (start, code_is, marks_is, keys_are) building.groups in
-    made_of all (record { code = code; marks = marks; group = []; count = b.count; last = b.last; levels = b.levels }) made building.codable (coded all b.last has) most made_is)
+    → all_marks ≡ marks ++ mark_behind code b.count ∷ []
+    → (all : List (List ℕ)) → IsBuildingOf all b → IsMadeOf all (trie_in (record b { code = code; marks = all_marks }))
+finished b from code marks all_marks keys start keys_are most coded behind all building =
+    let has : HasGroups from all (record { code = b.code; marks = b.marks; group = keys; count = b.count; last = b.last; levels = b.levels }) = rw (start, keys_are) building.groups in
+    let done : Building = record { code = code; marks = marks; group = []; count = b.count; last = b.last; levels = b.levels } in
+    made_of all done (trie_in (record b { code = code; marks = all_marks })) building.codable (coded all b.last has) most
+    (ap (λ (ms : List Mark). record { code = code; marks = ms; count = b.count; depth = 0; groups = 8; levels = b.levels }) behind)

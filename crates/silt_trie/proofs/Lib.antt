@@ -10,3 +10,4 @@ pub mod Groups
 pub mod SkipsOf
 pub mod Built
 pub mod Above
+pub mod Sealing

@@ -5,8 +5,9 @@ use Rattle.std.specs.Cmp.Lexicographic.{slice_cmp}
 use Rattle.silt_frame.specs.declared.key.Key.{Key}
 use Rattle.silt_trie.specs.Code.{Follows, IsCodable}
 use Rattle.silt_trie.specs.Coded.{bytes_of}
-use Rattle.silt_trie.specs.Marks.{grouped_code, marks_of, number_of_bits, prefix_of}
+use Rattle.silt_trie.specs.Marks.{IsMadeOf, MarkedCode, grouped_code, marks_of, number_of_bits, prefix_of}
 use Rattle.silt_trie.specs.declared.marks.Mark.{Mark}
+use Rattle.silt_trie.specs.declared.trie_builder.Cut.{Cut}
 
 -- A trie that is being built: the code and the marks of the finished groups, the keys of the present group, the number of keys,
 -- the last key, and by how many bits keys are marked.
@@ -71,3 +72,26 @@ pub record IsHeldBuilding (b : Building) : Type 0 where
   pub few : (length b.group ≤ b.count) × (b.count + 1 < 2 ^ 32)
   pub codable : IsCodable (bytes_of b.group) 8
   pub last_is : (key : Key) → 0 < length b.group → b.last ≡ Some (slice_index_or b.group (length b.group - 1) key)
+
+-- ---- the trie that is made
+
+-- what was built before the last group was coded, if that was done
+abbrev pub opened : Option Cut → Building → Building
+opened None b = b
+opened (Some cut) b = record b { code = take cut.bits b.code; marks = take cut.marks b.marks }
+
+-- code and marks of a building as a trie
+abbrev pub trie_in : Building → MarkedCode
+trie_in b = record { code = b.code; marks = b.marks; count = b.count; depth = 0; groups = 8; levels = b.levels }
+
+-- the trie of the keys that are built
+pub record IsTrieOf (b : Building) (made : MarkedCode) : Type 0 where
+  pub keys : (keys : List (List ℕ)) → IsBuildingOf keys b → IsMadeOf keys made
+  pub depth : made.depth ≡ 0
+  pub groups : made.groups ≡ 8
+  pub levels : made.levels ≡ b.levels
+
+-- what was built, and the trie of it, once it is made
+pub record BuilderState : Type 0 where
+  pub building : Building
+  pub sealed : Option MarkedCode

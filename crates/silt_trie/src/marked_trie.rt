@@ -1,13 +1,11 @@
 //! Code with marks of its own.
 ghost use Rattle.std.specs.Prelude.{◌≡◌, ℕ, ◌+◌, ◌-◌, ◌*◌, ◌/◌, ◌^◌, ◌<◌, ◌≤◌, [], ◌∷◌, ◌++◌, length, min, IfOk, IfSome};
-ghost use Rattle.silt_trie.specs.Marks.{IsMarkedPlace, IsPlaceBetween, MarkedCode, mark_behind};
+ghost use Rattle.silt_trie.specs.Marks.{IsMarkedPlace, IsPlaceBetween, MarkedCode};
 
 use super::key_place::locate_from;
-use super::marked_code::push_mark;
-use super::marks::{MOST_LEVELS, Mark, SKIPS, prefix_number};
+use super::marks::{MOST_LEVELS, Mark, prefix_number};
 use silt_frame::Key;
 use silt_gamma::BitWriter;
-use std::alloc::AllocError;
 use std::marker::Model;
 use std::mem::size_of;
 
@@ -42,40 +40,26 @@ impl Model for MarkedTrie {
 }
 
 impl MarkedTrie {
-    /// Code and marks of all keys as a trie. Puts the mark behind all keys, and frees the memory that
-    /// they do not need.
-    pub(crate) fn complete(
+    /// The trie with this code of groups by first byte, and with these marks. Frees the memory that they do not need.
+    pub(crate) fn of_groups(
         mut bits: BitWriter,
         mut marks: Vec<Mark>,
         count: usize,
-        depth: usize,
-        groups: usize,
         levels: usize,
-    ) -> Result<MarkedTrie, AllocError>
-        requires within { depth + levels ≤ 160 }
-        requires few { levels ≤ 24 }
-        requires grouped { groups ≤ levels }
-        requires counted { count < 2 ^ 32 }
-        ensures { IfOk result (λ made. made ≡ record {
-          code = bits;
-          marks = marks.items ++ mark_behind bits count ∷ [];
-          count = count;
-          depth = depth;
-          groups = groups;
-          levels = levels;
-        }) }
+    ) -> MarkedTrie
+        requires { (8 ≤ levels) × (levels ≤ 24) }
+        ensures { result ≡ record { code = bits; marks = marks.items; count = count; depth = 0; groups = 8; levels = levels } }
     {
-        push_mark(&mut marks, bits.len(), count as u32, [0; SKIPS])?;
         marks.shrink_to_fit();
         bits.shrink_to_fit();
-        Ok(MarkedTrie {
+        MarkedTrie {
             bits,
             marks,
             count,
-            depth,
-            groups,
+            depth: 0,
+            groups: 8,
             levels,
-        })
+        }
     }
 
     /// The number of keys.

@@ -1,15 +1,15 @@
 //! Builds a trie with marks from keys that come one after the other.
-ghost use Rattle.std.specs.Prelude.{◌≡◌, ℕ, true, false, None, ◌+◌, ◌-◌, ◌^◌, ◌<◌, ◌≤◌, List, [], ◌∷◌, ◌++◌, Some, Ok, Option, length, IsTrue, IfOk, OnOk, OnErr};
+ghost use Rattle.std.specs.Prelude.{◌≡◌, ℕ, true, false, None, ◌+◌, ◌-◌, ◌^◌, ◌<◌, ◌≤◌, List, [], ◌∷◌, ◌++◌, Some, Ok, Option, length, IsSome, IsTrue, IfOk, OnOk, OnErr};
 ghost use Rattle.std.specs.Ordering.{nat_cmp, is_lt};
 ghost use Rattle.std.specs.Cmp.Lexicographic.{slice_cmp};
-ghost use Rattle.silt_trie.specs.Building.{Building, HasGroups, IsBuildingOf, IsHeldBuilding, MayFollow, SuitsKeys, group_of, group_under_way, is_above};
+ghost use Rattle.silt_trie.specs.Building.{Building, HasGroups, IsBuildingOf, IsHeldBuilding, IsTrieOf, MayFollow, SuitsKeys, group_of, group_under_way, is_above, trie_in};
 ghost use Rattle.silt_trie.specs.Code.{IsCodable};
 ghost use Rattle.silt_trie.specs.Coded.{Grows, bytes_of};
-ghost use Rattle.silt_trie.specs.Marks.{IsMadeOf};
+ghost use Rattle.silt_trie.specs.Marks.{IsMadeOf, MarkedCode};
 
-use super::marked_code::write_marked;
+use super::marked_code::{push_mark, write_marked};
 use super::marked_trie::{MarkedTrie, levels_for};
-use super::marks::Mark;
+use super::marks::{Mark, SKIPS};
 use silt_frame::{KEY_LEN, Key};
 use silt_gamma::BitWriter;
 use std::alloc::{AllocError, Global};
@@ -22,10 +22,9 @@ const GROUP_BITS: usize = 8;
 /// The number of groups.
 const GROUPS: usize = 1 << GROUP_BITS;
 
-/// A [`MarkedTrie`] that is being built, of keys in groups by their first byte. It holds the keys
-/// of one group at a time, and codes a group when a key of a later one comes.
+/// Keys in groups by their first byte, with the code and the marks of all groups but that of the last key, whose keys wait.
 #[derive(Drop)]
-pub struct MarkedTrieBuilder {
+struct Groups {
     bits: BitWriter,
     marks: Vec<Mark>,
     group: Vec<Key>,
@@ -34,7 +33,7 @@ pub struct MarkedTrieBuilder {
     levels: usize,
 }
 
-impl Model for MarkedTrieBuilder {
+impl Model for Groups {
     ghost Value = { Building };
 
     ghost view = { λ b. record {
@@ -56,15 +55,15 @@ impl Model for MarkedTrieBuilder {
     }) };
 }
 
-impl MarkedTrieBuilder {
-    /// A trie of no keys yet, with marks for about this many.
-    pub fn new(alloc: Global, count: usize) -> MarkedTrieBuilder
+impl Groups {
+    // No keys yet, with marks for about this many.
+    fn new(alloc: Global, count: usize) -> Groups
         ensures empty { IsBuildingOf [] result }
         ensures none { result.last ≡ None }
         ensures count { result.count ≡ 0 }
         ensures levels { SuitsKeys count result.levels }
     {
-        MarkedTrieBuilder {
+        Groups {
             bits: BitWriter::new(alloc),
             marks: Vec::new(alloc),
             group: Vec::new(alloc),
@@ -74,16 +73,9 @@ impl MarkedTrieBuilder {
         }
     }
 
-    /// How many keys were taken.
-    pub fn len(&self) -> usize
-        ensures { result ≡ self.now.count }
-    {
-        self.count
-    }
-
-    /// Takes one more key if it is greater than the last one, and else changes nothing. Returns
-    /// whether it took the key. After an error nothing has changed.
-    pub fn push(&mut self, key: Key) -> Result<bool, AllocError>
+    // Takes one more key if it is greater than the last one, and else changes nothing. Returns
+    // whether it took the key. After an error nothing has changed.
+    fn push(&mut self, key: Key) -> Result<bool, AllocError>
         requires few { self.old.count + 2 < 2 ^ 32 }
         ensures taken { IfOk result (λ taken. taken ≡ is_above self.old.last key.0) }
         ensures built { result ≡ Ok true → (keys : List (List ℕ)) → IsBuildingOf keys self.old
@@ -116,46 +108,168 @@ impl MarkedTrieBuilder {
         Ok(true)
     }
 
-    /// How many bytes a copy of the code takes, that of the group under way included: less than a byte a key of
-    /// it if its keys are spread evenly.
-    pub fn room_for_code(&self) -> usize {
-        self.bits.as_bytes().len().saturating_add(self.group.len())
+    // How much of code and marks there is.
+    fn size(&self) -> Cut
+        ensures { result ≡ record { bits = length self.now.code; marks = length self.now.marks } }
+    {
+        Cut {
+            bits: self.bits.len(),
+            marks: self.marks.len(),
+        }
     }
 
-    /// The trie of the keys that were taken. It has a copy of their code and marks: so the caller
-    /// may fail afterwards, and still has a builder that takes keys and can be asked again.
-    pub fn finish(&self, alloc: Global) -> Result<MarkedTrie, AllocError>
-        ensures made { IfOk result (λ made. (keys : List (List ℕ)) → IsBuildingOf keys self.now
-            → IsMadeOf keys made) }
-        ensures depth { IfOk result (λ made. made.depth ≡ 0) }
-        ensures groups { IfOk result (λ made. made.groups ≡ 8) }
-        ensures levels { IfOk result (λ made. made.levels ≡ self.now.levels) }
+    // Codes the last group, and puts the mark behind all keys: so code and marks are those of a trie. After an error nothing has changed.
+    fn complete(&mut self) -> Result<(), AllocError>
+        ensures rest { self.new ≡ record self.old { code = self.new.code; marks = self.new.marks } }
+        ensures grows { Grows self.old.code self.new.code × Grows self.old.marks self.new.marks }
+        ensures made { OnOk result ((keys : List (List ℕ)) → IsBuildingOf keys self.old → IsMadeOf keys (trie_in self.new)) }
+        ensures err { OnErr result (self.new ≡ self.old) }
     {
-        self.finish_in(alloc, Vec::new(alloc))
+        let (len, marked) = (self.bits.len(), self.marks.len());
+        match self.append_rest() {
+            Ok(()) => Ok(()),
+            Err(fault) => {
+                self.bits.truncate(len);
+                self.marks.truncate(marked);
+                Err(fault)
+            }
+        }
     }
 
-    /// The same, with the code in place of the bytes of `room`. If there are as many as
-    /// [`MarkedTrieBuilder::room_for_code`] says, the code needs no new memory, and none that was not used before.
-    pub fn finish_in(&self, alloc: Global, room: Vec<u8>) -> Result<MarkedTrie, AllocError>
-        ensures made { IfOk result (λ made. (keys : List (List ℕ)) → IsBuildingOf keys self.now
-            → IsMadeOf keys made) }
-        ensures depth { IfOk result (λ made. made.depth ≡ 0) }
-        ensures groups { IfOk result (λ made. made.groups ≡ 8) }
-        ensures levels { IfOk result (λ made. made.levels ≡ self.now.levels) }
+    // The same. After an error part of both may have been appended.
+    fn append_rest(&mut self) -> Result<(), AllocError>
+        ensures rest { self.new ≡ record self.old { code = self.new.code; marks = self.new.marks } }
+        ensures grows { Grows self.old.code self.new.code × Grows self.old.marks self.new.marks }
+        ensures made { OnOk result ((keys : List (List ℕ)) → IsBuildingOf keys self.old → IsMadeOf keys (trie_in self.new)) }
     {
-        let more = self.group.len();
-        let mut bits = self.bits.copy_into(room, more)?;
-        let mut marks = Vec::with_capacity(alloc, (1 << self.levels) + 1)?;
-        marks.extend_from_slice(&self.marks)?;
         write_groups(
-            &mut bits,
-            &mut marks,
+            &mut self.bits,
+            &mut self.marks,
             &self.group,
             self.count,
             self.levels,
             group_under_way(self.last)..GROUPS,
         )?;
-        MarkedTrie::complete(bits, marks, self.count, 0, GROUP_BITS, self.levels)
+        push_mark(
+            &mut self.marks,
+            self.bits.len(),
+            self.count as u32,
+            [0; SKIPS],
+        )?;
+        Ok(())
+    }
+}
+
+/// How much of code and marks there was before the last group was coded.
+#[derive(Clone, Copy)]
+struct Cut {
+    bits: usize,
+    marks: usize,
+}
+
+/// A [`MarkedTrie`] that is being built, of keys in groups by their first byte. It holds the keys
+/// of one group at a time, and codes a group when a key of a later one comes. Once it is sealed, it has the whole trie.
+#[derive(Drop)]
+pub struct MarkedTrieBuilder {
+    groups: Groups,
+    cut: Option<Cut>,
+}
+
+impl Model for MarkedTrieBuilder {
+    ghost use Rattle.std.specs.Prelude.{IfSome, Some};
+    ghost use Rattle.std.specs.Option.{option_map};
+    ghost use Rattle.silt_trie.specs.Building.{BuilderState, IsTrieOf, opened, trie_in};
+
+    ghost Value = { BuilderState };
+
+    ghost view = { λ b. record { building = opened b.cut b.groups; sealed = option_map (λ _. trie_in b.groups) b.cut } };
+
+    ghost invariant = { λ b. IfSome b.cut (λ cut. IsTrieOf (opened (Some cut) b.groups) (trie_in b.groups)) };
+}
+
+impl MarkedTrieBuilder {
+    /// A trie of no keys yet, with marks for about this many.
+    pub fn new(alloc: Global, count: usize) -> MarkedTrieBuilder
+        ensures empty { IsBuildingOf [] result.building }
+        ensures none { result.building.last ≡ None }
+        ensures count { result.building.count ≡ 0 }
+        ensures levels { SuitsKeys count result.building.levels }
+        ensures open { result.sealed ≡ None }
+    {
+        MarkedTrieBuilder {
+            groups: Groups::new(alloc, count),
+            cut: None,
+        }
+    }
+
+    /// How many keys were taken.
+    pub fn len(&self) -> usize
+        ensures { result ≡ self.now.building.count }
+    {
+        self.groups.count
+    }
+
+    /// Takes one more key if it is greater than the last one, and else changes nothing. Returns
+    /// whether it took the key. After an error nothing has changed: out of memory, or it is sealed.
+    pub fn push(&mut self, key: Key) -> Result<bool, AllocError>
+        requires few { self.old.building.count + 2 < 2 ^ 32 }
+        ensures taken { IfOk result (λ taken. taken ≡ is_above self.old.building.last key.0) }
+        ensures built { result ≡ Ok true → (keys : List (List ℕ)) → IsBuildingOf keys self.old.building
+            → IsBuildingOf (keys ++ key.0 ∷ []) self.new.building }
+        ensures last { result ≡ Ok true
+            → (self.new.building.last ≡ Some key) × (self.new.building.count ≡ self.old.building.count + 1) }
+        ensures stays { result ≡ Ok false → self.new ≡ self.old }
+        ensures levels { IfOk result (λ taken. self.new.building.levels ≡ self.old.building.levels) }
+        ensures sealed { self.new.sealed ≡ self.old.sealed }
+        ensures err { OnErr result (self.new ≡ self.old) }
+    {
+        match &self.cut {
+            None => self.groups.push(key),
+            Some(_) => Err(AllocError),
+        }
+    }
+
+    /// Makes the trie of the keys that were taken, in the same memory. After an error nothing has changed, so it takes keys and can be
+    /// asked again.
+    pub fn seal(&mut self) -> Result<(), AllocError>
+        ensures made { OnOk result ((made : MarkedCode) × (self.new ≡ record { building = self.old.building; sealed = Some made }) × IsTrieOf self.old.building made) }
+        ensures err { OnErr result (self.new ≡ self.old) }
+    {
+        if self.cut.is_some() {
+            return Ok(());
+        }
+        let cut = self.groups.size();
+        self.groups.complete()?;
+        self.cut = Some(cut);
+        Ok(())
+    }
+
+    /// The trie that was made. Frees the memory that it does not need.
+    pub fn into_trie(self) -> MarkedTrie
+        requires { IsSome self.sealed }
+        ensures { self.sealed ≡ Some result }
+    {
+        let Groups {
+            bits,
+            marks,
+            count,
+            levels,
+            ..
+        } = self.groups;
+        MarkedTrie::of_groups(bits, marks, count, levels)
+    }
+
+    /// The trie of the keys that were taken.
+    ///
+    /// # Errors
+    ///
+    /// Out of memory.
+    pub fn finish(self) -> Result<MarkedTrie, AllocError>
+        ensures { IfOk result (IsTrieOf self.building) }
+    {
+        let mut builder = self;
+        builder.seal()?;
+        Ok(builder.into_trie())
     }
 }
 
@@ -205,7 +319,7 @@ fn write_groups(
     ensures coded { OnOk result ((all : List (List ℕ)) (last : Option Key)
         → HasGroups groups.start all (record { code = bits.old; marks = marks.old.items; group = keys.now; count = count; last = last; levels = levels })
         → HasGroups groups.end all (record { code = bits.new; marks = marks.new.items; group = []; count = count; last = last; levels = levels })) }
-    ensures err { OnErr result (Grows bits.old bits.new × Grows marks.old.items marks.new.items) }
+    ensures grows { Grows bits.old bits.new × Grows marks.old.items marks.new.items }
 {
     let mut waiting = keys;
     let first = groups.start;

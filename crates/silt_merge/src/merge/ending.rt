@@ -1,57 +1,60 @@
-// The memory that a merge keeps for the index of its store, and how it ends.
-ghost use Rattle.std.specs.Prelude.{◌≡◌, ◌≤◌, List, true, length, take, IsTrue, IfOk};
+// How a merge ends: the index of what it wrote is made, and then it becomes a sorted store.
+ghost use Rattle.std.specs.Prelude.{◌≡◌, ◌≤◌, List, true, length, take, IsSome, IsTrue, OnErr, OnOk, Some};
 ghost use Rattle.silt_disk.specs.Disk.{Content};
 ghost use Rattle.silt_hash_store.specs.State.{HashState};
 ghost use Rattle.silt_sorted_store.specs.State.{HasDigest, SortedState, entries_of};
 
 use super::{Merge, digest_so_far};
+use silt_frame::Digest;
 use silt_sorted_store::{SortedEntries, SortedStore};
-use std::alloc::{AllocError, Global};
-use std::mem;
+use std::alloc::AllocError;
 
 impl Merge {
-    ghost use Rattle.silt_merge.specs.Merging.{AreSound, HasMerged, IsMergeOf};
+    ghost use Rattle.silt_merge.specs.Merging.{AreSound, HasMerged, IsMergeOf, Seals};
     ghost use Rattle.silt_merge.specs.Rows.{merged_rows, sources};
-    ghost use Rattle.silt_merge.specs.State.{is_done};
-    ghost use Rattle.silt_sorted_store.specs.Index.{IsIndexOf};
+    ghost use Rattle.silt_merge.specs.State.{is_done, sorted_in};
 
-    // Makes the room as long as the code of the index, if there is memory for it. Else `finish` asks for what is missing.
-    pub(super) fn keep_room(&mut self)
-        ensures { self.new ≡ self.old }
+    /// The entries that it wrote.
+    pub fn entries(&self) -> SortedEntries
+        ensures { result ≡ sorted_in self.now }
     {
-        let len = self.index.room_for_code();
-        if self.room.len() < len {
-            let _ = self.room.resize(len, 0); // without it `finish` asks for memory
-        }
+        SortedEntries::new(self.target.geometry, self.target.number, self.written)
     }
 
-    /// The memory that it has kept for the index of the new store. It is for `finish`.
-    pub fn take_room(&mut self, alloc: Global) -> Vec<u8>
-        ensures { self.new ≡ self.old }
+    /// The digest of the entries that it wrote.
+    pub fn digest(&self) -> Digest
+        ensures { (content : Content) (stores : List HashState) (sorted : SortedState) → HasMerged content stores sorted self.now → HasDigest content (sorted_in self.now) result.0 }
     {
-        mem::replace(&mut self.room, Vec::new(alloc))
+        digest_so_far(&self.hasher)
     }
 
-    /// The sorted store of the written entries, with the index of their keys and the digest of their bytes. The code of the index takes
-    /// the place of the bytes of `room`.
+    /// Makes the index of the written entries, in the memory in which it was built. A merge takes no further step then. After an error
+    /// nothing has changed.
     ///
     /// # Errors
     ///
-    /// Out of memory: the index could not be allocated.
-    pub fn finish(&self, alloc: Global, room: Vec<u8>) -> Result<SortedStore, AllocError>
-        ensures store { IfOk result (λ store. store.sorted ≡ record { shape = self.now.shape; region = self.now.region; count = self.now.written }) }
-        ensures entries { (content : Content) (stores : List HashState) (sorted : SortedState) → is_done self.now sorted ≡ true → HasMerged content stores sorted self.now → IsTrue content.honest
-            → AreSound content.shown stores sorted → IfOk result (λ store. entries_of content store.sorted ≡ take self.now.shape.sorted_capacity (merged_rows (sources content.shown stores sorted))) }
-        ensures merge { (content : Content) (stores : List HashState) (sorted : SortedState) → is_done self.now sorted ≡ true → HasMerged content stores sorted self.now → IsTrue content.honest
-            → AreSound content.shown stores sorted → length (merged_rows (sources content.shown stores sorted)) ≤ self.now.shape.sorted_capacity
-            → IfOk result (λ store. IsMergeOf (sources content.shown stores sorted) (entries_of content store.sorted)) }
-        ensures indexed { (content : Content) (stores : List HashState) (sorted : SortedState) → is_done self.now sorted ≡ true → HasMerged content stores sorted self.now → IsTrue content.honest
-            → AreSound content.shown stores sorted → IfOk result (λ store. IsIndexOf (entries_of content store.sorted) store.index) }
-        ensures digested { (content : Content) (stores : List HashState) (sorted : SortedState) → HasMerged content stores sorted self.now
-            → IfOk result (λ store. HasDigest content store.sorted store.digest) }
+    /// Out of memory for the last part of the index.
+    pub fn seal(&mut self) -> Result<(), AllocError>
+        ensures made { OnOk result (Seals self.old self.new) }
+        ensures err { OnErr result (self.new ≡ self.old) }
     {
-        let index = self.index.finish_in(alloc, room)?;
-        let entries = SortedEntries::new(self.target.geometry, self.target.number, self.written);
-        Ok(SortedStore::new(entries, index, digest_so_far(&self.hasher)))
+        self.index.seal()?;
+        Ok(())
+    }
+
+    /// The sorted store of the written entries, with the index that was made and this digest.
+    pub fn into_store(self, digest: Digest) -> SortedStore
+        requires { IsSome self.index.sealed }
+        ensures store { result.sorted ≡ sorted_in self }
+        ensures index { self.index.sealed ≡ Some result.index }
+        ensures digest { result.digest ≡ digest.0 }
+        ensures entries { (content : Content) (stores : List HashState) (sorted : SortedState) → is_done self sorted ≡ true → HasMerged content stores sorted self → IsTrue content.honest
+            → AreSound content.shown stores sorted → entries_of content result.sorted ≡ take self.shape.sorted_capacity (merged_rows (sources content.shown stores sorted)) }
+        ensures merge { (content : Content) (stores : List HashState) (sorted : SortedState) → is_done self sorted ≡ true → HasMerged content stores sorted self → IsTrue content.honest
+            → AreSound content.shown stores sorted → length (merged_rows (sources content.shown stores sorted)) ≤ self.shape.sorted_capacity
+            → IsMergeOf (sources content.shown stores sorted) (entries_of content result.sorted) }
+    {
+        let entries = self.entries();
+        SortedStore::new(entries, self.index.into_trie(), digest)
     }
 }

@@ -211,7 +211,14 @@ fn merge_stores<D: Disk>(
     let digest = digest_of(rt, alloc, disk, &sorted);
     let outcome = run_steps(&mut merge, &stores, &sorted, &digest, disk, tries);
     same(rt, &merge.is_done(&sorted), &true);
-    (outcome, done(rt, merge.finish(alloc, Vec::new(alloc))))
+    (outcome, ended(rt, merge))
+}
+
+// The store that a merge becomes.
+fn ended(rt: &impl Abort, mut merge: Merge) -> SortedStore {
+    done(rt, merge.seal());
+    let digest = merge.digest();
+    merge.into_store(digest)
 }
 
 // Merges with four entries, in 30 tries: the outcome of the steps, and how many entries the new

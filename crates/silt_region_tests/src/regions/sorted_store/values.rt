@@ -80,7 +80,7 @@ fn index_of(rt: &impl Abort, alloc: Global, key: Key) -> MarkedTrie {
     let mut builder = MarkedTrieBuilder::new(alloc, 1);
     let is_taken = done(rt, builder.push(key));
     assert!(rt; is_taken);
-    done(rt, builder.finish(alloc))
+    done(rt, builder.finish())
 }
 
 // That of a store with one key.

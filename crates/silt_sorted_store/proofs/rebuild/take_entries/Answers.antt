@@ -17,7 +17,7 @@ loop-place-init g c = record {
   room = refl;
   counted = c.requires.empty.counted;
   hashed = λ honest. c.requires.fresh;
-  taken = λ honest. indexing_none (entries_of (g.D.Disk.content c.args.disk.now) c.args.entries.now) c.args.builder.now c.requires.empty.built c.requires.empty.last;
+  taken = λ honest. indexing_none (entries_of (g.D.Disk.content c.args.disk.now) c.args.entries.now) c.args.builder.now.building c.requires.empty.built c.requires.empty.last;
 }
 
 pub slice_bounds-chunk-end : goal.slice_bounds-chunk-end
@@ -54,7 +54,7 @@ loop-place-smaller g c =
 pub returns-clause-taken : goal.returns-clause-taken
 returns-clause-taken g c = λ honest.
     let all : c.loop-place.place ≡ c.args.entries.now.count = omega (arith, c.loop-place-test.false, c.len-count.ensures.value, c.loop-place.invariant.upto) in
-    subst (λ (n : ℕ). IsIndexing (entries_of (g.D.Disk.content c.args.disk.now) c.args.entries.now) n c.loop-place.builder) all (c.loop-place.invariant.taken honest)
+    subst (λ (n : ℕ). IsIndexing (entries_of (g.D.Disk.content c.args.disk.now) c.args.entries.now) n c.loop-place.builder.building) all (c.loop-place.invariant.taken honest)
 
 pub loop-place-preserved : goal.loop-place-preserved
 loop-place-preserved g c =
@@ -76,7 +76,7 @@ loop-place-preserved g c =
           subst (Holds c.update.new.self) (sym (bytes_of_chunk rows place next (entry_len store.shape) c.read_entries.new.out (c.in_default.ensures.entries honest) long)) (c.update.ensures _ (c.loop-place.invariant.hashed honest));
       taken = λ honest.
           let holds = subst (λ (n : ℕ). HoldsKeys rows place next n c.read_entries.new.out) (sym (c.entry_len-len.ensures.value ∙ ap entry_len c.geometry.ensures)) (c.in_default.ensures.keys honest) in
-          subst (TakesKeys rows (place + next) c.take_keys.new.builder) c.in-Ok-None.field-0-is (c.in-Ok-None.ensures.taken rows (omega (arith, within, long)) holds (c.loop-place.invariant.taken honest));
+          subst (TakesKeys rows (place + next) c.take_keys.new.builder.building) c.in-Ok-None.field-0-is (c.in-Ok-None.ensures.taken rows (omega (arith, within, long)) holds (c.loop-place.invariant.taken honest));
     }
 
 pub returns-in-Ok-Some-clause-err : goal.returns-in-Ok-Some-clause-err
@@ -92,7 +92,7 @@ returns-in-Ok-Some-clause-err g c =
       omega (arith, within, below),
       λ honest.
           let holds = subst (λ (n : ℕ). HoldsKeys rows place next n c.read_entries.new.out) (sym (c.entry_len-len.ensures.value ∙ ap entry_len c.geometry.ensures)) (c.in_default.ensures.keys honest) in
-          subst (TakesKeys rows (place + next) c.take_keys.new.builder) c.in-Ok-Some.field-0-is (c.in-Ok-Some.ensures.taken rows (omega (arith, within, long)) holds (c.loop-place.invariant.taken honest)),
+          subst (TakesKeys rows (place + next) c.take_keys.new.builder.building) c.in-Ok-Some.field-0-is (c.in-Ok-Some.ensures.taken rows (omega (arith, within, long)) holds (c.loop-place.invariant.taken honest)),
     )
 
 pub returns-clause-hashed : goal.returns-clause-hashed

@@ -4,8 +4,8 @@ use Rattle.silt_trie.proofs.Built.{codes_more}
 use Rattle.silt_trie.proofs.Growing.{grows_twice}
 use Rattle.silt_trie.proofs.trie_builder.write_groups.Goals as goal
 
-pub returns-in_err-write_marked-clause-err : goal.returns-in_err-write_marked-clause-err
-returns-in_err-write_marked-clause-err c =
+pub returns-in_err-write_marked-clause-grows : goal.returns-in_err-write_marked-clause-grows
+returns-in_err-write_marked-clause-grows c =
     let bits : Grows c.args.bits.now c.write_marked.new.bits = grows_twice _ c.loop-group.bits _ c.loop-group.invariant.grown.0 c.in_err-write_marked.ensures.err.0 in
     let marks : Grows c.args.marks.now.items c.write_marked.new.marks.items = grows_twice _ c.loop-group.marks.items _ c.loop-group.invariant.grown.1 c.in_err-write_marked.ensures.err.1 in
     search rules

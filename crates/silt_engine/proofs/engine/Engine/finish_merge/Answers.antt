@@ -1,56 +1,30 @@
-use Rattle.std.proofs.Common.{◌≡◌, None, ◌<◌, ◌-◌, ◌^◌, length, ap, sym, ◌∙◌, subst, arith}
-use Rattle.std.proofs.lemmas.List.{length-map}
-use Rattle.silt_event.specs.declared.progress.Progress.TheVariants.{Finished}
-use Rattle.silt_manifest.specs.declared.body.Body.{Body}
-use Rattle.silt_engine.specs.Digests.{merged_digests}
-use Rattle.silt_engine.specs.Merge.{damaged_in, merge_turn, merged_body}
-use Rattle.silt_standing.specs.State.{EngineState, hash_region_of}
-use Rattle.silt_engine.proofs.Holdings.{before_last}
-use Rattle.silt_engine.proofs.MergeDone.{may_end}
-use Rattle.silt_engine.proofs.MergeSteps.{is_finished, merging_of}
-use Rattle.silt_engine.proofs.Viewing.{state_of}
+use Rattle.std.proofs.Common.{[], Ok, ap}
 use Rattle.silt_disk.proofs.Costs.{most_none}
+use Rattle.silt_engine.specs.Conversion.{is_work}
+use Rattle.silt_engine.proofs.MergeSeals.{merges_before, sealed_stands, sealed_works}
+use Rattle.silt_engine.proofs.Works.{both_went, then_broke_off}
 use Rattle.silt_engine.proofs.engine.Engine.finish_merge.Goals as goal
 
-pub end_merge-requires-clause-ends : goal.end_merge-requires-clause-ends
-end_merge-requires-clause-ends g c κs within =
-    let stores : EngineState = state_of c.self.inside in
-    let turn = subst (λ (v : EngineState). merge_turn v ≡ Finished) (sym c.self.view_is) c.requires.turn in
-    let sound = sym (ap damaged_in c.in-Some.is) ∙ subst (λ (v : EngineState). damaged_in v.merging ≡ None) (sym c.self.view_is) c.requires.sound in
-    let unspent = before_last stores.manifest.shape _ stores.manifest.current c.current-current.ensures.sound (λ e. c.if-current-eq-LAST_GENERATION.false (ap (λ (b : Body). b.generation) c.current-current.ensures.value ∙ e)) in
-    let count = c.stores-count.ensures.value in
-    let region = c.region.ensures.value ∙ ap (λ t. t.region) c.in-Ok.ensures.store in
-    let written = c.len.ensures.value ∙ ap (λ t. t.count) c.in-Ok.ensures.store in
-    let body = c.merged_body-body.ensures ∙ ap (λ (b : Body). merged_body b c.stores-count.result c.region.result c.len.result) c.current-current.ensures.value
-    ∙ ap (λ n. merged_body stores.manifest.current n c.region.result c.len.result) count
-    ∙ ap (λ n. merged_body stores.manifest.current c.in-Some.merge.stores n c.len.result) region
-    ∙ ap (λ n. merged_body stores.manifest.current c.in-Some.merge.stores c.in-Some.merge.region n) written in
-    let digests = subst (λ (v : EngineState). c.merged_digests-digests.result ≡ merged_digests v c.stores-count.result c.in-Ok.sorted) (sym c.self.view_is) c.merged_digests-digests.ensures
-    ∙ ap (λ n. merged_digests stores n c.in-Ok.sorted) count in
-    rw (← c.self.view_is) (may_end stores c.merged_body-body.result c.merged_digests-digests.result c.in-Some.merge c.in-Ok.sorted c.in-Some.is (is_finished stores c.in-Some.merge c.in-Some.is turn) sound unspent c.in-Ok.ensures.store body digests c.in-Ok.ensures.indexed c.in-Ok.ensures.digested)
+pub finish_sealed-requires-clause-stands : goal.finish_sealed-requires-clause-stands
+finish_sealed-requires-clause-stands g c κs within = sealed_stands _ _ c.in-Ok.ensures.made _ c.requires.stands
 
-pub merged_body-body-requires-clause-count : goal.merged_body-body-requires-clause-count
-merged_body-body-requires-clause-count g c =
-    let stores : EngineState = state_of c.self.inside in
-    let most = (merging_of stores c.in-Some.merge c.self.invariant.whole c.in-Some.is).most in
-    let ids : length c.current-current.result.hashed ≡ length stores.hashes = ap (λ (b : Body). length b.hashed) c.current-current.ensures.value ∙ ap length (sym c.self.invariant.whole.hash_regions) ∙ length-map stores.hashes hash_region_of in
-    omega (arith, most, ids, c.stores-count.ensures.value)
+pub returns-in-Ok-finish_sealed-clause-works : goal.returns-in-Ok-finish_sealed-clause-works
+returns-in-Ok-finish_sealed-clause-works g c =
+    let sealed = sealed_works c.args.self.now c.seal_merge.new.self c.in-Ok.ensures.made {E = g.row.D-Fault.Denot} g.D.Disk c.args.disk.now c.requires.stands in
+    both_went g.D.Disk [] [] c.args.disk.now c.args.disk.now c.finish_sealed.new.disk c.args.self.now c.seal_merge.new.self c.finish_sealed.new.self _ _ _ sealed c.in-Ok-finish_sealed.ensures.works
 
-pub merged_body-body-requires-clause-unspent : goal.merged_body-body-requires-clause-unspent
-merged_body-body-requires-clause-unspent g c =
-    let stores : EngineState = state_of c.self.inside in
-    let same = ap (λ (b : Body). b.generation) c.current-current.ensures.value in
-    let unspent = before_last stores.manifest.shape _ stores.manifest.current c.current-current.ensures.sound (λ e. c.if-current-eq-LAST_GENERATION.false (same ∙ e)) in
-    subst (λ (b : Body). b.generation < 2 ^ 63 - 1) (sym c.current-current.ensures.value) unspent
+pub returns-in-Ok-finish_sealed-clause-merges : goal.returns-in-Ok-finish_sealed-clause-merges
+returns-in-Ok-finish_sealed-clause-merges g c = merges_before _ _ c.in-Ok.ensures.made _ c.requires.turn c.in-Ok-finish_sealed.ensures.ends
 
-pub merged_digests-digests-requires : goal.merged_digests-digests-requires
-merged_digests-digests-requires g c =
-    let stores : EngineState = state_of c.self.inside in
-    let most = (merging_of stores c.in-Some.merge c.self.invariant.whole c.in-Some.is).most in
-    rw (← c.self.view_is) (omega (arith, most, c.stores-count.ensures.value))
+pub returns-in-Err-clause-err : goal.returns-in-Err-clause-err
+returns-in-Err-clause-err g c =
+    let sealed = sealed_works c.args.self.now c.seal_merge.new.self c.in-Ok.ensures.made {E = g.row.D-Fault.Denot} g.D.Disk c.args.disk.now c.requires.stands in
+    (ap is_work c.requires.turn,
+    then_broke_off g.D.Disk c.args.disk.now c.args.disk.now c.finish_sealed.new.disk c.args.self.now c.seal_merge.new.self c.finish_sealed.new.self _ _ sealed
+    c.finish_sealed.ensures.works.same c.in-Err.ensures.err)
+
+pub returns-in_default-clause-made : goal.returns-in_default-clause-made
+returns-in_default-clause-made g c = most_none
 
 pub returns-then-current-eq-LAST_GENERATION-clause-made : goal.returns-then-current-eq-LAST_GENERATION-clause-made
 returns-then-current-eq-LAST_GENERATION-clause-made g c = most_none
-
-pub returns-in_default-finish-clause-made : goal.returns-in_default-finish-clause-made
-returns-in_default-finish-clause-made g c = most_none

@@ -4,7 +4,7 @@ use Rattle.silt_hash_store.specs.State.{HashState}
 use Rattle.silt_merge.specs.State.{IsHeldMerge, MergeState, oldest_stores}
 use Rattle.silt_merge.specs.Steps.{TakesStep}
 use Rattle.silt_merge.proofs.Stepped.{refused_at_once}
-use Rattle.silt_merge.proofs.merge.Merge.take_step.Goals as goal
+use Rattle.silt_merge.proofs.merge.Merge.step.Goals as goal
 
 pub returns-then-self : goal.returns-then-self
 returns-then-self g c =

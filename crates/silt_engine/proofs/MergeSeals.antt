@@ -1,0 +1,143 @@
+-- The index of a merge is made before its last writes: nothing else of the stores changes.
+use Rattle.std.proofs.Common.{◌≡◌, ◌<◌, ◌-◌, ◌^◌, ℕ, true, None, List, [], Option, Some, Ok, Result, IfOk, refl, ap, sym, ◌∙◌, subst}
+use Rattle.std.specs.Prelude.{IfSome, IsTrue, ⊤}
+use Rattle.silt_disk.specs.Disk.{Content}
+use Rattle.silt_disk.specs.declared.disk.Disk.{Ghosts}
+use Rattle.silt_disk.proofs.Images.{within_refl}
+use Rattle.silt_hash_store.specs.State.{HashState}
+use Rattle.silt_event.specs.declared.progress.Progress.{Progress}
+use Rattle.silt_event.specs.declared.progress.Progress.TheVariants.{Finished}
+use Rattle.silt_manifest.specs.declared.body.Body.{Body}
+use Rattle.silt_manifest.specs.declared.digests.Digests.{Digests}
+use Rattle.silt_merge.specs.Merging.{HasMerged, Seals}
+use Rattle.silt_merge.specs.Rows.{merged_rows}
+use Rattle.silt_merge.specs.State.{MergeState, is_done, oldest_stores, sorted_in}
+use Rattle.silt_sorted_store.specs.Index.{IndexedState, IsIndexOf}
+use Rattle.silt_sorted_store.specs.State.{HasDigest, SortedState, entries_of}
+use Rattle.silt_trie.specs.Marks.{MarkedCode}
+use Rattle.silt_standing.specs.State.{EngineState, IsMerging}
+use Rattle.silt_standing.specs.Standing.{Stands}
+use Rattle.silt_engine.specs.Calls.{Advances, BreaksOff, Works}
+use Rattle.silt_engine.specs.Merge.{AreCompared, EndsMerge, EndsMerged, HasMergedEntries, Merges, SealsMerge, damaged_in, full_stores, merge_sources, merge_turn, merged_body}
+use Rattle.silt_engine.proofs.MergeEntries.{entry_advances}
+use Rattle.silt_engine.proofs.MergeDone.{taken_sound}
+use Rattle.silt_engine.proofs.MergeSteps.{gathered_of, merging_of}
+use Rattle.silt_engine.proofs.MergeSwaps.{same_merge}
+use Rattle.silt_engine.specs.Digests.{merged_digests}
+use Rattle.silt_engine.proofs.Tries.{compared_with_trie, merged_with_trie, way_with_trie, with_trie}
+use Rattle.silt_engine.proofs.Works.{went}
+
+-- the sealed merge is in progress
+pub sealed_way : (s : EngineState) (merge sealed : MergeState) → Seals merge sealed → IsMerging s merge → IsMerging s sealed
+sealed_way s merge sealed seals way = subst (IsMerging s) (sym seals.same) (way_with_trie merge (Some seals.made) s way)
+
+-- the stores, in whose merge a trie is made
+abbrev sealed_stores : EngineState → MergeState → Option MarkedCode → EngineState
+sealed_stores s merge trie = record s { merging = Some (with_trie merge trie) }
+
+-- they advance by nothing
+seal_advances : (content : Content) (s : EngineState) (merge : MergeState) (trie : Option MarkedCode) → s.merging ≡ Some merge → Stands content s → Advances [] content content s (sealed_stores s merge trie)
+seal_advances content s merge trie was stands =
+    let way = merging_of s merge stands.whole was in
+    let gathered = gathered_of content s merge stands was in
+    entry_advances content content s merge.region stands way.held.there way.apart refl (within_refl _ _ content) (Some (with_trie merge trie)) (way_with_trie merge trie s way)
+    (merged_with_trie merge trie content _ _ gathered.0, compared_with_trie merge trie _ _ _ gathered.1, gathered.2)
+
+module _ (s t : EngineState) (seals : SealsMerge s t) where
+  pub sealed_is : t ≡ sealed_stores s seals.merge (Some seals.seals.made)
+  sealed_is = seals.is ∙ ap (λ (m : MergeState). record s { merging = Some m }) seals.seals.same
+
+  pub sealed_merging : t.merging ≡ Some (with_trie seals.merge (Some seals.seals.made))
+  sealed_merging = ap (λ (v : EngineState). v.merging) sealed_is
+
+  -- the step's work so far
+  pub sealed_works : {D F E : Type 0} (facts : Ghosts D F) (disk : D) → Stands (facts.content disk) s → Works {E = E} facts [] disk disk s t (Ok (tt {0}))
+  sealed_works {E = E} facts disk stands = subst (λ (v : EngineState). Works {E = E} facts [] disk disk s v (Ok (tt {0}))) (sym sealed_is)
+      (went facts [] disk disk s _ (Ok (tt {0})) (record { size = refl; honest = refl }) stands refl (seal_advances (facts.content disk) s seals.merge (Some seals.seals.made) seals.was stands))
+
+  pub sealed_stands : (content : Content) → Stands content s → Stands content t
+  sealed_stands content stands = subst (Stands content) (sym sealed_is) (seal_advances content s seals.merge (Some seals.seals.made) seals.was stands).stands
+
+  -- the turn is what it was
+  pub sealed_turn : merge_turn s ≡ merge_turn t
+  sealed_turn = ap (λ (o : Option MergeState). merge_turn (record s { merging = o })) seals.was ∙ ap merge_turn (sym sealed_is)
+
+  pub sealed_sound : damaged_in s.merging ≡ damaged_in t.merging
+  sealed_sound = ap damaged_in seals.was ∙ ap damaged_in (sym sealed_merging)
+
+  pub sealed_generation : t.manifest.current.generation ≡ s.manifest.current.generation
+  sealed_generation = ap (λ (v : EngineState). v.manifest.current.generation) sealed_is
+
+  -- what ends the sealed merge ends the merge
+  compared_before : (count : ℕ) → AreCompared (sealed_stores s seals.merge (Some seals.seals.made)) count → AreCompared s count
+  compared_before count are = record { hashes = are.hashes; entries = are.entries }
+
+  ends_before : (after : EngineState) → EndsMerged (sealed_stores s seals.merge (Some seals.seals.made)) after → EndsMerged s after
+  ends_before after ends =
+      let same : ends.merge ≡ with_trie seals.merge (Some seals.seals.made) = let e : Some ends.merge ≡ Some (with_trie seals.merge (Some seals.seals.made)) = sym ends.was in cc in
+      record {
+        merge = seals.merge;
+        was = seals.was;
+        none = ends.none;
+        shape = ends.shape;
+        current = subst (λ (m : MergeState). after.manifest.current ≡ merged_body s.manifest.current m.stores m.region m.written) same ends.current;
+        active = ends.active;
+        frozen = ends.frozen;
+        converting = ends.converting;
+        compared = compared_before _ (subst (λ (m : MergeState). AreCompared (sealed_stores s seals.merge (Some seals.seals.made)) m.stores) same ends.compared);
+      }
+
+  pub merges_before : (after : EngineState) → merge_turn s ≡ Finished → EndsMerged t after → Merges Finished s after
+  merges_before after turn ends = record { due = sym turn; done = ends_before after (subst (λ (v : EngineState). EndsMerged v after) sealed_is ends) }
+
+  pub entries_before : (old new : Content) (after : EngineState) → HasMergedEntries old new t after → HasMergedEntries old new s after
+  entries_before old new after entries =
+      let sealed : HasMergedEntries old new (sealed_stores s seals.merge (Some seals.seals.made)) after = subst (λ (v : EngineState). HasMergedEntries old new v after) sealed_is entries in
+      subst (λ (o : Option MergeState). IfSome o (λ merge. (full_stores new after).entries ≡ merged_rows (merge_sources merge.stores (full_stores old s)))) (sym seals.was) sealed
+
+-- a merge that is done may end with a sorted store of its entries and their index, which is made
+pub may_end : (before s : EngineState) (body : Body) (digests : Digests) (digest : List ℕ) (seals : SealsMerge before s) → is_done seals.sealed s.sorted ≡ true → seals.sealed.damaged ≡ None
+    → s.manifest.current.generation < 2 ^ 63 - 1 → body ≡ merged_body s.manifest.current seals.sealed.stores seals.sealed.region seals.sealed.written
+    → digests ≡ merged_digests s seals.sealed.stores digest
+    → ((content : Content) (stores : List HashState) (sorted : SortedState) → HasMerged content stores sorted seals.sealed → HasDigest content (sorted_in seals.sealed) digest)
+    → (store : IndexedState) × (store.digest ≡ digest) × EndsMerge s body digests store
+may_end before s body digests digest seals done sound unspent is digests_are digested =
+    let was : s.merging ≡ Some seals.sealed = ap (λ (v : EngineState). v.merging) seals.is in
+    let trie = seals.seals.made in
+    let same = seals.seals.same in
+    let earlier : (content : Content) (stores : List HashState) (sorted : SortedState) → HasMerged content stores sorted seals.sealed → HasMerged content stores sorted seals.merge = λ content stores sorted merged.
+        merged_with_trie (with_trie seals.merge (Some trie)) seals.merge.index.sealed content stores sorted (subst (HasMerged content stores sorted) same merged) in
+    let done_before : is_done seals.merge s.sorted ≡ true = ap (λ (m : MergeState). is_done m s.sorted) (sym same) ∙ done in
+    let made_of : sorted_in seals.sealed ≡ sorted_in seals.merge = ap sorted_in same in
+    (record { sorted = sorted_in seals.sealed; index = trie; digest = digest }, refl, record {
+      merge = seals.sealed;
+      was = was;
+      done = done;
+      unspent = unspent;
+      entries = refl;
+      located = λ content stands honest.
+          let gathers = (gathered_of content s seals.sealed stands was).0 in
+          subst (λ (t : SortedState). IsIndexOf (entries_of content t) trie) (sym made_of)
+          (seals.seals.indexed content (oldest_stores seals.sealed.stores s.hashes) s.sorted done_before (earlier content (oldest_stores seals.sealed.stores s.hashes) s.sorted gathers) honest
+          (taken_sound content s stands honest seals.sealed.stores));
+      digested = λ content stands. digested content (oldest_stores seals.sealed.stores s.hashes) s.sorted (gathered_of content s seals.sealed stands was).0;
+      is = is;
+      digests_are = digests_are;
+      sealed = ap (λ (m : MergeState). m.index.sealed) same;
+      sound = sound;
+    })
+
+-- the same in the words of the merge in progress
+pub may_end_now : (before s : EngineState) (body : Body) (digests : Digests) (digest : List ℕ) (seals : SealsMerge before s) (merge : MergeState) → s.merging ≡ Some merge → is_done merge s.sorted ≡ true → merge.damaged ≡ None
+    → s.manifest.current.generation < 2 ^ 63 - 1 → body ≡ merged_body s.manifest.current merge.stores merge.region merge.written → digests ≡ merged_digests s merge.stores digest
+    → ((content : Content) (stores : List HashState) (sorted : SortedState) → HasMerged content stores sorted merge → HasDigest content (sorted_in merge) digest)
+    → (store : IndexedState) × (store.digest ≡ digest) × EndsMerge s body digests store
+may_end_now before s body digests digest seals merge was done sound unspent is digests_are digested =
+    let same : merge ≡ seals.sealed = same_merge merge seals.sealed s.merging was (ap (λ (v : EngineState). v.merging) seals.is) in
+    may_end before s body digests digest seals
+    (subst (λ (m : MergeState). is_done m s.sorted ≡ true) same done)
+    (subst (λ (m : MergeState). m.damaged ≡ None) same sound)
+    unspent
+    (subst (λ (m : MergeState). body ≡ merged_body s.manifest.current m.stores m.region m.written) same is)
+    (subst (λ (m : MergeState). digests ≡ merged_digests s m.stores digest) same digests_are)
+    (subst (λ (m : MergeState). (content : Content) (stores : List HashState) (sorted : SortedState) → HasMerged content stores sorted m → HasDigest content (sorted_in m) digest) same digested)
