@@ -1,7 +1,6 @@
 -- The rows that a conversion writes are sound, and have the tags of the log's table.
-use Rattle.std.proofs.Common.{◌≡◌, ◌≢◌, ℕ, ◌+◌, ◌*◌, ◌/◌, ◌<◌, ◌==◌, eqb, true, false, ◌||◌, cond, List, [], length, map, take, get_or, slice_get, Option, Some, None, inl, inr, min, max, option_map, refl, sym, ap, ◌∙◌, arith}
+use Rattle.std.proofs.Common.{◌≡◌, ◌≢◌, ℕ, ◌+◌, ◌*◌, ◌/◌, ◌<◌, ◌==◌, eqb, true, false, ◌||◌, cond, List, [], length, map, take, get_or, slice_get, Option, Some, None, inl, inr, min, max, option_map, refl, sym, ap, ◌∙◌, arith, bytes_eq}
 use Rattle.std.specs.List.{range_with_len}
-use Rattle.std.specs.Str.{bytes_eq}
 use Rattle.std.proofs.lemmas.Bool.{and_parts, cases_Bool, cases_eq, cond-false, cond-true, eq-eqb, ne_eqb}
 use Rattle.std.proofs.lemmas.List.{get_or-replicate}
 use Rattle.std.proofs.lemmas.List.FromFn.{get_or-map-range_with_len, length-map-range_with_len, take-map-range_with_len}
@@ -32,21 +31,20 @@ empty_kind s = get_or-replicate (row_len s) 0 0 0 (omega arith)
 
 -- a pair of buckets, from the one in which a slot lies
 other_of : (at tag first second : ℕ) → pair_of at tag ≡ pair_of first second → ((at == first) || (at == second)) ≡ true × (tag ≡ cond (at == first) second first)
-other_of at tag first second same = elim (cases_eq at first) [
-  | inl is_first ↦
-      let low : min at tag ≡ min first second = ap (λ (p : ℕ × ℕ). p.0) same in
-      let high : max at tag ≡ max first second = ap (λ (p : ℕ × ℕ). p.1) same in
-      let test : eqb at first ≡ true = eq-eqb at first is_first in
-      let tag_is : tag ≡ second = omega (arith, low, high, is_first) in
-      (rw test refl, tag_is ∙ sym (cond-true _ _ _ test))
-  | inr other ↦
-      let low : min at tag ≡ min first second = ap (λ (p : ℕ × ℕ). p.0) same in
-      let high : max at tag ≡ max first second = ap (λ (p : ℕ × ℕ). p.1) same in
-      let test : eqb at first ≡ false = ne_eqb at first other in
-      let is_second : at ≡ second = omega (arith, low, high, other) in
-      let tag_is : tag ≡ first = omega (arith, low, high, other) in
-      (rw (test, eq-eqb at second is_second) refl, tag_is ∙ sym (cond-false _ _ _ test))
-]
+other_of at tag first second same =
+    let low : min at tag ≡ min first second = ap (λ (p : ℕ × ℕ). p.0) same in
+    let high : max at tag ≡ max first second = ap (λ (p : ℕ × ℕ). p.1) same in
+    elim (cases_eq at first) [
+      | inl is_first ↦
+          let test : eqb at first ≡ true = eq-eqb at first is_first in
+          let tag_is : tag ≡ second = omega arith in
+          (rw test refl, tag_is ∙ sym (cond-true _ _ _ test))
+      | inr other ↦
+          let test : eqb at first ≡ false = ne_eqb at first other in
+          let is_second : at ≡ second = omega arith in
+          let tag_is : tag ≡ first = omega arith in
+          (rw (test, eq-eqb at second is_second) refl, tag_is ∙ sym (cond-false _ _ _ test))
+    ]
 
 module _ (s : Shape) (rows : List StoredRow) (table : Slots) (is : IsTableOf s rows table) where
   abbrev blank : StoredRow

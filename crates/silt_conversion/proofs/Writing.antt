@@ -23,6 +23,7 @@ use Rattle.silt_log_store.proofs.Elsewhere.{frozen_elsewhere, rows_outside}
 use Rattle.silt_log_store.proofs.Rows.{known_there}
 use Rattle.silt_conversion.specs.Conversion.{ConversionState, HasWritten, IsDigestOf, IsHeldConversion, Steps, converted_before, converted_row, converted_rows, empty_row, row_for, tag_of_entry, with_entry}
 use Rattle.silt_conversion.specs.Laws.{IsTableOf}
+use Rattle.silt_conversion.specs.declared.conversion.Conversion.TheInside.{Inside}
 use Rattle.silt_hash_store.specs.State.{IsHashStore}
 use Rattle.silt_hash_store.proofs.Elsewhere.{behind_logs, slots_inside}
 use Rattle.silt_hash_store.proofs.Reading.{slot_elsewhere}
@@ -86,24 +87,47 @@ entry_elsewhere tags slot other None apart = refl
 entry_elsewhere tags slot other (Some entry) apart = get_or-set_other tags slot other (Some entry.0) None apart
 
 -- a conversion with one more slot, and at most one more put
-pub held_step : (conversion : ConversionState) (len puts : ℕ) (hasher : Sha1) (entry : Option Entry) → IsHeldConversion conversion len → conversion.next < 4 * conversion.shape.buckets → puts ≤ 1
-    → IsHeldConversion (record conversion { next = conversion.next + 1; tags = with_entry conversion.tags conversion.next entry; puts = conversion.puts + puts; hasher = hasher }) len
-held_step conversion len puts hasher entry held below few = record {
+pub held_as : (conversion : ConversionState) (tags : List (Option ℕ)) (len puts : ℕ) (hasher : Sha1) (entry : Option Entry)
+    → IsHeldConversion conversion len → conversion.next < 4 * conversion.shape.buckets → puts ≤ 1 → tags ≡ with_entry conversion.tags conversion.next entry
+    → IsHeldConversion (record conversion { next = conversion.next + 1; tags = tags; puts = conversion.puts + puts; hasher = hasher }) len
+held_as conversion tags len puts hasher entry held below few same = record {
   there = held.there;
-  long = entry_long conversion.tags conversion.next entry ∙ held.long;
+  long = ap length same ∙ entry_long conversion.tags conversion.next entry ∙ held.long;
   most = omega (arith, below);
   counted = omega (arith, held.counted, few);
-  later = λ slot past. entry_elsewhere conversion.tags conversion.next slot entry (λ same. absurd (omega arith)) ∙ held.later slot (omega arith);
+  later = λ slot past.
+      ap (λ (t : List (Option ℕ)). slot_tag t slot) same
+      ∙ entry_elsewhere conversion.tags conversion.next slot entry (λ here. absurd (omega arith)) ∙ held.later slot (omega arith);
   buffer = held.buffer;
 }
 
--- with the tags under another name
-pub held_as : (conversion : ConversionState) (tags : List (Option ℕ)) (len puts : ℕ) (hasher : Sha1) (entry : Option Entry) → IsHeldConversion conversion len → conversion.next < 4 * conversion.shape.buckets → puts ≤ 1
-    → tags ≡ with_entry conversion.tags conversion.next entry → IsHeldConversion (record conversion { next = conversion.next + 1; tags = tags; puts = conversion.puts + puts; hasher = hasher }) len
-held_as conversion tags len puts hasher entry held below few same =
-    subst (λ (t : List (Option ℕ)). IsHeldConversion (record conversion { next = conversion.next + 1; tags = t; puts = conversion.puts + puts; hasher = hasher }) len) (sym same) (held_step conversion len puts hasher entry held below few)
+-- the conversion of these fields
+abbrev pub conversion_of : Inside → ConversionState
+conversion_of c = record { shape = c.region.geometry; region = c.region.number; tags = c.tags; next = c.next; puts = c.puts; hasher = c.hasher }
 
 -- ---- a slot that is written
+
+-- what a conversion has written stays, if its slots and the log's rows do
+pub written_same : (old new : Content) (log : LogStoreState) (conversion : ConversionState) → new.honest ≡ old.honest
+    → (IsTrue old.honest → all_rows new log.log ≡ all_rows old log.log)
+    → (IsTrue old.honest → (slot : ℕ) → slot < conversion.next
+    → slot_row conversion.shape conversion.region new.shown slot ≡ slot_row conversion.shape conversion.region old.shown slot)
+    → HasWritten old log conversion → HasWritten new log conversion
+written_same old new log conversion same rows slots is = record {
+  shape = is.shape;
+  due = λ honest slot low.
+      slots (was honest) slot low ∙ is.due (was honest) slot low
+      ∙ ap (λ (r : List StoredRow). converted_row conversion.shape log.table r slot) (sym (rows (was honest)));
+  tagged = is.tagged;
+  charged = λ honest. is.charged (was honest) ∙ ap (λ (r : List StoredRow). put_count (filter has_known_kind (before r))) (sym (rows (was honest)));
+  hashed = λ honest. subst (λ (r : List StoredRow). Holds conversion.hasher (rows_bytes (before r))) (sym (rows (was honest))) (is.hashed (was honest));
+}
+  where
+    was : IsTrue new.honest → IsTrue old.honest
+    was honest = sym same ∙ honest
+
+    before : List StoredRow → List StoredRow
+    before rows = converted_before conversion.shape log.table rows conversion.next
 
 module _ (old new : Content) (log : LogStoreState) (conversion : ConversionState) (bounds : InBounds log.log) (same : conversion.shape ≡ log.log.shape)
     (fits : device_size conversion.shape ≤ size old) (changes : ChangesWithin (hash_slot_at conversion.shape conversion.region conversion.next) (row_len conversion.shape) old new) where
@@ -124,53 +148,48 @@ module _ (old new : Content) (log : LogStoreState) (conversion : ConversionState
 
   -- the slots before show what they showed
   pub written_kept : conversion.region < conversion.shape.hashes → conversion.next < 4 * conversion.shape.buckets → HasWritten old log conversion → HasWritten new log conversion
-  written_kept there below is = record {
-    shape = is.shape;
-    due = λ honest slot low.
-        let was : IsTrue old.honest = sym changes.honest ∙ honest in
-        slot_elsewhere conversion.shape conversion.region conversion.next slot old.shown new.shown (omega (arith, slots_inside conversion.shape conversion.region there, fits)) below (omega (arith, low, below)) (λ at. absurd (omega arith)) (changes.shown was)
-        ∙ is.due was slot low ∙ ap (λ (rows : List StoredRow). converted_row conversion.shape log.table rows slot) (sym (rows_kept was));
-    tagged = is.tagged;
-    charged = λ honest.
-        let was : IsTrue old.honest = sym changes.honest ∙ honest in
-        is.charged was ∙ ap (λ (rows : List StoredRow). put_count (filter has_known_kind (converted_before conversion.shape log.table rows conversion.next))) (sym (rows_kept was));
-    hashed = λ honest.
-        let was : IsTrue old.honest = sym changes.honest ∙ honest in
-        subst (λ (rows : List StoredRow). Holds conversion.hasher (rows_bytes (converted_before conversion.shape log.table rows conversion.next))) (sym (rows_kept was)) (is.hashed was);
-  }
+  written_kept there below = written_same old new log conversion changes.honest rows_kept (λ was slot low.
+      slot_elsewhere conversion.shape conversion.region conversion.next slot old.shown new.shown
+      (omega (arith, slots_inside conversion.shape conversion.region there, fits)) below (omega (arith, low, below)) (λ at. absurd (omega arith))
+      (changes.shown was))
 
   -- and the next one its row
   pub written_step : (after : ConversionState) → conversion.region < conversion.shape.hashes → conversion.next < 4 * conversion.shape.buckets → length conversion.tags ≡ 4 * conversion.shape.buckets
       → slot_tag conversion.tags conversion.next ≡ None → Steps log old new conversion after → IsFrozenStore old log → HasWritten old log conversion → HasWritten new log after
   written_step after there below long none steps frozen is =
       let kept = written_kept there below is in
+      let was : IsTrue new.honest → IsTrue old.honest = λ honest. sym changes.honest ∙ honest in
+      let due : IsTrue new.honest → due_in old ≡ due_in new = λ honest.
+      ap (λ (rows : List StoredRow). converted_row conversion.shape log.table rows conversion.next) (sym (rows_kept (was honest))) in
       subst (λ (a : ConversionState). HasWritten new log a) (sym steps.next) (record {
         shape = is.shape;
         due = λ honest slot low. elim (cases_eq slot conversion.next) [
           | inl here ↦
-              let was : IsTrue old.honest = sym changes.honest ∙ honest in
-              ap (slot_row conversion.shape conversion.region new.shown) here ∙ steps.shows was frozen ∙ ap (λ (rows : List StoredRow). converted_row conversion.shape log.table rows conversion.next) (sym (rows_kept was))
+              ap (slot_row conversion.shape conversion.region new.shown) here ∙ steps.shows (was honest) frozen ∙ due honest
               ∙ ap (converted_row conversion.shape log.table (all_rows new log.log)) (sym here)
           | inr other ↦ kept.due honest slot (omega arith)
         ];
         tagged = λ slot low. elim (cases_eq slot conversion.next) [
           | inl here ↦ ap (slot_tag (with_entry conversion.tags conversion.next (entry_at log.table conversion.next))) here
-              ∙ entry_here conversion.tags conversion.next (entry_at log.table conversion.next) (omega (arith, below, long)) none ∙ ap (λ n. tag_of_entry (entry_at log.table n)) (sym here)
+              ∙ entry_here conversion.tags conversion.next (entry_at log.table conversion.next) (omega (arith, below, long)) none
+              ∙ ap (λ n. tag_of_entry (entry_at log.table n)) (sym here)
           | inr other ↦ entry_elsewhere conversion.tags conversion.next slot (entry_at log.table conversion.next) other ∙ is.tagged slot (omega arith)
         ];
         charged = λ honest.
-            let was : IsTrue old.honest = sym changes.honest ∙ honest in
-            steps.added was frozen
-            ∙ ap (λ n. n + put_count (filter has_known_kind (converted_row conversion.shape log.table (all_rows old log.log) conversion.next ∷ []))) (is.charged was)
-            ∙ sym (due_more conversion.shape log.table (all_rows old log.log) conversion.next)
-            ∙ ap (λ (rows : List StoredRow). put_count (filter has_known_kind (converted_before conversion.shape log.table rows (conversion.next + 1)))) (sym (rows_kept was));
+            steps.added (was honest) frozen
+            ∙ ap (λ (row : StoredRow). conversion.puts + put_count (filter has_known_kind (row ∷ []))) (due honest)
+            ∙ ap (λ n. n + put_count (filter has_known_kind (due_in new ∷ []))) (kept.charged honest)
+            ∙ sym (due_more conversion.shape log.table (all_rows new log.log) conversion.next);
         hashed = λ honest.
-            let was : IsTrue old.honest = sym changes.honest ∙ honest in
-            let fed = steps.fed was frozen (rows_bytes (converted_before conversion.shape log.table (all_rows old log.log) conversion.next)) (is.hashed was) in
-            let more : Holds after.hasher (rows_bytes (converted_before conversion.shape log.table (all_rows old log.log) (conversion.next + 1))) =
-            subst (λ (l : List ℕ). Holds after.hasher l) (sym (bytes_more conversion.shape log.table (all_rows old log.log) conversion.next)) fed in
-            subst (λ (rows : List StoredRow). Holds after.hasher (rows_bytes (converted_before conversion.shape log.table rows (conversion.next + 1)))) (sym (rows_kept was)) more;
+            let before : List ℕ = rows_bytes (converted_before conversion.shape log.table (all_rows new log.log) conversion.next) in
+            subst (λ (l : List ℕ). Holds after.hasher l)
+            (ap (λ (row : StoredRow). before ++ row_bytes row) (due honest)
+            ∙ sym (bytes_more conversion.shape log.table (all_rows new log.log) conversion.next))
+            (steps.fed (was honest) frozen before (kept.hashed honest));
       })
+    where
+      due_in : Content → StoredRow
+      due_in content = converted_row conversion.shape log.table (all_rows content log.log) conversion.next
 
 -- a step that wrote the bytes of the row and fed them to the hasher
 pub step_made : (log : LogStoreState) (old new : Content) (before : ConversionState) (tags : List (Option ℕ)) (puts : ℕ) (hasher : Sha1) (row written fed : List ℕ) → tags ≡ with_entry before.tags before.next (entry_at log.table before.next)

@@ -14,7 +14,7 @@ use Rattle.silt_frame.specs.Gate.{is_open}
 use Rattle.silt_log.proofs.Counts.{count_most}
 use Rattle.silt_log.proofs.Bodies.{body_before, map_range_same, range_split, rows_behind}
 use Rattle.silt_log.proofs.Standing.{gates_within}
-use Rattle.silt_log.proofs.Exits.{StandsIn, region_lies, log_from, log_standing, stands_resized}
+use Rattle.silt_log.proofs.Exits.{fits_resized, StandsIn, region_lies, log_from, log_standing, stands_resized}
 
 -- a range outside a log's gates and bodies lies before its gates or after its bodies
 pub outside_bodies : (s : Shape) (region at count : ℕ) → LiesOutside (gates_at s region) (log_len s) at count → (at + count ≤ gates_at s region) ⊎ (bodies_at s region + s.log_capacity * row_len s ≤ at)
@@ -97,8 +97,7 @@ pub log_elsewhere : (old new : Content) (log : LogState) (at count : ℕ) → Is
 unfolding rows_from row_at
 log_elsewhere old new log at count is fits same outside changes =
     let place = region_lies log.shape log.region (size old) is.bounds.region fits in
-    let here : device_size log.shape ≤ size old = fits in
-    let fits_new : device_size log.shape ≤ size new = subst (λ n. device_size log.shape ≤ n) (sym same) here in
+    let fits_new = fits_resized log.shape old new fits same in
     let settled_most : log.settled ≤ log.shape.log_capacity = omega (arith, is.bounds.order, is.bounds.room) in
     let leaves : LeavesOnly new (StandsIn new log (settled_rows old log)) = within_leaves changes (log_standing old log is fits)
     (λ before after stands torn. stands_resized old new log (settled_rows old log) after same (record {

@@ -77,6 +77,10 @@ stands_images content log rows bounds fits leaves =
     let place = region_lies log.shape log.region (size content) bounds.region fits in
     record { each = λ honest image left. rows_standing _ _ _ _ _ place log.settled rows image (omega (arith, bounds.order, bounds.room)) (leaves.each honest image left) }
 
+-- a device of the same size has room for the same regions
+pub fits_resized : (s : Shape) (old new : Content) → device_size s ≤ size old → size new ≡ size old → device_size s ≤ size new
+fits_resized s old new fits same = subst (λ n. device_size s ≤ n) (sym same) fits
+
 -- the same image on a disk of the same size
 pub stands_resized : (old new : Content) (log : LogState) (rows : List StoredRow) (image : List ℕ) → size new ≡ size old → StandsIn old log rows image → StandsIn new log rows image
 stands_resized old new log rows image same stands = record { long = stands.long ∙ sym same; are = stands.are; hold = stands.hold }
@@ -91,7 +95,7 @@ module _ (old new : Content) (log : LogState) (is : IsLog old log) (fits : devic
       stands_resized old new log (settled_rows old log) after same (body_torn _ _ _ _ _ place log.used log.settled (settled_rows old log) before after room is.bounds.order stands torn))
 
   append_fits : device_size log.shape ≤ size new
-  append_fits = let here : device_size log.shape ≤ size old = fits in subst (λ n. device_size log.shape ≤ n) (sym same) here
+  append_fits = fits_resized log.shape old new fits same
 
   -- at each exit
   pub append_images : LeavesOnly new (λ image. log_rows log.shape log.region image ≡ settled_rows old log)

@@ -15,7 +15,7 @@ use Rattle.silt_log.specs.Calls.{SyncsAndTears, Empties, OpensGates, OpensSome, 
 use Rattle.silt_log.proofs.Bodies.{range_split}
 use Rattle.silt_log.proofs.Splices.{spliced_over}
 use Rattle.silt_log.proofs.Standing.{Stands, gates_torn_rows, gates_spliced, gates_torn, gates_within}
-use Rattle.silt_log.proofs.Exits.{StandsIn, region_lies, log_from, log_standing, stands_images}
+use Rattle.silt_log.proofs.Exits.{fits_resized, StandsIn, region_lies, log_from, log_standing, stands_images}
 
 -- ---- prepare: zeros over all gates
 
@@ -26,8 +26,7 @@ prepare_done old new log bytes region fits same all writes rests =
     let after : LogState = record log { settled = 0; used = 0; stale = false } in
     let place = region_lies log.shape log.region (size old) region fits in
     let bounds : InBounds after = record { region = region; order = omega arith; room = omega arith; gap = λ stale. absurd (false≢true stale) } in
-    let here : device_size log.shape ≤ size old = fits in
-    let fits_new : device_size log.shape ≤ size new = subst (λ n. device_size log.shape ≤ n) (sym same) here in
+    let fits_new = fits_resized log.shape old new fits same in
     let zeros : List ℕ = replicate bytes 0 in
     let long : length zeros ≡ bytes = length-replicate bytes 0 in
     let within : gates_at log.shape log.region + log.shape.log_capacity ≤ size old = gates_within _ _ _ _ _ place old.shown refl in
@@ -123,8 +122,7 @@ module _ (old : Content) (log : LogState) (is : IsLog old log) (fits : device_si
       let place = region_lies log.shape log.region (size old) is.bounds.region fits in
       let more : ℕ = log.used - log.settled in
       let both : log.settled + more ≡ log.used = omega (arith, is.bounds.order) in
-      let here : device_size log.shape ≤ size old = fits in
-      let fits_new : device_size log.shape ≤ size new = subst (λ n. device_size log.shape ≤ n) (sym same) here in
+      let fits_new = fits_resized log.shape old new fits same in
       let bounds : InBounds after = record { region = is.bounds.region; order = omega arith; room = is.bounds.room; gap = λ stale. absurd (false≢true (sym is.sealed ∙ stale)) } in
       let shown : IsTrue old.honest → new.shown ≡ opened_image old log = λ honest.
       writes.shown honest ∙ ap (λ n. splice (gates_at log.shape log.region + log.settled) (replicate n 167) old.shown) count in
@@ -139,7 +137,3 @@ module _ (old : Content) (log : LogState) (is : IsLog old log) (fits : device_si
         settled = λ honest. (stands honest).hold;
         all = λ honest. (stands honest).hold;
       }
-
--- the same for a log under another name
-pub opens_as : (old new : Content) (before after after_other : LogState) → after_other ≡ after → OpensGates old new before after → OpensGates old new before after_other
-opens_as old new before after after_other same opens = subst (λ l. OpensGates old new before l) (sym same) opens

@@ -1,6 +1,5 @@
 -- The heads and the whole bodies that are read.
-use Rattle.std.proofs.Common.{◌≡◌, ℕ, ◌+◌, ◌≤◌, List, length, take, drop, get_or, slice_range, sym, ap, ◌∙◌, arith}
-use Rattle.std.specs.Option.{option_map}
+use Rattle.std.proofs.Common.{◌≡◌, ℕ, ◌+◌, ◌≤◌, List, length, take, drop, get_or, slice_range, sym, ap, ◌∙◌, arith, option_map}
 use Rattle.std.proofs.lemmas.List.Edits.{get_or-between}
 use Rattle.silt_disk.specs.Layout.{Shape, row_len}
 use Rattle.silt_frame.specs.Frame.{kind_of, head_of}

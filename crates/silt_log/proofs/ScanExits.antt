@@ -1,7 +1,6 @@
 -- The result of a scan.
-use Rattle.std.proofs.Common.{◌≡◌, ℕ, Bool, List, map, drop, Result, Ok, Err, sym, ap, ◌∙◌, subst}
+use Rattle.std.proofs.Common.{◌≡◌, ℕ, Bool, List, map, drop, Result, Ok, Err, sym, ap, ◌∙◌, subst, is_ok, MatchResult}
 use Rattle.std.specs.List.{prefix_len, range_with_len, list_any}
-use Rattle.std.specs.Result.{is_ok, MatchResult}
 use Rattle.std.proofs.lemmas.Bool.{false≢true}
 use Rattle.silt_disk.specs.Layout.{Shape, row_len, gates_at, bodies_at}
 use Rattle.silt_frame.specs.Gate.{is_open}

@@ -1,8 +1,6 @@
 -- The rows that a scan reads.
-use Rattle.std.proofs.Common.{cond, ◌≡◌, ℕ, ◌+◌, ◌-◌, ◌*◌, ◌≤◌, ◌<◌, true, false, List, [], ◌∷◌, ◌++◌, length, map, drop, get_or, slice_range, Some, None, Result, Ok, Err, eqb, inl, inr, refl, sym, ap, ◌∙◌, subst, arith, below_more}
+use Rattle.std.proofs.Common.{cond, ◌≡◌, ℕ, ◌+◌, ◌-◌, ◌*◌, ◌≤◌, ◌<◌, true, false, List, [], ◌∷◌, ◌++◌, length, map, drop, get_or, slice_range, Some, None, Result, Ok, Err, eqb, inl, inr, refl, sym, ap, ◌∙◌, subst, arith, below_more, is_some, option_map, is_ok, OnOk}
 use Rattle.std.specs.List.{range_with_len}
-use Rattle.std.specs.Option.{is_some, option_map}
-use Rattle.std.specs.Result.{is_ok, OnOk}
 use Rattle.std.proofs.lemmas.Bool.{cases_Bool, cond-true, cond-false, eqb-true, false≢true}
 use Rattle.std.proofs.lemmas.List.{map_push, map-id, length_push}
 use Rattle.std.proofs.lemmas.List.FromFn.{map-range_with_len_more, length-map-range_with_len}

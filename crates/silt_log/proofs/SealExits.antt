@@ -12,7 +12,7 @@ use Rattle.silt_log.specs.State.{LogState, InBounds, IsScanned, settled_rows}
 use Rattle.silt_log.specs.Calls.{Seals}
 use Rattle.silt_log.proofs.Counts.{same_byte, count_between, counted_open, first_closed, gates_counted}
 use Rattle.silt_log.proofs.Standing.{gates_torn_rows, gates_within}
-use Rattle.silt_log.proofs.Exits.{StandsIn, region_lies, log_from}
+use Rattle.silt_log.proofs.Exits.{fits_resized, StandsIn, region_lies, log_from}
 
 module _ (gates count : ℕ) (old : List ℕ) (fits : gates + count ≤ length old) where
   -- a write past the first closed gate leaves the count
@@ -78,8 +78,7 @@ module _ (old new : Content) (log : LogState) (bounds : InBounds log) (fits : de
   seal_done more room rest same writes settled =
       let after : LogState = record log { stale = false } in
       let place = region_lies log.shape log.region (size old) bounds.region fits in
-      let here : device_size log.shape ≤ size old = fits in
-      let fits_new : device_size log.shape ≤ size new = subst (λ n. device_size log.shape ≤ n) (sym same) here in
+      let fits_new = fits_resized log.shape old new fits same in
       let bounds_new : InBounds after = record { region = bounds.region; order = bounds.order; room = bounds.room; gap = λ stale. absurd (false≢true stale) } in
       let zeros : List ℕ = replicate more 0 in
       let long : length zeros ≡ more = length-replicate more 0 in
@@ -121,7 +120,3 @@ module _ (old : Content) (log : LogState) (bounds : InBounds log) (fits : device
         stands = log_from old log (settled_rows old log) bounds tight fits (rests_leaves rests (record { holds = stands }));
         settled = λ honest. refl;
       }
-
--- the same for a log under another name
-pub seals_as : (old new : Content) (before after after_other : LogState) → after_other ≡ after → Seals old new before after → Seals old new before after_other
-seals_as old new before after after_other same seals = subst (λ l. Seals old new before l) (sym same) seals

@@ -1,7 +1,6 @@
 -- One write after another.
-use Rattle.std.proofs.Common.{◌≡◌, ℕ, ◌+◌, ◌-◌, ◌≤◌, List, ◌++◌, length, take, drop, replicate, sym, ap, ◌∙◌, subst, inl, inr, arith}
+use Rattle.std.proofs.Common.{◌≡◌, ℕ, ◌+◌, ◌-◌, ◌≤◌, List, ◌++◌, length, take, drop, replicate, sym, ap, ◌∙◌, subst, inl, inr, arith, ext_get_or, append_assoc, length-append, length-take-le, take_at, drop_at, drop-drop}
 use Rattle.std.proofs.lemmas.Bool.{cases_lt}
-use Rattle.std.proofs.lemmas.List.{ext_get_or, append_assoc, length-append, length-take-le, take_at, drop_at, drop-drop}
 use Rattle.silt_disk.specs.Disk.{Content, Torn, ChangesWithin, Writes, size, splice}
 use Rattle.silt_disk.proofs.Images.{torn_splice, splice_byte}
 use Rattle.silt_frame.specs.Frame.{head_bytes, kind_byte}

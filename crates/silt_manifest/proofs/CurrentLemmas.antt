@@ -58,68 +58,54 @@ second_is_sound s v first second b is_current =
       | inr unsound ↦ let refused : record_found s v first second ≡ Err (Slot 1) = rw (sound, unsound) refl in absurd (none_is_current s v first second 1 b refused is_current)
     ]
 
+-- what holds of the slots 0 and 1, in both orders, holds of each slot and the other one
+either : (P : ℕ → ℕ → Type 0) → P 0 1 → P 1 0 → (r o : ℕ) → r + o ≡ 1 → P r o
+either P first second r o slots =
+    elim (cases_eq r 0) [
+      | inl zero_r ↦ let one_o : o ≡ 1 = omega arith in rw (zero_r, one_o) first
+      | inr not_zero ↦ let one_r : r ≡ 1 = omega arith in let zero_o : o ≡ 0 = omega arith in rw (one_r, zero_o) second
+    ]
+
 -- the current record of an image is sound in its slot
-pub current_is_sound : (s : Shape) (r o : ℕ) (b : SlotRecord) (image : List ℕ) → r + o ≡ 1 → open_record image r ≡ Some b → current_manifest s image ≡ Some b → is_sound_record s (version_of (header_of image)) r (Some b) ≡ true
+pub current_is_sound : (s : Shape) (r o : ℕ) (b : SlotRecord) (image : List ℕ) → r + o ≡ 1 → open_record image r ≡ Some b
+    → current_manifest s image ≡ Some b → is_sound_record s (version_of (header_of image)) r (Some b) ≡ true
 current_is_sound s r o b image slots stands is_current =
     let v = version_of (header_of image) in
-    elim (cases_eq r 0) [
-      | inl zero_r ↦
-          let here : open_record image 0 ≡ Some b = ap (open_record image) (sym zero_r) ∙ stands in
-          ap (λ (slot : ℕ). is_sound_record s v slot (Some b)) zero_r ∙ ap (is_sound_record s v 0) (sym here)
-          ∙ first_is_sound s v (open_record image 0) (open_record image 1) b is_current
-      | inr not_zero ↦
-          let one_r : r ≡ 1 = omega arith in
-          let here : open_record image 1 ≡ Some b = ap (open_record image) (sym one_r) ∙ stands in
-          ap (λ (slot : ℕ). is_sound_record s v slot (Some b)) one_r ∙ ap (is_sound_record s v 1) (sym here)
-          ∙ second_is_sound s v (open_record image 0) (open_record image 1) b is_current
-    ]
+    let zeroth = open_record image 0 in
+    let first = open_record image 1 in
+    either (λ r o. open_record image r ≡ Some b → is_sound_record s v r (Some b) ≡ true)
+    (λ here. ap (is_sound_record s v 0) (sym here) ∙ first_is_sound s v zeroth first b is_current)
+    (λ here. ap (is_sound_record s v 1) (sym here) ∙ second_is_sound s v zeroth first b is_current) r o slots stands
 
 -- a record is found whose slot is the only open one
-pub alone_found : (s : Shape) (v : Version) (r o : ℕ) (b : SlotRecord) (image : List ℕ) → version_of (header_of image) ≡ v → r + o ≡ 1 → is_sound_record s v r (Some b) ≡ true → open_record image r ≡ Some b → open_record image o ≡ None → manifest_found s image ≡ Ok b
-alone_found s v r o b image is slots sound stands closed =
-    elim (cases_eq r 0) [
-      | inl zero_r ↦
-          let one_o : o ≡ 1 = omega arith in
-          found_at s v image (Some b) None is (ap (open_record image) (sym zero_r) ∙ stands) (ap (open_record image) (sym one_o) ∙ closed)
-          ∙ alone_first s v b (ap (λ (slot : ℕ). is_sound_record s v slot (Some b)) (sym zero_r) ∙ sound)
-      | inr not_zero ↦
-          let one_r : r ≡ 1 = omega arith in
-          let zero_o : o ≡ 0 = omega arith in
-          found_at s v image None (Some b) is (ap (open_record image) (sym zero_o) ∙ closed) (ap (open_record image) (sym one_r) ∙ stands)
-          ∙ alone_second s v b (ap (λ (slot : ℕ). is_sound_record s v slot (Some b)) (sym one_r) ∙ sound)
-    ]
+pub alone_found : (s : Shape) (v : Version) (r o : ℕ) (b : SlotRecord) (image : List ℕ) → version_of (header_of image) ≡ v → r + o ≡ 1
+    → is_sound_record s v r (Some b) ≡ true → open_record image r ≡ Some b → open_record image o ≡ None → manifest_found s image ≡ Ok b
+alone_found s v r o b image is =
+    either (λ r o. is_sound_record s v r (Some b) ≡ true → open_record image r ≡ Some b → open_record image o ≡ None → manifest_found s image ≡ Ok b)
+    (λ sound stands closed. found_at s v image (Some b) None is stands closed ∙ alone_first s v b sound)
+    (λ sound stands closed. found_at s v image None (Some b) is closed stands ∙ alone_second s v b sound) r o
 
 -- a record is current if it is newer than the other
-pub newer_is_current : (s : Shape) (v : Version) (r o : ℕ) (a b : SlotRecord) (image : List ℕ) → version_of (header_of image) ≡ v → r + o ≡ 1 → is_sound_record s v r (Some a) ≡ true → is_sound_record s v o (Some b) ≡ true → b.body.generation ≡ a.body.generation + 1 → open_record image r ≡ Some a → open_record image o ≡ Some b → current_manifest s image ≡ Some b
-newer_is_current s v r o a b image is slots sound_a sound_b next stands_a stands_b =
-    elim (cases_eq r 0) [
-      | inl zero_r ↦
-          let one_o : o ≡ 1 = omega arith in
-          let newer : nat_lt a.body.generation b.body.generation ≡ true = grind (arith, nat_tests) in
-          ap where_found (found_at s v image (Some a) (Some b) is (ap (open_record image) (sym zero_r) ∙ stands_a) (ap (open_record image) (sym one_o) ∙ stands_b)
-          ∙ newer_second s v a b (ap (λ (slot : ℕ). is_sound_record s v slot (Some a)) (sym zero_r) ∙ sound_a) (ap (λ (slot : ℕ). is_sound_record s v slot (Some b)) (sym one_o) ∙ sound_b) newer)
-      | inr not_zero ↦
-          let one_r : r ≡ 1 = omega arith in
-          let zero_o : o ≡ 0 = omega arith in
-          let older : nat_lt b.body.generation a.body.generation ≡ false = grind (arith, nat_tests) in
-          ap where_found (found_at s v image (Some b) (Some a) is (ap (open_record image) (sym zero_o) ∙ stands_b) (ap (open_record image) (sym one_r) ∙ stands_a)
-          ∙ newer_first s v b a (ap (λ (slot : ℕ). is_sound_record s v slot (Some b)) (sym zero_o) ∙ sound_b) (ap (λ (slot : ℕ). is_sound_record s v slot (Some a)) (sym one_r) ∙ sound_a) older)
-    ]
+pub newer_is_current : (s : Shape) (v : Version) (r o : ℕ) (a b : SlotRecord) (image : List ℕ) → version_of (header_of image) ≡ v → r + o ≡ 1
+    → is_sound_record s v r (Some a) ≡ true → is_sound_record s v o (Some b) ≡ true → b.body.generation ≡ a.body.generation + 1
+    → open_record image r ≡ Some a → open_record image o ≡ Some b → current_manifest s image ≡ Some b
+newer_is_current s v r o a b image is slots sound_a sound_b next =
+    let newer : nat_lt a.body.generation b.body.generation ≡ true = grind (arith, nat_tests) in
+    let older : nat_lt b.body.generation a.body.generation ≡ false = grind (arith, nat_tests) in
+    either (λ r o. is_sound_record s v r (Some a) ≡ true → is_sound_record s v o (Some b) ≡ true
+    → open_record image r ≡ Some a → open_record image o ≡ Some b → current_manifest s image ≡ Some b)
+    (λ sound_a sound_b here there. ap where_found (found_at s v image (Some a) (Some b) is here there ∙ newer_second s v a b sound_a sound_b newer))
+    (λ sound_a sound_b here there. ap where_found (found_at s v image (Some b) (Some a) is there here ∙ newer_first s v b a sound_b sound_a older))
+    r o slots sound_a sound_b
 
 -- images of one version whose slots hold the same have the same current record
-pub same_is_current : (s : Shape) (r o : ℕ) (before after : List ℕ) → version_of (header_of after) ≡ version_of (header_of before) → r + o ≡ 1 → open_record after r ≡ open_record before r → open_record after o ≡ open_record before o → current_manifest s after ≡ current_manifest s before
-same_is_current s r o before after is slots same_r same_o =
-    elim (cases_eq r 0) [
-      | inl zero_r ↦
-          let one_o : o ≡ 1 = omega arith in
-          ap where_found (found_at s (version_of (header_of before)) after (open_record before 0) (open_record before 1) is
-          (ap (open_record after) (sym zero_r) ∙ same_r ∙ ap (open_record before) zero_r) (ap (open_record after) (sym one_o) ∙ same_o ∙ ap (open_record before) one_o))
-      | inr not_zero ↦
-          let one_r : r ≡ 1 = omega arith in
-          let zero_o : o ≡ 0 = omega arith in
-          ap where_found (found_at s (version_of (header_of before)) after (open_record before 0) (open_record before 1) is
-          (ap (open_record after) (sym zero_o) ∙ same_o ∙ ap (open_record before) zero_o) (ap (open_record after) (sym one_r) ∙ same_r ∙ ap (open_record before) one_r))
-    ]
+pub same_is_current : (s : Shape) (r o : ℕ) (before after : List ℕ) → version_of (header_of after) ≡ version_of (header_of before) → r + o ≡ 1
+    → open_record after r ≡ open_record before r → open_record after o ≡ open_record before o → current_manifest s after ≡ current_manifest s before
+same_is_current s r o before after is =
+    let same : open_record after 0 ≡ open_record before 0 → open_record after 1 ≡ open_record before 1 → current_manifest s after ≡ current_manifest s before =
+    λ zeroth first. ap where_found (found_at s (version_of (header_of before)) after (open_record before 0) (open_record before 1) is zeroth first) in
+    either (λ r o. open_record after r ≡ open_record before r → open_record after o ≡ open_record before o
+    → current_manifest s after ≡ current_manifest s before) same (λ first zeroth. same zeroth first) r o
 
 -- a record stays current if its slot stays, and the other one is closed or stays too
 pub stays_current : (s : Shape) (r o : ℕ) (b : SlotRecord) (before after : List ℕ) → version_of (header_of after) ≡ version_of (header_of before) → r + o ≡ 1 → open_record before r ≡ Some b → current_manifest s before ≡ Some b → open_record after r ≡ open_record before r → (open_record after o ≡ None) ⊎ (open_record after o ≡ open_record before o) → current_manifest s after ≡ Some b

@@ -1,5 +1,5 @@
 -- What keeps a record current, for a crate above to cite.
-use Rattle.std.proofs.Common.{◌≡◌, ℕ, ◌+◌, ◌<◌, ◌≤◌, false, List, Option, [], ◌∷◌, length, refl, sym, ap, ◌∙◌, inl, inr, arith}
+use Rattle.std.proofs.Common.{◌≡◌, ℕ, ◌+◌, ◌<◌, ◌≤◌, false, List, Option, [], ◌∷◌, length, refl, sym, ap, ◌∙◌, inl, inr, arith, slice_index}
 use Rattle.std.proofs.lemmas.Bool.{cases_eq}
 use Rattle.silt_disk.specs.Disk.{ChangesWithin, Content, LeavesOnly, LiesOutside, Restarts, Rests, Shows, Torn, Writes, size}
 use Rattle.silt_disk.specs.Header.{header_of, version_of}
@@ -11,7 +11,6 @@ use Rattle.silt_manifest.specs.declared.slot.SlotRecord.{SlotRecord}
 use Rattle.silt_manifest.specs.Standing.{IsFirst, IsCurrentIn, ManifestState, IsCurrent, current_slot, spare_slot}
 use Rattle.silt_manifest.proofs.SlotImages.{gate_written, other_same, slot_same, version_stays}
 use Rattle.silt_manifest.proofs.CurrentLemmas.{found_at}
-use Rattle.std.specs.Prelude.{slice_index}
 use Rattle.silt_frame.specs.Gate.{is_open}
 
 -- two slots that hold the same, and the same version

@@ -143,14 +143,11 @@ next_written m place at bytes next digests old between new is is_at are first se
 pub prepared_state : (m : ManifestState) (shape : Shape) (current next : Body) (held : Option Digests) (digests : Digests) (content : Content) → m.shape ≡ shape → m.current ≡ current → m.digests ≡ held → IsNext m next → FitsSlot next → FitsDigests digests → LeavesOnly content (IsReady m next digests)
     → IsPrepared (record { shape = shape; current = current; digests = held; spare_closed = true; prepared = Some (long_record next digests) }) next digests content
 prepared_state m shape current next held digests content same_shape same_current same_digests follows fits fits_digests leaves =
-    subst (λ s. IsPrepared (record { shape = s; current = current; digests = held; spare_closed = true; prepared = Some (long_record next digests) }) next digests content) same_shape
-    (subst (λ b. IsPrepared (record { shape = m.shape; current = b; digests = held; spare_closed = true; prepared = Some (long_record next digests) }) next digests content) same_current
-    (subst (λ d. IsPrepared (record { shape = m.shape; current = m.current; digests = d; spare_closed = true; prepared = Some (long_record next digests) }) next digests content) same_digests
-    (record {
+    rw (← same_shape, ← same_current, ← same_digests) (record {
       is = refl;
       closed = refl;
       follows = record { generation = follows.generation; sound = follows.sound };
       fits = fits;
       fits_digests = fits_digests;
       leaves = weaker_leaves leaves (λ image ready. record { current = ready.current; stands = ready.stands; spare = ready.spare; bytes = ready.bytes });
-    })))
+    })

@@ -1,7 +1,5 @@
 -- What a read of the slots means for the shown bytes.
-use Rattle.std.proofs.Common.{◌≡◌, ℕ, ◌+◌, ◌%◌, Bool, true, false, not, nat_lt, if◌then◌else◌, List, slice_index, IsTrue, Option, Some, None, Err, refl, sym, ap, subst, ◌∙◌, inl, inr, arith}
-use Rattle.std.specs.Option.{ok_or}
-use Rattle.std.specs.Result.{IfOk, IfErr}
+use Rattle.std.proofs.Common.{◌≡◌, ℕ, ◌+◌, ◌%◌, Bool, true, false, not, nat_lt, if◌then◌else◌, List, slice_index, IsTrue, Option, Some, None, Err, refl, sym, ap, subst, ◌∙◌, inl, inr, arith, ok_or, IfOk, IfErr}
 use Rattle.std.proofs.lemmas.Bool.{cases_Bool}
 use Rattle.silt_disk.specs.Disk.{Content, Shows, LeavesOnly, Rests}
 use Rattle.silt_disk.specs.Header.{header_of, version_of}

@@ -1,12 +1,8 @@
 -- Which key is decided next, by what row, and what is due after it.
-use Rattle.std.proofs.Common.{◌≡◌, ◌≢◌, ℕ, zero, suc, ◌+◌, ◌<◌, ◌≤◌, ◌⊎◌, nat_lt, Bool, true, false, ◌||◌, cond, List, [], ◌∷◌, ◌++◌, filter, length, take, slice_get, Option, Some, None, inl, inr, refl, sym, ap, ◌∙◌, arith}
+use Rattle.std.proofs.Common.{◌≡◌, ◌≢◌, ℕ, zero, suc, ◌+◌, ◌<◌, ◌≤◌, ◌⊎◌, nat_lt, Bool, true, false, ◌||◌, cond, List, [], ◌∷◌, ◌++◌, filter, length, take, slice_get, Option, Some, None, inl, inr, refl, sym, ap, ◌∙◌, arith, nat_cmp, bytes_eq, Less}
 use Rattle.std.specs.Option.{is_some, option_or}
-use Rattle.std.specs.Ordering.{nat_cmp}
-use Rattle.std.specs.Cmp.Lexicographic.{slice_cmp}
-use Rattle.std.specs.Str.{bytes_eq}
-use Rattle.std.specs.declared.cmp.Ordering.TheVariants.{Less}
+use Rattle.std.specs.Cmp.Lexicographic.{slice_cmp, nat_list_cmp_total}
 use Rattle.std.proofs.lemmas.Bool.{cases_Bool, cases_lt, cases_eq, cases_order, cond-true, cond-false, le-ltb, lt-ltb, ltb-false, or_parts}
-use Rattle.std.proofs.lemmas.Cmp.{nat_list_cmp_total}
 use Rattle.std.proofs.lemmas.List.{length-take-le, take-append-le, take_all, take_more}
 use Rattle.std.proofs.lemmas.List.Elements.{filter-append}
 use Rattle.std.proofs.lemmas.List.Folds.{list_any-append}
@@ -86,16 +82,19 @@ next_at (first ∷ rest) (suc count) key found rises is none =
     let both = or_parts (bytes_eq first.key key) (has_row_with key (take count rest)) none in
     next_at rest count key found rises.1 (sym (cond-false _ _ _ both.0) ∙ is) both.1
 
+-- the first rows and one more
+take_one : (rows : List StoredRow) (count : ℕ) (row : StoredRow) → slice_get rows count ≡ Some row → take (count + 1) rows ≡ take count rows ++ row ∷ []
+take_one rows count row there =
+    take_more rows count row (slice_get_within rows count row there) ∙ ap (λ r. take count rows ++ r ∷ []) (get_or_from_slice_get rows count row row there)
+
 -- one row more
-pub has_more : (rows : List StoredRow) (count : ℕ) (row : StoredRow) (key : List ℕ) → slice_get rows count ≡ Some row → has_row_with key (take (count + 1) rows) ≡ (has_row_with key (take count rows) || bytes_eq row.key key)
+pub has_more : (rows : List StoredRow) (count : ℕ) (row : StoredRow) (key : List ℕ) → slice_get rows count ≡ Some row
+    → has_row_with key (take (count + 1) rows) ≡ (has_row_with key (take count rows) || bytes_eq row.key key)
 has_more rows count row key there =
     let last : (b : Bool) → (b || false) ≡ b = elim [ true ↦ refl | false ↦ refl ] in
-    ap (has_row_with key) (one_more rows count row there)
+    ap (has_row_with key) (take_one rows count row there)
     ∙ list_any-append (λ (r : StoredRow). bytes_eq r.key key) (take count rows) (row ∷ [])
     ∙ ap (λ b. has_row_with key (take count rows) || b) (last (bytes_eq row.key key))
-  where
-    one_more : (rows : List StoredRow) (count : ℕ) (row : StoredRow) → slice_get rows count ≡ Some row → take (count + 1) rows ≡ take count rows ++ row ∷ []
-    one_more rows count row there = take_more rows count row (slice_get_within rows count row there) ∙ ap (λ r. take count rows ++ r ∷ []) (get_or_from_slice_get rows count row row there)
 
 -- a key of the first rows is below that of the next one
 pub before_at : (rows : List StoredRow) (count : ℕ) (key : List ℕ) (row : StoredRow) → Rises rows → has_row_with key (take count rows) ≡ true → slice_get rows count ≡ Some row → slice_cmp nat_cmp key row.key ≡ Less
@@ -349,11 +348,9 @@ take_both most xs ys = elim (cases_lt (length xs) most) [
 pub due_more : (rows : List StoredRow) (count most : ℕ) (row : StoredRow) (before due after : List StoredRow) → slice_get rows count ≡ Some row → before ≡ take most (filter is_put_row (take count rows))
     → due ≡ filter is_put_row (row ∷ []) → after ≡ take most (before ++ due) → after ≡ take most (filter is_put_row (take (count + 1) rows))
 due_more rows count most row before due after there is more made =
-    let one : take (count + 1) rows ≡ take count rows ++ row ∷ [] =
-    take_more rows count row (slice_get_within rows count row there) ∙ ap (λ r. take count rows ++ r ∷ []) (get_or_from_slice_get rows count row row there) in
     made
     ∙ ap (λ l. take most (l ++ due)) is
     ∙ ap (λ l. take most (take most (filter is_put_row (take count rows)) ++ l)) more
     ∙ take_both most (filter is_put_row (take count rows)) (filter is_put_row (row ∷ []))
     ∙ ap (take most) (sym (filter-append is_put_row (take count rows) (row ∷ [])))
-    ∙ ap (λ l. take most (filter is_put_row l)) (sym one)
+    ∙ ap (λ l. take most (filter is_put_row l)) (sym (take_one rows count row there))

@@ -1,7 +1,5 @@
 -- What the decision of a key leaves, and what a merge that is done has written.
-use Rattle.std.proofs.Common.{◌≡◌, ◌≢◌, ℕ, ◌+◌, ◌*◌, ◌<◌, ◌≤◌, ◌&&◌, ◌==◌, nat_lt, nat_le, Bool, true, false, not, ◌||◌, cond, IsTrue, List, [], ◌∷◌, ◌++◌, filter, length, take, get_or, slice_get, Option, Some, None, IsSomeAnd, option_map, inl, inr, refl, sym, subst, ap, ◌∙◌, arith}
-use Rattle.std.specs.Option.{is_some}
-use Rattle.std.specs.Str.{bytes_eq}
+use Rattle.std.proofs.Common.{◌≡◌, ◌≢◌, ℕ, ◌+◌, ◌*◌, ◌<◌, ◌≤◌, ◌&&◌, ◌==◌, nat_lt, nat_le, Bool, true, false, not, ◌||◌, cond, IsTrue, List, [], ◌∷◌, ◌++◌, filter, length, take, get_or, slice_get, Option, Some, None, IsSomeAnd, option_map, inl, inr, refl, sym, subst, ap, ◌∙◌, arith, is_some, bytes_eq, Ordering, is_lt, nat_cmp, Less, Equal, Greater}
 use Rattle.std.proofs.lemmas.Bool.{and_from, and_parts, cases_lt, cond-true, cond-false, eq-eqb, eqb-true, le-leb, leb-true, ltb-false, ltb-true, ne_eqb}
 use Rattle.std.proofs.lemmas.Map.Text.{is_eq-slice_cmp}
 use Rattle.std.proofs.lemmas.List.{length-map, take_all}
@@ -16,9 +14,6 @@ use Rattle.silt_frame.specs.declared.key.Kind.{Kind}
 use Rattle.silt_frame.specs.declared.key.Kind.TheVariants.{Put, Delete}
 use Rattle.silt_hash_store.specs.Slots.{slot_row}
 use Rattle.silt_hash_store.specs.State.{HashState}
-use Rattle.std.specs.Ordering.{is_lt, nat_cmp}
-use Rattle.std.specs.declared.cmp.Ordering.{Ordering}
-use Rattle.std.specs.declared.cmp.Ordering.TheVariants.{Less, Equal, Greater}
 use Rattle.std.proofs.lemmas.Map.Lookups.{exact_bytes}
 use Rattle.std.specs.Cmp.Lexicographic.{slice_cmp}
 use Rattle.silt_event.specs.Rows.{newest_row}
@@ -206,58 +201,60 @@ passed_bytes : (rows : List StoredRow) (passes : Bool) (passed : ℕ) (ahead : L
 passed_bytes rows true passed ahead some are = entry_bytes rows passed ahead (some refl) are
 passed_bytes rows false passed ahead some are = refl
 
--- a merge with entries that are read ahead
-pub merged_ahead : (content : Content) (stores : List HashState) (sorted : SortedState) (merge : MergeState) (ahead : List (List ℕ)) → (IsTrue content.honest → AreEntries (entries_of content sorted) merge.passed ahead)
-    → HasMerged content stores sorted merge → HasMerged content stores sorted (record merge { ahead = ahead })
-merged_ahead content stores sorted merge ahead there is = record {
+-- these are the bytes of the next slots of the store in progress
+abbrev NextSlots : List ℕ → List HashState → SortedState → MergeState → List (List ℕ) → Type 0
+NextSlots image stores sorted merge slots =
+    merge.store < length stores → AreSlots sorted.shape (get_or (regions_of stores) merge.store 0) image merge.slot slots
+
+-- a merge with other slots and entries ahead, whatever it found damaged, if they are the next ones
+merged_with : (content : Content) (stores : List HashState) (sorted : SortedState) (merge : MergeState) (slots ahead : List (List ℕ)) (damaged : Option Place)
+    → (IsTrue content.honest → sorted.shape ≡ merge.shape → NextSlots content.shown stores sorted merge merge.slots
+    → NextSlots content.shown stores sorted merge slots)
+    → (IsTrue content.honest → AreEntries (entries_of content sorted) merge.passed merge.ahead → AreEntries (entries_of content sorted) merge.passed ahead)
+    → HasMerged content stores sorted merge → HasMerged content stores sorted (record merge { slots = slots; ahead = ahead; damaged = damaged })
+merged_with content stores sorted merge slots ahead damaged next_slots next_entries is = record {
   shape = is.shape;
   counted = is.counted;
   apart = is.apart;
   hashed = is.hashed;
   merged = λ honest sound.
       let so_far = is.merged honest sound in
+      let was = so_far.gathered in
       record {
         gathered = record {
-          most = so_far.gathered.most;
-          waits = so_far.gathered.waits;
-          last = so_far.gathered.last;
-          slots = so_far.gathered.slots;
-          ahead = there honest;
-          passes = so_far.gathered.passes;
-          slots_hashed = so_far.gathered.slots_hashed;
-          entries_hashed = so_far.gathered.entries_hashed;
+          most = was.most;
+          waits = was.waits;
+          last = was.last;
+          slots = next_slots honest is.shape was.slots;
+          ahead = next_entries honest was.ahead;
+          passes = was.passes;
+          slots_hashed = was.slots_hashed;
+          entries_hashed = was.entries_hashed;
         };
         writes = so_far.writes;
         index = so_far.index;
       };
 }
 
+-- one with entries that are read ahead
+pub merged_ahead : (content : Content) (stores : List HashState) (sorted : SortedState) (merge : MergeState) (ahead : List (List ℕ))
+    → (IsTrue content.honest → AreEntries (entries_of content sorted) merge.passed ahead)
+    → HasMerged content stores sorted merge → HasMerged content stores sorted (record merge { ahead = ahead })
+merged_ahead content stores sorted merge ahead there =
+    merged_with content stores sorted merge merge.slots ahead merge.damaged (λ honest shape slots. slots) (λ honest entries. there honest)
+
 -- one with slots that are read ahead
 pub merged_slots : (content : Content) (stores : List HashState) (sorted : SortedState) (merge : MergeState) (slots : List (List ℕ))
     → (IsTrue content.honest → sorted.shape ≡ merge.shape → AreSlots sorted.shape (get_or (regions_of stores) merge.store 0) content.shown merge.slot slots)
     → HasMerged content stores sorted merge → HasMerged content stores sorted (record merge { slots = slots })
-merged_slots content stores sorted merge slots there is = record {
-  shape = is.shape;
-  counted = is.counted;
-  apart = is.apart;
-  hashed = is.hashed;
-  merged = λ honest sound.
-      let so_far = is.merged honest sound in
-      record {
-        gathered = record {
-          most = so_far.gathered.most;
-          waits = so_far.gathered.waits;
-          last = so_far.gathered.last;
-          slots = λ below. there honest is.shape;
-          ahead = so_far.gathered.ahead;
-          passes = so_far.gathered.passes;
-          slots_hashed = so_far.gathered.slots_hashed;
-          entries_hashed = so_far.gathered.entries_hashed;
-        };
-        writes = so_far.writes;
-        index = so_far.index;
-      };
-}
+merged_slots content stores sorted merge slots there =
+    merged_with content stores sorted merge slots merge.ahead merge.damaged (λ honest shape slots below. there honest shape) (λ honest entries. entries)
+
+-- what is found damaged does not matter for what is merged
+pub merged_noted : (content : Content) (stores : List HashState) (sorted : SortedState) (merge : MergeState) (damaged : Option Place)
+    → HasMerged content stores sorted merge → HasMerged content stores sorted (record merge { damaged = damaged })
+merged_noted content stores sorted merge damaged =
+    merged_with content stores sorted merge merge.slots merge.ahead damaged (λ honest shape slots. slots) (λ honest entries. entries)
 
 -- ---- on a disk
 
@@ -415,30 +412,9 @@ held_with merge slots ahead index hasher most held = record {
   index = most;
 }
 
--- what is found damaged does not matter for what is merged
-pub merged_noted : (content : Content) (stores : List HashState) (sorted : SortedState) (merge : MergeState) (damaged : Option Place) → HasMerged content stores sorted merge → HasMerged content stores sorted (record merge { damaged = damaged })
-merged_noted content stores sorted merge damaged is = record {
-  shape = is.shape;
-  counted = is.counted;
-  apart = is.apart;
-  hashed = is.hashed;
-  merged = λ honest sound.
-      let so_far = is.merged honest sound in
-      record {
-        gathered = record {
-          most = so_far.gathered.most;
-          waits = so_far.gathered.waits;
-          last = so_far.gathered.last;
-          slots = so_far.gathered.slots;
-          ahead = so_far.gathered.ahead;
-          passes = so_far.gathered.passes;
-          slots_hashed = so_far.gathered.slots_hashed;
-          entries_hashed = so_far.gathered.entries_hashed;
-        };
-        writes = so_far.writes;
-        index = so_far.index;
-      };
-}
+-- with what is read ahead
+pub held_reads : (merge : MergeState) (slots ahead : List (List ℕ)) → IsHeldMerge merge → IsHeldMerge (record merge { slots = slots; ahead = ahead })
+held_reads merge slots ahead held = held_with merge slots ahead merge.index merge.hasher held.index held
 
 -- a merge with one key more, whose entry is written or not
 pub decided_held : (merge : MergeState) (choice : Choice) (is_written : Bool) (after : List (Key × Source)) (ahead : List (List ℕ)) (input : Taken) → IsHeldMerge merge → merge.store ≡ merge.stores → IsOffered merge.waiting merge.last choice

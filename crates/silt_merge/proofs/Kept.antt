@@ -1,13 +1,8 @@
 -- The map of the rows that wait, by the bytes of keys.
-use Rattle.std.proofs.Common.{◌≡◌, ◌≢◌, ℕ, false, true, cond, List, Option, Some, None, refl, sym, ap, ◌∙◌}
-use Rattle.std.specs.BTreeMap.{BTreeMap}
+use Rattle.std.proofs.Common.{◌≡◌, ◌≢◌, ℕ, false, true, cond, List, Option, Some, None, refl, sym, ap, ◌∙◌, BTreeMap, is_some, bytes_eq, Less}
 use Rattle.std.specs.BTreeMap as tree
-use Rattle.std.specs.Option.{is_some}
 use Rattle.std.specs.Ordering.{is_gt, nat_cmp, ordering_reverse}
-use Rattle.std.specs.Cmp.Lexicographic.{slice_cmp}
-use Rattle.std.specs.Str.{bytes_eq}
-use Rattle.std.specs.declared.cmp.Ordering.TheVariants.{Less}
-use Rattle.std.proofs.lemmas.Cmp.{nat_list_cmp_total}
+use Rattle.std.specs.Cmp.Lexicographic.{slice_cmp, nat_list_cmp_total}
 use Rattle.std.proofs.lemmas.Map.Text.{is_eq-slice_cmp}
 use Rattle.silt_frame.specs.declared.key.Key.{Key}
 use Rattle.silt_frame.specs.declared.key.Row.{Row}

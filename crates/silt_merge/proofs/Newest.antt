@@ -1,14 +1,10 @@
 -- The newest rows of keys: how one is looked up, and that they rise.
-use Rattle.std.proofs.Common.{◌≡◌, ℕ, zero, suc, ◌+◌, ◌-◌, ◌==◌, ◌<◌, ◌≤◌, Bool, true, false, cond, List, [], ◌∷◌, ◌++◌, filter, find, length, reverse, Option, Some, None, option_and_then, inl, inr, refl, sym, subst, ap, ◌∙◌, arith}
+use Rattle.std.proofs.Common.{◌≡◌, ℕ, zero, suc, ◌+◌, ◌-◌, ◌==◌, ◌<◌, ◌≤◌, Bool, true, false, cond, List, [], ◌∷◌, ◌++◌, filter, find, length, reverse, Option, Some, None, option_and_then, inl, inr, refl, sym, subst, ap, ◌∙◌, arith, bytes_eq, Ordering, Less, Equal, Greater}
 use Rattle.std.specs.Option.{option_or}
 use Rattle.std.specs.Ordering.{is_eq, is_lt, match_ordering, nat_cmp, ordering_reverse}
-use Rattle.std.specs.Cmp.Lexicographic.{slice_cmp}
-use Rattle.std.specs.Str.{bytes_eq}
+use Rattle.std.specs.Cmp.Lexicographic.{slice_cmp, nat_list_cmp_total}
 use Rattle.std.specs.FinMap.{same_map, slice_cmp-IsAntisymmetric, nat_cmp-IsAntisymmetric}
-use Rattle.std.specs.declared.cmp.Ordering.{Ordering}
-use Rattle.std.specs.declared.cmp.Ordering.TheVariants.{Less, Equal, Greater}
 use Rattle.std.proofs.lemmas.Bool.{cases_Bool, cond-true, cond-false}
-use Rattle.std.proofs.lemmas.Cmp.{nat_list_cmp_total}
 use Rattle.std.proofs.lemmas.List.{reverse-append}
 use Rattle.std.proofs.lemmas.List.Folds.{find-append}
 use Rattle.std.proofs.lemmas.List.Sums.{sum_by-cons}
@@ -94,38 +90,35 @@ none_above key (row ∷ rows) above = cond-false _ _ _ (key_above key row.key ab
 
 -- ---- a row among rows that rise
 
-older_less : (row first : StoredRow) (rest : List StoredRow) → slice_cmp nat_cmp row.key first.key ≡ Less → with_older row (first ∷ rest) ≡ row ∷ first ∷ rest
-older_less row first rest is = ap (λ (o : Ordering). match_ordering o (row ∷ first ∷ rest) (first ∷ rest) (first ∷ with_older row rest)) is
+-- what holds of rows with an older one holds if it holds with that before the first row, with the first row in its place, and behind it
+older_cases : (P : List StoredRow → Type 0) (row first : StoredRow) (rest : List StoredRow)
+    → (slice_cmp nat_cmp row.key first.key ≡ Less → P (row ∷ first ∷ rest))
+    → (slice_cmp nat_cmp row.key first.key ≡ Equal → P (first ∷ rest)) → (slice_cmp nat_cmp row.key first.key ≡ Greater → P (first ∷ with_older row rest))
+    → P (with_older row (first ∷ rest))
+older_cases P row first rest less equal greater = go (slice_cmp nat_cmp row.key first.key) refl
+  where
+    made : Ordering → List StoredRow
+    made o = match_ordering o (row ∷ first ∷ rest) (first ∷ rest) (first ∷ with_older row rest)
 
-older_equal : (row first : StoredRow) (rest : List StoredRow) → slice_cmp nat_cmp row.key first.key ≡ Equal → with_older row (first ∷ rest) ≡ first ∷ rest
-older_equal row first rest is = ap (λ (o : Ordering). match_ordering o (row ∷ first ∷ rest) (first ∷ rest) (first ∷ with_older row rest)) is
-
-older_greater : (row first : StoredRow) (rest : List StoredRow) → slice_cmp nat_cmp row.key first.key ≡ Greater → with_older row (first ∷ rest) ≡ first ∷ with_older row rest
-older_greater row first rest is = ap (λ (o : Ordering). match_ordering o (row ∷ first ∷ rest) (first ∷ rest) (first ∷ with_older row rest)) is
+    go : (o : Ordering) → slice_cmp nat_cmp row.key first.key ≡ o → P (with_older row (first ∷ rest))
+    go Less is = subst P (sym (ap made is)) (less is)
+    go Equal is = subst P (sym (ap made is)) (equal is)
+    go Greater is = subst P (sym (ap made is)) (greater is)
 
 -- is above what both are above
 above_older : (low : List ℕ) (row : StoredRow) (rows : List StoredRow) → slice_cmp nat_cmp low row.key ≡ Less → Above low rows → Above low (with_older row rows)
 above_older low row [] less above = (less, tt)
 above_older low row (first ∷ rest) less above =
     let further = above_older low row rest less above.1 in
-    let go : (o : Ordering) → slice_cmp nat_cmp row.key first.key ≡ o → Above low (with_older row (first ∷ rest)) = elim [
-      | Less ↦ λ is. subst (Above low) (sym (older_less row first rest is)) (less, above)
-      | Equal ↦ λ is. subst (Above low) (sym (older_equal row first rest is)) above
-      | Greater ↦ λ is. subst (Above low) (sym (older_greater row first rest is)) (above.0, further)
-    ] in
-    go (slice_cmp nat_cmp row.key first.key) refl
+    older_cases (Above low) row first rest (λ is. (less, above)) (λ is. above) (λ is. (above.0, further))
 
 -- and they rise with it
 rises_older : (row : StoredRow) (rows : List StoredRow) → Rises rows → Rises (with_older row rows)
 rises_older row [] rises = (tt, tt)
 rises_older row (first ∷ rest) rises =
     let further = rises_older row rest rises.1 in
-    let go : (o : Ordering) → slice_cmp nat_cmp row.key first.key ≡ o → Rises (with_older row (first ∷ rest)) = elim [
-      | Less ↦ λ is. subst Rises (sym (older_less row first rest is)) ((is, above_lower row.key first.key rest is rises.0), rises)
-      | Equal ↦ λ is. subst Rises (sym (older_equal row first rest is)) rises
-      | Greater ↦ λ is. subst Rises (sym (older_greater row first rest is)) (above_older first.key row rest (turned row.key first.key is) rises.0, further)
-    ] in
-    go (slice_cmp nat_cmp row.key first.key) refl
+    older_cases Rises row first rest (λ is. ((is, above_lower row.key first.key rest is rises.0), rises)) (λ is. rises)
+    (λ is. (above_older first.key row rest (turned row.key first.key is) rises.0, further))
 
 -- nothing behind a choice
 pub or_none : {A : Type 0} (o : Option A) → option_or o None ≡ o
@@ -154,15 +147,13 @@ find_older : (row : StoredRow) (rows : List StoredRow) → Rises rows → (key :
 find_older row [] rises key = refl
 find_older row (first ∷ rest) rises key =
     let further = find_older row rest rises.1 key in
-    let go : (o : Ordering) → slice_cmp nat_cmp row.key first.key ≡ o → row_with key (with_older row (first ∷ rest)) ≡ option_or (row_with key (first ∷ rest)) (own row key) = elim [
-      | Less ↦ λ is.
-          ap (row_with key) (older_less row first rest is)
-          ∙ prefer (bytes_eq row.key key) row (row_with key (first ∷ rest)) (λ same.
-          ap (λ k. row_with k (first ∷ rest)) (sym (key_is row.key key same)) ∙ none_above row.key (first ∷ rest) (is, above_lower row.key first.key rest is rises.0))
-      | Equal ↦ λ is. ap (row_with key) (older_equal row first rest is) ∙ kept_first row first rest key (bytes_eq row.key key) refl (exact_bytes row.key first.key is)
-      | Greater ↦ λ is. ap (row_with key) (older_greater row first rest is) ∙ behind_first (bytes_eq first.key key) first _ _ _ further
-    ] in
-    go (slice_cmp nat_cmp row.key first.key) refl
+    older_cases (λ rows. row_with key rows ≡ option_or (row_with key (first ∷ rest)) (own row key)) row first rest
+    (λ is.
+    prefer (bytes_eq row.key key) row (row_with key (first ∷ rest)) (λ same.
+    ap (λ k. row_with k (first ∷ rest)) (sym (key_is row.key key same))
+    ∙ none_above row.key (first ∷ rest) (is, above_lower row.key first.key rest is rises.0)))
+    (λ is. kept_first row first rest key (bytes_eq row.key key) refl (exact_bytes row.key first.key is))
+    (λ is. behind_first (bytes_eq first.key key) first _ _ _ further)
 
 -- the newest rows rise
 pub rises_newest : (rows : List StoredRow) → Rises (newest_rows rows)
@@ -231,26 +222,24 @@ put_first row rows put = cond-true _ _ _ put
 pub no_put_first : (row : StoredRow) (rows : List StoredRow) → is_put_row row ≡ false → filter is_put_row (row ∷ rows) ≡ filter is_put_row rows
 no_put_first row rows other = cond-false _ _ _ other
 
+-- what holds with a put in front, and without a row that is none
+put_cases : (P : List StoredRow → Type 0) (row : StoredRow) (rows : List StoredRow) → (is_put_row row ≡ true → P (row ∷ filter is_put_row rows))
+    → (is_put_row row ≡ false → P (filter is_put_row rows)) → P (filter is_put_row (row ∷ rows))
+put_cases P row rows put other = elim (cases_Bool (is_put_row row)) [
+  | inl is ↦ subst P (sym (put_first row rows is)) (put is)
+  | inr is ↦ subst P (sym (no_put_first row rows is)) (other is)
+]
+
 above_puts : (key : List ℕ) (rows : List StoredRow) → Above key rows → Above key (filter is_put_row rows)
 above_puts key [] above = tt
 above_puts key (row ∷ rows) above =
-    let further = above_puts key rows above.1 in
-    let go : (b : Bool) → is_put_row row ≡ b → Above key (filter is_put_row (row ∷ rows)) = elim [
-      | true ↦ λ put. subst (Above key) (sym (put_first row rows put)) (above.0, further)
-      | false ↦ λ other. subst (Above key) (sym (no_put_first row rows other)) further
-    ] in
-    go (is_put_row row) refl
+    let further = above_puts key rows above.1 in put_cases (Above key) row rows (λ put. (above.0, further)) (λ other. further)
 
 -- they rise
 pub rises_puts : (rows : List StoredRow) → Rises rows → Rises (filter is_put_row rows)
 rises_puts [] rises = tt
 rises_puts (row ∷ rows) rises =
-    let further = rises_puts rows rises.1 in
-    let go : (b : Bool) → is_put_row row ≡ b → Rises (filter is_put_row (row ∷ rows)) = elim [
-      | true ↦ λ put. subst Rises (sym (put_first row rows put)) (above_puts row.key rows rises.0, further)
-      | false ↦ λ other. subst Rises (sym (no_put_first row rows other)) further
-    ] in
-    go (is_put_row row) refl
+    let further = rises_puts rows rises.1 in put_cases Rises row rows (λ put. (above_puts row.key rows rises.0, further)) (λ other. further)
 
 -- the row of a key among them, with one row in front
 puts_more : (row : StoredRow) (rows : List StoredRow) (key : List ℕ) → row_with key (filter is_put_row rows) ≡ put_of (row_with key rows) → row_with row.key rows ≡ None
@@ -299,12 +288,9 @@ charge_older : (row : StoredRow) (rows : List StoredRow) → put_count (with_old
 charge_older row [] = omega arith
 charge_older row (first ∷ rest) =
     let further = charge_older row rest in
-    let go : (o : Ordering) → slice_cmp nat_cmp row.key first.key ≡ o → put_count (with_older row (first ∷ rest)) ≤ put_count (row ∷ first ∷ rest) = elim [
-      | Less ↦ λ is. omega (arith, ap put_count (older_less row first rest is))
-      | Equal ↦ λ is. omega (arith, ap put_count (older_equal row first rest is), charge_more row (first ∷ rest))
-      | Greater ↦ λ is. omega (arith, ap put_count (older_greater row first rest is), further, charge_more row (first ∷ rest), charge_more first rest, charge_more row rest, charge_more first (with_older row rest))
-    ] in
-    go (slice_cmp nat_cmp row.key first.key) refl
+    older_cases (λ rows. put_count rows ≤ put_count (row ∷ first ∷ rest)) row first rest
+    (λ is. omega arith) (λ is. omega (arith, charge_more row (first ∷ rest)))
+    (λ is. omega (arith, further, charge_more row (first ∷ rest), charge_more first rest, charge_more row rest, charge_more first (with_older row rest)))
 
 charge_newest : (rows : List StoredRow) → put_count (newest_rows rows) ≤ put_count rows
 charge_newest [] = omega arith
@@ -314,30 +300,19 @@ charge_puts : (rows : List StoredRow) → (put_count (filter is_put_row rows) �
 charge_puts [] = (refl, refl)
 charge_puts (row ∷ rows) =
     let rest = charge_puts rows in
-    let go : (b : Bool) → (row.kind == 1) ≡ b → (put_count (filter is_put_row (row ∷ rows)) ≡ put_count (row ∷ rows)) × (length (filter is_put_row (row ∷ rows)) ≡ put_count (row ∷ rows)) = elim [
-      | true ↦ λ put.
-          let one : cond {A = ℕ} (row.kind == 1) 1 0 ≡ 1 = cond-true _ _ _ put in (
-            omega (arith, ap put_count (put_first row rows put), rest.0, charge_more row rows, charge_more row (filter is_put_row rows)),
-            omega (arith, ap (λ (l : List StoredRow). length l) (put_first row rows put), rest.1, one, charge_more row rows),
-          )
-      | false ↦ λ other.
-          let none : cond {A = ℕ} (row.kind == 1) 1 0 ≡ 0 = cond-false _ _ _ other in (
-            omega (arith, ap put_count (no_put_first row rows other), rest.0, none, charge_more row rows),
-            omega (arith, ap (λ (l : List StoredRow). length l) (no_put_first row rows other), rest.1, none, charge_more row rows),
-          )
-    ] in
-    go (row.kind == 1) refl
+    put_cases (λ l. (put_count l ≡ put_count (row ∷ rows)) × (length l ≡ put_count (row ∷ rows))) row rows
+    (λ put.
+    let one : cond {A = ℕ} (row.kind == 1) 1 0 ≡ 1 = cond-true _ _ _ put in
+    (omega (arith, rest.0, charge_more row rows, charge_more row (filter is_put_row rows)), omega (arith, rest.1, one, charge_more row rows)))
+    (λ other.
+    let none : cond {A = ℕ} (row.kind == 1) 1 0 ≡ 0 = cond-false _ _ _ other in
+    (omega (arith, rest.0, none, charge_more row rows), omega (arith, rest.1, none, charge_more row rows)))
 
 length_older : (row : StoredRow) (rows : List StoredRow) → length (with_older row rows) ≤ length rows + 1
 length_older row [] = omega arith
 length_older row (first ∷ rest) =
     let further = length_older row rest in
-    let go : (o : Ordering) → slice_cmp nat_cmp row.key first.key ≡ o → length (with_older row (first ∷ rest)) ≤ length (first ∷ rest) + 1 = elim [
-      | Less ↦ λ is. omega (arith, ap (λ (l : List StoredRow). length l) (older_less row first rest is))
-      | Equal ↦ λ is. omega (arith, ap (λ (l : List StoredRow). length l) (older_equal row first rest is))
-      | Greater ↦ λ is. omega (arith, ap (λ (l : List StoredRow). length l) (older_greater row first rest is), further)
-    ] in
-    go (slice_cmp nat_cmp row.key first.key) refl
+    older_cases (λ rows. length rows ≤ length (first ∷ rest) + 1) row first rest (λ is. omega arith) (λ is. omega arith) (λ is. omega (arith, further))
 
 length_newest : (rows : List StoredRow) → length (newest_rows rows) ≤ length rows
 length_newest [] = omega arith

@@ -1,6 +1,5 @@
 -- Stores that match an honest disk are sound.
-use Rattle.std.proofs.Common.{◌≡◌, suc, ◌<◌, IsTrue, List, [], ◌∷◌, flat_map, map, slice_index_or, refl, subst, arith}
-use Rattle.std.specs.List.{All}
+use Rattle.std.proofs.Common.{◌≡◌, suc, ◌<◌, IsTrue, List, [], ◌∷◌, flat_map, map, slice_index_or, refl, subst, arith, All}
 use Rattle.silt_disk.specs.Disk.{Content}
 use Rattle.silt_disk.specs.Layout.{Shape}
 use Rattle.silt_hash_store.specs.State.{HashState, IsHashStore}

@@ -1,5 +1,5 @@
 -- What a step does, at its exits.
-use Rattle.std.proofs.Common.{◌≡◌, Some, None, ℕ, ◌+◌, ◌*◌, ◌-◌, ◌<◌, Bool, List, length, get_or, Ok, Err, inl, inr, refl, sym, subst, ap, ◌∙◌, arith}
+use Rattle.std.proofs.Common.{◌≡◌, Some, None, ℕ, ◌+◌, ◌*◌, ◌-◌, ◌<◌, Bool, List, length, get_or, Ok, Err, inl, inr, refl, sym, subst, ap, ◌∙◌, arith, Result}
 use Rattle.std.proofs.lemmas.Bool.{cond-false, cond-true, le-ltb, lt-ltb}
 use Rattle.silt_disk.specs.Disk.{ChangesWithin, CountsFault, Makes, MakesAtMost, size}
 use Rattle.silt_disk.specs.Layout.{entry_len, sorted_at, sorted_size}
@@ -7,7 +7,6 @@ use Rattle.silt_disk.specs.declared.disk.Disk.{Ghosts}
 use Rattle.silt_disk.proofs.Costs.{most_none}
 use Rattle.silt_disk.proofs.Images.{within_refl, within_wider}
 use Rattle.silt_disk.proofs.Regions.{up_least}
-use Rattle.std.specs.Prelude.{Result}
 use Rattle.silt_event.specs.declared.place.Place.{Place}
 use Rattle.silt_event.specs.declared.place.Place.TheVariants.{HashDigest, SortedDigest}
 use Rattle.silt_hash_store.specs.State.{HashState}
@@ -41,13 +40,15 @@ pub same_merge : (merge : MergeState) → IsSameMerge merge merge
 same_merge merge = record { shape = refl; region = refl; stores = refl }
 
 module _ {D F : Type 0} (facts : Ghosts D F) (stores : List HashState) (sorted : SortedState) (digest : List ℕ) where
-  -- a step that was refused before it wrote
-  pub refused : {T : Type 0} (disk : D) (before after : MergeState) (error : StepError F) → after ≡ before → IsHeldMerge before → before.damaged ≡ None → FailsMerge facts stores sorted disk disk before before error
-      → TakesStep {T = T} facts stores sorted digest disk disk before after (Err error)
-  refused {T} disk before after error same held sound fails =
+  -- a step that did nothing
+  idle : {T : Type 0} (disk : D) (before : MergeState) (error : StepError F)
+      → ((place : Place) → before.damaged ≡ Some place → (let r : Result T (StepError F) = Err error in r) ≡ Err (Damaged place))
+      → IsHeldMerge before → FailsMerge facts stores sorted disk disk before before error
+      → TakesStep {T = T} facts stores sorted digest disk disk before before (Err error)
+  idle {T} disk before error stuck held fails =
       let at_most : MakesAtMost facts.writes facts.syncs 1 0 disk disk = most_none in
-      subst (λ (m : MergeState). TakesStep {T = T} facts stores sorted digest disk disk before m (Err error)) (sym same) (record {
-        stuck = λ place found. none_stuck before sound place found;
+      record {
+        stuck = stuck;
         size = refl;
         changes = within_refl _ _ (facts.content disk);
         region = within_refl _ _ (facts.content disk);
@@ -59,7 +60,22 @@ module _ {D F : Type 0} (facts : Ghosts D F) (stores : List HashState) (sorted :
         goes = tt;
         most = at_most;
         fails = fails;
-      })
+      }
+
+  -- one that was refused before it wrote
+  pub refused : {T : Type 0} (disk : D) (before after : MergeState) (error : StepError F) → after ≡ before → IsHeldMerge before → before.damaged ≡ None
+      → FailsMerge facts stores sorted disk disk before before error → TakesStep {T = T} facts stores sorted digest disk disk before after (Err error)
+  refused {T} disk before after error same held sound fails =
+      subst (λ (m : MergeState). TakesStep {T = T} facts stores sorted digest disk disk before m (Err error)) (sym same)
+      (idle {T = T} disk before error (λ place found. none_stuck before sound place found) held fails)
+
+  -- one of a merge that has found a store damaged
+  pub refused_at_once : {T : Type 0} (disk : D) (before : MergeState) (place : Place) → before.damaged ≡ Some place → IsHeldMerge before
+      → TakesStep {T = T} facts stores sorted digest disk disk before before (Err (Damaged place))
+  refused_at_once {T} disk before place found held = idle {T = T} disk before (Damaged place) (λ other is.
+      let same : Some place ≡ Some other = sym found ∙ is in
+      let own : place ≡ other = cc in
+      ap (λ p. let r : Result T (StepError F) = Err (Damaged p) in r) own) held (refl, refl, found)
 
   -- a step that wrote nothing
   pub went_on : {T : Type 0} (disk : D) (before after : MergeState) (x : T) → IsSameMerge before after → IsHeldMerge after → after.last ≡ before.last → after.written ≡ before.written → steps_of after ≡ steps_of before + 1 → before.damaged ≡ None
@@ -203,23 +219,3 @@ module _ {D F : Type 0} (facts : Ghosts D F) (stores : List HashState) (sorted :
           most = is.most;
           fails = fails_before mid after error back is.fails;
         }
-
-  -- ---- a merge that has found a store damaged
-
-  pub refused_at_once : {T : Type 0} (disk : D) (before : MergeState) (place : Place) → before.damaged ≡ Some place → IsHeldMerge before → TakesStep {T = T} facts stores sorted digest disk disk before before (Err (Damaged place))
-  refused_at_once {T} disk before place found held =
-      let at_most : MakesAtMost facts.writes facts.syncs 1 0 disk disk = most_none in
-      record {
-        stuck = λ other is. let same : Some place ≡ Some other = sym found ∙ is in let own : place ≡ other = cc in ap (λ p. let r : Result T (StepError F) = Err (Damaged p) in r) own;
-        size = refl;
-        changes = within_refl _ _ (facts.content disk);
-        region = within_refl _ _ (facts.content disk);
-        same = same_merge before;
-        held = held;
-        rises = inl (refl, refl);
-        gathers = λ below. refl;
-        grew = stayed before.written before.written refl;
-        goes = tt;
-        most = at_most;
-        fails = (refl, refl, found);
-      }

@@ -1,9 +1,7 @@
 -- What each step of a merge leaves.
-use Rattle.std.proofs.Common.{◌≡◌, ◌≢◌, ℕ, ◌+◌, ◌*◌, ◌<◌, ◌≤◌, ◌⊎◌, eqb, Bool, true, false, cond, IsTrue, List, [], ◌∷◌, ◌++◌, length, get_or, take, Option, Some, None, option_map, inl, inr, refl, sym, subst, ap, ◌∙◌, arith}
+use Rattle.std.proofs.Common.{◌≡◌, ◌≢◌, ℕ, ◌+◌, ◌*◌, ◌<◌, ◌≤◌, ◌⊎◌, eqb, Bool, true, false, cond, IsTrue, List, [], ◌∷◌, ◌++◌, length, get_or, take, Option, Some, None, option_map, inl, inr, refl, sym, subst, ap, ◌∙◌, arith, bytes_eq, take_all}
 use Rattle.std.specs.Option.{option_or}
-use Rattle.std.specs.Str.{bytes_eq}
 use Rattle.std.proofs.lemmas.Bool.{cases_Bool, cond-true, cond-false, eq-eqb, eqb-true, le-ltb}
-use Rattle.std.proofs.lemmas.List.{take_all}
 use Rattle.silt_disk.specs.Disk.{Content}
 use Rattle.silt_disk.specs.Layout.{Shape, row_len}
 use Rattle.silt_frame.specs.declared.key.Key.{Key}

@@ -1,8 +1,5 @@
 -- What a step does that gathers a slot, and one that decides a key.
-use Rattle.std.proofs.Common.{◌≡◌, ℕ, ◌+◌, ◌*◌, ◌<◌, nat_lt, Bool, true, false, IsTrue, List, [], ◌++◌, length, get_or, Option, Some, None, Ok, Err, ◌⊎◌, inl, inr, refl, sym, subst, ap, ◌∙◌, arith}
-use Rattle.std.specs.List.{All}
-use Rattle.std.specs.Option.{is_some}
-use Rattle.std.specs.Prelude.{IsSomeAnd}
+use Rattle.std.proofs.Common.{◌≡◌, ℕ, ◌+◌, ◌*◌, ◌<◌, nat_lt, Bool, true, false, IsTrue, List, [], ◌++◌, length, get_or, Option, Some, None, Ok, Err, ◌⊎◌, inl, inr, refl, sym, subst, ap, ◌∙◌, arith, All, is_some, IsSomeAnd}
 use Rattle.silt_disk.specs.Disk.{Content}
 use Rattle.silt_disk.specs.Layout.{Shape, entry_len, row_len}
 use Rattle.silt_disk.specs.declared.disk.Disk.{Ghosts}
@@ -26,7 +23,6 @@ use Rattle.silt_merge.specs.declared.merge.StepError.TheVariants.{NoMemory}
 use Rattle.silt_merge.proofs.Comparing.{compared_key, compared_slot, entry_agrees, slot_agrees}
 use Rattle.silt_merge.proofs.Ending.{merged_behind, merged_noted}
 use Rattle.silt_merge.proofs.Pieces.{first_slot}
-use Rattle.silt_merge.proofs.Reading.{store_at}
 use Rattle.silt_merge.proofs.Stepped.{deciding_place, gathering_place, refused, went_on}
 use Rattle.silt_merge.proofs.Stepping.{gathered_step, slots_more}
 use Rattle.silt_hasher.specs.Taking.{HasTaken, Taken}

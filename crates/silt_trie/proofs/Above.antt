@@ -1,11 +1,8 @@
 -- Lemmas on keys in rising order.
-use Rattle.std.proofs.Common.{◌≡◌, ℕ, ◌+◌, ◌-◌, ◌^◌, ◌<◌, ◌≤◌, true, List, [], ◌∷◌, ◌++◌, length, take, get_or, inl, inr, ◌*◌, Option, Some, None, refl, sym, ap, ◌∙◌, subst, arith}
+use Rattle.std.proofs.Common.{◌≡◌, ℕ, ◌+◌, ◌-◌, ◌^◌, ◌<◌, ◌≤◌, true, List, [], ◌∷◌, ◌++◌, length, take, get_or, inl, inr, ◌*◌, Option, Some, None, refl, sym, ap, ◌∙◌, subst, arith, Ordering, nat_cmp, is_lt, Less, Equal, Greater}
 use Rattle.std.proofs.lemmas.List.{append_assoc, get_or_push, length_push, map-append}
 use Rattle.std.proofs.lemmas.List.Elements.{All-push}
-use Rattle.std.specs.Ordering.{nat_cmp, is_lt}
 use Rattle.std.specs.Cmp.Lexicographic.{slice_cmp}
-use Rattle.std.specs.declared.cmp.Ordering.{Ordering}
-use Rattle.std.specs.declared.cmp.Ordering.TheVariants.{Less, Equal, Greater}
 use Rattle.silt_frame.specs.declared.key.Key.{Key}
 use Rattle.silt_trie.specs.Building.{Building, EndWith, HasGroups, IsBuildingOf, IsHeldBuilding, MayFollow, group_of, group_under_way}
 use Rattle.silt_trie.specs.Code.{Follows, IsCodable}

@@ -1,5 +1,5 @@
 -- Lemmas on the order of keys, by bytes and by bits.
-use Rattle.std.proofs.Common.{◌≡◌, ℕ, zero, suc, ◌*◌, ◌/◌, ◌%◌, ◌^◌, ◌<◌, ◌≤◌, Bool, true, cond, eqb, ltb, List, [], ◌∷◌, ◌++◌, length, get_or, replicate, refl, sym, ap, ◌∙◌, inl, inr, arith}
+use Rattle.std.proofs.Common.{◌≡◌, ℕ, zero, suc, ◌*◌, ◌/◌, ◌%◌, ◌^◌, ◌<◌, ◌≤◌, Bool, true, cond, eqb, ltb, List, [], ◌∷◌, ◌++◌, length, get_or, replicate, refl, sym, ap, ◌∙◌, inl, inr, arith, Ordering, Less, Equal, Greater}
 use Rattle.std.proofs.lemmas.List.{ext_get_or, get_or_append_left}
 use Rattle.std.proofs.lemmas.Bool.{cases_lt, cases_order, lt-ltb, le-ltb, ltb-true, ne_eqb}
 use Rattle.std.proofs.lemmas.Cmp.{tied_itself, nat_cmp_total, nat_list_cmp_total}
@@ -7,8 +7,6 @@ use Rattle.std.proofs.lemmas.Nat.{div_below, mod_below, pow_pos, div-add-mod'}
 use Rattle.std.proofs.Math.Nat.{mod-eq_of_lt, mul-le-mul_right, div-mul-le_self, lt-div-mul-add, suc-mul, pow-succ'}
 use Rattle.std.specs.Ordering.{nat_cmp, ordering_then}
 use Rattle.std.specs.Cmp.Lexicographic.{slice_cmp}
-use Rattle.std.specs.declared.cmp.Ordering.{Ordering}
-use Rattle.std.specs.declared.cmp.Ordering.TheVariants.{Less, Equal, Greater}
 use Rattle.silt_gamma.specs.Bits.{low_bits, bits_of}
 use Rattle.silt_gamma.proofs.BitLists.{length-bits_of, length-low_bits, low_bits_mod}
 use Rattle.silt_trie.specs.Code.{bit_of, AgreeIn, Follows, OrderLaw, GroupLaw}

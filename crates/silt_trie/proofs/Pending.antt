@@ -1,8 +1,7 @@
 -- Lemmas on codes that are still to be skipped.
-use Rattle.std.proofs.Common.{◌≡◌, ℕ, zero, suc, ◌+◌, ◌-◌, ◌<◌, ◌≤◌, min, leb, List, ◌++◌, length, get_or, refl, sym, ap, ◌∙◌, inl, inr, subst, arith, get_or-set_other, get_or-set_same}
+use Rattle.std.proofs.Common.{◌≡◌, ℕ, zero, suc, ◌+◌, ◌-◌, ◌<◌, ◌≤◌, min, leb, List, ◌++◌, length, get_or, refl, sym, ap, ◌∙◌, inl, inr, subst, arith, get_or-set_other, get_or-set_same, length-set}
 use Rattle.std.proofs.Math.ListN.{set}
 use Rattle.std.proofs.lemmas.Bool.{cases_lt, le-leb, lt-leb}
-use Rattle.std.proofs.lemmas.List.{length-set}
 use Rattle.std.specs.Int.{from_bool}
 use Rattle.silt_gamma.specs.Gamma.{BeginsWithCode}
 use Rattle.silt_trie.specs.Code.{trie_code, with_bit, IsCodable}

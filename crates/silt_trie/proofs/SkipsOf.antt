@@ -1,7 +1,6 @@
 -- Lemmas on skips over code.
-use Rattle.std.proofs.Common.{◌≡◌, ℕ, zero, suc, ◌+◌, ◌-◌, ◌/◌, ◌^◌, ◌<◌, ◌≤◌, min, List, [], ◌∷◌, ◌++◌, length, take, drop, get_or, replicate, Some, None, refl, sym, ap, ◌∙◌, arith}
+use Rattle.std.proofs.Common.{◌≡◌, ℕ, zero, suc, ◌+◌, ◌-◌, ◌/◌, ◌^◌, ◌<◌, ◌≤◌, min, List, [], ◌∷◌, ◌++◌, length, take, drop, get_or, replicate, Some, None, refl, sym, ap, ◌∙◌, arith, pow_pos}
 use Rattle.std.proofs.lemmas.List.{append-nil, take_at, drop_at, length-append, length-replicate, replicate-append-replicate, take-replicate, drop-replicate}
-use Rattle.std.proofs.lemmas.Nat.{pow_pos}
 use Rattle.std.proofs.Math.Nat.{pow-succ'}
 use Rattle.silt_frame.specs.declared.key.Key.{Key}
 use Rattle.silt_trie.specs.Code.{IsCodable, trie_code, with_bit}

@@ -1,5 +1,4 @@
-use Rattle.std.proofs.Common.{◌≡◌, ℕ, true, cond, Bool, vec_len, ◌+◌, sym, ap, ◌∙◌}
-use Rattle.std.specs.Result.{is_ok}
+use Rattle.std.proofs.Common.{◌≡◌, ℕ, true, cond, Bool, vec_len, ◌+◌, sym, ap, ◌∙◌, is_ok}
 use Rattle.std.proofs.lemmas.Result.{err_from_is_err_and}
 use Rattle.silt_log.specs.Rows.{body_row}
 use Rattle.silt_frame.specs.Rows.{StoredRow}

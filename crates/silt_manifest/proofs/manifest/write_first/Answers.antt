@@ -1,4 +1,4 @@
-use Rattle.std.proofs.Common.{ap, arith, subst, sym, ◌∙◌}
+use Rattle.std.proofs.Common.{ap, rules, arith, subst, sym, ◌∙◌}
 use Rattle.silt_disk.specs.Layout.{slot_at}
 use Rattle.silt_disk.proofs.Wrote.{wrote_err, wrote_ok, wrote_then, wrote_wider}
 use Rattle.silt_manifest.specs.Body.{FitsSlot}
@@ -26,14 +26,16 @@ returns-in_err-write_gate-2-clause-wrote g c =
     wrote_err c.in_err-write_gate-2.was c.from_residual-in_err-write_gate-2.ensures.1 (omega arith) (omega arith)
     (wrote_then c.in_ok-write_gate.was closed (wrote_then c.in_ok-write_record.was written opened))
 
-pub returns-clause-wrote : goal.returns-clause-wrote
-returns-clause-wrote g c =
+pub returns : goal.returns
+returns g c =
     let closed = wrote_wider (slot_at 0) 4096 (omega arith) (omega arith) c.write_gate.ensures.wrote in
     let written = wrote_wider (slot_at 0) 4096 (omega arith) (omega arith) c.write_record.ensures.wrote in
     let opened = wrote_wider (slot_at 0) 4096 (omega arith) (omega arith) c.write_gate-2.ensures.wrote in
-    wrote_ok c.in_ok-write_gate-2.was (wrote_then c.in_ok-write_gate.was closed (wrote_then c.in_ok-write_record.was written opened))
-
-pub returns-clause-current : goal.returns-clause-current
-returns-clause-current g c =
-    all_first c.args.digests.now c.record_bytes.result _ _ _ _ c.record_bytes.ensures.fits c.requires.size c.requires.closed (c.record_bytes.ensures.value ∙ ap (λ b. record_bytes b c.args.digests.now) c.first.ensures)
-    c.in_ok-write_gate.ensures.written c.in_ok-write_record.ensures.written c.in_ok-write_gate-2.ensures.written c.in_ok-write_gate-2.ensures.rests
+    let bytes = c.record_bytes.ensures.value ∙ ap (λ b. record_bytes b c.args.digests.now) c.first.ensures in
+    let last = c.in_ok-write_gate-2.ensures in
+    record {
+      wrote = wrote_ok c.in_ok-write_gate-2.was (wrote_then c.in_ok-write_gate.was closed (wrote_then c.in_ok-write_record.was written opened));
+      current = all_first c.args.digests.now c.record_bytes.result _ _ _ _ c.record_bytes.ensures.fits c.requires.size c.requires.closed bytes
+          c.in_ok-write_gate.ensures.written c.in_ok-write_record.ensures.written last.written last.rests;
+      rests = search rules;
+    }

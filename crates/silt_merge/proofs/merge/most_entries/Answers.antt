@@ -1,5 +1,4 @@
-use Rattle.std.proofs.Common.{◌≡◌, List, get_or, sum_by, ap, ◌∙◌, arith}
-use Rattle.std.proofs.lemmas.List.{take_all}
+use Rattle.std.proofs.Common.{◌≡◌, List, get_or, sum_by, ap, ◌∙◌, arith, take_all}
 use Rattle.std.proofs.lemmas.List.Sums.{sum_by_more}
 use Rattle.silt_hash_store.specs.State.{HashState}
 use Rattle.silt_disk.specs.Layout.{Shape}

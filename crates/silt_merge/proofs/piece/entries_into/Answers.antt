@@ -1,5 +1,4 @@
-use Rattle.std.proofs.Common.{ℕ, ◌*◌, length, ap, ◌∙◌, arith}
-use Rattle.std.proofs.lemmas.List.{length-take-le}
+use Rattle.std.proofs.Common.{ℕ, ◌*◌, length, ap, ◌∙◌, arith, length-take-le}
 use Rattle.silt_disk.specs.Layout.{entry_len}
 use Rattle.silt_sorted_store.specs.State.{entries_of}
 use Rattle.silt_merge.proofs.Pieces.{front_fits, holds_front}

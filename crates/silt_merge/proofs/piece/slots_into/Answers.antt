@@ -1,5 +1,4 @@
-use Rattle.std.proofs.Common.{ℕ, ◌*◌, length, ap, ◌∙◌, arith}
-use Rattle.std.proofs.lemmas.List.{length-take-le}
+use Rattle.std.proofs.Common.{ℕ, ◌*◌, length, ap, ◌∙◌, arith, length-take-le}
 use Rattle.silt_disk.specs.Layout.{row_len}
 use Rattle.silt_merge.proofs.Pieces.{front_fits, slots_front}
 use Rattle.silt_merge.proofs.piece.slots_into.Goals as goal

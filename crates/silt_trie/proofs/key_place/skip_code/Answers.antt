@@ -1,6 +1,5 @@
-use Rattle.std.proofs.Common.{◌≡◌, ℕ, suc, ◌+◌, ◌-◌, List, get_or, inl, replicate, refl, sym, ◌∙◌, subst, arith}
+use Rattle.std.proofs.Common.{◌≡◌, ℕ, suc, ◌+◌, ◌-◌, List, get_or, inl, replicate, refl, sym, ◌∙◌, subst, arith, length-set}
 use Rattle.std.proofs.Math.ListN.{set}
-use Rattle.std.proofs.lemmas.List.{length-set}
 use Rattle.silt_gamma.specs.Gamma.{BeginsWithCode}
 use Rattle.silt_gamma.proofs.Reading.{fewer_left}
 use Rattle.silt_trie.proofs.Codes.{after_none}

@@ -1,9 +1,10 @@
-use Rattle.std.proofs.Common.{◌≡◌, true, false, refl, ap, sym, subst, ◌∙◌, arith}
+use Rattle.std.proofs.Common.{rules, ◌≡◌, true, false, refl, ap, sym, subst, ◌∙◌, arith}
 use Rattle.std.proofs.lemmas.Bool.{false≢true}
 use Rattle.silt_disk.proofs.Wrote.{wrote_at, wrote_err, wrote_ok}
 use Rattle.silt_log.specs.State.{LogState, InBounds, IsHeld}
+use Rattle.silt_log.specs.Calls.{Seals}
 use Rattle.silt_log.proofs.Named.{past_place, past_count}
-use Rattle.silt_log.proofs.SealExits.{seal_images, seal_done, seals_as, quiet_images, quiet_done}
+use Rattle.silt_log.proofs.SealExits.{seal_images, seal_done, quiet_images, quiet_done}
 use Rattle.silt_log.proofs.Splices.{fills_at, within_at, writes_at}
 use Rattle.silt_log.proofs.log.Log.seal.Goals as goal
 
@@ -17,64 +18,53 @@ returns-then-not-self-clause-log g c =
     let bounds : InBounds c.args.self.now = subst InBounds c.self.view_is c.self.invariant.bounds in
     quiet_done _ c.args.self.now bounds c.requires.size c.requires.rests c.requires.scanned (ap (λ (l : LogState). l.stale) (sym c.self.view_is) ∙ c.if-not-self.true)
 
-pub returns-in_err-write_gates-clause-wrote : goal.returns-in_err-write_gates-clause-wrote
-returns-in_err-write_gates-clause-wrote g c =
-    let log : LogState = c.args.self.now in
-    let at = past_place _ log _ _ c.self.view_is c.gates_at.ensures.value c.from.ensures in
-    let count = past_count _ log _ _ c.self.view_is c.log_capacity.ensures.value (subst (IsHeld _) (sym c.deref_mut.ensures.len) c.self.invariant) in
-    let stale : log.stale ≡ true = ap (λ (l : LogState). l.stale) (sym c.self.view_is) ∙ c.if-not-self.false in
-    let written = wrote_err c.in_err-write_gates.was c.from_residual.ensures.1 (omega arith) (omega arith) (wrote_at at count c.write_gates.ensures.wrote) in
-    rw stale written
-
-pub returns-in_err-write_gates-clause-images : goal.returns-in_err-write_gates-clause-images
-returns-in_err-write_gates-clause-images g c =
-    let log : LogState = c.args.self.now in
-    let bounds : InBounds log = subst InBounds c.self.view_is c.self.invariant.bounds in
-    let stale : log.stale ≡ true = ap (λ (l : LogState). l.stale) (sym c.self.view_is) ∙ c.if-not-self.false in
-    let at = past_place _ log _ _ c.self.view_is c.gates_at.ensures.value c.from.ensures in
-    let count = past_count _ log _ _ c.self.view_is c.log_capacity.ensures.value (subst (IsHeld _) (sym c.deref_mut.ensures.len) c.self.invariant) in
-    seal_images _ _ log bounds c.requires.size c.requires.rests c.requires.scanned _ (bounds.gap stale) refl (within_at _ _ _ _ _ _ at count c.write_gates.ensures.wrote.changes)
-
-pub returns-clause-written : goal.returns-clause-written
-returns-clause-written g c = λ stale.
-    let log : LogState = c.args.self.now in
-    let at = past_place _ log _ _ c.self.view_is c.gates_at.ensures.value c.from.ensures in
-    let count = past_count _ log _ _ c.self.view_is c.log_capacity.ensures.value (subst (IsHeld _) (sym c.deref_mut.ensures.len) c.self.invariant) in
-    fills_at _ _ _ _ 0 _ _ at count c.in_ok-write_gates.ensures.written
-
 pub returns-then-not-self-clause-written : goal.returns-then-not-self-clause-written
-returns-then-not-self-clause-written g c = λ stale. absurd (false≢true (sym (ap (λ (l : LogState). l.stale) (sym c.self.view_is) ∙ c.if-not-self.true) ∙ stale))
+returns-then-not-self-clause-written g c = λ stale.
+    absurd (false≢true (sym (ap (λ (l : LogState). l.stale) (sym c.self.view_is) ∙ c.if-not-self.true) ∙ stale))
 
-pub returns-clause-wrote : goal.returns-clause-wrote
-returns-clause-wrote g c =
-    let log : LogState = c.args.self.now in
-    let at = past_place _ log _ _ c.self.view_is c.gates_at.ensures.value c.from.ensures in
-    let count = past_count _ log _ _ c.self.view_is c.log_capacity.ensures.value (subst (IsHeld _) (sym c.deref_mut.ensures.len) c.self.invariant) in
-    let stale : log.stale ≡ true = ap (λ (l : LogState). l.stale) (sym c.self.view_is) ∙ c.if-not-self.false in
-    let written = wrote_ok c.in_ok-write_gates.was (wrote_at at count c.write_gates.ensures.wrote) in
-    rw stale written
-
-pub returns-clause-images : goal.returns-clause-images
-returns-clause-images g c =
+pub returns-in_err-write_gates : goal.returns-in_err-write_gates
+returns-in_err-write_gates g c =
     let log : LogState = c.args.self.now in
     let bounds : InBounds log = subst InBounds c.self.view_is c.self.invariant.bounds in
     let stale : log.stale ≡ true = ap (λ (l : LogState). l.stale) (sym c.self.view_is) ∙ c.if-not-self.false in
     let at = past_place _ log _ _ c.self.view_is c.gates_at.ensures.value c.from.ensures in
     let count = past_count _ log _ _ c.self.view_is c.log_capacity.ensures.value (subst (IsHeld _) (sym c.deref_mut.ensures.len) c.self.invariant) in
-    seal_images _ _ log bounds c.requires.size c.requires.rests c.requires.scanned _ (bounds.gap stale) refl (within_at _ _ _ _ _ _ at count c.write_gates.ensures.wrote.changes)
+    let changes = within_at _ _ _ _ _ _ at count c.write_gates.ensures.wrote.changes in
+    record {
+      wrote =
+          let was = c.in_err-write_gates.was in
+          let written = wrote_err was c.from_residual.ensures.1 (omega arith) (omega arith) (wrote_at at count c.write_gates.ensures.wrote) in
+          rw stale written;
+      images = seal_images _ _ log bounds c.requires.size c.requires.rests c.requires.scanned _ (bounds.gap stale) refl changes;
+      quiet = search rules;
+      written = search rules;
+      rests = search rules;
+      log = search rules;
+    }
+
+pub returns : goal.returns
+returns g c =
+    let log : LogState = c.args.self.now in
+    let bounds : InBounds log = subst InBounds c.self.view_is c.self.invariant.bounds in
+    let stale : log.stale ≡ true = ap (λ (l : LogState). l.stale) (sym c.self.view_is) ∙ c.if-not-self.false in
+    let at = past_place _ log _ _ c.self.view_is c.gates_at.ensures.value c.from.ensures in
+    let count = past_count _ log _ _ c.self.view_is c.log_capacity.ensures.value (subst (IsHeld _) (sym c.deref_mut.ensures.len) c.self.invariant) in
+    let changes = within_at _ _ _ _ _ _ at count c.write_gates.ensures.wrote.changes in
+    let was = c.in_ok-write_gates.ensures in
+    let written = wrote_ok c.in_ok-write_gates.was (wrote_at at count c.write_gates.ensures.wrote) in
+    let done = seal_done _ _ log bounds c.requires.size c.requires.rests c.requires.scanned _ (bounds.gap stale) count
+    c.write_gates.ensures.wrote.size (writes_at _ _ _ _ _ at was.written) was.rests in
+    record {
+      wrote = rw stale written;
+      images = seal_images _ _ log bounds c.requires.size c.requires.rests c.requires.scanned _ (bounds.gap stale) refl changes;
+      quiet = search rules;
+      written = λ stale. fills_at _ _ _ _ 0 _ _ at count was.written;
+      rests = search rules;
+      log = subst (Seals _ _ _) (sym (ap (λ (l : LogState). let sealed : LogState = record l { stale = false } in sealed) c.self.view_is)) done;
+    }
 
 pub invariant_of-self-2 : goal.invariant_of-self-2
 invariant_of-self-2 g c = record {
   bounds = record { region = c.self.invariant.bounds.region; order = c.self.invariant.bounds.order; room = c.self.invariant.bounds.room; gap = λ stale. absurd (false≢true stale) };
   buffer = c.self.invariant.buffer;
 }
-
-pub returns-clause-log : goal.returns-clause-log
-returns-clause-log g c =
-    let log : LogState = c.args.self.now in
-    let bounds : InBounds log = subst InBounds c.self.view_is c.self.invariant.bounds in
-    let stale : log.stale ≡ true = ap (λ (l : LogState). l.stale) (sym c.self.view_is) ∙ c.if-not-self.false in
-    let at = past_place _ log _ _ c.self.view_is c.gates_at.ensures.value c.from.ensures in
-    let count = past_count _ log _ _ c.self.view_is c.log_capacity.ensures.value (subst (IsHeld _) (sym c.deref_mut.ensures.len) c.self.invariant) in
-    let done = seal_done _ _ log bounds c.requires.size c.requires.rests c.requires.scanned _ (bounds.gap stale) count c.write_gates.ensures.wrote.size (writes_at _ _ _ _ _ at c.in_ok-write_gates.ensures.written) c.in_ok-write_gates.ensures.rests in
-    seals_as _ _ _ _ _ (ap (λ (l : LogState). let sealed : LogState = record l { stale = false } in sealed) c.self.view_is) done

@@ -8,30 +8,33 @@ use Rattle.silt_manifest.proofs.manifest.Manifest.commit_next.Goals as goal
 
 pub returns-in_err-write_gate-clause-wrote : goal.returns-in_err-write_gate-clause-wrote
 returns-in_err-write_gate-clause-wrote g c =
-    wrote_err c.in_err-write_gate.was c.from_residual.ensures.1 (omega arith) (omega arith) (wrote_at (ap slot_at c.spare_slot.ensures.value) refl c.write_gate.ensures.wrote)
+    wrote_err c.in_err-write_gate.was c.from_residual.ensures.1 (omega arith) (omega arith)
+    (wrote_at (ap slot_at c.spare_slot.ensures.value) refl c.write_gate.ensures.wrote)
+
+pub returns-in_err-write_gate-clause-each : goal.returns-in_err-write_gate-clause-each
+returns-in_err-write_gate-clause-each g c =
+    let ready = c.requires.prepared in
+    gate_fails c.args.self.now ready.next ready.digests _ _ (slot_at c.spare_slot.result) c.requires.size ready.prepared (ap slot_at c.spare_slot.ensures.value)
+    c.in_err-write_gate.ensures.wrote.changes
 
 pub returns-clause-wrote : goal.returns-clause-wrote
 returns-clause-wrote g c = wrote_ok c.in_ok-write_gate.was (wrote_at (ap slot_at c.spare_slot.ensures.value) refl c.write_gate.ensures.wrote)
 
-pub returns-in_err-write_gate-clause-each : goal.returns-in_err-write_gate-clause-each
-returns-in_err-write_gate-clause-each g c =
-    let m = c.args.self.now in
-    let start : slot_at c.spare_slot.result ≡ slot_at (spare_slot m) = ap slot_at c.spare_slot.ensures.value in
-    gate_fails m c.requires.prepared.next c.requires.prepared.digests _ _ (slot_at c.spare_slot.result) c.requires.size c.requires.prepared.prepared start c.in_err-write_gate.ensures.wrote.changes
-
 pub returns-clause-each : goal.returns-clause-each
 returns-clause-each g c =
-    let m = c.args.self.now in
-    let start : slot_at c.spare_slot.result ≡ slot_at (spare_slot m) = ap slot_at c.spare_slot.ensures.value in
-    gate_fails m c.requires.prepared.next c.requires.prepared.digests _ _ (slot_at c.spare_slot.result) c.requires.size c.requires.prepared.prepared start c.in_ok-write_gate.ensures.wrote.changes
+    let ready = c.requires.prepared in
+    gate_fails c.args.self.now ready.next ready.digests _ _ (slot_at c.spare_slot.result) c.requires.size ready.prepared (ap slot_at c.spare_slot.ensures.value)
+    c.in_ok-write_gate.ensures.wrote.changes
 
 pub returns-clause-current : goal.returns-clause-current
 returns-clause-current g c =
     let m = c.args.self.now in
-    let start : slot_at c.spare_slot.result ≡ slot_at (spare_slot m) = ap slot_at c.spare_slot.ensures.value in
+    let ready = c.requires.prepared in
     let held : m.prepared ≡ Some c.in-Some.next = sym (ap (λ state. state.prepared) c.self.view_is) ∙ c.in-Some.is in
-    let was : m.prepared ≡ Some (long_record c.requires.prepared.next c.requires.prepared.digests) = c.requires.prepared.prepared.is in
-    let same : long_record c.requires.prepared.next c.requires.prepared.digests ≡ c.in-Some.next = cc in
+    let was : m.prepared ≡ Some (long_record ready.next ready.digests) = ready.prepared.is in
+    let same : long_record ready.next ready.digests ≡ c.in-Some.next = cc in
     let shape : m.shape ≡ c.self.inside.geometry = sym (ap (λ state. state.shape) c.self.view_is) in
-    let final = all_committed m c.requires.prepared.next c.requires.prepared.digests _ _ (slot_at c.spare_slot.result) c.requires.size c.requires.prepared.prepared start c.in_ok-write_gate.ensures.written c.in_ok-write_gate.ensures.rests in
-    subst (λ s. IsCurrent (with_current s c.in-Some.next false) (g.D.Disk.content c.write_gate.new.disk)) shape (subst (λ b. IsCurrent (with_current m.shape b false) (g.D.Disk.content c.write_gate.new.disk)) same final)
+    let final = all_committed m ready.next ready.digests _ _ (slot_at c.spare_slot.result) c.requires.size ready.prepared
+    (ap slot_at c.spare_slot.ensures.value) c.in_ok-write_gate.ensures.written c.in_ok-write_gate.ensures.rests in
+    subst (λ s. IsCurrent (with_current s c.in-Some.next false) (g.D.Disk.content c.write_gate.new.disk)) shape
+    (subst (λ b. IsCurrent (with_current m.shape b false) (g.D.Disk.content c.write_gate.new.disk)) same final)

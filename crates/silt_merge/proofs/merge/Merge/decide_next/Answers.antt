@@ -1,7 +1,5 @@
-use Rattle.std.proofs.Common.{◌≡◌, ◌++◌, ◌+◌, ◌*◌, ◌<◌, ◌||◌, ℕ, true, false, cond, nat_lt, Bool, IsTrue, List, [], Some, Ok, drop, get_or, length, take, inr, ap, refl, sym, subst, ◌∙◌, arith}
-use Rattle.std.specs.List.{All}
+use Rattle.std.proofs.Common.{◌≡◌, ◌++◌, ◌+◌, ◌*◌, ◌<◌, ◌||◌, ℕ, true, false, cond, nat_lt, Bool, IsTrue, List, [], Some, Ok, drop, get_or, length, take, inr, ap, refl, sym, subst, ◌∙◌, arith, All, take_at}
 use Rattle.std.proofs.lemmas.Bool.{and_parts, ltb-true}
-use Rattle.std.proofs.lemmas.List.{take_at}
 use Rattle.sha1.specs.Sha1.{Holds}
 use Rattle.silt_disk.specs.Disk.{Content}
 use Rattle.silt_disk.specs.Layout.{Shape, entry_len}

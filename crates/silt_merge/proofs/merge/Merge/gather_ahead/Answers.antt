@@ -1,4 +1,4 @@
-use Rattle.std.proofs.Common.{◌≡◌, List, [], ℕ, get_or, subst, sym, ap, ◌∙◌}
+use Rattle.std.proofs.Common.{◌≡◌, ℕ, get_or, subst, sym, ap, ◌∙◌}
 use Rattle.silt_event.specs.declared.place.Place.TheVariants.{HashDigest}
 use Rattle.silt_hash_store.specs.State.{HashState}
 use Rattle.silt_merge.specs.State.{MergeState, finding}

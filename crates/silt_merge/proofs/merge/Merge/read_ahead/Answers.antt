@@ -1,14 +1,14 @@
 use Rattle.std.proofs.Common.{List, ℕ, sym, ap, ◌∙◌}
 use Rattle.std.proofs.lemmas.Result.{MatchResult-from_err}
 use Rattle.silt_merge.specs.State.{MergeState}
-use Rattle.silt_merge.proofs.Ending.{held_with, merged_ahead}
+use Rattle.silt_merge.proofs.Ending.{held_reads, merged_ahead}
 use Rattle.silt_merge.proofs.Viewing.{state_of}
 use Rattle.silt_merge.proofs.merge.Merge.read_ahead.Goals as goal
 
 pub invariant_of-self : goal.invariant_of-self
 invariant_of-self g c =
-    let merge : MergeState = state_of c.self.inside in
-    (held_with merge merge.slots c.read_entries.new.self.parts merge.index merge.hasher c.self.invariant.0.index c.self.invariant.0, c.self.invariant.1, c.read_entries.ensures.len ∙ c.self.invariant.2, c.self.invariant.3, c.self.invariant.4)
+    let held = held_reads (state_of c.self.inside) c.self.inside.slots.parts c.read_entries.new.self.parts c.self.invariant.0 in
+    (held, c.self.invariant.1, c.read_entries.ensures.len ∙ c.self.invariant.2, c.self.invariant.3, c.self.invariant.4)
 
 pub returns-in_err-read_entries-clause-state : goal.returns-in_err-read_entries-clause-state
 returns-in_err-read_entries-clause-state g c =
@@ -25,15 +25,11 @@ returns-clause-merged g c =
 
 pub invariant_of-self-2 : goal.invariant_of-self-2
 invariant_of-self-2 g c =
-    let merge : MergeState = state_of c.self.inside in
-    (held_with merge merge.slots c.read_entries.new.self.parts merge.index merge.hasher c.self.invariant.0.index c.self.invariant.0, c.self.invariant.1, c.read_entries.ensures.len ∙ c.self.invariant.2, c.self.invariant.3, c.self.invariant.4)
+    let held = held_reads (state_of c.self.inside) c.self.inside.slots.parts c.read_entries.new.self.parts c.self.invariant.0 in
+    (held, c.self.invariant.1, c.read_entries.ensures.len ∙ c.self.invariant.2, c.self.invariant.3, c.self.invariant.4)
 
 pub returns-clause-held : goal.returns-clause-held
-returns-clause-held g c =
-    let merge : MergeState = state_of c.self.inside in
-    held_with merge merge.slots c.read_entries.new.self.parts merge.index merge.hasher c.self.invariant.0.index c.self.invariant.0
+returns-clause-held g c = held_reads (state_of c.self.inside) c.self.inside.slots.parts c.read_entries.new.self.parts c.self.invariant.0
 
 pub returns-in_err-read_entries-clause-held : goal.returns-in_err-read_entries-clause-held
-returns-in_err-read_entries-clause-held g c =
-    let merge : MergeState = state_of c.self.inside in
-    held_with merge merge.slots c.read_entries.new.self.parts merge.index merge.hasher c.self.invariant.0.index c.self.invariant.0
+returns-in_err-read_entries-clause-held g c = held_reads (state_of c.self.inside) c.self.inside.slots.parts c.read_entries.new.self.parts c.self.invariant.0

@@ -5,15 +5,15 @@ use Rattle.silt_hash_store.specs.State.{HashState}
 use Rattle.silt_merge.specs.Pieces.{AreSlots}
 use Rattle.silt_merge.specs.Rows.{regions_of}
 use Rattle.silt_merge.specs.State.{MergeState}
-use Rattle.silt_merge.proofs.Ending.{held_with, merged_slots}
+use Rattle.silt_merge.proofs.Ending.{held_reads, merged_slots}
 use Rattle.silt_merge.proofs.Reading.{store_at}
 use Rattle.silt_merge.proofs.Viewing.{state_of}
 use Rattle.silt_merge.proofs.merge.Merge.read_slots.Goals as goal
 
 pub invariant_of-self : goal.invariant_of-self
 invariant_of-self g c =
-    let merge : MergeState = state_of c.self.inside in
-    (held_with merge c.read_slots.new.self.parts merge.ahead merge.index merge.hasher c.self.invariant.0.index c.self.invariant.0, c.read_slots.ensures.len ∙ c.self.invariant.1, c.self.invariant.2, c.self.invariant.3, c.self.invariant.4)
+    let held = held_reads (state_of c.self.inside) c.read_slots.new.self.parts c.self.inside.ahead.parts c.self.invariant.0 in
+    (held, c.read_slots.ensures.len ∙ c.self.invariant.1, c.self.invariant.2, c.self.invariant.3, c.self.invariant.4)
 
 pub returns-in_err-read_slots-clause-state : goal.returns-in_err-read_slots-clause-state
 returns-in_err-read_slots-clause-state g c =
@@ -40,15 +40,11 @@ returns-clause-merged g c =
 
 pub invariant_of-self-2 : goal.invariant_of-self-2
 invariant_of-self-2 g c =
-    let merge : MergeState = state_of c.self.inside in
-    (held_with merge c.read_slots.new.self.parts merge.ahead merge.index merge.hasher c.self.invariant.0.index c.self.invariant.0, c.read_slots.ensures.len ∙ c.self.invariant.1, c.self.invariant.2, c.self.invariant.3, c.self.invariant.4)
+    let held = held_reads (state_of c.self.inside) c.read_slots.new.self.parts c.self.inside.ahead.parts c.self.invariant.0 in
+    (held, c.read_slots.ensures.len ∙ c.self.invariant.1, c.self.invariant.2, c.self.invariant.3, c.self.invariant.4)
 
 pub returns-clause-held : goal.returns-clause-held
-returns-clause-held g c =
-    let merge : MergeState = state_of c.self.inside in
-    held_with merge c.read_slots.new.self.parts merge.ahead merge.index merge.hasher c.self.invariant.0.index c.self.invariant.0
+returns-clause-held g c = held_reads (state_of c.self.inside) c.read_slots.new.self.parts c.self.inside.ahead.parts c.self.invariant.0
 
 pub returns-in_err-read_slots-clause-held : goal.returns-in_err-read_slots-clause-held
-returns-in_err-read_slots-clause-held g c =
-    let merge : MergeState = state_of c.self.inside in
-    held_with merge c.read_slots.new.self.parts merge.ahead merge.index merge.hasher c.self.invariant.0.index c.self.invariant.0
+returns-in_err-read_slots-clause-held g c = held_reads (state_of c.self.inside) c.read_slots.new.self.parts c.self.inside.ahead.parts c.self.invariant.0

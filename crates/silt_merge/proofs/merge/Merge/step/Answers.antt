@@ -1,5 +1,4 @@
-use Rattle.std.proofs.Common.{◌≡◌, List, Some, ap, ◌∙◌, sym, subst}
-use Rattle.std.specs.List.{All}
+use Rattle.std.proofs.Common.{◌≡◌, List, Some, ap, ◌∙◌, sym, subst, All}
 use Rattle.silt_hash_store.specs.State.{HashState}
 use Rattle.silt_merge.specs.State.{IsHeldMerge, MergeState, oldest_stores}
 use Rattle.silt_merge.specs.Steps.{TakesStep}

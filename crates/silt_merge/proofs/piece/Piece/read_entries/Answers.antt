@@ -1,5 +1,4 @@
-use Rattle.std.proofs.Common.{◌≡◌, ℕ, ◌++◌, List, length, take, drop, sym, subst, arith}
-use Rattle.std.proofs.lemmas.List.{take_at}
+use Rattle.std.proofs.Common.{◌≡◌, ℕ, ◌++◌, List, length, take, drop, sym, subst, arith, take_at}
 use Rattle.silt_disk.specs.Layout.{entry_len}
 use Rattle.silt_frame.specs.Rows.{StoredRow}
 use Rattle.silt_sorted_store.specs.Indexing.{HoldsEntries}

@@ -1,5 +1,4 @@
-use Rattle.std.proofs.Common.{◌≡◌, ℕ, ◌+◌, ◌*◌, ◌≤◌, ◌++◌, List, length, take, drop, sym, subst, ap, ◌∙◌, arith}
-use Rattle.std.proofs.lemmas.List.{take_at}
+use Rattle.std.proofs.Common.{◌≡◌, ℕ, ◌+◌, ◌*◌, ◌≤◌, ◌++◌, List, length, take, drop, sym, subst, ap, ◌∙◌, arith, take_at}
 use Rattle.silt_disk.specs.Layout.{Shape, row_len}
 use Rattle.silt_merge.specs.Pieces.{AreSlots, parts_from}
 use Rattle.silt_merge.proofs.Pieces.{are_slots, part_count}

@@ -1,5 +1,4 @@
-use Rattle.std.proofs.Common.{◌++◌, sym, ap, ◌∙◌, arith}
-use Rattle.std.proofs.lemmas.List.{take_all}
+use Rattle.std.proofs.Common.{◌++◌, sym, ap, ◌∙◌, arith, take_all}
 use Rattle.silt_trie.specs.Coded.{Coded}
 use Rattle.silt_trie.specs.Code.{trie_code}
 use Rattle.silt_trie.proofs.trie.Trie.locate.Goals as goal
