@@ -143,7 +143,7 @@ fn serve_opened<
     ensures served { ServesOpened D.Disk (HasFailed D.kept_read D.last_failure) service.now (is_some entrance) core result.0 result.1 (W.contents writer.old) (W.contents writer.new) }
     ensures led { LeavesCalls D.Disk core result.0 }
 {
-    core.standing(); // the possible crash images of the store as it is
+    let _known = core.standing(); // the possible crash images of the store as it is
     if has_few_regions(&core, service.merge_at) {
         return refuse_few_regions(rt.alloc(), core, writer);
     }

@@ -3,7 +3,7 @@ ghost use Rattle.std.specs.Prelude.{◌≡◌, ◌≤◌, All, IfOk, is_some, le
 ghost use Rattle.std.specs.List.{range_with_len};
 ghost use Rattle.silt_disk.specs.Layout.{Shape};
 ghost use Rattle.silt_store_set.specs.CoreInvariant.{LeavesBegun};
-ghost use Rattle.silt_shards.specs.Routing.{IsShardCount};
+ghost use Rattle.silt_shards.specs.Routing.{IsShardCount, most_shards};
 ghost use Rattle.silt_shards.specs.Sets.{AreAlike};
 ghost use Rattle.silt_jobs.specs.Ended.{HasFailed};
 ghost use Rattle.silt.specs.Services.{least_merged};
@@ -236,7 +236,7 @@ fn serve_entered<
 
 // How many of so many shards may be merged at a time: all, if no number is asked for.
 fn places_of(service: &Service<'_>, shards: usize) -> u32
-    requires { shards ≤ 64 }
+    requires { shards ≤ most_shards }
     ensures { result ≡ unwrap_or service.now.mergers shards }
 {
     service.mergers.unwrap_or(shards as u32)
@@ -250,7 +250,7 @@ fn gates_of<'a, 'f, 'b, 'p, D: Disk, H: AllocGlobal + Wait + StandardStreams>(
     parts: &'p GateParts,
     cores: &[Core<D>],
 ) -> Result<Vec<MergeGate<'a, 'f, 'b, 'p, H>>, AllocError>
-    requires { length cores.now ≤ 64 }
+    requires { length cores.now ≤ most_shards }
     ensures count { IfOk result (λ gates. vec_len gates ≡ length cores.now) }
     ensures shards { IfOk result (λ gates. map (λ gate. gate.shard) gates.items ≡ map Some (range_with_len 0 (length cores.now))) }
     ensures least { IfOk result (λ gates. map (λ gate. gate.least) gates.items ≡ map (λ core. least_merged parts.entry.now.merge_at core.shape.hashes) cores.now) }
@@ -278,7 +278,7 @@ fn are_noted<H: AllocGlobal + Wait + StandardStreams>(
 
 // The calls that failed of the first of these disks of which one did.
 fn failures_among<D: Watched>(disks: &[D]) -> Failures
-    requires { length disks.now ≤ 64 }
+    requires { length disks.now ≤ most_shards }
     ensures { FailedAmong (HasFailed D.kept_read D.last_failure) disks.now result }
 {
     for shard in 0..disks.len() {

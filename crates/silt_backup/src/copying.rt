@@ -2,6 +2,7 @@
 ghost use Rattle.std.specs.Prelude.{◌≡◌, ◌+◌, ◌^◌, ◌<◌, ◌≤◌, IfErr, OnOk, length, vec_len};
 ghost use Rattle.silt_backup.specs.Backups.{IsCause};
 ghost use Rattle.silt_care.specs.Extents.{IsPartOf};
+ghost use Rattle.silt_care.specs.Orders.{piece_len};
 ghost use Rattle.silt_disk.specs.Disk.{Rests, size};
 
 use crate::backup::Backup;
@@ -33,7 +34,7 @@ impl<V: View> Backup<'_, V> {
         finds: &F,
         room: &mut [u8],
     ) -> Result<(), BackupFault<V::Fault, D::Fault>>
-        requires room { length room.old ≡ 65536 }
+        requires room { length room.old ≡ piece_len }
         ensures size { size (D.content disk.new) ≡ size (D.content disk.old) }
         ensures cause { IfErr result (IsCause V.View F.Finds D.Disk self.now.view.now finds.now self.now.moment.now disk.new) }
     {
@@ -95,7 +96,7 @@ impl<V: View> Backup<'_, V> {
         extent: &Extent,
         room: &mut [u8],
     ) -> Result<(), BackupFault<V::Fault, D::Fault>>
-        requires room { length room.old ≡ 65536 }
+        requires room { length room.old ≡ piece_len }
         requires most { extent.now.at + extent.now.len ≤ 2 ^ 39 }
         ensures size { size (D.content disk.new) ≡ size (D.content disk.old) }
         ensures cause { IfErr result (IsCause V.View F.Finds D.Disk self.now.view.now finds.now self.now.moment.now disk.new) }
@@ -119,7 +120,7 @@ impl<V: View> Backup<'_, V> {
         room: &mut [u8],
     ) -> Result<(), BackupFault<V::Fault, D::Fault>>
         requires part { IsPartOf self.now.moment.now.geometry part }
-        requires room { length room.old ≡ 65536 }
+        requires room { length room.old ≡ piece_len }
         ensures size { size (D.content disk.new) ≡ size (D.content disk.old) }
         ensures cause { IfErr result (IsCause V.View F.Finds D.Disk self.now.view.now finds.now self.now.moment.now disk.new) }
     {
@@ -138,7 +139,7 @@ impl<V: View> Backup<'_, V> {
         region: u32,
         room: &mut [u8],
     ) -> Result<(), BackupFault<V::Fault, D::Fault>>
-        requires room { length room.old ≡ 65536 }
+        requires room { length room.old ≡ piece_len }
         ensures size { size (D.content disk.new) ≡ size (D.content disk.old) }
         ensures cause { IfErr result (IsCause V.View F.Finds D.Disk self.now.view.now finds.now self.now.moment.now disk.new) }
     {
@@ -155,7 +156,7 @@ impl<V: View> Backup<'_, V> {
         finds: &F,
         room: &mut [u8],
     ) -> Result<(), BackupFault<V::Fault, D::Fault>>
-        requires room { length room.old ≡ 65536 }
+        requires room { length room.old ≡ piece_len }
         ensures size { size (D.content disk.new) ≡ size (D.content disk.old) }
         ensures cause { IfErr result (IsCause V.View F.Finds D.Disk self.now.view.now finds.now self.now.moment.now disk.new) }
     {
@@ -186,7 +187,7 @@ impl<V: View> Backup<'_, V> {
         finds: &F,
         room: &mut [u8],
     ) -> Result<(), BackupFault<V::Fault, D::Fault>>
-        requires room { length room.old ≡ 65536 }
+        requires room { length room.old ≡ piece_len }
         ensures size { size (D.content disk.new) ≡ size (D.content disk.old) }
         ensures cause { IfErr result (IsCause V.View F.Finds D.Disk self.now.view.now finds.now self.now.moment.now disk.new) }
     {

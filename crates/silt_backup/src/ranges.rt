@@ -15,6 +15,6 @@ pub(crate) fn is_within(at: u64, len: u64, size: u64) -> bool
 pub(crate) fn log_len(geometry: &Geometry) -> usize
     ensures { result ≡ log_size geometry.now }
 {
-    let _limits = geometry.logs(); // there are at least two
+    let _known = geometry.logs(); // there are at least two
     (geometry.gates_at(1) - geometry.gates_at(0)) as usize
 }

@@ -14,6 +14,10 @@ use Rattle.silt_disk.specs.Layout.{Shape}
 use Rattle.silt_manifest.specs.declared.body.Body.{Body}
 use Rattle.silt_manifest.specs.declared.digests.Digests.{Digests}
 
+-- the length of the buffer that a part is read into, piece by piece
+abbrev pub piece_len : ℕ
+piece_len = 65536
+
 module _ {S G : Type 0} (looks : LooksOf S G) where
   -- these bytes were read from there on, one piece behind the other
   pub data Reads (at : ℕ) (first : S) : List ℕ → S → Type 0 where

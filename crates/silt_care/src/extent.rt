@@ -2,6 +2,7 @@
 ghost use Rattle.std.specs.Prelude.{◌≡◌, ◌==◌, ◌+◌, ◌<◌, ◌≤◌, ◌^◌, IfSome, length, position};
 ghost use Rattle.std.specs.Option.{option_map};
 ghost use Rattle.silt_care.specs.Extents.{IsPartOf, extent_of, hash_extent, part_at, place_of, sorted_extent};
+ghost use Rattle.silt_disk.specs.Layout.{most_hashes};
 
 use silt_disk::Geometry;
 use silt_event::Place;
@@ -61,7 +62,7 @@ fn place_in(regions: &[u32], region: u32) -> Option<usize>
 // The bytes of the hash store in this region, whose digest is at this place: those of its slots.
 fn hash_extent(geometry: &Geometry, digests: &Digests, region: u32, place: usize) -> Extent
     requires region { region < geometry.now.hashes }
-    requires place { place < 16 }
+    requires place { place < most_hashes }
     ensures value { result ≡ hash_extent geometry.now digests.now region place }
     ensures most { result.at + result.len ≤ 2 ^ 39 }
 {
@@ -80,7 +81,7 @@ fn hash_named(
     place: Option<usize>,
 ) -> Option<Extent>
     requires region { region < geometry.now.hashes }
-    requires place { IfSome place (λ place. place < 16) }
+    requires place { IfSome place (λ place. place < most_hashes) }
     ensures value { result ≡ option_map (hash_extent geometry.now digests.now region) place }
     ensures most { IfSome result (λ extent. extent.at + extent.len ≤ 2 ^ 39) }
 {

@@ -1,7 +1,7 @@
 // One pass over a store.
 ghost use Rattle.std.specs.Prelude.{◌≡◌, ◌<◌, ◌≤◌, ◌+◌, ◌^◌, length, IfOk, OnErr};
 ghost use Rattle.silt_care.specs.Extents.{IsPartOf};
-ghost use Rattle.silt_care.specs.Orders.{Judges};
+ghost use Rattle.silt_care.specs.Orders.{Judges, piece_len};
 ghost use Rattle.silt_care.specs.Scrubs.{Hears, IsPass, IsVerdict, finding_of, first_of, nothing, verdict_len, with_verdict};
 ghost use Rattle.silt_disk.specs.Layout.{Shape};
 
@@ -130,7 +130,7 @@ impl<V: View, R: Clock> Scrub<'_, V, R> {
         hasher: &mut BufferedHasher,
     ) -> Verdict
         requires part { IsPartOf geometry.now part }
-        requires room { length room.old ≡ 65536 }
+        requires room { length room.old ≡ piece_len }
         ensures verdict { Judges L.Looks F.Finds geometry.now finds.now part looks.old result looks.new }
         ensures most { verdict_len result ≤ 2 ^ 39 }
     {
@@ -159,7 +159,7 @@ impl<V: View, R: Clock> Scrub<'_, V, R> {
         hasher: &mut BufferedHasher,
     ) -> Verdict
         requires part { IsPartOf geometry.now part }
-        requires room { length room.old ≡ 65536 }
+        requires room { length room.old ≡ piece_len }
         ensures verdict { IsVerdict V.View F.Finds self.now.view.now geometry.now finds.now part result }
         ensures most { verdict_len result ≤ 2 ^ 39 }
     {

@@ -1,7 +1,7 @@
 // Reads the bytes of a store in pieces, and hashes them.
 ghost use Rattle.std.specs.Prelude.{◌≡◌, ℕ, List, ◌≤◌, ◌+◌, ◌++◌, ◌^◌, length, IfErr, IfOk, OnOk};
 ghost use Rattle.sha1.specs.Sha1.{sha1};
-ghost use Rattle.silt_care.specs.Orders.{Halts, ReadsAll};
+ghost use Rattle.silt_care.specs.Orders.{Halts, ReadsAll, piece_len};
 ghost use Rattle.silt_hasher.specs.Taking.{HasTaken};
 
 use crate::extent::Extent;
@@ -54,7 +54,7 @@ impl<V: View, R: Clock> Scrub<'_, V, R> {
         room: &mut [u8],
         hasher: &mut BufferedHasher,
     ) -> Result<[u8; 20], Halt>
-        requires room { length room.old ≡ 65536 }
+        requires room { length room.old ≡ piece_len }
         requires most { extent.now.at + extent.now.len ≤ 2 ^ 39 }
         ensures ok { IfOk result (λ digest. (bytes : List ℕ) × ReadsAll L.Looks extent.now looks.old bytes looks.new × (digest ≡ sha1 bytes)) }
         ensures err { IfErr result (λ halt. Halts L.Looks F.Finds finds.now extent.now looks.old halt looks.new) }

@@ -230,7 +230,7 @@ impl Conversion {
             → self.puts ≡ put_count (filter has_known_kind (converted_rows self.shape log.table (all_rows content log.log))) }
         ensures stands { (content : Content) (log : LogStoreState) → IsFrozenStore content log → HasWritten content log self → IsHashStore content result }
     {
-        let _limits = self.region.geometry.buckets(); // so the number of buckets lies within its limits
+        let _known = self.region.geometry.buckets(); // so the number of buckets lies within its limits
         let Conversion {
             region,
             tags,

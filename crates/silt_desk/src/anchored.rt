@@ -64,7 +64,7 @@ impl<T: Trace, N: Anchor> Anchored<T, N> {
         ensures past { HasPast N.first T.counts result (seen D.Disk core.now) }
         ensures log { result.log ≡ Some log }
     {
-        core.standing(); // the possible crash images of the store as it is now
+        let _known = core.standing(); // the possible crash images of the store as it is now
         Anchored {
             trace,
             log: Some(log),

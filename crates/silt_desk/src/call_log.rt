@@ -260,7 +260,7 @@ impl CallPlace {
         if self.number >= view.count {
             return false;
         }
-        let _both = self.view.longer(view);
+        let _known = self.view.longer(view); // one of the two views is a beginning of the other
         true
     }
 }

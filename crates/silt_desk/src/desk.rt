@@ -235,7 +235,7 @@ impl<D: Disk, T: Trace, N: DeskId> Desk<D, T, N> {
         ensures has_map { IsTrue (D.content self.now.core.disk).honest → map_of self.now.core ≡ map_after self.now.core.base self.now.core.waiting }
         ensures few { IsTrue (D.content self.now.core.disk).honest → length self.now.core.waiting ≤ self.now.core.count }
     {
-        self.core.standing();
+        let _known = self.core.standing(); // the same of the core
     }
 
     /// Sets the value of a key, as a recorded call, and returns how many commands are accepted, this one included.

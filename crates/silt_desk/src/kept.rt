@@ -54,7 +54,7 @@ impl Kept {
         ensures history { IfOk result (λ kept. IsHistory kept (seen D.Disk core.now)) }
     {
         let opening = core.entries(alloc)?;
-        core.standing(); // the possible crash images of the store as it is now
+        let _known = core.standing(); // the possible crash images of the store as it is now
         let Ok(calls) = Vec::with_capacity(alloc, most as usize) else {
             return Err(Refusal::NoMemory);
         };

@@ -22,6 +22,10 @@ pub record Buffers : Type 0 where
   pub second : BufferedBytes
   pub third : BufferedBytes
 
+-- the room of each buffer, in bytes
+abbrev pub buffer_room : ℕ
+buffer_room = 65536
+
 -- three empty buffers of this room
 abbrev pub no_bytes : ℕ → Buffers
 no_bytes room = record { first = record { at = 0; bytes = []; room = room }; second = record { at = 0; bytes = []; room = room }; third = record { at = 0; bytes = []; room = room } }

@@ -1,7 +1,7 @@
 // A disk that buffers adjacent writes for another disk.
 ghost use Rattle.std.specs.Prelude.{◌≡◌, ◌+◌, ◌≤◌, ◌%◌, ◌^◌, ◌==◌, IfOk, OnOk, IfErr, MatchResult, IsTrue, length, []};
 ghost use Rattle.silt_disk.specs.Disk.{GaveAny, Stays, Tears, Writes, size};
-ghost use Rattle.silt_device.specs.Buffered.{SavesWritesLaw, no_bytes};
+ghost use Rattle.silt_device.specs.Buffered.{SavesWritesLaw, buffer_room, no_bytes};
 ghost use Rattle.silt_device.specs.Calls.{no_calls};
 
 use crate::calls::Calls;
@@ -98,7 +98,7 @@ impl<D: Disk> BufferedDisk<D> {
     ///
     /// Out of memory: a buffer could not be allocated.
     pub fn new(alloc: Global, inner: D) -> Result<Self, AllocError>
-        ensures { IfOk result (λ disk. disk ≡ record { inner = inner; buffers = no_bytes 65536; calls = no_calls }) }
+        ensures { IfOk result (λ disk. disk ≡ record { inner = inner; buffers = no_bytes buffer_room; calls = no_calls }) }
     {
         BufferedDisk::with_room(alloc, inner, ROOM)
     }
@@ -152,7 +152,7 @@ impl<D: Disk> Disk for BufferedDisk<D> {
 
     #[tactic(auto, using(crate::proofs::Freeing::all_laid))]
     fn read(&self, at: u64, buf: &mut [u8]) -> Result<(), BufferFault<D::Fault>> {
-        let _size = self.inner.len();
+        let _known = self.inner.len(); // so no place within it passes a word
         if self.buffers.holds(at, buf.len()) {
             self.buffers.lay_over(at, buf);
             return Ok(());
@@ -186,7 +186,7 @@ impl<D: Disk> Disk for BufferedDisk<D> {
             (λ fault. (self.new.calls.failures ≡ (self.old.calls.failures + 1) % 2 ^ 64)
             × buffered_gave D.gave self.new fault Write at (length buf.now)) }
     {
-        let _size = self.inner.len();
+        let _known = self.inner.len(); // so no place within it passes a word
         let count = buf.len() as u64;
         self.calls.count_write();
         for _turn in 0..self.buffers.make_way(at, buf.len()) {

@@ -2,7 +2,7 @@
 use Rattle.std.specs.Prelude.{◌≡◌, ◌⊎◌, ◌<◌, ◌*◌, ◌^◌, ℕ, ◌==◌, nat_le, Bool, ◌&&◌, ◌||◌, if◌then◌else◌, List, ◌++◌, length, slice_index, slice_range, codes}
 use Rattle.std.specs.Str.{bytes_eq}
 use Rattle.byteorder.specs.Endian.{big_bytes}
-use Rattle.silt_disk.specs.Layout.{Shape, is_bucket_count, most_sorted_capacity, most_value_len}
+use Rattle.silt_disk.specs.Layout.{Shape, is_bucket_count, most_hashes, most_logs, most_sorted_capacity, most_value_len}
 use Rattle.silt_frame.specs.Gate.{gate_open, is_open}
 use Rattle.silt_disk.specs.Numbers.{number_at}
 use Rattle.silt_disk.specs.declared.header.Version.{Version}
@@ -65,7 +65,7 @@ shape_of image = header_shape (header_of image)
 abbrev pub is_in_limits : Shape → Bool
 is_in_limits s =
     nat_le 1 s.value_len && nat_le s.value_len most_value_len && is_bucket_count s.buckets && nat_le 1 s.log_capacity
-    && nat_le s.log_capacity (4 * s.buckets) && nat_le 2 s.logs && nat_le s.logs 8 && nat_le 1 s.hashes && nat_le s.hashes 16
+    && nat_le s.log_capacity (4 * s.buckets) && nat_le 2 s.logs && nat_le s.logs most_logs && nat_le 1 s.hashes && nat_le s.hashes most_hashes
     && nat_le 1 s.sorted_capacity && nat_le s.sorted_capacity most_sorted_capacity
 
 -- the six numbers fit into the fields of a header

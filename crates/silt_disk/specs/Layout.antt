@@ -27,6 +27,18 @@ most_value_len = 4096
 abbrev pub most_sorted_capacity : ℕ
 most_sorted_capacity = 16777216
 
+-- the greatest number of logs, the active one included
+abbrev pub most_logs : ℕ
+most_logs = 8
+
+-- the greatest number of frozen logs
+abbrev pub most_frozen : ℕ
+most_frozen = 7
+
+-- the greatest number of hash stores
+abbrev pub most_hashes : ℕ
+most_hashes = 16
+
 -- n rounded up to whole sectors
 abbrev pub up : ℕ → ℕ
 up n = (n + (sector - 1)) / sector * sector
@@ -45,9 +57,9 @@ pub record InLimits (shape : Shape) : Type 0 where
   pub log_capacity_least : 1 ≤ shape.log_capacity
   pub log_capacity_most : shape.log_capacity ≤ 4 * shape.buckets
   pub logs_least : 2 ≤ shape.logs
-  pub logs_most : shape.logs ≤ 8
+  pub logs_most : shape.logs ≤ most_logs
   pub hashes_least : 1 ≤ shape.hashes
-  pub hashes_most : shape.hashes ≤ 16
+  pub hashes_most : shape.hashes ≤ most_hashes
   pub sorted_capacity_least : 1 ≤ shape.sorted_capacity
   pub sorted_capacity_most : shape.sorted_capacity ≤ most_sorted_capacity
 

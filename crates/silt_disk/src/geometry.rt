@@ -12,6 +12,18 @@ pub const SECTOR: u64 = 4096;
 /// Where the log regions begin, behind the header and the two manifest slots.
 pub const REGIONS_AT: u64 = 12_288;
 
+// The greatest length of a value, in bytes.
+const MOST_VALUE_LEN: u32 = 4096;
+
+// The greatest number of log regions.
+const MOST_LOGS: u32 = 8;
+
+// The greatest number of hash regions.
+const MOST_HASHES: u32 = 16;
+
+// The greatest number of entries of a sorted region.
+const MOST_SORTED_CAPACITY: u32 = 16_777_216;
+
 /// A number of a geometry is out of its limits.
 #[derive(Clone, Copy, Debug, PartialEq, Eq, Error)]
 #[error("a number is out of its limits")]
@@ -121,13 +133,17 @@ impl Geometry {
         } in
             MatchResult result (λ geometry. (geometry ≡ asked) × InLimits asked) (λ _. ¬ InLimits asked) }
     {
-        if value_len < 1 || value_len > 4096 || !has_bucket_count(buckets) {
+        if value_len < 1 || value_len > MOST_VALUE_LEN || !has_bucket_count(buckets) {
             return Err(BadGeometry);
         }
-        if log_capacity < 1 || log_capacity > 4 * buckets || logs < 2 || logs > 8 {
+        if log_capacity < 1 || log_capacity > 4 * buckets || logs < 2 || logs > MOST_LOGS {
             return Err(BadGeometry);
         }
-        if hashes < 1 || hashes > 16 || sorted_capacity < 1 || sorted_capacity > 16_777_216 {
+        if hashes < 1
+            || hashes > MOST_HASHES
+            || sorted_capacity < 1
+            || sorted_capacity > MOST_SORTED_CAPACITY
+        {
             return Err(BadGeometry);
         }
         Ok(Geometry {

@@ -3,6 +3,7 @@ ghost use Rattle.std.specs.Prelude.{◌≡◌, ◌==◌, ◌<◌, ◌≤◌, ◌
 ghost use Rattle.silt_disk.specs.Disk.{GaveAny};
 ghost use Rattle.silt_disk.specs.Layout.{row_len};
 ghost use Rattle.silt_event.specs.Rows.{map_of_rows};
+ghost use Rattle.silt_frame.specs.Frame.{head_len};
 ghost use Rattle.silt_frame.specs.Rows.{has_known_kind, row_of};
 ghost use Rattle.silt_hash_store.specs.Slots.{slot_row};
 ghost use Rattle.silt_log.specs.State.{all_rows};
@@ -27,7 +28,7 @@ const PUT: u8 = 1;
 
 // The key of the row in these bytes, and its spot: this one if the row is a put.
 fn spot_in(row: &[u8], spot: Spot) -> (Key, Spot)
-    requires { 21 ≤ length row.now }
+    requires { head_len ≤ length row.now }
     ensures key { result.0.0 ≡ (row_of row.now).key }
     ensures spot { result.1 ≡ cond ((row_of row.now).kind == 1) spot Deleted }
 {
@@ -76,7 +77,7 @@ fn note_logs<D: Disk>(
     ensures notes { OnOk result (NotesRows (D.content disk.now) (held_stores held.now) (logged_rows (D.content disk.now) (held_stores held.now)) spots.old spots.new) }
     ensures cause { IfErr result (EntriesErrorCause (GaveAny D.gave disk.now)) }
 {
-    let _few = held.manifest.current().frozen.len(); // so a byte holds each number
+    let _known = held.manifest.current().frozen.len(); // so a byte holds each number
     for number in (0..held.frozen.len() + 1).rev() {
         note_rows(disk, held, number as u8, row, spots)?;
     }
@@ -142,7 +143,7 @@ fn note_hashes<D: Disk>(
     ensures notes { OnOk result (NotesRows (D.content disk.now) (held_stores held.now) (hashed_rows (D.content disk.now) (held_stores held.now)) spots.old spots.new) }
     ensures cause { IfErr result (EntriesErrorCause (GaveAny D.gave disk.now)) }
 {
-    let _few = held.manifest.current().hashed.len(); // so a byte holds each number
+    let _known = held.manifest.current().hashed.len(); // so a byte holds each number
     for number in (0..held.hashes.len()).rev() {
         note_slots(disk, held, number as u8, spots)?;
     }

@@ -108,7 +108,7 @@ impl EntryStream {
         ensures none { IsTrue (D.content disk.now).honest → result ≡ Ok false → spot_value (D.content disk.now) (stores_of self.old) spot ≡ None }
         ensures fault { IfErr result (GaveAny D.gave disk.now) }
     {
-        let _len = self.held.sorted.len(); // so a word holds each place
+        let _known = self.held.sorted.len(); // so a word holds each place
         let found = read_spot(disk, &self.held, spot, &mut self.row, value)?;
         self.place += u32::from(is_entry);
         self.last = Some(key);
@@ -123,7 +123,7 @@ impl EntryStream {
         ensures goes { GoesTo self.old self.new (self.old.place + 1) key }
         ensures value { value.new ≡ drop key_len (bytes_at (entry_len self.old.held.sorted.sorted.shape) self.old.piece self.old.place) }
     {
-        let _len = self.held.sorted.len(); // so a word holds each place
+        let _known = self.held.sorted.len(); // so a word holds each place
         let entry = self.piece.entry(self.held.sorted.entries(), self.place);
         value.copy_from_slice(&entry[KEY_LEN..]);
         self.place += 1;

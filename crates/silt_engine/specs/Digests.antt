@@ -1,6 +1,8 @@
 -- The digests that the next manifest gets, from the stores in memory.
 use Rattle.std.specs.Prelude.{ℕ, ◌-◌, List, ◌++◌, length, map, replicate, take, Option, Some, None}
 use Rattle.std.specs.Option.{option_to_list}
+use Rattle.silt_disk.specs.Layout.{most_hashes}
+use Rattle.silt_frame.specs.Frame.{digest_len}
 use Rattle.silt_frame.specs.declared.digest.Digest.{Digest}
 use Rattle.silt_hash_store.specs.State.{HashState}
 use Rattle.silt_manifest.specs.declared.digests.Digests.{Digests}
@@ -8,15 +10,15 @@ use Rattle.silt_standing.specs.State.{EngineState}
 
 -- the digest in an unused place
 abbrev pub no_digest : Digest
-no_digest = record { 0 = replicate 20 0 }
+no_digest = record { 0 = replicate digest_len 0 }
 
 -- the digest of a hash store
 abbrev pub digest_of : HashState → Digest
 digest_of store = record { 0 = store.digest }
 
--- some digests, and zeros behind them up to 16 in all
+-- some digests, and zeros behind them for the other hash stores that a device can have
 abbrev pub padded : List Digest → List Digest
-padded digests = digests ++ replicate (16 - length digests) no_digest
+padded digests = digests ++ replicate (most_hashes - length digests) no_digest
 
 -- the digests of hash stores, the newest first, after that of a newer one, if there is one; and that of the sorted store
 abbrev pub digests_with : Option Digest → List HashState → Digest → Digests

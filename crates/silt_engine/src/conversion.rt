@@ -1,6 +1,7 @@
 // The conversion of the oldest frozen log into a hash store, one slot a step.
 ghost use Rattle.std.specs.Prelude.{◌≡◌, ◌<◌, ◌*◌, ◌-◌, ◌^◌, [], length, false, true, None, IsSome, IsTrue, IfOk, IfErr, IfSome, IfNone, OnOk};
 ghost use Rattle.silt_disk.specs.Disk.{Costs, Rests};
+ghost use Rattle.silt_disk.specs.Layout.{most_hashes};
 ghost use Rattle.silt_engine.specs.Calls.{BreaksOff, Works};
 ghost use Rattle.silt_engine.specs.Conversion.{AreAllHashesNamed, ConvertErrorCause, Converts, EndsConversion, Finishes, HasConvertedRows, IsLowestFreeHash};
 ghost use Rattle.silt_engine.specs.Conversion.{MayReplace, ReplacesOldest, convert_turn, converted_body, is_work};
@@ -64,7 +65,7 @@ fn lowest_free_hash(hashes: u32, body: &Body) -> Option<u32>
 // The body without the oldest frozen log, and with this hash region in front of the others.
 fn converted_body(body: &Body, region: u32) -> Body
     requires frozen { 0 < length body.now.frozen }
-    requires hashed { length body.now.hashed < 16 }
+    requires hashed { length body.now.hashed < most_hashes }
     requires unspent { body.now.generation < 2 ^ 63 - 1 }
     ensures { result ≡ converted_body body.now region }
 {
@@ -222,7 +223,7 @@ impl Engine {
         let Some(conversion) = &self.converting else {
             unreachable!()
         };
-        let _limits = self.manifest.geometry().hashes(); // so that the body has room for one hash store more
+        let _known = self.manifest.geometry().hashes(); // so that the body has room for one hash store more
         let body = converted_body(&current, conversion.region());
         let sorted = *self.sorted.digest();
         let digests = digests_with(Some(conversion.digest()), &self.hashes, sorted);

@@ -1,6 +1,7 @@
 // The digests that the next manifest gets, of the stores in memory.
 ghost use Rattle.std.specs.Prelude.{◌≡◌, ◌+◌, ◌≤◌, length};
 ghost use Rattle.std.specs.Option.{option_to_list};
+ghost use Rattle.silt_disk.specs.Layout.{most_hashes};
 ghost use Rattle.silt_engine.specs.Digests.{digests_with, own_digests};
 
 use crate::engine::Engine;
@@ -17,7 +18,7 @@ const NO_DIGEST: Digest = Digest([0; 20]);
 // The digests of hash stores, the newest first, after that of a newer one, if there is one; and that of the sorted
 // store.
 pub fn digests_with(first: Option<Digest>, stores: &[HashStore], sorted: Digest) -> Digests
-    requires { length (option_to_list first) + length stores.now ≤ 16 }
+    requires { length (option_to_list first) + length stores.now ≤ most_hashes }
     ensures { result ≡ digests_with first stores.now sorted }
 {
     let mut hashed = [NO_DIGEST; ROOM];
@@ -34,8 +35,8 @@ impl Engine {
     pub fn own_digests(&self) -> Digests
         ensures { result ≡ own_digests self.now }
     {
-        let _sound = self.manifest.current(); // so there are no more hash stores than regions
-        let _limits = self.manifest.geometry().hashes();
+        let _known = self.manifest.current(); // so there are no more hash stores than regions
+        let _known = self.manifest.geometry().hashes(); // and at most 16 regions
         digests_with(None, &self.hashes, *self.sorted.digest())
     }
 }

@@ -1,6 +1,7 @@
 // The stores of a device in memory, and their calls.
 ghost use Rattle.std.specs.Prelude.{vec_capacity, ◌≡◌, ◌*◌, ◌<◌, ◌≤◌, [], None, IfOk, IfErr, OnOk, is_some, length};
 ghost use Rattle.silt_disk.specs.Disk.{Costs};
+ghost use Rattle.silt_disk.specs.Layout.{most_frozen, most_hashes};
 ghost use Rattle.silt_engine.specs.Costs.{row_waits};
 
 use silt_conversion::Conversion;
@@ -95,8 +96,8 @@ impl Engine {
           merging = None;
           charge = charge;
         }) }
-        requires room { 7 ≤ vec_capacity frozen }
-        requires hash_room { 16 ≤ vec_capacity hashes }
+        requires room { most_frozen ≤ vec_capacity frozen }
+        requires hash_room { most_hashes ≤ vec_capacity hashes }
         ensures { result ≡ record {
           manifest = manifest;
           active = active;
@@ -206,7 +207,7 @@ impl Engine {
         ensures made { Costs D.writes D.syncs 3 3 disk.old disk.new result }
         ensures err { IfErr result (BreaksOff D.Disk disk.old disk.new self.now self.now) }
     {
-        let _sound = self.manifest.current(); // the next body is well formed as it is
+        let _known = self.manifest.current(); // the next body is well formed as it is
         let mut manifest = self.manifest;
         manifest.prepare_next(disk, *next, *digests)?;
         manifest.commit_next(disk)?;

@@ -3,6 +3,7 @@ ghost use Rattle.std.specs.Prelude.{◌≡◌, ◌<◌, ◌≤◌, ◌*◌, [], 
 ghost use Rattle.silt_disk.specs.Disk.{GaveAny, size};
 ghost use Rattle.silt_disk.specs.Layout.{device_size, entry_len, row_len};
 ghost use Rattle.silt_hash_store.specs.Slots.{slot_row, hash_rows};
+ghost use Rattle.silt_frame.specs.Frame.{head_len};
 ghost use Rattle.silt_frame.specs.Rows.{has_known_kind, row_of, stored_row};
 ghost use Rattle.silt_frame.specs.declared.key.Kind.TheVariants.{Put};
 ghost use Rattle.silt_log.specs.State.{all_rows};
@@ -47,7 +48,7 @@ fn put_value(
 
 // Does the row in these bytes: a put sets its key's value, and a delete takes it away.
 fn do_row(alloc: Global, bytes: &[u8], entries: &mut BTreeMap<Key, Value>) -> Result<(), AllocError>
-    requires { 21 ≤ length bytes.now }
+    requires { head_len ≤ length bytes.now }
     ensures { OnOk result (DoesRows (row_of bytes.now ∷ []) entries.old entries.new) }
 {
     let mut key = [0; KEY_LEN];

@@ -137,8 +137,8 @@ impl Engine {
         if self.hashes.is_empty() {
             return Ok(Progress::Idle);
         }
-        let _sound = self.manifest.current(); // so there are no more hash stores than regions
-        let _limits = self.manifest.geometry().hashes();
+        let _known = self.manifest.current(); // so there are no more hash stores than regions
+        let _known = self.manifest.geometry().hashes(); // and at most 16 regions
         let region = 1 - self.sorted.region();
         let sorted = self.sorted.entries();
         let Ok(mut merge) = Merge::start(alloc, &self.hashes, sorted, region) else {
@@ -201,8 +201,8 @@ impl Engine {
         requires { count ≤ length self.now.hashes }
         ensures { result ≡ merged_digests self.now count sorted.0 }
     {
-        let _sound = self.manifest.current(); // so there are no more hash stores than regions
-        let _limits = self.manifest.geometry().hashes();
+        let _known = self.manifest.current(); // so there are no more hash stores than regions
+        let _known = self.manifest.geometry().hashes(); // and at most 16 regions
         let newer = &self.hashes[..self.hashes.len() - count];
         digests_with(None, newer, sorted)
     }

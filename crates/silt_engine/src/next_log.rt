@@ -1,6 +1,7 @@
 // The log that comes next, and the body that names it.
 ghost use Rattle.std.specs.Prelude.{◌≡◌, ◌<◌, ◌-◌, ◌^◌, length, IfNone, IfSome};
 ghost use Rattle.silt_engine.specs.NextLog.{AreAllNamed, IsLowestFree, names_region, next_body};
+ghost use Rattle.silt_manifest.specs.IdList.{id_room};
 
 use silt_log_store::LogStore;
 use silt_manifest::Body;
@@ -45,7 +46,7 @@ pub fn lowest_free(logs: u32, body: &Body) -> Option<u32>
 
 // The body that freezes the active log and has this region in its place.
 pub fn next_body(body: &Body, region: u32) -> Body
-    requires frozen { length body.now.frozen < 16 }
+    requires frozen { length body.now.frozen < id_room }
     requires unspent { body.now.generation < 2 ^ 63 - 1 }
     ensures { result ≡ next_body body.now region }
 {

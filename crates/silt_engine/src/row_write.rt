@@ -90,7 +90,7 @@ impl Engine {
         ensures first { self.old.active.log.used ≡ 0 → IfErr result IsFailedWrite }
         ensures unchanged { OnErr result (self.new ≡ self.old) }
     {
-        let _limits = self.manifest.geometry().sorted_capacity(); // so the charge fits its word
+        let _known = self.manifest.geometry().sorted_capacity(); // so the charge fits its word
         self.active.take(disk, kind, key, value)?;
         self.charge += kind.puts();
         Ok(())

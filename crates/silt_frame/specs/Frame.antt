@@ -13,6 +13,10 @@ key_len = 20
 abbrev pub head_len : ℕ
 head_len = 21
 
+-- the length of a digest, in bytes
+abbrev pub digest_len : ℕ
+digest_len = 20
+
 -- whether the kind is a put
 abbrev pub is_put : Kind → Bool
 is_put Put = true

@@ -53,7 +53,7 @@ impl BitWriter {
         requires { start + count ≤ length self.now }
         ensures { result ≡ take count (drop start self.now) }
     {
-        let _len = self.len; // the bytes hold so many bits
+        let _known = self.len; // the bytes hold so many bits
         BitReader::new(&self.bytes, start, count)
     }
 

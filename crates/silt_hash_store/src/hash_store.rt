@@ -171,7 +171,7 @@ impl HashStore {
         ensures place { IfOk result (λ found. IfSome found (λ row. row.place < 4 * self.now.shape.buckets)) }
         ensures fault { IfErr result (GaveAny D.gave disk.now) }
     {
-        let _region = &self.region; // so each slot has a tag
+        let _known = &self.region; // so each slot has a tag
         self.look_up_heads(disk, key)
     }
 
@@ -198,7 +198,7 @@ impl HashStore {
         ensures kept { IfOk result (λ found. put_place found ≡ None → out.new ≡ out.old) }
         ensures fault { IfErr result (GaveAny D.gave disk.now) }
     {
-        let _region = &self.region; // so each slot has a tag
+        let _known = &self.region; // so each slot has a tag
         if !self.has_tag_of(key) {
             return Ok(None);
         }
@@ -230,7 +230,7 @@ impl HashStore {
         ensures kept { IfOk result (λ found. put_place found ≡ None → out.new ≡ out.old) }
         ensures fault { IfErr result (GaveAny D.gave disk.now) }
     {
-        let _region = &self.region; // so each slot has a tag
+        let _known = &self.region; // so each slot has a tag
         let Some(found) = self.look_up(disk, key, row)? else {
             return Ok(None);
         };

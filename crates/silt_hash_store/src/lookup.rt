@@ -78,7 +78,7 @@ pub fn find_in<D: Disk>(
         → IfOk result (λ found. IfSome found (λ row. drop head_len front.new ≡ (slot_row region.now.geometry region.now.number (D.content disk.now).shown row.place).value)) }
     ensures fault { IfErr result (GaveAny D.gave disk.now) }
 {
-    let _slots = region.slot_count(); // so the numbers of the slots fit their word
+    let _known = region.slot_count(); // so the numbers of the slots fit their word
     let start = 4 * bucket;
     for slot in start..start + 4 {
         if let Some(kind) = match_at(region, tags, disk, slot, sought, front)? {

@@ -94,7 +94,7 @@ impl HashStore {
             → is_sound_slot self.now.shape self.now.region (D.content disk.now).shown slot ≡ false)) (GaveAny D.gave disk.now)) }
         ensures held { IsHeldHash self.now }
     {
-        let _ = &self.region; // so that what the store holds is known
+        let _known = &self.region; // so that what the store holds is known
         match head {
             Head::Empty => Ok(None),
             Head::Unknown => Err(ScanError::Damaged(slot)),

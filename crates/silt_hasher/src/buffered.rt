@@ -25,13 +25,14 @@ pub struct BufferedHasher {
 
 impl Model for BufferedHasher {
     ghost use Rattle.std.specs.Prelude.{◌≡◌, ◌≤◌, take, vec_len};
+    ghost use Rattle.silt_hasher.specs.States.{waiting_room};
     ghost use Rattle.silt_hasher.specs.Taking.{Taken, taken_after};
 
     ghost Value = { Taken };
 
     ghost view = { λ a. taken_after a.hasher (take a.len a.bytes.items) };
 
-    ghost invariant = { λ a. (a.len ≤ vec_len a.bytes) × (vec_len a.bytes ≡ 65536) };
+    ghost invariant = { λ a. (a.len ≤ vec_len a.bytes) × (vec_len a.bytes ≡ waiting_room) };
 }
 
 impl BufferedHasher {

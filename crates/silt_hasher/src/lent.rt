@@ -1,5 +1,6 @@
 // Bytes of a buffered hasher that are hashed elsewhere.
 ghost use Rattle.std.specs.Prelude.{◌≡◌, [], length, take, ◌≤◌, IfOk, IfSome, Some, None};
+ghost use Rattle.silt_hasher.specs.States.{waiting_room};
 ghost use Rattle.silt_hasher.specs.Taking.{taken_after};
 
 use crate::buffered::ROOM;
@@ -19,14 +20,15 @@ pub struct LentBytes {
 
 impl Model for LentBytes {
     ghost use Rattle.std.specs.Prelude.{◌≡◌, ◌≤◌, IfSome, take, vec_len};
-    ghost use Rattle.silt_hasher.specs.States.{Lending};
+    ghost use Rattle.silt_hasher.specs.States.{Lending, waiting_room};
     ghost use Rattle.silt_hasher.specs.Taking.{taken_after};
 
     ghost Value = { Lending };
 
     ghost view = { λ a. record { before = a.before; bytes = take a.len a.bytes.items; after = a.after } };
 
-    ghost invariant = { λ a. (a.len ≤ vec_len a.bytes) × (vec_len a.bytes ≡ 65536) × IfSome a.after (λ after. after ≡ taken_after a.before (take a.len a.bytes.items)) };
+    ghost invariant = { λ a. (a.len ≤ vec_len a.bytes) × (vec_len a.bytes ≡ waiting_room)
+        × IfSome a.after (λ after. after ≡ taken_after a.before (take a.len a.bytes.items)) };
 }
 
 impl LentBytes {
@@ -48,7 +50,7 @@ impl LentBytes {
 
     /// Takes copies of a hasher and of the bytes that it is to take in next.
     pub(crate) fn fill(&mut self, before: &Hasher, bytes: &[u8])
-        requires { length bytes.now ≤ 65536 }
+        requires { length bytes.now ≤ waiting_room }
         ensures { self.new ≡ record { before = before.now; bytes = bytes.now; after = None } }
     {
         let end = bytes.len();

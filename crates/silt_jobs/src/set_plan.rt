@@ -1,7 +1,7 @@
 // The plan of a set of shards.
 ghost use Rattle.std.specs.Prelude.{◌≡◌, ◌<◌, ◌≤◌, ℕ, IfNone, IfOk, IfSome};
 ghost use Rattle.std.specs.Io.KnownBytes.{Appends};
-ghost use Rattle.silt_shards.specs.Routing.{IsShardCount};
+ghost use Rattle.silt_shards.specs.Routing.{IsShardCount, least_shards, most_shards};
 ghost use Rattle.silt_jobs.specs.PlanCosts.{cost_of};
 ghost use Rattle.silt_jobs.specs.Plans.{memory_of};
 ghost use Rattle.silt_jobs.specs.SetPlans.{HasRoom, PlansSet, set_cost, set_remedy, set_text, share_of, shard_request, times};
@@ -125,7 +125,7 @@ fn set_remedy(shards: u32, remedy: Remedy) -> Remedy
 pub(crate) fn least_shards(keys: u32) -> Option<u32>
     ensures room { IfSome result (HasRoom keys) }
     ensures least { IfSome result (λ shards. (fewer : ℕ) → 2 ≤ fewer → fewer < shards → ¬ HasRoom keys fewer) }
-    ensures none { IfNone result ((shards : ℕ) → 2 ≤ shards → shards ≤ 64 → ¬ HasRoom keys shards) }
+    ensures none { IfNone result ((shards : ℕ) → least_shards ≤ shards → shards ≤ most_shards → ¬ HasRoom keys shards) }
 {
     for shards in LEAST_SHARDS..MOST_SHARDS + 1 {
         if share_of(shards, keys) <= MOST_KEYS {

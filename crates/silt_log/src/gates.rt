@@ -47,7 +47,7 @@ pub fn write_row<D: Disk>(disk: &mut D, at: u64, head: &[u8], value: &[u8]) -> R
     ensures wrote { Wrote D.Disk at (length head.now + length value.now) 2 0 disk.old disk.new result }
     ensures written { OnOk result (Writes at (head.now ++ value.now) (D.content disk.old) (D.content disk.new)) }
 {
-    let _size = disk.len(); // so no place within it passes a word
+    let _known = disk.len(); // so no place within it passes a word
     disk.write(at, head)?;
     disk.write(at + head.len() as u64, value)?;
     Ok(())

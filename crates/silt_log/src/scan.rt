@@ -36,7 +36,7 @@ pub fn read_rows<D: Disk>(
     ensures rows { IsTrue (D.content disk.now).honest → IfOk result (λ rows. AreRows rows.items (map (body_row bodies row_len (D.content disk.now).shown) (range_with_len 0 count))) }
     ensures err { IfErr result (IsScanRefused (λ place. IsTrue (D.content disk.now).honest → FirstUnknown (body_row bodies row_len (D.content disk.now).shown) count place) (GaveAny D.gave disk.now)) }
 {
-    let _size = disk.len(); // so no place within it passes a word
+    let _known = disk.len(); // so no place within it passes a word
     let mut rows = Vec::with_capacity(alloc, count as usize).map_err(|_| ScanError::NoMemory)?;
     for place in 0..count {
         let row = read_row(disk, bodies, row_len, place)?;
@@ -59,7 +59,7 @@ fn read_row<D: Disk>(
         × (IsTrue (D.content disk.now).honest → has_known_kind (body_row bodies row_len (D.content disk.now).shown place) ≡ false))
         (GaveAny D.gave disk.now)) }
 {
-    let _size = disk.len(); // so no place within it passes a word
+    let _known = disk.len(); // so no place within it passes a word
     let mut head = [0; HEAD_LEN];
     disk.read(bodies + u64::from(place) * row_len, &mut head)
         .map_err(ScanError::Device)?;

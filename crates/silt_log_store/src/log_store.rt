@@ -380,7 +380,7 @@ impl LogStore {
         ensures first { self.now.log.used ≡ 0 → IsOkAnd result (λ placing. IsSome placing) }
         ensures fault { IfErr result (GaveAny D.gave disk.now) }
     {
-        let _limits = self.log.geometry().log_capacity(); // at least one row
+        let _known = self.log.geometry().log_capacity(); // at least one row
         if self.log.is_full() {
             return Ok(None);
         }
@@ -409,7 +409,7 @@ impl LogStore {
         ensures store { MatchResult result (λ _. TakesRow kind key.now value.now (D.content disk.old) (D.content disk.new) self.old self.new)
             (λ _. KeepsStore (D.content disk.old) (D.content disk.new) self.old self.new) }
     {
-        let _capacity = self.log.capacity(); // fits its word, and so does the count of the puts
+        let _known = self.log.capacity(); // it fits its word, and so does the count of the puts
         let place = self.log.len();
         self.log.append(disk, kind, key, value)?;
         enter(&mut self.table, placing, place);

@@ -8,6 +8,7 @@ ghost use Rattle.silt_cuckoo.specs.Slots.{bucket_count, place_at};
 ghost use Rattle.silt_disk.specs.Disk.{GaveAny, size};
 ghost use Rattle.silt_disk.specs.Layout.{device_size, row_len};
 ghost use Rattle.silt_log.specs.Rows.{row_at};
+ghost use Rattle.silt_frame.specs.Frame.{head_len};
 ghost use Rattle.silt_frame.specs.Rows.{has_known_kind};
 ghost use Rattle.silt_log.specs.State.{all_rows};
 ghost use Rattle.silt_log_store.specs.declared.lookup.Match.{Match};
@@ -54,7 +55,7 @@ fn kind_at<D: Disk>(
     requires size { device_size log.now.shape ≤ size (D.content disk.now) }
     ensures kind { IsTrue (D.content disk.now).honest → IfOk result (λ kind. kind ≡ kind_for (row_at log.now.shape log.now.region (D.content disk.now).shown place) key.now.0) }
     ensures value { IsTrue (D.content disk.now).honest → length front.old ≡ row_len log.now.shape
-        → OnOk result (drop 21 front.new ≡ (row_at log.now.shape log.now.region (D.content disk.now).shown place).value) }
+        → OnOk result (drop head_len front.new ≡ (row_at log.now.shape log.now.region (D.content disk.now).shown place).value) }
     ensures fault { IfErr result (GaveAny D.gave disk.now) }
 {
     let head = log.read_front(disk, place, front)?;
@@ -78,7 +79,8 @@ fn first_match<D: Disk>(
     ensures first { IsTrue (D.content disk.now).honest → list_all has_known_kind (all_rows (D.content disk.now) log.now) ≡ true
         → IfOk result (IsFirstMatch (all_rows (D.content disk.now) log.now) candidates.now key.now.0) }
     ensures value { IsTrue (D.content disk.now).honest → length front.old ≡ row_len log.now.shape
-        → IfOk result (λ found. IfSome found (λ m. drop 21 front.new ≡ (row_at log.now.shape log.now.region (D.content disk.now).shown m.found.place).value)) }
+        → IfOk result (λ found. IfSome found (λ m.
+        drop head_len front.new ≡ (row_at log.now.shape log.now.region (D.content disk.now).shown m.found.place).value)) }
     ensures empty { log.now.used ≡ 0 → IsOkAnd result (λ found. found ≡ None) }
     ensures fault { IfErr result (GaveAny D.gave disk.now) }
 {
@@ -121,7 +123,8 @@ pub fn look_up<D: Disk>(
         → IfOk result (IsFirstMatch (all_rows (D.content disk.now) log.now) (candidates_of table.now (first_bucket (bucket_count table.now) key.now.0)
         (second_bucket (bucket_count table.now) key.now.0)) key.now.0) }
     ensures value { IsTrue (D.content disk.now).honest → length front.old ≡ row_len log.now.shape
-        → IfOk result (λ found. IfSome found (λ m. drop 21 front.new ≡ (row_at log.now.shape log.now.region (D.content disk.now).shown m.found.place).value)) }
+        → IfOk result (λ found. IfSome found (λ m.
+        drop head_len front.new ≡ (row_at log.now.shape log.now.region (D.content disk.now).shown m.found.place).value)) }
     ensures fault { IfErr result (GaveAny D.gave disk.now) }
 {
     let buckets = key_buckets(&key.0, table.bucket_count());
@@ -146,7 +149,8 @@ pub fn look_up_under<D: Disk>(
         → IfOk result (IsFirstMatch (all_rows (D.content disk.now) log.now) (candidates_of table.now (first_bucket (bucket_count table.now) key.now.0)
         (second_bucket (bucket_count table.now) key.now.0)) key.now.0) }
     ensures value { IsTrue (D.content disk.now).honest → length front.old ≡ row_len log.now.shape
-        → IfOk result (λ found. IfSome found (λ m. drop 21 front.new ≡ (row_at log.now.shape log.now.region (D.content disk.now).shown m.found.place).value)) }
+        → IfOk result (λ found. IfSome found (λ m.
+        drop head_len front.new ≡ (row_at log.now.shape log.now.region (D.content disk.now).shown m.found.place).value)) }
     ensures empty { log.now.used ≡ 0 → IsOkAnd result (λ found. found ≡ None) }
     ensures fault { IfErr result (GaveAny D.gave disk.now) }
 {

@@ -2,7 +2,7 @@
 use Rattle.std.specs.Prelude.{◌≡◌, ◌<◌, ◌≤◌, ℕ, ◌+◌, ◌%◌, ◌^◌, ◌==◌, nat_le, nat_lt, Bool, true, ◌&&◌, not, List, [], ◌∷◌, ◌++◌, length}
 use Rattle.std.specs.List.{list_any, list_all}
 use Rattle.byteorder.specs.Endian.{big_bytes}
-use Rattle.silt_disk.specs.Layout.{Shape}
+use Rattle.silt_disk.specs.Layout.{Shape, most_frozen, most_hashes}
 use Rattle.silt_disk.specs.Numbers.{number_at}
 use Rattle.silt_manifest.specs.Numbers.{ids_bytes, ids_at}
 use Rattle.silt_manifest.specs.declared.body.Body.{Body}
@@ -18,7 +18,7 @@ long_bit = 2 ^ 63
 -- the bytes right after the gate of a slot, 120 bytes
 abbrev pub body_bytes : Body → List ℕ
 body_bytes b =
-    big_bytes 8 (b.generation + long_bit) ++ big_bytes 4 b.active ++ ids_bytes 7 b.frozen ++ ids_bytes 16 b.hashed
+    big_bytes 8 (b.generation + long_bit) ++ big_bytes 4 b.active ++ ids_bytes most_frozen b.frozen ++ ids_bytes most_hashes b.hashed
     ++ big_bytes 4 b.sorted ++ big_bytes 4 b.sorted_count
 
 -- the body of a slot, whose first byte is the gate
@@ -61,9 +61,9 @@ is_well_formed s slot b =
 pub record FitsSlot (b : Body) : Type 0 where
   pub generation : b.generation < long_bit
   pub active : b.active < 256 ^ 4
-  pub frozen_count : length b.frozen ≤ 7
+  pub frozen_count : length b.frozen ≤ most_frozen
   pub frozen : all_below (256 ^ 4) b.frozen ≡ true
-  pub hashed_count : length b.hashed ≤ 16
+  pub hashed_count : length b.hashed ≤ most_hashes
   pub hashed : all_below (256 ^ 4) b.hashed ≡ true
   pub sorted : b.sorted < 256 ^ 4
   pub sorted_count : b.sorted_count < 256 ^ 4

@@ -8,7 +8,7 @@ use Rattle.silt_disk.specs.Header.{header_of, version_of}
 use Rattle.silt_disk.specs.declared.header.Version.{Version}
 use Rattle.silt_disk.specs.declared.header.Version.TheVariants.{One, Two}
 use Rattle.silt_manifest.specs.Body.{is_well_formed}
-use Rattle.silt_manifest.specs.Digests.{record_of}
+use Rattle.silt_manifest.specs.Digests.{record_of, slot_len}
 use Rattle.silt_manifest.specs.declared.digests.Digests.{Digests}
 use Rattle.silt_manifest.specs.declared.slot.SlotRecord.{SlotRecord}
 use Rattle.silt_manifest.specs.declared.slot.Damage.{Damage}
@@ -16,7 +16,7 @@ use Rattle.silt_manifest.specs.declared.slot.Damage.TheVariants.{Slot, NoSlot}
 
 -- the meaningful bytes of a slot: its gate, its body, and the digests after it
 abbrev pub slot_of : List ℕ → ℕ → List ℕ
-slot_of image slot = slice_range image (slot_at slot) (slot_at slot + 461)
+slot_of image slot = slice_range image (slot_at slot) (slot_at slot + slot_len)
 
 -- whether a slot is open
 abbrev pub is_slot_open : List ℕ → ℕ → Bool

@@ -1,7 +1,9 @@
 -- The digests after a body: their bytes, and when a slot has them.
 use Rattle.std.specs.Prelude.{◌≡◌, ℕ, ◌+◌, ◌*◌, ◌<◌, nat_le, Bool, if◌then◌else◌, List, ◌∷◌, ◌++◌, length, map, flat_map, get_or, slice_range, Some, None}
 use Rattle.std.specs.List.{range_with_len}
+use Rattle.silt_disk.specs.Layout.{most_hashes}
 use Rattle.silt_disk.specs.Numbers.{number_at}
+use Rattle.silt_frame.specs.Frame.{digest_len}
 use Rattle.silt_frame.specs.declared.digest.Digest.{Digest}
 use Rattle.silt_manifest.specs.Body.{FitsSlot, body_bytes, body_of, long_bit}
 use Rattle.silt_manifest.specs.declared.body.Body.{Body}
@@ -12,23 +14,39 @@ use Rattle.silt_manifest.specs.declared.slot.SlotRecord.{SlotRecord}
 abbrev pub digest_bytes : List Digest → List ℕ
 digest_bytes digests = flat_map (λ digest. digest.0) digests
 
--- the bytes after a body, 340 bytes: the digests of 16 hash stores, and that of the sorted entries
+-- the bytes after a body, 340 bytes: the digests of all hash stores that there may be, and that of the sorted entries
 abbrev pub digests_bytes : Digests → List ℕ
 digests_bytes d = digest_bytes d.hashed ++ d.sorted.0
 
--- all bytes that are written after the gate of a slot, 460 bytes
+-- all bytes that are written after the gate of a slot
 abbrev pub record_bytes : Body → Digests → List ℕ
 record_bytes body digests = body_bytes body ++ digests_bytes digests
 
+-- the length of a record: a body and the digests after it
+abbrev pub record_len : ℕ
+record_len = 460
+
+-- the length of a slot's meaningful bytes: its gate and its record
+abbrev pub slot_len : ℕ
+slot_len = 461
+
+-- where the digests of the hash stores begin in a slot
+abbrev pub hashed_at : ℕ
+hashed_at = 121
+
+-- where the digest of the sorted entries is in a slot
+abbrev pub sorted_at : ℕ
+sorted_at = 441
+
 -- the digest at this place of a slot
 abbrev pub digest_at : ℕ → List ℕ → Digest
-digest_at at slot = record { 0 = slice_range slot at (at + 20) }
+digest_at at slot = record { 0 = slice_range slot at (at + digest_len) }
 
 -- the digests of a slot, whose first byte is the gate
 abbrev pub digests_of : List ℕ → Digests
 digests_of slot = record {
-  hashed = map (λ k. digest_at (121 + 20 * k) slot) (range_with_len 0 16);
-  sorted = digest_at 441 slot;
+  hashed = map (λ k. digest_at (hashed_at + digest_len * k) slot) (range_with_len 0 most_hashes);
+  sorted = digest_at sorted_at slot;
 }
 
 -- digests follow the body of a slot
@@ -43,11 +61,11 @@ record_of slot = record { body = body_of slot; digests = if is_long slot then So
 abbrev pub long_record : Body → Digests → SlotRecord
 long_record body digests = record { body = body; digests = Some digests }
 
--- digests that fit into a slot: those of 16 hash stores, each of 20 bytes, and that of the sorted entries
+-- digests that fit into a slot: those of all hash stores that there may be, and that of the sorted entries, each of its length
 pub record FitsDigests (d : Digests) : Type 0 where
-  pub count : length d.hashed ≡ 16
-  pub hashed : (k : ℕ) → k < 16 → length (get_or d.hashed k d.sorted).0 ≡ 20
-  pub sorted : length d.sorted.0 ≡ 20
+  pub count : length d.hashed ≡ most_hashes
+  pub hashed : (k : ℕ) → k < most_hashes → length (get_or d.hashed k d.sorted).0 ≡ digest_len
+  pub sorted : length d.sorted.0 ≡ digest_len
 
 -- a body and its digests read back as they were written
 abbrev pub RecordLaw : Type 0

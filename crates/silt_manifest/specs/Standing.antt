@@ -5,7 +5,7 @@ use Rattle.silt_disk.specs.Disk.{Content, LeavesOnly, splice}
 use Rattle.silt_disk.specs.Layout.{Shape, InLimits, slot_at}
 use Rattle.silt_frame.specs.Gate.{gate_open}
 use Rattle.silt_manifest.specs.Body.{FitsSlot, first_body, is_well_formed}
-use Rattle.silt_manifest.specs.Digests.{FitsDigests, long_record, record_bytes}
+use Rattle.silt_manifest.specs.Digests.{FitsDigests, long_record, record_bytes, slot_len}
 use Rattle.silt_manifest.specs.Current.{is_slot_open, manifest_found, open_record, current_manifest, slot_of}
 use Rattle.silt_manifest.specs.declared.body.Body.{Body}
 use Rattle.silt_manifest.specs.declared.digests.Digests.{Digests}
@@ -92,7 +92,7 @@ pub record IsReady (m : ManifestState) (next : Body) (digests : Digests) (image 
   pub current : RecordIsCurrent m image
   pub stands : open_record image (current_slot m) ≡ Some (current_record m)
   pub spare : is_slot_open image (spare_slot m) ≡ false
-  pub bytes : slice_range image (slot_at (spare_slot m) + 1) (slot_at (spare_slot m) + 461) ≡ record_bytes next digests
+  pub bytes : slice_range image (slot_at (spare_slot m) + 1) (slot_at (spare_slot m) + slot_len) ≡ record_bytes next digests
 
 -- the next record is written, and in each possible crash image its gate can be opened
 pub record IsPrepared (m : ManifestState) (next : Body) (digests : Digests) (content : Content) : Type 0 where

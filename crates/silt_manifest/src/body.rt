@@ -1,5 +1,6 @@
 // The manifest record of a slot: its body, which follows the gate.
 ghost use Rattle.std.specs.Prelude.{◌≡◌, ◌+◌, ◌*◌, ◌<◌, ◌≤◌, ◌++◌, ◌⊎◌, true, false, length, replicate, take, IfSome, IfNone};
+ghost use Rattle.silt_disk.specs.Layout.{most_hashes};
 ghost use Rattle.silt_manifest.specs.Numbers.{ids_bytes};
 ghost use Rattle.silt_manifest.specs.Body.{FitsSlot, all_below, body_bytes, body_of, first_body, has_sound_hashes, has_sound_logs, is_distinct, is_well_formed};
 ghost use Rattle.silt_manifest.specs.Digests.{is_long};
@@ -86,7 +87,7 @@ fn put_zeros(bytes: &mut [u8], at: usize, count: usize)
 // Writes the number of ids and then the ids, with zeros in the room that is left.
 fn put_ids(bytes: &mut [u8], at: usize, room: usize, ids: &[u32])
     requires fits { length ids.now ≤ room }
-    requires small { room ≤ 16 }
+    requires small { room ≤ most_hashes }
     requires there { at + (4 + 4 * room) ≤ length bytes.old }
     requires short { length bytes.old < 4096 }
     ensures { take (at + (4 + 4 * room)) bytes.new ≡ take at bytes.old ++ ids_bytes room ids.now }

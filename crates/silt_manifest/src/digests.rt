@@ -1,6 +1,7 @@
 // The digests in a manifest, of the stores that its body names.
 ghost use Rattle.std.specs.Prelude.{◌≡◌, ◌+◌, ◌≤◌, ◌++◌, length, take};
-ghost use Rattle.silt_manifest.specs.Digests.{FitsDigests, digest_at, digests_bytes, digests_of};
+ghost use Rattle.silt_frame.specs.Frame.{digest_len};
+ghost use Rattle.silt_manifest.specs.Digests.{FitsDigests, digest_at, digests_bytes, digests_of, slot_len};
 
 use crate::body::SLOT_LEN;
 use silt_frame::Digest;
@@ -30,9 +31,9 @@ pub struct Digests {
 
 // Writes a digest.
 fn put_digest(bytes: &mut [u8], at: usize, digest: &Digest)
-    requires { at + 20 ≤ length bytes.old }
-    ensures written { take (at + 20) bytes.new ≡ take at bytes.old ++ digest.now.0 }
-    ensures long { length digest.now.0 ≡ 20 }
+    requires { at + digest_len ≤ length bytes.old }
+    ensures written { take (at + digest_len) bytes.new ≡ take at bytes.old ++ digest.now.0 }
+    ensures long { length digest.now.0 ≡ digest_len }
 {
     bytes[at..at + DIGEST_LEN].copy_from_slice(&digest.0);
 }
@@ -66,7 +67,7 @@ impl Digests {
 
 // The digest at an offset of a slot.
 fn digest_at(slot: &[u8; SLOT_LEN], at: usize) -> Digest
-    requires { at + 20 ≤ 461 }
+    requires { at + digest_len ≤ slot_len }
     ensures { result ≡ digest_at at slot.now }
 {
     let mut bytes = [0; DIGEST_LEN];

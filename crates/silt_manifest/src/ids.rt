@@ -1,6 +1,7 @@
 // A short list of region numbers without an allocation.
 ghost use Rattle.std.specs.Prelude.{◌≡◌, ◌==◌, ◌+◌, ◌*◌, ◌<◌, ◌≤◌, [], ◌∷◌, length, take, IfSome, IfNone};
 ghost use Rattle.silt_disk.specs.Numbers.{number_at};
+ghost use Rattle.silt_manifest.specs.IdList.{id_room};
 ghost use Rattle.silt_manifest.specs.Numbers.{ids_at};
 
 use byteorder::{BigEndian, ByteOrder};
@@ -21,12 +22,12 @@ impl Model for Ids {
 
     ghost Value = { List ℕ };
 
-    ghost use Rattle.silt_manifest.specs.IdList.{IsIdList, numbers_back, count_back};
+    ghost use Rattle.silt_manifest.specs.IdList.{IsIdList, id_room, numbers_back, count_back};
 
     ghost view = { λ ids. take ids.count ids.numbers };
 
     ghost inverse = { λ numbers. record {
-      numbers = numbers ++ replicate (16 - length numbers) 0;
+      numbers = numbers ++ replicate (id_room - length numbers) 0;
       count = length numbers;
     } };
 
@@ -52,7 +53,7 @@ impl Ids {
     /// The number of regions.
     pub fn len(&self) -> usize
         ensures value { result ≡ length self.now }
-        ensures most { length self.now ≤ 16 }
+        ensures most { length self.now ≤ id_room }
     {
         self.count
     }
@@ -67,14 +68,14 @@ impl Ids {
     /// The numbers, from the newest.
     pub fn as_slice(&self) -> &[u32]
         ensures value { result.now ≡ self.now }
-        ensures most { length self.now ≤ 16 }
+        ensures most { length self.now ≤ id_room }
     {
         &self.numbers[..self.count]
     }
 
     /// Puts a number in front, as the newest.
     pub fn push_front(&mut self, id: u32)
-        requires { length self.old < 16 }
+        requires { length self.old < id_room }
         ensures { self.new ≡ id ∷ self.old }
     {
         let mut numbers = [0; ROOM];
@@ -96,7 +97,7 @@ impl Ids {
 
     // Decodes a list: its count in the four bytes at this place, and then the numbers. `None` if there are more than `most`.
     pub(crate) fn read(slot: &[u8], at: usize, most: usize) -> Option<Self>
-        requires room { most ≤ 16 }
+        requires room { most ≤ id_room }
         requires there { at + (4 + 4 * most) ≤ length slot.now }
         requires small { length slot.now < 4096 }
         ensures read { IfSome result (λ ids. ids ≡ ids_at at slot.now) }

@@ -85,7 +85,7 @@ impl Manifest {
         ensures value { result ≡ self.now.current }
         ensures sound { is_well_formed self.now.shape (current_slot self.now) self.now.current ≡ true }
     {
-        let _ = &self.geometry; // the body is well formed for it
+        let _known = &self.geometry; // the body is well formed for it
         self.current
     }
 
@@ -182,7 +182,7 @@ impl Manifest {
         ensures rests { OnOk result (Rests (D.content disk.new)) }
         ensures state { MatchResult result (λ _. self.new ≡ record self.old { spare_closed = true; prepared = Some (long_record next digests) }) (λ _. self.new ≡ self.old) }
     {
-        let _limits = self.geometry.logs(); // at most eight
+        let _known = self.geometry.logs(); // at most eight
         let slot = self.spare_slot();
         write_synced(disk, self.closing_place(), &[GATE_CLOSED])?;
         write_record(disk, slot, &record_bytes(&next, &digests))?;

@@ -4,7 +4,7 @@ ghost use Rattle.silt_disk.specs.Disk.{GaveAny, Rests, Shows, Writes, size};
 ghost use Rattle.silt_disk.specs.Layout.{slot_at, sector};
 ghost use Rattle.silt_disk.specs.Wrote.{Wrote};
 ghost use Rattle.silt_manifest.specs.Body.{FitsSlot};
-ghost use Rattle.silt_manifest.specs.Digests.{FitsDigests, record_bytes, record_of};
+ghost use Rattle.silt_manifest.specs.Digests.{FitsDigests, record_bytes, record_len, record_of};
 ghost use Rattle.silt_manifest.specs.Current.{HasSlot, has_due_digests, is_sound_record, record_behind};
 ghost use Rattle.silt_manifest.specs.Faults.{IsSlotRefused};
 ghost use Rattle.silt_manifest.specs.declared.slot.Damage.TheVariants.{Slot};
@@ -162,7 +162,7 @@ pub(crate) fn write_record<D: Disk>(
 ) -> Result<(), D::Fault>
     requires slot { slot < 2 }
     requires size { slot_at 1 + sector ≤ size (D.content disk.old) }
-    ensures wrote { Wrote D.Disk (slot_at slot + 1) 460 1 1 disk.old disk.new result }
+    ensures wrote { Wrote D.Disk (slot_at slot + 1) record_len 1 1 disk.old disk.new result }
     ensures written { OnOk result (Writes (slot_at slot + 1) bytes.now (D.content disk.old) (D.content disk.new)) }
     ensures rests { OnOk result (Rests (D.content disk.new)) }
 {

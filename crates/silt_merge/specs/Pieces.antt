@@ -5,6 +5,10 @@ use Rattle.silt_frame.specs.Rows.{StoredRow, row_of}
 use Rattle.silt_hash_store.specs.Slots.{slot_row}
 use Rattle.silt_sorted_store.specs.OnlyRow.{HasEntry}
 
+-- the greatest length of one read, in bytes
+abbrev pub read_len : ℕ
+read_len = 65536
+
 -- a piece of a region: the length of each of its parts, and the bytes of each part that is not skipped
 pub record PieceState : Type 0 where
   pub len : ℕ

@@ -5,6 +5,7 @@ ghost use Rattle.std.specs.List.{All};
 ghost use Rattle.std.specs.Str.{bytes_eq};
 ghost use Rattle.silt_disk.specs.Disk.{Content, GaveAny, size};
 ghost use Rattle.silt_disk.specs.Layout.{Shape, device_size, row_len};
+ghost use Rattle.silt_frame.specs.Frame.{key_len};
 ghost use Rattle.silt_frame.specs.declared.key.Key.{Key};
 ghost use Rattle.silt_hash_store.specs.State.{HashState};
 ghost use Rattle.silt_hash_store.specs.Lookup.{IsRowAt};
@@ -149,7 +150,7 @@ fn read_row<D: Disk>(
     choice: &Choice,
     out: &mut [u8],
 ) -> Result<(), D::Fault>
-    requires shapes { All (λ store. 20 + store.shape.value_len ≡ length out.old) stores.now }
+    requires shapes { All (λ store. key_len + store.shape.value_len ≡ length out.old) stores.now }
     requires store { IfSome choice.now.source (λ source. source.store < length stores.now) }
     requires slot { IfSome choice.now.source (λ source. All (λ store. source.slot < 4 * store.shape.buckets) stores.now) }
     requires size { All (λ store. device_size store.shape ≤ size (D.content disk.now)) stores.now }

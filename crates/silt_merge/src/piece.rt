@@ -2,13 +2,14 @@
 ghost use Rattle.std.specs.Prelude.{◌≡◌, ◌+◌, ◌*◌, ◌<◌, ◌≤◌, ℕ, [], true, false, List, get_or, length, take, IsTrue, IfOk, IfErr, OnOk, OnErr};
 ghost use Rattle.silt_disk.specs.Disk.{GaveAny, size};
 ghost use Rattle.silt_disk.specs.Layout.{device_size, entry_len, row_len};
+ghost use Rattle.silt_frame.specs.Frame.{head_len, key_len};
 ghost use Rattle.silt_frame.specs.Rows.{StoredRow, row_of};
 ghost use Rattle.silt_hash_store.specs.Lookup.{IsRowAt};
 ghost use Rattle.silt_hash_store.specs.Slots.{HoldsSlots};
 ghost use Rattle.silt_sorted_store.specs.Indexing.{HoldsEntries};
 ghost use Rattle.silt_sorted_store.specs.OnlyRow.{HasEntry};
 ghost use Rattle.silt_sorted_store.specs.State.{entries_of};
-ghost use Rattle.silt_merge.specs.Pieces.{AreEntries, AreSlots, parts_after};
+ghost use Rattle.silt_merge.specs.Pieces.{AreEntries, AreSlots, parts_after, read_len};
 
 use silt_disk::Disk;
 use silt_frame::{Key, Row, entry_of};
@@ -32,13 +33,14 @@ pub struct Piece {
 
 impl Model for Piece {
     ghost use Rattle.std.specs.Prelude.{◌+◌, ◌*◌, ◌<◌, ◌≤◌, vec_len};
+    ghost use Rattle.silt_frame.specs.Frame.{key_len};
     ghost use Rattle.silt_merge.specs.Pieces.{PieceState, parts_from};
 
     ghost Value = { PieceState };
 
     ghost view = { λ a. record { len = a.len; parts = parts_from a.bytes.items a.len a.at a.left } };
 
-    ghost invariant = { λ a. (20 ≤ a.len) × (0 < a.most) × (a.most * a.len ≤ vec_len a.bytes) × (a.at + a.left ≤ a.most) };
+    ghost invariant = { λ a. (key_len ≤ a.len) × (0 < a.most) × (a.most * a.len ≤ vec_len a.bytes) × (a.at + a.left ≤ a.most) };
 }
 
 // Reads this many entries from a place on into the front of a buffer.
@@ -92,8 +94,8 @@ impl Piece {
     ///
     /// Out of memory: the room could not be allocated.
     pub fn new(alloc: Global, len: usize, count: u32) -> Result<Self, AllocError>
-        requires least { 20 ≤ len }
-        requires most { len ≤ 65536 }
+        requires least { key_len ≤ len }
+        requires most { len ≤ read_len }
         ensures { IfOk result (λ piece. piece ≡ record { len = len; parts = [] }) }
     {
         let most = count.min((READ_LEN / len) as u32).max(1);
@@ -175,7 +177,7 @@ impl Piece {
     pub fn first(&self) -> &[u8]
         ensures part { result.now ≡ get_or self.now.parts 0 [] }
         ensures len { 0 < length self.now.parts → length result.now ≡ self.now.len }
-        ensures least { 20 ≤ self.now.len }
+        ensures least { key_len ≤ self.now.len }
     {
         if self.left == 0 {
             return &self.bytes[..0];
@@ -189,7 +191,7 @@ impl Piece {
         requires some { 0 < length self.now.parts }
         requires out { length out.old ≡ self.now.len }
         ensures entry { (rows : List StoredRow) (place : ℕ) → AreEntries rows place self.now.parts → HasEntry rows place out.new }
-        ensures key { result.0 ≡ take 20 out.new }
+        ensures key { result.0 ≡ take key_len out.new }
         ensures len { length out.new ≡ length out.old }
     {
         out.copy_from_slice(self.first());
@@ -200,7 +202,7 @@ impl Piece {
     /// The row of the first part, which is the slot of this number. `None` if the slot is empty or its kind is unknown.
     pub fn first_row(&self, slot: u32) -> Option<Row>
         requires some { 0 < length self.now.parts }
-        requires len { 21 ≤ self.now.len }
+        requires len { head_len ≤ self.now.len }
         ensures { IsRowAt (row_of (get_or self.now.parts 0 [])) slot result }
     {
         row_in(self.first(), slot)

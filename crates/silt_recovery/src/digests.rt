@@ -1,5 +1,6 @@
 // The digests that a manifest has of its stores, and those of what was read.
 ghost use Rattle.std.specs.Prelude.{◌≡◌, ◌<◌, [], get_or};
+ghost use Rattle.silt_disk.specs.Layout.{most_hashes};
 ghost use Rattle.silt_event.specs.Findings.{finding_if};
 ghost use Rattle.silt_event.specs.declared.damage.Finding.TheVariants.{Damaged};
 ghost use Rattle.silt_event.specs.declared.place.Place.{Place};
@@ -12,7 +13,7 @@ use silt_manifest::Digests;
 
 // The digest of the hash store at a place, the newest first.
 fn hashed_at(digests: &Digests, place: usize) -> Digest
-    requires { place < 16 }
+    requires { place < most_hashes }
     ensures { result.0 ≡ (get_or digests.now.hashed place (record { 0 = [] })).0 }
 {
     digests.hashed[place]
@@ -20,7 +21,7 @@ fn hashed_at(digests: &Digests, place: usize) -> Digest
 
 /// The manifest's digest of the hash store of this number, the newest first.
 pub fn hash_said(said: &Option<Digests>, place: usize) -> Option<Digest>
-    requires { place < 16 }
+    requires { place < most_hashes }
     ensures { bytes_said result ≡ said_hash said.now place }
 {
     match said {

@@ -1,7 +1,7 @@
 // The look at a device: what it holds, or what is found wrong.
 ghost use Rattle.std.specs.Prelude.{◌≡◌, ◌≤◌, IsTrue, IfOk, IfErr, OnOk, None, Ok, vec_capacity};
 ghost use Rattle.silt_disk.specs.Disk.{GaveAny, Rests, size};
-ghost use Rattle.silt_disk.specs.Layout.{device_size};
+ghost use Rattle.silt_disk.specs.Layout.{device_size, most_frozen, most_hashes};
 ghost use Rattle.silt_disk.specs.Header.{header_of, version_of};
 ghost use Rattle.silt_image.specs.Stores.{image_digests, image_stores, shape_found, stores_named};
 ghost use Rattle.silt_manifest.specs.Standing.{IsCurrent};
@@ -74,7 +74,7 @@ fn read_stores<D: Disk>(
     requires current { Rests (D.content disk.now) → IsCurrent manifest (D.content disk.now) }
     ensures holds { IfOk result (λ held. Holds (D.content disk.now) (held_stores held)) }
     ensures hash_rows { IfOk result (λ held. CountsHashRows (D.content disk.now) (held_stores held) held.hash_rows) }
-    ensures room { IfOk result (λ held. (7 ≤ vec_capacity held.frozen) × (16 ≤ vec_capacity held.hashes)) }
+    ensures room { IfOk result (λ held. (most_frozen ≤ vec_capacity held.frozen) × (most_hashes ≤ vec_capacity held.hashes)) }
     ensures cause { IfErr result (IsRefusedLook
         (λ finding. IsTrue (D.content disk.now).honest → IsFound (D.content disk.now).shown finding)
         (GaveAny D.gave disk.now)) }
@@ -114,7 +114,7 @@ fn read_stores<D: Disk>(
 pub fn examine<D: Disk>(alloc: Global, disk: &D) -> Result<Holding, OpenError<D::Fault>>
     ensures holds { IfOk result (λ held. Holds (D.content disk.now) (held_stores held)) }
     ensures hash_rows { IfOk result (λ held. CountsHashRows (D.content disk.now) (held_stores held) held.hash_rows) }
-    ensures room { IfOk result (λ held. (7 ≤ vec_capacity held.frozen) × (16 ≤ vec_capacity held.hashes)) }
+    ensures room { IfOk result (λ held. (most_frozen ≤ vec_capacity held.frozen) × (most_hashes ≤ vec_capacity held.hashes)) }
     ensures cause { IfErr result (IsRefusedLook
         (λ finding. IsTrue (D.content disk.now).honest → IsFound (D.content disk.now).shown finding)
         (GaveAny D.gave disk.now)) }

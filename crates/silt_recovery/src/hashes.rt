@@ -1,7 +1,7 @@
 // Reading the hash stores that a manifest names.
 ghost use Rattle.std.specs.Prelude.{◌≡◌, ◌≤◌, ◌<◌, ◌^◌, [], All, IsTrue, IfOk, IfErr, OnOk, length, vec_capacity};
 ghost use Rattle.silt_disk.specs.Disk.{GaveAny, size};
-ghost use Rattle.silt_disk.specs.Layout.{device_size};
+ghost use Rattle.silt_disk.specs.Layout.{device_size, most_hashes};
 ghost use Rattle.silt_recovery.specs.Digests.{bytes_said};
 ghost use Rattle.silt_recovery.specs.Hashes.{AreReadHashes, HasFirstInRegion, HasFirstSlot, IsReadHash, region_findings, region_rows};
 ghost use Rattle.silt_recovery.specs.Refusals.{IsRefusedLook};
@@ -52,10 +52,10 @@ pub fn read_hash<D: Disk>(
         (λ finding. IsTrue (D.content disk.now).honest → HasFirstInRegion geometry (bytes_said said) (D.content disk.now).shown region finding)
         (GaveAny D.gave disk.now)) }
 {
-    let _buckets = geometry.buckets(); // at most 32,768, of four slots each
+    let _known = geometry.buckets(); // at most 32,768, of four slots each
     match HashStore::rebuild(alloc, disk, geometry, region) {
         Ok(rebuilt) => {
-            let _region = rebuilt.store.region(); // one that the device has
+            let _known = rebuilt.store.region(); // one that the device has
             if is_other(said, rebuilt.store.digest()) {
                 return Err(OpenError::Damaged(Place::HashDigest(region)));
             }
@@ -81,11 +81,11 @@ pub fn read_hashes<D: Disk>(
     said: &Option<Digests>,
 ) -> Result<ReadHashes, OpenError<D::Fault>>
     requires regions { All (λ region. region < geometry.hashes) regions.now }
-    requires few { length regions.now ≤ 16 }
+    requires few { length regions.now ≤ most_hashes }
     requires size { size (D.content disk.now) ≡ device_size geometry }
     ensures read { IfOk result (λ hashes. AreReadHashes (D.content disk.now) geometry said.now regions.now hashes.stores.items hashes.puts hashes.rows) }
     ensures most { IfOk result (λ hashes. hashes.puts < 2 ^ 40) }
-    ensures room { IfOk result (λ hashes. 16 ≤ vec_capacity hashes.stores) }
+    ensures room { IfOk result (λ hashes. most_hashes ≤ vec_capacity hashes.stores) }
     ensures cause { IfErr result (IsRefusedLook
         (λ finding. IsTrue (D.content disk.now).honest → HasFirstSlot geometry said.now (D.content disk.now).shown regions.now finding)
         (GaveAny D.gave disk.now)) }

@@ -1,7 +1,7 @@
 // Reading the logs that a manifest names.
 ghost use Rattle.std.specs.Prelude.{◌≡◌, ◌≤◌, ◌<◌, ◌^◌, [], ◌∷◌, All, IsTrue, IfOk, IfErr, OnOk, length, vec_capacity};
 ghost use Rattle.silt_disk.specs.Disk.{GaveAny, size};
-ghost use Rattle.silt_disk.specs.Layout.{device_size};
+ghost use Rattle.silt_disk.specs.Layout.{device_size, most_frozen};
 ghost use Rattle.silt_frame.specs.Rows.{put_count};
 ghost use Rattle.silt_log.specs.Rows.{log_rows};
 ghost use Rattle.silt_recovery.specs.Logs.{AreReadLogs, AreSoundLogs, HasFirstFinding, IsReadLog};
@@ -48,7 +48,7 @@ pub fn read_log<D: Disk>(
 {
     match LogStore::rebuild(alloc, disk, geometry, region) {
         Ok(store) => {
-            let _puts = store.puts(); // at most as many as rows, which the log has room for
+            let _known = store.puts(); // at most as many as rows, which the log has room for
             Ok(store)
         }
         Err(RebuildError::Damaged(row)) => Err(OpenError::Damaged(Place::Log { region, row })),
@@ -70,11 +70,11 @@ pub fn read_frozen<D: Disk>(
     regions: &[u32],
 ) -> Result<ReadLogs, OpenError<D::Fault>>
     requires regions { All (λ region. region < geometry.logs) regions.now }
-    requires few { length regions.now ≤ 7 }
+    requires few { length regions.now ≤ most_frozen }
     requires size { size (D.content disk.now) ≡ device_size geometry }
     ensures read { IfOk result (λ logs. AreReadLogs (D.content disk.now) geometry regions.now logs.stores.items logs.puts) }
     ensures most { IfOk result (λ logs. logs.puts < 2 ^ 40) }
-    ensures room { IfOk result (λ logs. 7 ≤ vec_capacity logs.stores) }
+    ensures room { IfOk result (λ logs. most_frozen ≤ vec_capacity logs.stores) }
     ensures cause { IfErr result (IsRefusedLook
         (λ finding. IsTrue (D.content disk.now).honest → HasFirstFinding geometry (D.content disk.now).shown regions.now finding)
         (GaveAny D.gave disk.now)) }

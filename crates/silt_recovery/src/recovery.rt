@@ -1,6 +1,7 @@
 // The opening of a device after a crash.
 ghost use Rattle.std.specs.Prelude.{◌≡◌, ◌≤◌, vec_capacity, IsTrue, IfOk, IfErr, MatchResult};
 ghost use Rattle.silt_disk.specs.Disk.{GaveAny};
+ghost use Rattle.silt_disk.specs.Layout.{most_frozen, most_hashes};
 ghost use Rattle.silt_recovery.specs.Opening.{CostsOpening, CostsRefusal, IsUnwrittenUnlessFailed, LeavesNoOther, TakesUp, held_stores};
 ghost use Rattle.silt_recovery.specs.Refusals.{IsFound, IsRefusedLook};
 ghost use Rattle.silt_standing.specs.Standing.{SameDisk};
@@ -28,7 +29,7 @@ pub struct Opened<D: Disk> {
 /// was possible before, or represents the same map.
 pub fn open<D: Disk>(alloc: Global, mut disk: D) -> Result<Opened<D>, OpenFault<D>>
     ensures ok { IfOk result (λ opened. TakesUp (D.content disk) (D.content opened.disk) (held_stores opened.held)) }
-    ensures room { IfOk result (λ opened. (7 ≤ vec_capacity opened.held.frozen) × (16 ≤ vec_capacity opened.held.hashes)) }
+    ensures room { IfOk result (λ opened. (most_frozen ≤ vec_capacity opened.held.frozen) × (most_hashes ≤ vec_capacity opened.held.hashes)) }
     ensures same { MatchResult result (λ opened. SameDisk (D.content disk) (D.content opened.disk)) (λ fault. SameDisk (D.content disk) (D.content fault.disk)) }
     ensures made { MatchResult result (λ opened. CostsOpening D.content D.writes D.syncs disk opened.disk) (λ fault. CostsRefusal D.writes D.syncs disk fault.disk fault.error) }
     ensures cause { IfErr result (λ fault. IsRefusedLook
@@ -46,7 +47,7 @@ pub fn open<D: Disk>(alloc: Global, mut disk: D) -> Result<Opened<D>, OpenFault<
 // Settles what the device shows, reads what it holds, and seals its active log.
 fn take_up<D: Disk>(alloc: Global, disk: &mut D) -> Result<Holding, OpenError<D::Fault>>
     ensures ok { IfOk result (λ held. TakesUp (D.content disk.old) (D.content disk.new) (held_stores held)) }
-    ensures room { IfOk result (λ held. (7 ≤ vec_capacity held.frozen) × (16 ≤ vec_capacity held.hashes)) }
+    ensures room { IfOk result (λ held. (most_frozen ≤ vec_capacity held.frozen) × (most_hashes ≤ vec_capacity held.hashes)) }
     ensures same { SameDisk (D.content disk.old) (D.content disk.new) }
     ensures made { MatchResult result (λ _. CostsOpening D.content D.writes D.syncs disk.old disk.new) (CostsRefusal D.writes D.syncs disk.old disk.new) }
     ensures cause { IfErr result (IsRefusedLook

@@ -1,6 +1,7 @@
 // What a store consists of, in numbers.
 ghost use Rattle.std.specs.Prelude.{◌≡◌, ◌≤◌, All, IsTrue, IfOk, IfErr, length, sum_by};
 ghost use Rattle.silt_disk.specs.Disk.{GaveAny};
+ghost use Rattle.silt_disk.specs.Layout.{most_frozen};
 ghost use Rattle.silt_image.specs.Meaning.{report_of};
 ghost use Rattle.silt_recovery.specs.Opening.{CountsHashRows, Holds, IsReported, held_stores};
 ghost use Rattle.silt_recovery.specs.Refusals.{IsFound, IsRefusedLook};
@@ -53,7 +54,7 @@ fn report_of<D: Disk>(disk: &D, held: &Holding) -> Report
 
 // How many rows some logs have together.
 fn row_count(stores: &[LogStore]) -> u32
-    requires few { length stores.now ≤ 7 }
+    requires few { length stores.now ≤ most_frozen }
     requires most { All (λ store. store.log.used ≤ 131072) stores.now }
     ensures { result ≡ sum_by (λ store. store.log.used) stores.now }
 {

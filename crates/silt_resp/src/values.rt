@@ -3,7 +3,7 @@ ghost use Rattle.std.specs.Prelude.{◌≡◌, ◌≤◌, ◌<◌, ◌+◌, ◌=
 ghost use Rattle.std.specs.List.{list_all};
 ghost use Rattle.std.specs.Option.{option_copied};
 ghost use Rattle.sha1.specs.Sha1.{sha1};
-ghost use Rattle.silt_resp.specs.Values.{ValuesLaw, string_of, string_value};
+ghost use Rattle.silt_resp.specs.Values.{ValuesLaw, count_limit, string_of, string_value};
 
 use byteorder::{BigEndian, ByteOrder};
 use sha1::Sha1;
@@ -29,7 +29,7 @@ pub fn key_of(name: &[u8]) -> Key
 /// A string as a value of `value_len` bytes: its length in two bytes, the string, and zeros.
 pub fn string_value(alloc: Global, value_len: usize, string: &[u8]) -> Result<Value, AllocError>
     requires fits { 2 + length string.now ≤ value_len }
-    requires counted { length string.now < 65536 }
+    requires counted { length string.now < count_limit }
     ensures value { IfOk result (λ value. value ≡ string_value value_len string.now) }
 {
     let mut count = [0; LENGTH_LEN];
@@ -49,7 +49,7 @@ pub fn string_of(value: &[u8]) -> Option<&[u8]>
         return None;
     }
     let (count, rest) = value.split_at(LENGTH_LEN);
-    known_bytes(count);
+    let _known = known_bytes(count); // each is below 256
     let len = BigEndian::read_u16(count) as usize;
     if len > rest.len() {
         return None;

@@ -102,7 +102,7 @@ impl<L: Listens + Sync, G: Gate + Sync, C: Cares, R: Threads + Wait + Clock + Sy
                 self.serve_traced::<D, Kept, Brand, W>(core, trace, blanks, out)
             }
             Err(refusal) => {
-                core.standing(); // the possible crash images of the store as it is
+                let _known = core.standing(); // the possible crash images of the store as it is
                 let status = refuse(self.alloc, &refusal, out);
                 (core.close(), status)
             }
@@ -140,11 +140,11 @@ impl<L: Listens + Sync, G: Gate + Sync, C: Cares, R: Threads + Wait + Clock + Sy
             Ok((desk, seats)) => {
                 let Some(state) = ServerState::new(self.alloc, seats, put, taken, log) else {
                     let status = refuse(self.alloc, &Refusal::<()>::NoMemory, out);
-                    let _ = desk.trace(); // it agrees with the store
+                    let _known = desk.trace(); // it agrees with the store
                     return (desk.close(), status);
                 };
                 let (desk, status) = self.serve_desk(desk, state, out);
-                let _ = desk.trace(); // it agrees with the store
+                let _known = desk.trace(); // it agrees with the store
                 (desk.close(), status)
             }
             Err(lack) => {
@@ -243,7 +243,7 @@ pub fn refuse_network<D: Disk, W: Write>(core: Core<D>, out: &mut W) -> (D, io::
     ensures led { LeavesCalls D.Disk core result.0 }
     ensures left { (shape : Shape) × LeavesBegun (D.content result.0) shape }
 {
-    core.standing(); // the possible crash images of the store as it is
+    let _known = core.standing(); // the possible crash images of the store as it is
     (core.close(), write_no_network(out))
 }
 

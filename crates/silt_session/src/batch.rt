@@ -87,7 +87,7 @@ fn perform<D: Disk, T: Trace, N: DeskId>(
 ) -> Option<Answer>
     ensures { Performs D.Disk T.Trace desk.old desk.new seat.old seat.new request.now result }
 {
-    let _ = desk.trace(); // it agrees with the store
+    let _known = desk.trace(); // it agrees with the store
     match request {
         Request::Put(key, value) => {
             let bytes = value.as_slice();
@@ -120,7 +120,7 @@ fn flush<D: Disk, T: Trace, N: DeskId>(
     ensures flushes { Flushes D.Disk T.Trace desk.old desk.new seat.old seat.new result.0 }
     ensures due { IsDueAt least desk.new result.1 }
 {
-    let _ = desk.trace(); // it agrees with the store
+    let _known = desk.trace(); // it agrees with the store
     let flushed = plain(&desk.flush(alloc, seat));
     (flushed, desk.due(least))
 }

@@ -69,7 +69,7 @@ impl<N: LogId> Ticket<N> {
         if self.number != other.number {
             return false;
         }
-        let _both = self.view.longer(&other.view);
+        let _known = self.view.longer(&other.view); // one of the two views is a beginning of the other
         true
     }
 }

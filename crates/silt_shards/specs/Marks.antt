@@ -20,6 +20,10 @@ mark_at = 2048
 abbrev pub mark_len : ℕ
 mark_len = 37
 
+-- the length of a set's name, in bytes
+abbrev pub set_len : ℕ
+set_len = 16
+
 -- the text SILTSHRD
 abbrev pub mark_magic : List ℕ
 mark_magic = codes "SILTSHRD"
@@ -32,11 +36,11 @@ mark_bytes mark = mark_magic ++ big_bytes 4 1 ++ big_bytes 4 mark.count ++ big_b
 abbrev pub is_shard : ℕ → ℕ → Bool
 is_shard count shard = is_shard_count count && nat_lt shard count
 
--- the numbers of a mark are those of a shard, and 16 bytes name its set
+-- the numbers of a mark are those of a shard, and as many bytes name its set as a name has
 pub record IsShardMark (mark : Mark) : Type 0 where
   pub count : IsShardCount mark.count
   pub shard : mark.shard < mark.count
-  pub set : length mark.set ≡ 16
+  pub set : length mark.set ≡ set_len
 
 -- the gate is open, and the magic bytes follow
 abbrev pub has_mark : List ℕ → Bool

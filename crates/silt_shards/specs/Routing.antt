@@ -6,9 +6,17 @@ use Rattle.silt_event.specs.declared.event.Event.{Event}
 use Rattle.silt_event.specs.declared.event.Event.TheVariants.{Put, Delete, Swap, Flush, Get}
 use Rattle.silt_frame.specs.declared.key.Key.{Key}
 
+-- the smallest number of shards of a set
+abbrev pub least_shards : ℕ
+least_shards = 2
+
+-- the greatest number of shards of a set
+abbrev pub most_shards : ℕ
+most_shards = 64
+
 -- a set has 2 to 64 shards
 abbrev pub is_shard_count : ℕ → Bool
-is_shard_count count = nat_le 2 count && nat_le count 64
+is_shard_count count = nat_le least_shards count && nat_le count most_shards
 
 -- a set has 2 to 64 shards
 abbrev pub IsShardCount : ℕ → Type 0

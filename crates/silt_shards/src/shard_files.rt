@@ -5,7 +5,7 @@ ghost use Rattle.silt_recovery.specs.Opening.{LeavesNoOther};
 ghost use Rattle.silt_store_set.specs.CoreState.{Opens};
 ghost use Rattle.silt_shards.specs.Attempts.{GivesFor, IsAttemptOn};
 ghost use Rattle.silt_shards.specs.Opening.{AreOfOneShape, AreShards, CausedAt, HasOtherNumbers, IsLike, IsMarked, IsRefusedSet, IsRefusedUnopened, Says};
-ghost use Rattle.silt_shards.specs.Routing.{IsShardCount};
+ghost use Rattle.silt_shards.specs.Routing.{IsShardCount, most_shards};
 ghost use Rattle.silt_shards.specs.Sets.{AreAlike};
 ghost use Rattle.silt_shards.specs.declared.mark.Marking.TheVariants.{Marked, Unmarked};
 
@@ -286,7 +286,7 @@ fn next_store<D: Disk>(
     opened: Result<Core<D>, OpenFault<D>>,
     cores: &[Core<D>],
 ) -> Result<Core<D>, SetFault<D>>
-    requires { length cores.now < 64 }
+    requires { length cores.now < most_shards }
     ensures opens { (disk : D) → GivesFor D.Disk disk opened → IfOk result (Opens D.Disk (D.content disk)) }
     ensures like { IfOk result (IsLike cores.now) }
     ensures shard { IfErr result (λ fault. fault.shard ≡ length cores.now) }

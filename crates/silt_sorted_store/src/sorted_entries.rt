@@ -159,7 +159,7 @@ impl SortedEntries {
         ensures entries { IsTrue (D.content disk.now).honest → OnOk result (HoldsEntries (entries_of (D.content disk.now) self.now) place count (entry_len self.now.shape) out.new) }
         ensures fault { IfErr result (GaveAny D.gave disk.now) }
     {
-        let _count = self.len(); // so the entries lie within the region
+        let _known = self.len(); // so the entries lie within the region
         disk.read(self.entry_at(place), out)?;
         Ok(())
     }

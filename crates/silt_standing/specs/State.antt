@@ -1,7 +1,7 @@
 -- The stores of a device as they are held in memory.
 use Rattle.std.specs.Prelude.{◌≡◌, ◌≢◌, ◌≤◌, ◌<◌, ◌-◌, ◌*◌, ◌==◌, ℕ, Bool, false, List, All, length, map, get_or, Option, IfSome}
 use Rattle.std.specs.List.{list_any}
-use Rattle.silt_disk.specs.Layout.{Shape}
+use Rattle.silt_disk.specs.Layout.{Shape, most_frozen, most_hashes}
 use Rattle.silt_conversion.specs.Conversion.{ConversionState}
 use Rattle.silt_hash_store.specs.State.{HashState, IsHeldHash}
 use Rattle.silt_log_store.specs.State.{LogStoreState}
@@ -90,5 +90,5 @@ pub record AreWhole (s : EngineState) : Type 0 where
 -- what holds of the stores on any device: there is room in memory for as many frozen logs and hash stores as a device can have
 pub record AreHeld (s : EngineState) (log_room hash_room : ℕ) : Type 0 where
   pub whole : AreWhole s
-  pub enough : 7 ≤ log_room
-  pub enough_hashes : 16 ≤ hash_room
+  pub enough : most_frozen ≤ log_room
+  pub enough_hashes : most_hashes ≤ hash_room

@@ -215,7 +215,7 @@ impl<D: Disk> Core<D> {
         ensures few { IsTrue (D.content self.now.disk).honest → length self.now.waiting ≤ self.now.count }
         ensures merging { self.now.failed ≡ false → IsTrue (D.content self.now.disk).honest → IfSome self.now.merging (IsWithinSteps self.now) }
     {
-        let _ = &self.disk; // the store is as it was made
+        let _known = &self.disk; // the store is as it was made
     }
 
     /// Sets the value of a key, and returns how many commands this life has accepted, this one included.
@@ -318,7 +318,7 @@ impl<D: Disk> Core<D> {
         requires zeros { IsValueOf kind value.now }
         ensures { Does D.Disk self.old self.new (row_event kind key.now value.now) (change_reply result) }
     {
-        let _logs = self.engine.geometry().logs(); // at least two
+        let _known = self.engine.geometry().logs(); // at least two
         let basis = Basis::of(&self.disk, &self.engine);
         match self.engine.write(alloc, &mut self.disk, kind, key, value) {
             Ok(()) => {
@@ -572,7 +572,7 @@ impl<D: Disk> Core<D> {
         ensures made { IfOk result (λ replies. RunMade D.Disk self.old events.now replies.items self.new) }
         ensures err { OnErr result (self.new ≡ self.old) }
     {
-        let _ = &self.disk; // the store is as it was made
+        let _known = &self.disk; // the store is as it was made
         let mut replies = Vec::with_capacity(alloc, events.len())?;
         for event in events {
             let reply = self.answer(alloc, event);

@@ -52,13 +52,13 @@ fn no_facts() -> Facts {
 fn log_len(geometry: &Geometry) -> usize
     ensures { result ≡ log_size geometry.now }
 {
-    let _limits = geometry.logs(); // there are at least two
+    let _known = geometry.logs(); // there are at least two
     (geometry.gates_at(1) - geometry.gates_at(0)) as usize
 }
 
 // How long all log regions of a device are.
 fn logs_len(geometry: &Geometry) -> usize {
-    let _limits = geometry.logs(); // there is a region for hash stores
+    let _known = geometry.logs(); // there is a region for hash stores
     (geometry.hash_at(0) - geometry.gates_at(0)) as usize
 }
 

@@ -140,12 +140,20 @@ is_within most (Some number) = nat_le number most
 abbrev pub count_within : List Row → Text → ℕ → Option (Option ℕ)
 count_within rows name most = option_and_then (λ given. if is_within most given then Some given else None) (count_in rows name)
 
--- whether a number of shards, if one is given, is that of a set: 2 to 64
+-- the smallest number of shards of a set
+abbrev pub fewest_shards : ℕ
+fewest_shards = 2
+
+-- the greatest number of shards of a set
+abbrev pub most_shards : ℕ
+most_shards = 64
+
+-- whether a number of shards, if one is given, is that of a set
 abbrev pub makes_set : Option ℕ → Bool
 makes_set None = true
-makes_set (Some shards) = nat_le 2 shards && nat_le shards 64
+makes_set (Some shards) = nat_le fewest_shards shards && nat_le shards most_shards
 
--- the number of shards of a set: none if the option is not given, and else 2 to 64
+-- the number of shards of a set: none if the option is not given, and else one that a set can have
 abbrev pub shards_in : List Row → Option (Option ℕ)
 shards_in rows = option_and_then (λ given. if makes_set given then Some given else None) (option_in rows (codes "shards"))
 

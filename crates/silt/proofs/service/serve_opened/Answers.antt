@@ -9,7 +9,7 @@ returns-then-has_few_regions-clause-served g c =
 
 pub returns-then-has_few_regions-clause-led : goal.returns-then-has_few_regions-clause-led
 returns-then-has_few_regions-clause-led g c =
-    leaves_none g.D.Disk c.args.core c.refuse_few_regions.result.0 c.refuse_few_regions.ensures.disk c.standing.ensures.has_map c.standing.ensures.few c.standing.ensures.begun
+    leaves_none g.D.Disk c.args.core c.refuse_few_regions.result.0 c.refuse_few_regions.ensures.disk c.standing-known.ensures.has_map c.standing-known.ensures.few c.standing-known.ensures.begun
 
 pub returns-then-has_short_values-clause-served : goal.returns-then-has_short_values-clause-served
 returns-then-has_short_values-clause-served g c =
@@ -18,7 +18,7 @@ returns-then-has_short_values-clause-served g c =
 
 pub returns-then-has_short_values-clause-led : goal.returns-then-has_short_values-clause-led
 returns-then-has_short_values-clause-led g c =
-    leaves_none g.D.Disk c.args.core c.close.result c.close.ensures.disk c.standing.ensures.has_map c.standing.ensures.few c.standing.ensures.begun
+    leaves_none g.D.Disk c.args.core c.close.result c.close.ensures.disk c.standing-known.ensures.has_map c.standing-known.ensures.few c.standing-known.ensures.begun
 
 pub returns-clause-served : goal.returns-clause-served
 returns-clause-served g c =

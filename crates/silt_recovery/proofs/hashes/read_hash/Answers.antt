@@ -21,7 +21,7 @@ returns-else-is_other-clause-sound g c = λ h.
 
 pub returns-else-is_other-clause-read : goal.returns-else-is_other-clause-read
 returns-else-is_other-clause-read g c = record {
-  hash = record { has_shape = c.in-Ok.ensures.region.0; held = c.region-region.ensures.held };
+  hash = record { has_shape = c.in-Ok.ensures.region.0; held = c.region-known.ensures.held };
   stands = record {
     sound = λ h. let rebuilt = c.in-Ok.ensures.rebuilt h in rebuilt.stands.sound h;
     tagged = λ h. let rebuilt = c.in-Ok.ensures.rebuilt h in rebuilt.stands.tagged h;

@@ -20,7 +20,7 @@ returns-in-Err-Crowded-clause-cause g c = λ h.
 pub returns-in-Ok-clause-read : goal.returns-in-Ok-clause-read
 returns-in-Ok-clause-read g c = record {
   has_shape = c.in-Ok.ensures.region.0;
-  bounds = c.puts-puts.ensures.held.bounds;
+  bounds = c.puts-known.ensures.held.bounds;
   settled = c.in-Ok.ensures.region.2;
   scanned = λ h. let rebuilt = c.in-Ok.ensures.rebuilt h in rebuilt.scanned;
   indexed = c.in-Ok.ensures.index;

@@ -10,7 +10,7 @@ returns-then-are_zeros c =
     let n = c.read_u16-len.result in
     let front = c.split_at.ensures.front in
     let back = c.split_at.ensures.back in
-    let known = λ (k : ℕ). subst (λ (t : List ℕ). get_or t k 0 < 256) front (c.known_bytes.ensures k) in
+    let known = λ (k : ℕ). subst (λ (t : List ℕ). get_or t k 0 < 256) front (c.known_bytes-known.ensures k) in
     let is : n ≡ big_number 2 (take 2 value) = c.read_u16-len.ensures ∙ ap (big_number 2) front in
     let fits : n ≤ length (drop 2 value) = subst (λ (t : List ℕ). n ≤ length t) back c.if-len-rest.false in
     let zeros : list_all (λ b. b == 0) (drop n (drop 2 value)) ≡ true =

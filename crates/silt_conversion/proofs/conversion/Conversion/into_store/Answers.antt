@@ -6,7 +6,7 @@ pub returns-clause-stands : goal.returns-clause-stands
 returns-clause-stands c =
     let conversion = conversion_of c.self.inside in
     let done = rw (← c.self.view_is) at c.requires.done in
-    let count = bucket_count_is _ c.buckets-limits.ensures.limits.buckets in
+    let count = bucket_count_is _ c.buckets-known.ensures.limits.buckets in
     rw (c.new.ensures, ← c.self.view_is) (λ content log. store_stands content log conversion c.finalize.result count done c.finalize.ensures)
 
 pub returns-clause-rows : goal.returns-clause-rows

@@ -8,7 +8,7 @@ use Rattle.silt_device.proofs.buffered_disk.BufferedDiskDisk.read.Goals as goal
 pub holds-requires : goal.holds-requires
 holds-requires g c =
     let now = subst (λ s. c.args.at + length c.args.buf.now ≤ size (buffered_content g.D.Disk.content s)) (sym c.self.view_is) c.requires in
-    let below : c.args.at + length c.args.buf.now ≤ c.len-size.result = omega (arith, now, size_over_all c.self.inside.buffers (g.D.Disk.content c.self.inside.inner), c.len-size.ensures) in
+    let below : c.args.at + length c.args.buf.now ≤ c.len-known.result = omega (arith, now, size_over_all c.self.inside.buffers (g.D.Disk.content c.self.inside.inner), c.len-known.ensures) in
     search (rules, below)
 
 pub returns-then-holds-clause-bytes : goal.returns-then-holds-clause-bytes
@@ -25,7 +25,7 @@ read-requires g c =
 pub lay_over-requires-in-Ok : goal.lay_over-requires-in-Ok
 lay_over-requires-in-Ok g c =
     let now = subst (λ s. c.args.at + length c.args.buf.now ≤ size (buffered_content g.D.Disk.content s)) (sym c.self.view_is) c.requires in
-    let below : c.args.at + length c.read.new.buf ≤ c.len-size.result = omega (arith, now, c.read.auto.buf, size_over_all c.self.inside.buffers (g.D.Disk.content c.self.inside.inner), c.len-size.ensures) in
+    let below : c.args.at + length c.read.new.buf ≤ c.len-known.result = omega (arith, now, c.read.auto.buf, size_over_all c.self.inside.buffers (g.D.Disk.content c.self.inside.inner), c.len-known.ensures) in
     search (rules, below)
 
 pub returns-in-Ok-clause-bytes : goal.returns-in-Ok-clause-bytes

@@ -58,7 +58,7 @@ pub append-requires-clause-end : goal.append-requires-clause-end
 append-requires-clause-end g c =
     let fits : c.args.at + length c.args.buf.now ≤ size (buffered_content g.D.Disk.content c.args.self.now) = c.requires in
     let now = subst (λ s. c.args.at + length c.args.buf.now ≤ size (buffered_content g.D.Disk.content s)) (sym c.self.view_is) fits in
-    let below : c.args.at + length c.args.buf.now ≤ c.len-size.result = omega (arith, now, size_over_all c.self.inside.buffers (g.D.Disk.content c.self.inside.inner), c.len-size.ensures) in
+    let below : c.args.at + length c.args.buf.now ≤ c.len-known.result = omega (arith, now, size_over_all c.self.inside.buffers (g.D.Disk.content c.self.inside.inner), c.len-known.ensures) in
     search (rules, below)
 
 pub invariant_of-self-then-takes : goal.invariant_of-self-then-takes

@@ -78,9 +78,9 @@ returns-then-is_empty-clause-works g c = nothing_done g.D.Disk c.args.disk.now c
 pub start-requires-clause-most : goal.start-requires-clause-most
 start-requires-clause-most g c =
     let stores : EngineState = state_of c.self.inside in
-    let most = (sound_hashes stores.manifest.shape _ stores.manifest.current c.current-sound.ensures.sound).most in
-    let regions : c.hashes-limits.result ≡ stores.manifest.shape.hashes = c.hashes-limits.ensures.value ∙ ap (λ (sh : Shape). sh.hashes) c.geometry.ensures.value in
-    let limit : c.hashes-limits.result ≤ 16 = omega (arith, c.hashes-limits.ensures.value, c.hashes-limits.ensures.limits.hashes_most) in
+    let most = (sound_hashes stores.manifest.shape _ stores.manifest.current c.current-known.ensures.sound).most in
+    let regions : c.hashes-known.result ≡ stores.manifest.shape.hashes = c.hashes-known.ensures.value ∙ ap (λ (sh : Shape). sh.hashes) c.geometry.ensures.value in
+    let limit : c.hashes-known.result ≤ 16 = omega (arith, c.hashes-known.ensures.value, c.hashes-known.ensures.limits.hashes_most) in
     let count : length c.deref.result.now ≡ length stores.manifest.current.hashed = ap length c.deref.ensures.value ∙ sym (length-map stores.hashes hash_region_of) ∙ ap length c.self.invariant.whole.hash_regions in
     omega (arith, most, regions, limit, count)
 

@@ -12,7 +12,7 @@ use Rattle.silt_engine.proofs.engine.Engine.change_manifest.Goals as goal
 pub prepare_next-requires-clause-next : goal.prepare_next-requires-clause-next
 prepare_next-requires-clause-next g c κs within =
     let may = subst (λ (v : EngineState). MayBecomeCurrent (g.D.Disk.content c.args.disk.now) v c.args.next.now c.args.digests.now) (sym c.self.view_is) c.requires.next in
-    may.follows c.current-sound.ensures.sound
+    may.follows c.current-known.ensures.sound
 
 pub returns-in_err-prepare_next-clause-err : goal.returns-in_err-prepare_next-clause-err
 returns-in_err-prepare_next-clause-err g c =

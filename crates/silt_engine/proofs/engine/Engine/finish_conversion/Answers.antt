@@ -17,8 +17,8 @@ use Rattle.silt_engine.proofs.engine.Engine.finish_conversion.Goals as goal
 pub converted_body-body-requires-clause-hashed : goal.converted_body-body-requires-clause-hashed
 converted_body-body-requires-clause-hashed g c =
     let stores : EngineState = state_of c.self.inside in
-    room_for_hash stores c.current-current.result c.in-Some.conversion c.hashes-limits.result c.self.invariant.whole c.current-current.ensures.sound c.in-Some.is
-    (c.hashes-limits.ensures.value ∙ ap (λ (sh : Shape). sh.hashes) c.geometry.ensures.value) (omega (arith, c.hashes-limits.ensures.value, c.hashes-limits.ensures.limits.hashes_most)) c.current-current.ensures.value
+    room_for_hash stores c.current-current.result c.in-Some.conversion c.hashes-known.result c.self.invariant.whole c.current-current.ensures.sound c.in-Some.is
+    (c.hashes-known.ensures.value ∙ ap (λ (sh : Shape). sh.hashes) c.geometry.ensures.value) (omega (arith, c.hashes-known.ensures.value, c.hashes-known.ensures.limits.hashes_most)) c.current-current.ensures.value
 
 pub converted_body-body-requires-clause-frozen : goal.converted_body-body-requires-clause-frozen
 converted_body-body-requires-clause-frozen g c =
@@ -31,8 +31,8 @@ converted_body-body-requires-clause-frozen g c =
 pub digests_with-digests-requires : goal.digests_with-digests-requires
 digests_with-digests-requires g c =
     let stores : EngineState = state_of c.self.inside in
-    let room = room_for_hash stores c.current-current.result c.in-Some.conversion c.hashes-limits.result c.self.invariant.whole c.current-current.ensures.sound c.in-Some.is
-    (c.hashes-limits.ensures.value ∙ ap (λ (sh : Shape). sh.hashes) c.geometry.ensures.value) (omega (arith, c.hashes-limits.ensures.value, c.hashes-limits.ensures.limits.hashes_most)) c.current-current.ensures.value in
+    let room = room_for_hash stores c.current-current.result c.in-Some.conversion c.hashes-known.result c.self.invariant.whole c.current-current.ensures.sound c.in-Some.is
+    (c.hashes-known.ensures.value ∙ ap (λ (sh : Shape). sh.hashes) c.geometry.ensures.value) (omega (arith, c.hashes-known.ensures.value, c.hashes-known.ensures.limits.hashes_most)) c.current-current.ensures.value in
     omega (arith, room, hash_count stores c.self.invariant.whole, ap (λ (b : Body). length b.hashed) c.current-current.ensures.value, ap length c.deref.ensures.value)
 
 pub end_conversion-requires-clause-ends : goal.end_conversion-requires-clause-ends

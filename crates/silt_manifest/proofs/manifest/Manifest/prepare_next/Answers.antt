@@ -10,7 +10,7 @@ use Rattle.silt_manifest.proofs.manifest.Manifest.prepare_next.Goals as goal
 
 pub record_bytes-requires : goal.record_bytes-requires
 record_bytes-requires g c =
-    fits_slot c.args.self.now.shape (spare_slot c.args.self.now) c.args.next (subst (λ state. InLimits state.shape) c.self.view_is c.logs-limits.ensures.limits) c.requires.next.sound
+    fits_slot c.args.self.now.shape (spare_slot c.args.self.now) c.args.next (subst (λ state. InLimits state.shape) c.self.view_is c.logs-known.ensures.limits) c.requires.next.sound
 
 pub returns-in_err-write_synced-clause-wrote : goal.returns-in_err-write_synced-clause-wrote
 returns-in_err-write_synced-clause-wrote g c =
@@ -50,7 +50,7 @@ returns g c =
     let zero = c.in_ok-write_synced.ensures in
     let last = c.in_ok-write_record.ensures in
     let closed = wrote_wider (slot_at (spare_slot m)) 4096 place.least (omega (arith, place.most)) c.write_synced.ensures.wrote in
-    let limits : InLimits m.shape = subst (λ state. InLimits state.shape) c.self.view_is c.logs-limits.ensures.limits in
+    let limits : InLimits m.shape = subst (λ state. InLimits state.shape) c.self.view_is c.logs-known.ensures.limits in
     let fits : FitsSlot next = fits_slot m.shape (spare_slot m) next limits c.requires.next.sound in
     let long = ap length bytes.value ∙ length_record_bytes next c.args.digests fits bytes.fits in
     let ready = all_prepared m c.closing_place.result at c.record_bytes.result next c.args.digests _ _ _ c.requires.size c.requires.current place.value

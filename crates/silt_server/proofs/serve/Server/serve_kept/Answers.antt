@@ -17,7 +17,7 @@ pub returns-in-Ok-clause-led : goal.returns-in-Ok-clause-led
 returns-in-Ok-clause-led g c = leaves_traced g.D.Disk _ _ _ _ _ _ _ _ c.serve_traced.ensures.traced
 
 pub returns-in-Err-clause-led : goal.returns-in-Err-clause-led
-returns-in-Err-clause-led g c = leaves_none g.D.Disk c.args.core c.close.result c.close.ensures.disk c.standing.ensures.has_map c.standing.ensures.few c.standing.ensures.begun
+returns-in-Err-clause-led g c = leaves_none g.D.Disk c.args.core c.close.result c.close.ensures.disk c.standing-known.ensures.has_map c.standing-known.ensures.few c.standing-known.ensures.begun
 
 pub returns-in-Err-clause-printed : goal.returns-in-Err-clause-printed
 returns-in-Err-clause-printed g c = status_told c.refuse-status.result (λ printed. inl (sym c.close.ensures.disk, (c.in-Err.refusal, c.in-Err.ensures.cause, printed))) c.refuse-status.ensures

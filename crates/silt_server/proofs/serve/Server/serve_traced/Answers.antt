@@ -13,8 +13,8 @@ returns-in-Some g c =
         last = desk.core;
         state = desk.trace;
         is = sym c.close-in-Ok.ensures.disk;
-        agreed = c.trace-in-Ok.ensures.agrees.0;
-        past = subst (λ named. HasPast named g.T.Trace.counts desk.trace (seen g.D.Disk desk.core)) c.requires.trace.0 c.trace-in-Ok.ensures.agrees.1;
+        agreed = c.trace-known-in-Ok.ensures.agrees.0;
+        past = subst (λ named. HasPast named g.T.Trace.counts desk.trace (seen g.D.Disk desk.core)) c.requires.trace.0 c.trace-known-in-Ok.ensures.agrees.1;
         printed = c.serve_desk-desk.ensures.served;
       };
       printed = c.serve_desk-desk.ensures.printed;
@@ -28,8 +28,8 @@ returns-in_default-clause-traced g c =
       last = desk.core;
       state = desk.trace;
       is = sym c.close.ensures.disk;
-      agreed = c.trace.ensures.agrees.0;
-      past = subst (λ named. HasPast named g.T.Trace.counts desk.trace (seen g.D.Disk desk.core)) c.requires.trace.0 c.trace.ensures.agrees.1;
+      agreed = c.trace-known.ensures.agrees.0;
+      past = subst (λ named. HasPast named g.T.Trace.counts desk.trace (seen g.D.Disk desk.core)) c.requires.trace.0 c.trace-known.ensures.agrees.1;
       printed = never_done _ c.refuse-status.result c.refuse-status.ensures;
     }
 

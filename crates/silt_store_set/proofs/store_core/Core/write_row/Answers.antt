@@ -32,7 +32,7 @@ returns-in-Err-NoRoom g c =
     let may = rw (← c.self.view_is) at c.requires.may in
     let working = may_working c.args.kind (seen_core g.D.Disk c.self.inside.disk c.self.inside.engine c.self.inside.count c.self.inside.failed c.self.inside.basis) may in
     rw (← c.self.view_is, working) (row_no_room g.D.Disk c.self.inside.disk c.self.inside.engine c.self.inside.count
-    (c.self.invariant.stands working) c.write.new.disk c.write.new.self c.args.kind c.args.key.now c.args.value.now (least_logs c.self.inside.engine.manifest.shape (rw c.geometry.ensures.value at c.logs-logs.ensures.limits)) (rw working at may) err.0.0 err.0.1 err.1 err.2)
+    (c.self.invariant.stands working) c.write.new.disk c.write.new.self c.args.kind c.args.key.now c.args.value.now (least_logs c.self.inside.engine.manifest.shape (rw c.geometry.ensures.value at c.logs-known.ensures.limits)) (rw working at may) err.0.0 err.0.1 err.1 err.2)
 
 pub returns-in-Err-Spent : goal.returns-in-Err-Spent
 returns-in-Err-Spent g c =
