@@ -1,5 +1,7 @@
 -- When the rows of two images are the same.
-use Rattle.std.proofs.Common.{◌≡◌, ◌⊎◌, ℕ, zero, suc, ◌+◌, ◌*◌, ◌-◌, ◌≤◌, ◌<◌, Bool, true, false, List, [], ◌∷◌, ◌++◌, length, take, drop, map, slice_get, slice_range, flat_map, Some, inl, inr, refl, sym, ap, ◌∙◌, arith, bytes_eq, drop-drop, length-append, length-take, take-take, take-append-drop}
+use Rattle.std.proofs.Common.{◌≡◌, ◌⊎◌, ℕ, zero, suc, ◌+◌, ◌*◌, ◌-◌, ◌≤◌, ◌<◌, Bool, true, false, List, [], ◌∷◌, ◌++◌, length, take, drop, map, slice_get}
+use Rattle.std.proofs.Common.{slice_range, flat_map, Some, inl, inr, refl, sym, ap, ◌∙◌, arith, bytes_eq, drop-drop, length-append, length-take, take-take}
+use Rattle.std.proofs.Common.{take-append-drop}
 use Rattle.std.specs.List.{prefix_len, range_with_len}
 use Rattle.sha1.specs.Sha1.{sha1}
 use Rattle.std.proofs.lemmas.Bool.Decides.{not_from_Decides}
@@ -58,7 +60,8 @@ log_rows_equal s region x y same =
     ap (λ (l : List ℕ). map (body_row (bodies_at s region) (row_len s) x) (range_with_len 0 (prefix_len is_open l))) bytes
     ∙ map_range_same (body_row (bodies_at s region) (row_len s) x) (body_row (bodies_at s region) (row_len s) y) 0 counted
     (λ place low high.
-    let inside : bodies_at s region + place * row_len s + row_len s ≤ bodies_at s region + s.log_capacity * row_len s = body_before (bodies_at s region) (row_len s) place s.log_capacity (omega (arith, most, high)) in
+    let inside : bodies_at s region + place * row_len s + row_len s ≤ bodies_at s region + s.log_capacity * row_len s =
+    body_before (bodies_at s region) (row_len s) place s.log_capacity (omega (arith, most, high)) in
     ap row_of (same_within base n (bodies_at s region + place * row_len s) (bodies_at s region + place * row_len s + row_len s) x y same
     (omega arith) (omega arith) (omega (arith, inside, bodies_end))))
 

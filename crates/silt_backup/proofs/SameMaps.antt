@@ -1,5 +1,6 @@
 -- A backup of a moment of a store has the map of that moment's base.
-use Rattle.std.proofs.Common.{◌≡◌, ◌⊎◌, ◌≤◌, ◌+◌, ◌%◌, ℕ, true, IsTrue, Contains, List, [], ◌∷◌, ◌++◌, length, map, slice_get, slice_range, Some, drop, option_map, inl, inr, refl, sym, ap, subst, ◌∙◌, arith}
+use Rattle.std.proofs.Common.{◌≡◌, ◌⊎◌, ◌≤◌, ◌+◌, ◌%◌, ℕ, true, IsTrue, Contains, List, [], ◌∷◌, ◌++◌, length, map, slice_get, slice_range, Some, drop}
+use Rattle.std.proofs.Common.{option_map, inl, inr, refl, sym, ap, subst, ◌∙◌, arith}
 use Rattle.sha1.specs.Sha1.{sha1}
 use Rattle.std.proofs.lemmas.Option.{get_or_from_slice_get, slice_get-map, slice_get_within}
 use Rattle.silt_backup.specs.Backups.{AreLogs, BackupLaw, Collision}
@@ -52,9 +53,12 @@ same_rows shape body digests shown image size sound said copied logs =
           elim (entries_equal shape body.sorted body.sorted_count shown image fits there.sorted there.sorted_count sorted_said) [
             | inr collision ↦ inr collision
             | inl entries ↦
-                inl (ap (λ (es : List StoredRow). es ++ oldest_first (map known_rows (map (hash_part shape shown) body.hashed)) ++ oldest_first (map part_rows (map (log_part shape shown) (body.active ∷ body.frozen)))) entries
-                ∙ ap (λ (ps : List Part). sorted_rows shape body.sorted body.sorted_count image ++ oldest_first (map known_rows ps) ++ oldest_first (map part_rows (map (log_part shape shown) (body.active ∷ body.frozen)))) hashes
-                ∙ ap (λ (ps : List Part). sorted_rows shape body.sorted body.sorted_count image ++ oldest_first (map known_rows (map (hash_part shape image) body.hashed)) ++ oldest_first (map part_rows ps)) logs)
+                inl (ap (λ (es : List StoredRow). es ++ oldest_first (map known_rows (map (hash_part shape shown) body.hashed))
+                ++ oldest_first (map part_rows (map (log_part shape shown) (body.active ∷ body.frozen)))) entries
+                ∙ ap (λ (ps : List Part). sorted_rows shape body.sorted body.sorted_count image ++ oldest_first (map known_rows ps)
+                ++ oldest_first (map part_rows (map (log_part shape shown) (body.active ∷ body.frozen)))) hashes
+                ∙ ap (λ (ps : List Part). sorted_rows shape body.sorted body.sorted_count image
+                ++ oldest_first (map known_rows (map (hash_part shape image) body.hashed)) ++ oldest_first (map part_rows ps)) logs)
           ]
     ]
 
@@ -92,7 +96,8 @@ backup_law disk core moment image is honest working backup =
     let named : moment.body.active ∷ moment.body.frozen ≡ core.body.active ∷ core.body.frozen = ap (λ (b : Body). b.active ∷ b.frozen) is.named.0 in
     let own : HoldLogs disk core (core.body.active ∷ core.body.frozen) moment.logs.items = subst (λ (ids : List ℕ). HoldLogs disk core ids moment.logs.items) named is.logs in
     let other : AreLogs core.shape (core.body.active ∷ core.body.frozen) moment.logs.items image =
-    subst (λ (ids : List ℕ). AreLogs core.shape ids moment.logs.items image) named (subst (λ (t : Shape). AreLogs t (moment.body.active ∷ moment.body.frozen) moment.logs.items image) is.shape backup.logs) in
+    subst (λ (ids : List ℕ). AreLogs core.shape ids moment.logs.items image) named
+    (subst (λ (t : Shape). AreLogs t (moment.body.active ∷ moment.body.frozen) moment.logs.items image) is.shape backup.logs) in
     let logs = same_logs disk core (core.body.active ∷ core.body.frozen) moment.logs.items image honest own other in
     elim (same_rows core.shape core.body moment.digests shown image size sound (is.named.1 working honest) copied
     logs) [

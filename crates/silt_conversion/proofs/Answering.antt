@@ -1,5 +1,6 @@
 -- Applied to a map, the rows that a conversion writes and the log's rows give the same map.
-use Rattle.std.proofs.Common.{◌≡◌, ℕ, zero, suc, ◌*◌, ◌<◌, ◌⊎◌, Bool, true, false, cond, List, [], ◌∷◌, length, map, filter, get_or, slice_get, Option, Some, None, inl, inr, refl, sym, ap, ◌∙◌, arith, bytes_eq}
+use Rattle.std.proofs.Common.{◌≡◌, ℕ, zero, suc, ◌*◌, ◌<◌, ◌⊎◌, Bool, true, false, cond, List, [], ◌∷◌, length, map, filter, get_or, slice_get, Option, Some}
+use Rattle.std.proofs.Common.{None, inl, inr, refl, sym, ap, ◌∙◌, arith, bytes_eq}
 use Rattle.std.specs.FinMap.{get, same_map, slice_cmp-IsAntisymmetric, nat_cmp-IsAntisymmetric}
 use Rattle.std.specs.List.{range_with_len}
 use Rattle.std.proofs.lemmas.Bool.{and_from, and_parts, cases_Bool}
@@ -90,7 +91,8 @@ settled v key m [] all (inr (i, row, there, passes)) = absurd (cc)
 settled v key m (row ∷ rows) all some = settled_more v key m row rows all some (λ n rest. settled v key n rows (λ i other there passes. all (suc i) other there passes) rest)
 
 -- a map before rows of other keys
-untouched : (key : List ℕ) (m : Map) (rows : List StoredRow) → ((i : ℕ) (other : StoredRow) → slice_get rows i ≡ Some other → bytes_eq other.key key ≡ false) → get (map_after m (map command_of rows)) key ≡ get m key
+untouched : (key : List ℕ) (m : Map) (rows : List StoredRow) → ((i : ℕ) (other : StoredRow) → slice_get rows i ≡ Some other → bytes_eq other.key key ≡ false)
+    → get (map_after m (map command_of rows)) key ≡ get m key
 untouched key m [] none = refl
 untouched key m (other ∷ rows) none = untouched key (changed m (command_of other)) rows (λ i next at. none (suc i) next at) ∙ left_by m other key (none 0 other refl)
 
@@ -109,7 +111,8 @@ last_more first rows key last row is = record { there = is.there; has_key = is.h
     go (suc later) other above at = is.none later other (omega arith) at
 
 -- or the first row, if no other has the key
-last_first : (first : StoredRow) (rows : List StoredRow) (key : List ℕ) → bytes_eq first.key key ≡ true → ((i : ℕ) (other : StoredRow) → slice_get rows i ≡ Some other → bytes_eq other.key key ≡ false) → IsLast (first ∷ rows) key 0 first
+last_first : (first : StoredRow) (rows : List StoredRow) (key : List ℕ) → bytes_eq first.key key ≡ true
+    → ((i : ℕ) (other : StoredRow) → slice_get rows i ≡ Some other → bytes_eq other.key key ≡ false) → IsLast (first ∷ rows) key 0 first
 last_first first rows key has none = record { there = refl; has_key = has; none = go }
   where
     go : (later : ℕ) (other : StoredRow) → 0 < later → slice_get (first ∷ rows) later ≡ Some other → bytes_eq other.key key ≡ false
@@ -123,7 +126,8 @@ none_more first rows key has none zero other at = let same : first ≡ other = c
 none_more first rows key has none (suc i) other at = none i other at
 
 -- a key has a last row, or none
-last_row : (key : List ℕ) (rows : List StoredRow) → ((last : ℕ) × (row : StoredRow) × IsLast rows key last row) ⊎ ((i : ℕ) (other : StoredRow) → slice_get rows i ≡ Some other → bytes_eq other.key key ≡ false)
+last_row : (key : List ℕ) (rows : List StoredRow) → ((last : ℕ) × (row : StoredRow) × IsLast rows key last row)
+    ⊎ ((i : ℕ) (other : StoredRow) → slice_get rows i ≡ Some other → bytes_eq other.key key ≡ false)
 last_row key [] = inr (λ i other at. absurd (cc))
 last_row key (first ∷ rows) = elim (last_row key rows) [
   | inl (last, row, is) ↦ inl (suc last, row, last_more first rows key last row is)
@@ -159,10 +163,15 @@ module _ (s : Shape) (rows : List StoredRow) (table : Slots) (is : IsTableOf s r
 
   due_within : (slot : ℕ) (row : StoredRow) → slice_get (converted_rows s table rows) slot ≡ Some row → slot < 4 * s.buckets
   unfolding converted_before converted_rows
-  due_within slot row there = omega (arith, slice_get_within (map (converted_row s table rows) (range_with_len 0 (4 * s.buckets))) slot row there, length-map-range_with_len (converted_row s table rows) 0 (4 * s.buckets))
+  due_within slot row there = omega (
+    arith,
+    slice_get_within (map (converted_row s table rows) (range_with_len 0 (4 * s.buckets))) slot row there,
+    length-map-range_with_len (converted_row s table rows) 0 (4 * s.buckets),
+  )
 
   -- a row of a key that belongs in a slot is the log's row at a newest place
-  due_newest : (key : List ℕ) (slot : ℕ) (row : StoredRow) → slice_get (converted_rows s table rows) slot ≡ Some row → is_row_of key row ≡ true → (place : ℕ) × IsNewest (keys_of rows) place × (slice_get rows place ≡ Some row)
+  due_newest : (key : List ℕ) (slot : ℕ) (row : StoredRow) → slice_get (converted_rows s table rows) slot ≡ Some row → is_row_of key row ≡ true
+      → (place : ℕ) × IsNewest (keys_of rows) place × (slice_get rows place ≡ Some row)
   due_newest key slot row there passes = go (entry_at table slot) refl
     where
       is_row : converted_row s table rows slot ≡ row
@@ -170,7 +179,8 @@ module _ (s : Shape) (rows : List StoredRow) (table : Slots) (is : IsTableOf s r
 
       go : (e : Option Entry) → entry_at table slot ≡ e → (place : ℕ) × IsNewest (keys_of rows) place × (slice_get rows place ≡ Some row)
       go None none =
-          let unknown : has_known_kind row ≡ false = ap has_known_kind (sym is_row) ∙ empty_not_known (converted_row s table rows slot) (ap (λ (r : StoredRow). r.kind) (row_of_none s rows table is slot none) ∙ empty_kind s) in
+          let unknown : has_known_kind row ≡ false = ap has_known_kind (sym is_row)
+          ∙ empty_not_known (converted_row s table rows slot) (ap (λ (r : StoredRow). r.kind) (row_of_none s rows table is slot none) ∙ empty_kind s) in
           let known = (and_parts (has_known_kind row) (bytes_eq row.key key) passes).0 in
           absurd (cc)
       go (Some (tag, place)) at = (
@@ -213,7 +223,8 @@ module _ (s : Shape) (rows : List StoredRow) (table : Slots) (is : IsTableOf s r
         (λ slot other there passes.
         let found = due_newest key slot other there passes in
         let has = (bytes_eq-Decides other.key key).0 (and_parts (has_known_kind other) (bytes_eq other.key key) passes).1 in
-        let same_keys : get_or (keys_of rows) found.0 [] ≡ get_or (keys_of rows) last [] = key_of_row rows found.0 other found.2 ∙ has ∙ sym ((bytes_eq-Decides row.key key).0 it.has_key) ∙ sym (key_of_row rows last row it.there) in
+        let same_keys : get_or (keys_of rows) found.0 [] ≡ get_or (keys_of rows) last [] =
+        key_of_row rows found.0 other found.2 ∙ has ∙ sym ((bytes_eq-Decides row.key key).0 it.has_key) ∙ sym (key_of_row rows last row it.there) in
         let place : found.0 ≡ last = newest_apart (keys_of rows) found.0 last found.1 (last_newest key last row it) same_keys in
         let both : Some other ≡ Some row = sym found.2 ∙ ap (slice_get rows) place ∙ it.there in
         let same : other ≡ row = cc in

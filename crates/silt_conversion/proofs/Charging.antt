@@ -1,5 +1,6 @@
 -- The rows that a conversion writes have at most as many puts as the log's rows.
-use Rattle.std.proofs.Common.{◌≡◌, ◌≢◌, ℕ, zero, suc, ◌+◌, ◌*◌, ◌≤◌, ◌<◌, ◌==◌, eqb, nat_lt, true, false, cond, List, [], ◌∷◌, filter, length, map, take, get_or, Option, Some, None, inl, inr, option_map, refl, sym, ap, ◌∙◌, arith, is_some, take_all}
+use Rattle.std.proofs.Common.{◌≡◌, ◌≢◌, ℕ, zero, suc, ◌+◌, ◌*◌, ◌≤◌, ◌<◌, ◌==◌, eqb, nat_lt, true, false, cond, List, [], ◌∷◌, filter, length, map, take}
+use Rattle.std.proofs.Common.{get_or, Option, Some, None, inl, inr, option_map, refl, sym, ap, ◌∙◌, arith, is_some, take_all}
 use Rattle.std.specs.List.{range_with_len}
 use Rattle.std.proofs.lemmas.Bool.{cases_Bool, cases_eq, cases_lt, cond-false, cond-true, eqb-true, le-ltb, lt-ltb}
 use Rattle.std.proofs.lemmas.List.FromFn.{sum_by-map-range_with_len_more}

@@ -1,5 +1,6 @@
 -- The rows that a conversion writes are sound, and have the tags of the log's table.
-use Rattle.std.proofs.Common.{◌≡◌, ◌≢◌, ℕ, ◌+◌, ◌*◌, ◌/◌, ◌<◌, ◌==◌, eqb, true, false, ◌||◌, cond, List, [], length, map, take, get_or, slice_get, Option, Some, None, inl, inr, min, max, option_map, refl, sym, ap, ◌∙◌, arith, bytes_eq}
+use Rattle.std.proofs.Common.{◌≡◌, ◌≢◌, ℕ, ◌+◌, ◌*◌, ◌/◌, ◌<◌, ◌==◌, eqb, true, false, ◌||◌, cond, List, [], length, map, take, get_or, slice_get, Option, Some}
+use Rattle.std.proofs.Common.{None, inl, inr, min, max, option_map, refl, sym, ap, ◌∙◌, arith, bytes_eq}
 use Rattle.std.specs.List.{range_with_len}
 use Rattle.std.proofs.lemmas.Bool.{and_parts, cases_Bool, cases_eq, cond-false, cond-true, eq-eqb, ne_eqb}
 use Rattle.std.proofs.lemmas.List.{get_or-replicate}
@@ -85,10 +86,12 @@ module _ (s : Shape) (rows : List StoredRow) (table : Slots) (is : IsTableOf s r
 
   -- it lies in one of its key's buckets, and the entry's tag is the other
   entry_buckets : (slot tag place : ℕ) → entry_at table slot ≡ Some (tag, place)
-      → (is_in_bucket s slot (converted_row s table rows slot).key ≡ true) × (tag ≡ other_bucket (first_bucket s.buckets (converted_row s table rows slot).key) (second_bucket s.buckets (converted_row s table rows slot).key) slot)
+      → (is_in_bucket s slot (converted_row s table rows slot).key ≡ true)
+      × (tag ≡ other_bucket (first_bucket s.buckets (converted_row s table rows slot).key) (second_bucket s.buckets (converted_row s table rows slot).key) slot)
   entry_buckets slot tag place at =
       let key : List ℕ = (converted_row s table rows slot).key in
-      let pair : pair_of (slot / 4) tag ≡ pair_of (first_bucket s.buckets key) (second_bucket s.buckets key) = entries.buckets_of slot tag place at ∙ ap (key_pair s.buckets) (sym (entry_key slot tag place at)) in
+      let pair : pair_of (slot / 4) tag ≡ pair_of (first_bucket s.buckets key) (second_bucket s.buckets key) =
+      entries.buckets_of slot tag place at ∙ ap (key_pair s.buckets) (sym (entry_key slot tag place at)) in
       other_of (slot / 4) tag (first_bucket s.buckets key) (second_bucket s.buckets key) pair
 
   -- the tag of the row that belongs in a slot is that of the entry there
@@ -117,13 +120,15 @@ module _ (s : Shape) (rows : List StoredRow) (table : Slots) (is : IsTableOf s r
 
       go : (e : Option Entry) → entry_at table other ≡ e → is_row_of (converted_row s table rows slot).key (converted_row s table rows other) ≡ false
       go None none =
-          let unknown : has_known_kind (converted_row s table rows other) ≡ false = empty_not_known (converted_row s table rows other) (ap (λ (r : StoredRow). r.kind) (row_of_none other none) ∙ empty_kind s) in
+          let unknown : has_known_kind (converted_row s table rows other) ≡ false =
+          empty_not_known (converted_row s table rows other) (ap (λ (r : StoredRow). r.kind) (row_of_none other none) ∙ empty_kind s) in
           rw unknown refl
       go (Some (other_tag, other_place)) other_at = elim (cases_Bool (is_row_of (converted_row s table rows slot).key (converted_row s table rows other))) [
         | inr lacks ↦ lacks
         | inl has ↦
             let parts = and_parts (has_known_kind (converted_row s table rows other)) (bytes_eq (converted_row s table rows other).key (converted_row s table rows slot).key) has in
-            let same : (converted_row s table rows other).key ≡ (converted_row s table rows slot).key = (bytes_eq-Decides (converted_row s table rows other).key (converted_row s table rows slot).key).0 parts.1 in
+            let same : (converted_row s table rows other).key ≡ (converted_row s table rows slot).key =
+            (bytes_eq-Decides (converted_row s table rows other).key (converted_row s table rows slot).key).0 parts.1 in
             absurd (apart (same_slot slot tag place other other_tag other_place at other_at (sym (entry_key slot tag place at) ∙ sym same ∙ entry_key other other_tag other_place other_at)))
       ]
 
@@ -133,16 +138,19 @@ module _ (s : Shape) (rows : List StoredRow) (table : Slots) (is : IsTableOf s r
   sound_due slot below = go (entry_at table slot) refl
     where
       go : (e : Option Entry) → entry_at table slot ≡ e → is_sound_hash_slot s (map (converted_row s table rows) (range_with_len 0 (4 * s.buckets))) slot (converted_row s table rows slot) ≡ true
-      go None none = sound_empty s (map (converted_row s table rows) (range_with_len 0 (4 * s.buckets))) slot (converted_row s table rows slot) (ap (λ (r : StoredRow). r.kind) (row_of_none slot none) ∙ empty_kind s)
+      go None none = sound_empty s (map (converted_row s table rows) (range_with_len 0 (4 * s.buckets))) slot (converted_row s table rows slot)
+          (ap (λ (r : StoredRow). r.kind) (row_of_none slot none) ∙ empty_kind s)
       go (Some (tag, place)) at =
           let before : List StoredRow = map (converted_row s table rows) (range_with_len 0 slot) in
-          let taken : take slot (map (converted_row s table rows) (range_with_len 0 (4 * s.buckets))) ≡ before = take-map-range_with_len (converted_row s table rows) 0 (4 * s.buckets) slot (omega arith) in
+          let taken : take slot (map (converted_row s table rows) (range_with_len 0 (4 * s.buckets))) ≡ before =
+          take-map-range_with_len (converted_row s table rows) 0 (4 * s.buckets) slot (omega arith) in
           let alone : holds_key (converted_row s table rows slot).key before ≡ false = holds_none (converted_row s table rows slot).key before blank
           (λ i low.
           let under : i < slot = omega (arith, low, length-map-range_with_len (converted_row s table rows) 0 slot) in
           ap (is_row_of (converted_row s table rows slot).key) (get_or-map-range_with_len (converted_row s table rows) 0 slot i i blank under (omega arith))
           ∙ due_once slot tag place i at (λ same. absurd (omega arith))) in
-          sound_known s (map (converted_row s table rows) (range_with_len 0 (4 * s.buckets))) slot (converted_row s table rows slot) (entry_known slot tag place at) ((entry_buckets slot tag place at).0)
+          sound_known s (map (converted_row s table rows) (range_with_len 0 (4 * s.buckets))) slot (converted_row s table rows slot)
+          (entry_known slot tag place at) ((entry_buckets slot tag place at).0)
           (ap (holds_key (converted_row s table rows slot).key) taken ∙ alone)
 
 -- there is no finding in the rows that belong in the slots

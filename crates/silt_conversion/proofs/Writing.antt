@@ -1,5 +1,6 @@
 -- The state after a step of a conversion, and the store of a finished conversion.
-use Rattle.std.proofs.Common.{◌≡◌, ◌≢◌, ℕ, ◌+◌, ◌*◌, ◌≤◌, ◌<◌, true, IsTrue, List, [], ◌∷◌, ◌++◌, filter, length, Option, Some, None, inl, inr, option_map, refl, sym, subst, ap, ◌∙◌, arith, length-set, get_or-set_other, get_or-set_same}
+use Rattle.std.proofs.Common.{◌≡◌, ◌≢◌, ℕ, ◌+◌, ◌*◌, ◌≤◌, ◌<◌, true, IsTrue, List, [], ◌∷◌, ◌++◌, filter, length, Option, Some, None, inl, inr, option_map}
+use Rattle.std.proofs.Common.{refl, sym, subst, ap, ◌∙◌, arith, length-set, get_or-set_other, get_or-set_same}
 use Rattle.std.proofs.lemmas.Bool.{cases_eq}
 use Rattle.std.proofs.lemmas.List.Elements.{filter-append}
 use Rattle.std.proofs.lemmas.List.FromFn.{map-range_with_len_more}
@@ -21,7 +22,8 @@ use Rattle.silt_log.proofs.Elsewhere.{row_of_all}
 use Rattle.silt_log_store.specs.State.{IsFrozenStore, IsIndexed, LogStoreState}
 use Rattle.silt_log_store.proofs.Elsewhere.{frozen_elsewhere, rows_outside}
 use Rattle.silt_log_store.proofs.Rows.{known_there}
-use Rattle.silt_conversion.specs.Conversion.{ConversionState, HasWritten, IsDigestOf, IsHeldConversion, Steps, converted_before, converted_row, converted_rows, empty_row, row_for, tag_of_entry, with_entry}
+use Rattle.silt_conversion.specs.Conversion.{ConversionState, HasWritten, IsDigestOf, IsHeldConversion, Steps, converted_before, converted_row, converted_rows}
+use Rattle.silt_conversion.specs.Conversion.{empty_row, row_for, tag_of_entry, with_entry}
 use Rattle.silt_conversion.specs.Laws.{IsTableOf}
 use Rattle.silt_conversion.specs.declared.conversion.Conversion.TheInside.{Inside}
 use Rattle.silt_hash_store.specs.State.{IsHashStore}
@@ -43,7 +45,8 @@ due_known content log place index honest below = known_there content log.log pla
 
 -- the puts of one more slot
 due_more : (s : Shape) (table : Slots) (rows : List StoredRow) (n : ℕ)
-    → put_count (filter has_known_kind (converted_before s table rows (n + 1))) ≡ put_count (filter has_known_kind (converted_before s table rows n)) + put_count (filter has_known_kind (converted_row s table rows n ∷ []))
+    → put_count (filter has_known_kind (converted_before s table rows (n + 1))) ≡ put_count
+    (filter has_known_kind (converted_before s table rows n)) + put_count (filter has_known_kind (converted_row s table rows n ∷ []))
 unfolding converted_before
 due_more s table rows n =
     let before : List StoredRow = converted_before s table rows n in
@@ -52,14 +55,16 @@ due_more s table rows n =
     ∙ count_law (filter has_known_kind before) (filter has_known_kind (converted_row s table rows n ∷ []))
 
 -- the bytes of one more slot
-bytes_more : (s : Shape) (table : Slots) (rows : List StoredRow) (n : ℕ) → rows_bytes (converted_before s table rows (n + 1)) ≡ rows_bytes (converted_before s table rows n) ++ row_bytes (converted_row s table rows n)
+bytes_more : (s : Shape) (table : Slots) (rows : List StoredRow) (n : ℕ)
+    → rows_bytes (converted_before s table rows (n + 1)) ≡ rows_bytes (converted_before s table rows n) ++ row_bytes (converted_row s table rows n)
 unfolding converted_before
 bytes_more s table rows n =
     ap rows_bytes (map-range_with_len_more (converted_row s table rows) 0 n n (omega arith))
     ∙ rows_bytes_more (converted_before s table rows n) (converted_row s table rows n)
 
 -- a conversion with no slot written
-pub none_written : (content : Content) (log : LogStoreState) (conversion : ConversionState) → conversion.shape ≡ log.log.shape → conversion.next ≡ 0 → conversion.puts ≡ 0 → Holds conversion.hasher [] → HasWritten content log conversion
+pub none_written : (content : Content) (log : LogStoreState) (conversion : ConversionState) → conversion.shape ≡ log.log.shape
+    → conversion.next ≡ 0 → conversion.puts ≡ 0 → Holds conversion.hasher [] → HasWritten content log conversion
 unfolding converted_before
 none_written content log conversion same next puts unfed = record {
   shape = same;
@@ -192,7 +197,8 @@ module _ (old new : Content) (log : LogStoreState) (conversion : ConversionState
       due_in content = converted_row conversion.shape log.table (all_rows content log.log) conversion.next
 
 -- a step that wrote the bytes of the row and fed them to the hasher
-pub step_made : (log : LogStoreState) (old new : Content) (before : ConversionState) (tags : List (Option ℕ)) (puts : ℕ) (hasher : Sha1) (row written fed : List ℕ) → tags ≡ with_entry before.tags before.next (entry_at log.table before.next)
+pub step_made : (log : LogStoreState) (old new : Content) (before : ConversionState) (tags : List (Option ℕ)) (puts : ℕ) (hasher : Sha1) (row written fed : List ℕ)
+    → tags ≡ with_entry before.tags before.next (entry_at log.table before.next)
     → (IsTrue old.honest → IsFrozenStore old log → row_of row ≡ converted_row before.shape log.table (all_rows old log.log) before.next) → puts ≡ put_count (filter has_known_kind (row_of row ∷ []))
     → (IsTrue old.honest → slot_row before.shape before.region new.shown before.next ≡ row_of written) → written ≡ row
     → ((bytes : List ℕ) → Holds before.hasher bytes → Holds hasher (bytes ++ fed)) → fed ≡ row → head_len ≤ length row
@@ -223,7 +229,8 @@ all_charged content log conversion done is honest =
     is.charged honest ∙ ap (λ n. put_count (filter has_known_kind (converted_before conversion.shape log.table (all_rows content log.log) n))) done
 
 -- and its digest is that of the slots' bytes
-pub all_digested : (content : Content) (log : LogStoreState) (conversion : ConversionState) (digest : List ℕ) → conversion.next ≡ 4 * conversion.shape.buckets → HasWritten content log conversion → IsTrue content.honest
+pub all_digested : (content : Content) (log : LogStoreState) (conversion : ConversionState) (digest : List ℕ)
+    → conversion.next ≡ 4 * conversion.shape.buckets → HasWritten content log conversion → IsTrue content.honest
     → IsDigestOf conversion.hasher digest → digest ≡ sha1 (rows_bytes (hash_rows conversion.shape conversion.region content.shown))
 unfolding converted_rows
 all_digested content log conversion digest done is honest finalizes =
@@ -233,7 +240,8 @@ all_digested content log conversion digest done is honest finalizes =
     ∙ ap (λ (rows : List StoredRow). sha1 (rows_bytes rows)) (sym (all_due content log conversion done is honest))
 
 -- the table of a log that is only read is that of its rows
-pub table_of : (content : Content) (log : LogStoreState) → IsBucketCount log.log.shape.buckets → IsFrozenStore content log → IsTrue content.honest → IsTableOf log.log.shape (all_rows content log.log) log.table
+pub table_of : (content : Content) (log : LogStoreState) → IsBucketCount log.log.shape.buckets → IsFrozenStore content log
+    → IsTrue content.honest → IsTableOf log.log.shape (all_rows content log.log) log.table
 table_of content log count frozen honest = record { count = count; known = frozen.index.known honest; indexed = frozen.index.indexed honest }
 
 -- the store of a finished conversion matches the disk

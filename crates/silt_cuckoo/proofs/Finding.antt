@@ -47,7 +47,8 @@ find_law buckets keys slots key index =
     go None none None not_found = refl
     go None none (Some c) found =
         let it = found_candidate slots (λ (c : Candidate). test c.place) (candidates_of slots (first_bucket buckets key) (second_bucket buckets key)) c
-        (recursion_from_All (Stands slots) (candidates_of slots (first_bucket buckets key) (second_bucket buckets key)) (candidates_standing slots (first_bucket buckets key) (second_bucket buckets key))) found in
+        (recursion_from_All (Stands slots) (candidates_of slots (first_bucket buckets key) (second_bucket buckets key))
+        (candidates_standing slots (first_bucket buckets key) (second_bucket buckets key))) found in
         let entry = has_entry slots c.slot c.place it.1 in
         let passes = is_has_key keys slots key c.slot entry.0 entry.1 (ap (λ n. get_or keys n []) entry.2 ∙ (bytes_eq-Decides (get_or keys c.place []) key).0 it.0) in
         let there = entry_inside slots c.slot entry.0 entry.1 in
@@ -63,8 +64,10 @@ find_law buckets keys slots key index =
         absurd (cc)
     go (Some slot) is (Some c) found =
         let it = found_candidate slots (λ (c : Candidate). test c.place) (candidates_of slots (first_bucket buckets key) (second_bucket buckets key)) c
-        (recursion_from_All (Stands slots) (candidates_of slots (first_bucket buckets key) (second_bucket buckets key)) (candidates_standing slots (first_bucket buckets key) (second_bucket buckets key))) found in
+        (recursion_from_All (Stands slots) (candidates_of slots (first_bucket buckets key) (second_bucket buckets key))
+        (candidates_standing slots (first_bucket buckets key) (second_bucket buckets key))) found in
         let entry = has_key_is keys slots key slot (found_in_range (is_entry_of keys slots key) 0 (length slots) slot is).2 in
         let held : place_at slots slot ≡ Some entry.0.1 = ap (option_map (λ (e : Entry). e.1)) entry.1 in
-        let same = newest_apart keys entry.0.1 c.place (index.no_other entry.0.1 (slot, held)) (index.no_other c.place (c.slot, it.1)) (entry.2 ∙ sym ((bytes_eq-Decides (get_or keys c.place []) key).0 it.0)) in
+        let same = newest_apart keys entry.0.1 c.place (index.no_other entry.0.1 (slot, held)) (index.no_other c.place (c.slot, it.1))
+        (entry.2 ∙ sym ((bytes_eq-Decides (get_or keys c.place []) key).0 it.0)) in
         ap Some (index.table.places_apart slot c.slot c.place (held ∙ ap Some same) it.1)

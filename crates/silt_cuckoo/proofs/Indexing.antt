@@ -1,5 +1,6 @@
 -- What the table of some keys holds: the newest place of each key.
-use Rattle.std.proofs.Common.{◌≡◌, ◌≢◌, inl, inr, ℕ, zero, suc, ◌*◌, ◌/◌, ◌<◌, true, false, List, [], ◌∷◌, ◌++◌, length, fold, get_or, Option, Some, None, option_map, unwrap_or, refl, sym, subst, ap, ◌∙◌, arith, length-append, length-set, bytes_eq}
+use Rattle.std.proofs.Common.{◌≡◌, ◌≢◌, inl, inr, ℕ, zero, suc, ◌*◌, ◌/◌, ◌<◌, true, false, List, [], ◌∷◌, ◌++◌, length, fold, get_or, Option, Some, None}
+use Rattle.std.proofs.Common.{option_map, unwrap_or, refl, sym, subst, ap, ◌∙◌, arith, length-append, length-set, bytes_eq}
 use Rattle.std.proofs.lemmas.Slice.Eq.{bytes_eq-Decides}
 use Rattle.std.proofs.lemmas.List.{length-replicate}
 use Rattle.std.proofs.lemmas.Bool.{cases_eq, cases_lt, cases_Bool, eq-eqb, ne_eqb}
@@ -66,7 +67,8 @@ newest_apart keys p q (p_low, p_none) (q_low, q_none) same = elim (cases_lt p q)
 pub has_key_is : (keys : List (List ℕ)) (slots : Slots) (key : List ℕ) (slot : ℕ) → is_entry_of keys slots key slot ≡ true → (e : Entry) × (entry_at slots slot ≡ Some e) × (get_or keys e.1 [] ≡ key)
 has_key_is keys slots key slot h = go (entry_at slots slot) refl h
   where
-    go : (o : Option Entry) → entry_at slots slot ≡ o → unwrap_or (option_map (λ (e : Entry). bytes_eq (get_or keys e.1 []) key) o) false ≡ true → (e : Entry) × (entry_at slots slot ≡ Some e) × (get_or keys e.1 [] ≡ key)
+    go : (o : Option Entry) → entry_at slots slot ≡ o → unwrap_or (option_map (λ (e : Entry). bytes_eq (get_or keys e.1 []) key) o) false ≡ true
+        → (e : Entry) × (entry_at slots slot ≡ Some e) × (get_or keys e.1 [] ≡ key)
     go None is h = absurd (cc)
     go (Some e) is h = (e, is, (bytes_eq-Decides (get_or keys e.1 []) key).0 h)
 
@@ -84,7 +86,8 @@ no_key keys slots key place none (slot, held) same =
     absurd (cc)
 
 -- a key's buckets are the table's
-key_there : (slots : Slots) (buckets : ℕ) (keys : List (List ℕ)) (key : List ℕ) → Indexes slots buckets keys → (first_bucket buckets key < bucket_count slots) × (second_bucket buckets key < bucket_count slots)
+key_there : (slots : Slots) (buckets : ℕ) (keys : List (List ℕ)) (key : List ℕ) → Indexes slots buckets keys
+    → (first_bucket buckets key < bucket_count slots) × (second_bucket buckets key < bucket_count slots)
 key_there slots buckets keys key index =
     let some : 0 < buckets = omega (arith, index.count, index.table.buckets.least) in
     rw index.count (omega arith, omega arith)
@@ -125,7 +128,8 @@ step_placed slots new buckets keys key index none e = record {
     adds = pair_law slots new (first_bucket buckets key) (second_bucket buckets key) (length keys) index.table there.0 there.1 is_new e
 
 -- a key that takes a new place
-pub step_replaced : (slots : Slots) (buckets slot : ℕ) (keys : List (List ℕ)) (key : List ℕ) → Indexes slots buckets keys → slot_of_key keys slots key ≡ Some slot → Indexes (replaced slots slot (length keys)) buckets (keys ++ key ∷ [])
+pub step_replaced : (slots : Slots) (buckets slot : ℕ) (keys : List (List ℕ)) (key : List ℕ) → Indexes slots buckets keys
+    → slot_of_key keys slots key ≡ Some slot → Indexes (replaced slots slot (length keys)) buckets (keys ++ key ∷ [])
 step_replaced slots buckets slot keys key index found = record {
   table = law.0;
   count = ap (λ n. n / 4) (length-set slots slot (Some (tag_at slots slot, length keys))) ∙ index.count;
@@ -152,7 +156,8 @@ step_replaced slots buckets slot keys key index found = record {
           | inr fails ↦
               let kept = (rw (test, fails) at (law.1 p)) in
               let newest = index.no_other p (holds_from_pair slots p pair.0 (sym kept ∙ pair.1)) in
-              newest_before keys key p newest (λ same. absurd (let is : p ≡ entry.0.1 = newest_apart keys p entry.0.1 newest old_newest (same ∙ sym entry.2) in let passes = is_has_place slots p slot (held ∙ ap Some (sym is)) in cc))
+              newest_before keys key p newest (λ same. absurd (let is : p ≡ entry.0.1 = newest_apart keys p entry.0.1 newest old_newest (same ∙ sym entry.2) in
+              let passes = is_has_place slots p slot (held ∙ ap Some (sym is)) in cc))
         ]
   ];
 }

@@ -1,5 +1,6 @@
 -- Candidates, slot by slot.
-use Rattle.std.proofs.Common.{◌≡◌, ◌≢◌, ◌⊎◌, inl, inr, ℕ, zero, suc, ◌+◌, ◌*◌, ◌/◌, ◌<◌, ◌≤◌, ◌==◌, min, max, ◌↔◌, if◌then◌else◌, Bool, true, false, List, [], ◌∷◌, ◌++◌, Option, Some, None, option_map, option_and_then, refl, sym, subst, ap, ◌∙◌, arith, append-nil}
+use Rattle.std.proofs.Common.{◌≡◌, ◌≢◌, ◌⊎◌, inl, inr, ℕ, zero, suc, ◌+◌, ◌*◌, ◌/◌, ◌<◌, ◌≤◌, ◌==◌, min, max, ◌↔◌, if◌then◌else◌, Bool, true, false, List, []}
+use Rattle.std.proofs.Common.{◌∷◌, ◌++◌, Option, Some, None, option_map, option_and_then, refl, sym, subst, ap, ◌∙◌, arith, append-nil}
 use Rattle.std.specs.List.{All, AllPairs, Contains, range_with_len, filter_map, cons_option}
 use Rattle.std.proofs.lemmas.Bool.{cases_eq, eq-eqb, ne_eqb}
 use Rattle.std.proofs.lemmas.List.Elements.{All-nil, All-cons, All-append}
@@ -43,7 +44,8 @@ pub is_match : (slots : Slots) (tag slot place : ℕ) → entry_at slots slot �
 is_match slots tag slot place is = let test = eq-eqb tag tag refl in rw (is, test) refl
 
 -- a place among the matches of some slots is that of an entry with the tag
-pub match_found : (slots : Slots) (tag place a n : ℕ) → IsOn place (places_of (filter_map (match_at slots tag) (range_with_len a n))) → (slot : ℕ) × (a ≤ slot) × (slot < a + n) × (entry_at slots slot ≡ Some (tag, place))
+pub match_found : (slots : Slots) (tag place a n : ℕ) → IsOn place (places_of (filter_map (match_at slots tag) (range_with_len a n)))
+    → (slot : ℕ) × (a ≤ slot) × (slot < a + n) × (entry_at slots slot ≡ Some (tag, place))
 match_found slots tag place a zero on = absurd on
 match_found slots tag place a (suc n) on = go (match_at slots tag a) refl (match_found slots tag place (a + 1) n) on
   where
@@ -55,14 +57,16 @@ match_found slots tag place a (suc n) on = go (match_at slots tag a) refl (match
     go (Some c) is rest (inr on) = let there = rest on in (there.0, omega (arith, there.1), omega (arith, there.2), there.3)
 
 -- the place of each entry with the tag is among the matches
-pub found_match : (slots : Slots) (tag place a n slot : ℕ) → a ≤ slot → slot < a + n → entry_at slots slot ≡ Some (tag, place) → IsOn place (places_of (filter_map (match_at slots tag) (range_with_len a n)))
+pub found_match : (slots : Slots) (tag place a n slot : ℕ) → a ≤ slot → slot < a + n → entry_at slots slot ≡ Some (tag, place)
+    → IsOn place (places_of (filter_map (match_at slots tag) (range_with_len a n)))
 found_match slots tag place a zero slot low high is = absurd (omega arith)
 found_match slots tag place a (suc n) slot low high is = elim (cases_eq a slot) [
   | inl same ↦ let here = is_match slots tag slot place is in rw (same, here) (inl refl)
   | inr other ↦ go (match_at slots tag a) (found_match slots tag place (a + 1) n slot (omega arith) (omega arith) is)
 ]
   where
-    go : (o : Option Candidate) → IsOn place (places_of (filter_map (match_at slots tag) (range_with_len (a + 1) n))) → IsOn place (places_of (cons_option o (filter_map (match_at slots tag) (range_with_len (a + 1) n))))
+    go : (o : Option Candidate) → IsOn place (places_of (filter_map (match_at slots tag) (range_with_len (a + 1) n)))
+        → IsOn place (places_of (cons_option o (filter_map (match_at slots tag) (range_with_len (a + 1) n))))
     go None on = on
     go (Some c) on = inr on
 
@@ -114,7 +118,8 @@ places_of-append [] ys = refl
 places_of-append (c ∷ xs) ys = ap (λ ps. c.place ∷ ps) (places_of-append xs ys)
 
 -- the candidates of two buckets that differ
-candidates_differ : (slots : Slots) (first second : ℕ) → first ≢ second → places_of (candidates_of slots first second) ≡ places_of (matches_in slots first second) ++ places_of (matches_in slots second first)
+candidates_differ : (slots : Slots) (first second : ℕ) → first ≢ second → places_of (candidates_of slots first second) ≡ places_of (matches_in slots first second)
+    ++ places_of (matches_in slots second first)
 unfolding candidates_of
 candidates_differ slots first second other = let test = ne_eqb first second other in rw test (places_of-append (matches_in slots first second) (matches_in slots second first))
 
@@ -209,7 +214,8 @@ on_contains (s ∷ xs) x (inl same) = (0, omega arith, sym same)
 on_contains (s ∷ xs) x (inr on) = let rest = on_contains xs x on in (suc rest.0, omega (arith, rest.1), rest.2)
 
 -- the candidates are exactly the places with the pair
-pub candidates_exact : (slots : Slots) (first second place : ℕ) → PlacesApart slots → Contains (places_of (candidates_of slots first second)) place ↔ (table_pairs slots place ≡ Some (pair_of first second))
+pub candidates_exact : (slots : Slots) (first second place : ℕ) → PlacesApart slots → Contains (places_of (candidates_of slots first second)) place
+    ↔ (table_pairs slots place ≡ Some (pair_of first second))
 candidates_exact slots first second place apart = (
   λ has. candidate_pair slots first second place apart (contains_on (places_of (candidates_of slots first second)) place has),
   λ is. on_contains (places_of (candidates_of slots first second)) place (pair_candidate slots first second place apart is),

@@ -1,5 +1,6 @@
 -- Laws of moving entries along a path.
-use Rattle.std.proofs.Common.{◌≡◌, ◌≢◌, ℕ, suc, ◌+◌, ◌<◌, ◌≤◌, List, [], ◌∷◌, length, drop, slice_set, slice_index, ◌/◌, Option, None, option_map, refl, sym, ap, ◌∙◌, arith, get_or-set_other, get_or-drop, length-drop}
+use Rattle.std.proofs.Common.{◌≡◌, ◌≢◌, ℕ, suc, ◌+◌, ◌<◌, ◌≤◌, List, [], ◌∷◌, length, drop, slice_set, slice_index, ◌/◌, Option, None, option_map, refl, sym}
+use Rattle.std.proofs.Common.{ap, ◌∙◌, arith, get_or-set_other, get_or-drop, length-drop}
 use Rattle.std.proofs.lemmas.List.{drop_more}
 use Rattle.silt_cuckoo.specs.Slots.{Slots, Entry, entry_at}
 use Rattle.silt_cuckoo.specs.Placing.{moved_along, moved_entry}

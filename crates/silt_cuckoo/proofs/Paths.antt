@@ -1,11 +1,14 @@
 -- A path that the placing rule finds leads from entry to entry, names no slot twice and stays inside the table.
-use Rattle.std.proofs.Common.{◌≡◌, ◌≢◌, ◌⊎◌, inl, inr, ℕ, zero, suc, ◌+◌, ◌*◌, ◌/◌, ◌%◌, ◌<◌, ◌≤◌, true, false, not, ◌==◌, List, [], ◌∷◌, ◌++◌, length, slice_index, slice_set, Option, Some, None, IsNone, IfSome, ◌↔◌, is_none, option_map, option_and_then, refl, sym, subst, ap, ◌∙◌, arith, length-append}
+use Rattle.std.proofs.Common.{◌≡◌, ◌≢◌, ◌⊎◌, inl, inr, ℕ, zero, suc, ◌+◌, ◌*◌, ◌/◌, ◌%◌, ◌<◌, ◌≤◌, true, false, not, ◌==◌, List, [], ◌∷◌, ◌++◌, length}
+use Rattle.std.proofs.Common.{slice_index, slice_set, Option, Some, None, IsNone, IfSome, ◌↔◌, is_none, option_map, option_and_then, refl, sym, subst, ap, ◌∙◌}
+use Rattle.std.proofs.Common.{arith, length-append}
 use Rattle.std.specs.List.{list_any}
 use Rattle.std.proofs.lemmas.Bool.{cases_lt, eq-eqb, not-true, and_parts}
 use Rattle.std.proofs.Math.Bool.{or-true}
 use Rattle.std.proofs.lemmas.List.{get_or_past}
 use Rattle.silt_cuckoo.specs.Slots.{Slots, Entry, IsTable, bucket_count, entry_at, tag_at}
-use Rattle.silt_cuckoo.specs.Placing.{free_slot, victim, can_move, turns, ended_walk, shortest_walk, bucket_after, path_for, first_path, PathPlan, plan_for, IsPlanFor, placed, put_along, moved_along, other_bucket}
+use Rattle.silt_cuckoo.specs.Placing.{free_slot, victim, can_move, turns, ended_walk, shortest_walk, bucket_after, path_for, first_path, PathPlan, plan_for}
+use Rattle.silt_cuckoo.specs.Placing.{IsPlanFor, placed, put_along, moved_along, other_bucket}
 use Rattle.silt_cuckoo.proofs.Search.{found_in_range, none_in_range, found_among, first_is}
 
 -- a slot of the path
@@ -103,12 +106,14 @@ none_twice_push (s ∷ path) slot twice off = (
 )
 
 -- a chain with one slot more
-chain_push : (slots : Slots) (bucket : ℕ) (path : List ℕ) (slot : ℕ) → Chain slots bucket path → slot / 4 ≡ bucket_after slots bucket path → HasTag slots slot (tag_at slots slot) → Chain slots bucket (path ++ slot ∷ [])
+chain_push : (slots : Slots) (bucket : ℕ) (path : List ℕ) (slot : ℕ) → Chain slots bucket path → slot / 4 ≡ bucket_after slots bucket path
+    → HasTag slots slot (tag_at slots slot) → Chain slots bucket (path ++ slot ∷ [])
 chain_push slots bucket [] slot chain here full = (here, full, tt)
 chain_push slots bucket (s ∷ path) slot chain here full = (chain.0, chain.1, chain_push slots (tag_at slots s) path slot chain.2 here full)
 
 -- a chain leads on to a free slot of the bucket after it
-pub chain_leads : (slots : Slots) (bucket : ℕ) (path : List ℕ) (free : ℕ) → Chain slots bucket path → free / 4 ≡ bucket_after slots bucket path → entry_at slots free ≡ None → LeadsOn slots (path ++ free ∷ [])
+pub chain_leads : (slots : Slots) (bucket : ℕ) (path : List ℕ) (free : ℕ) → Chain slots bucket path → free / 4 ≡ bucket_after slots bucket path
+    → entry_at slots free ≡ None → LeadsOn slots (path ++ free ∷ [])
 chain_leads slots bucket [] free chain here none = none
 chain_leads slots bucket (s ∷ []) free chain here none = ((chain.1.0, chain.1.1, chain.1.2 ∙ sym here), none)
 chain_leads slots bucket (s ∷ u ∷ path) free chain here none = ((chain.1.0, chain.1.1, chain.1.2 ∙ sym chain.2.0), chain_leads slots (tag_at slots s) (u ∷ path) free chain.2 here none)
@@ -134,7 +139,8 @@ turns_are slots bucket (suc n) path full e = go (turns slots bucket n) refl (λ 
     go None is before h = absurd (cc)
     go (Some p) is before h = more (victim slots p (bucket_after slots bucket p) n) refl h
       where
-        more : (v : Option ℕ) → victim slots p (bucket_after slots bucket p) n ≡ v → option_map (λ slot. p ++ slot ∷ []) v ≡ Some path → Chain slots bucket path × NoneTwice path × (length path ≡ suc n)
+        more : (v : Option ℕ) → victim slots p (bucket_after slots bucket p) n ≡ v → option_map (λ slot. p ++ slot ∷ []) v ≡ Some path
+            → Chain slots bucket path × NoneTwice path × (length path ≡ suc n)
         more None there h = absurd (cc)
         more (Some slot) there h =
             let longer : p ++ slot ∷ [] ≡ path = cc in
@@ -196,7 +202,8 @@ bucket_after_below slots bucket [] table there = there
 bucket_after_below slots bucket (s ∷ path) table there = bucket_after_below slots (tag_at slots s) path table (table.tags_below s)
 
 -- a path to a free slot
-free_displaces : (slots : Slots) (first second bucket slot : ℕ) → IsTable slots → bucket < bucket_count slots → (bucket ≡ first) ⊎ (bucket ≡ second) → free_slot slots bucket ≡ Some slot → Displaces slots first second (slot ∷ [])
+free_displaces : (slots : Slots) (first second bucket slot : ℕ) → IsTable slots → bucket < bucket_count slots → (bucket ≡ first)
+    ⊎ (bucket ≡ second) → free_slot slots bucket ≡ Some slot → Displaces slots first second (slot ∷ [])
 free_displaces slots first second bucket slot table there which e =
     let is = free_slot_is slots bucket slot e in record {
       leads = is.0;
@@ -225,7 +232,8 @@ walk_displaces slots first second walk table there parts =
     begins_in (s ∷ path) chain some = chain.0
 
 -- each path of the rule
-pub path_displaces : (slots : Slots) (first second : ℕ) (path : List ℕ) → IsTable slots → first < bucket_count slots → second < bucket_count slots → path_for slots first second ≡ Some path → Displaces slots first second path
+pub path_displaces : (slots : Slots) (first second : ℕ) (path : List ℕ) → IsTable slots → first < bucket_count slots
+    → second < bucket_count slots → path_for slots first second ≡ Some path → Displaces slots first second path
 unfolding path_for
 path_displaces slots first second path table first_there second_there e =
     go (free_slot slots first) refl (free_slot slots second) refl e
@@ -263,7 +271,8 @@ pub plan_inside : (slots : Slots) (plan : PathPlan) (path : List ℕ) → IsTabl
 plan_inside slots plan path table planned same k low = (plan_displaces slots plan path table planned same).inside (slice_index path k) (on_index path k low)
 
 -- no two of its slots are one
-pub plan_apart : (slots : Slots) (plan : PathPlan) (path : List ℕ) → IsTable slots → IsPlanFor slots plan → path ≡ plan.slots → (i j : ℕ) → i < j → j < length path → slice_index path j ≢ slice_index path i
+pub plan_apart : (slots : Slots) (plan : PathPlan) (path : List ℕ) → IsTable slots → IsPlanFor slots plan → path ≡ plan.slots
+    → (i j : ℕ) → i < j → j < length path → slice_index path j ≢ slice_index path i
 plan_apart slots plan path table planned same i j low high = index_apart path i j (plan_displaces slots plan path table planned same).twice low high
 
 -- it has a first slot
@@ -300,7 +309,8 @@ unfolding path_for
 plan_first slots first second slot is = rw is refl
 
 -- the path to a free slot of the second bucket
-pub plan_second : (slots : Slots) (first second slot : ℕ) → free_slot slots first ≡ None → free_slot slots second ≡ Some slot → plan_for slots first second ≡ Some (record { first = first; second = second; slots = slot ∷ [] })
+pub plan_second : (slots : Slots) (first second slot : ℕ) → free_slot slots first ≡ None → free_slot slots second ≡ Some slot
+    → plan_for slots first second ≡ Some (record { first = first; second = second; slots = slot ∷ [] })
 unfolding path_for
 plan_second slots first second slot full is = rw (full, is) refl
 

@@ -1,5 +1,6 @@
 -- The table after a new entry was put along a path.
-use Rattle.std.proofs.Common.{◌≡◌, ◌≢◌, ◌⊎◌, inl, inr, ℕ, ◌/◌, ◌<◌, ◌==◌, Bool, true, false, if◌then◌else◌, List, [], ◌∷◌, length, Option, Some, None, option_map, option_and_then, unwrap_or, refl, sym, ap, ◌∙◌, arith, get_or-set_other, get_or-set_same, length-set}
+use Rattle.std.proofs.Common.{◌≡◌, ◌≢◌, ◌⊎◌, inl, inr, ℕ, ◌/◌, ◌<◌, ◌==◌, Bool, true, false, if◌then◌else◌, List, [], ◌∷◌, length, Option, Some, None}
+use Rattle.std.proofs.Common.{option_map, option_and_then, unwrap_or, refl, sym, ap, ◌∙◌, arith, get_or-set_other, get_or-set_same, length-set}
 use Rattle.std.proofs.lemmas.Bool.{cases_eq, eq-eqb, ne_eqb, eqb-true}
 use Rattle.silt_cuckoo.specs.Slots.{Slots, Entry, IsTable, PlacesApart, HoldsPlace, bucket_count, entry_at, tag_at, place_at}
 use Rattle.silt_cuckoo.specs.Placing.{moved_along, put_along, other_bucket, path_for, placed}
@@ -111,12 +112,14 @@ put_is slots first second place s path along =
     }
 
 -- what each slot but the path's first has then
-put_place : (old new : Slots) (first second place s : ℕ) (path : List ℕ) → Displaces old first second (s ∷ path) → Put old new first second place s path → (x : ℕ) → x ≢ s → place_at new x ≡ place_at old (source (s ∷ path) x)
+put_place : (old new : Slots) (first second place s : ℕ) (path : List ℕ) → Displaces old first second (s ∷ path)
+    → Put old new first second place s path → (x : ℕ) → x ≢ s → place_at new x ≡ place_at old (source (s ∷ path) x)
 put_place old new first second place s path along put x other =
     ap (option_map (λ (e : Entry). e.1)) (put.others x other) ∙ place_at-moved_along old (s ∷ path) x along.inside
 
 -- no place is held twice then
-put_apart : (old new : Slots) (first second place s : ℕ) (path : List ℕ) → PlacesApart old → ¬ HoldsPlace old place → Displaces old first second (s ∷ path) → Put old new first second place s path → PlacesApart new
+put_apart : (old new : Slots) (first second place s : ℕ) (path : List ℕ) → PlacesApart old → ¬ HoldsPlace old place
+    → Displaces old first second (s ∷ path) → Put old new first second place s path → PlacesApart new
 put_apart old new first second place s path apart is_new along put i j p i_is j_is = elim (cases_eq i s) [
   | inl i_first ↦ elim (cases_eq j s) [
     | inl j_first ↦ i_first ∙ sym j_first
@@ -141,7 +144,8 @@ put_apart old new first second place s path apart is_new along put i j p i_is j_
     not_new x other same is = is_new (source (s ∷ path) x, sym (at x other) ∙ is ∙ ap Some same)
 
 -- it is a table then
-put_table : (old new : Slots) (first second place s : ℕ) (path : List ℕ) → IsTable old → first < bucket_count old → second < bucket_count old → ¬ HoldsPlace old place → Displaces old first second (s ∷ path) → Put old new first second place s path → IsTable new
+put_table : (old new : Slots) (first second place s : ℕ) (path : List ℕ) → IsTable old → first < bucket_count old → second < bucket_count old
+    → ¬ HoldsPlace old place → Displaces old first second (s ∷ path) → Put old new first second place s path → IsTable new
 put_table old new first second place s path table first_there second_there is_new along put =
     let count : bucket_count new ≡ bucket_count old = ap (λ n. n / 4) put.size in
     record {
@@ -158,7 +162,8 @@ put_table old new first second place s path table first_there second_there is_ne
     ]
 
 -- the new place has its pair, and the others keep theirs
-put_pairs : (old new : Slots) (first second place s : ℕ) (path : List ℕ) → IsTable old → IsTable new → ¬ HoldsPlace old place → Displaces old first second (s ∷ path) → Put old new first second place s path → AddsPair old new place first second
+put_pairs : (old new : Slots) (first second place s : ℕ) (path : List ℕ) → IsTable old → IsTable new → ¬ HoldsPlace old place
+    → Displaces old first second (s ∷ path) → Put old new first second place s path → AddsPair old new place first second
 put_pairs old new first second place s path table after is_new along put p = elim (cases_eq p place) [
   | inl same ↦
       let test = eq-eqb p place same in

@@ -9,7 +9,8 @@ use Rattle.silt_cuckoo.proofs.Tables.{replaced_table, slot_inside}
 use Rattle.silt_cuckoo.specs.Laws.{ReplaceLaw}
 
 -- the new place has the slot's pair, the old one none, and the others keep theirs
-pub replaced_pairs : (slots : Slots) (slot place : ℕ) (e : Entry) → IsTable slots → slot < length slots → entry_at slots slot ≡ Some e → ¬ HoldsPlace slots place → TakesSlot slots (replaced slots slot place) slot place
+pub replaced_pairs : (slots : Slots) (slot place : ℕ) (e : Entry) → IsTable slots → slot < length slots → entry_at slots slot ≡ Some e
+    → ¬ HoldsPlace slots place → TakesSlot slots (replaced slots slot place) slot place
 replaced_pairs slots slot place e table there is is_new p = elim (cases_eq p place) [
   | inl same ↦
       let test = eq-eqb p place same in
@@ -50,7 +51,8 @@ replaced_pairs slots slot place e table there is is_new p = elim (cases_eq p pla
     kept : p ≢ place → has_place slots p slot ≡ false → HoldsPlace slots p ⊎ ¬ HoldsPlace slots p → table_pairs new p ≡ table_pairs slots p
     kept p_other fails (inl (y, held)) =
         let y_other : y ≢ slot = λ same. let passes = is_has_place slots p slot (ap (place_at slots) (sym same) ∙ held) in absurd (cc) in
-        table_pairs-held new y p after.places_apart (at y y_other ∙ held) ∙ ap (option_map (λ (x : Entry). pair_of (y / 4) x.0)) (other_entry y y_other) ∙ sym (table_pairs-held slots y p table.places_apart held)
+        table_pairs-held new y p after.places_apart (at y y_other ∙ held) ∙ ap (option_map (λ (x : Entry). pair_of (y / 4) x.0)) (other_entry y y_other)
+        ∙ sym (table_pairs-held slots y p table.places_apart held)
     kept p_other fails (inr not_held) =
         table_pairs-not_held new p (λ (x, held). elim (cases_eq x slot) [
           | inl x_same ↦ p_other (here x x_same held)

@@ -4,7 +4,8 @@ use Rattle.std.proofs.lemmas.Bool.{cases_eq}
 use Rattle.std.specs.List.{range_with_len, filter_map, cons_option}
 
 -- the first that passes is found
-pub found_at : {X : Type 0} (p : X → Bool) (f : ℕ → X) (a n k m : ℕ) → a + k ≡ m → k < n → ((j : ℕ) → a ≤ j → j < m → p (f j) ≡ false) → p (f m) ≡ true → find p (map f (range_with_len a n)) ≡ Some (f m)
+pub found_at : {X : Type 0} (p : X → Bool) (f : ℕ → X) (a n k m : ℕ) → a + k ≡ m → k < n → ((j : ℕ) → a ≤ j → j < m → p (f j) ≡ false)
+    → p (f m) ≡ true → find p (map f (range_with_len a n)) ≡ Some (f m)
 found_at p f a zero k m e below before here = absurd (omega arith)
 found_at p f a (suc n) zero m e below before here = let same : a ≡ m = omega arith in rw (same, here) refl
 found_at p f a (suc n) (suc k) m e below before here =
@@ -21,7 +22,8 @@ found_nowhere p f a (suc n) none =
     rw (not_here, rest) refl
 
 -- the same if a function gives a value or none
-pub first_at : {X : Type 0} (f : ℕ → Option X) (a n k m : ℕ) (x : X) → a + k ≡ m → k < n → ((j : ℕ) → a ≤ j → j < m → f j ≡ None) → f m ≡ Some x → slice_get (filter_map f (range_with_len a n)) 0 ≡ Some x
+pub first_at : {X : Type 0} (f : ℕ → Option X) (a n k m : ℕ) (x : X) → a + k ≡ m → k < n → ((j : ℕ) → a ≤ j → j < m → f j ≡ None)
+    → f m ≡ Some x → slice_get (filter_map f (range_with_len a n)) 0 ≡ Some x
 first_at f a zero k m x e below before here = absurd (omega arith)
 first_at f a (suc n) zero m x e below before here = let same : a ≡ m = omega arith in rw (same, here) refl
 first_at f a (suc n) (suc k) m x e below before here =

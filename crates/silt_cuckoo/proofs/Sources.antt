@@ -1,5 +1,6 @@
 -- The slot that the entry of each slot comes from, when entries move along a path.
-use Rattle.std.proofs.Common.{◌≡◌, ◌≢◌, ◌⊎◌, inl, inr, ℕ, ◌/◌, ◌<◌, ◌==◌, if◌then◌else◌, min, max, List, [], ◌∷◌, length, slice_set, Option, Some, None, option_map, unwrap_or, refl, sym, subst, ap, ◌∙◌, arith, get_or-set_other, get_or-set_same, length-set}
+use Rattle.std.proofs.Common.{◌≡◌, ◌≢◌, ◌⊎◌, inl, inr, ℕ, ◌/◌, ◌<◌, ◌==◌, if◌then◌else◌, min, max, List, [], ◌∷◌, length, slice_set, Option, Some, None}
+use Rattle.std.proofs.Common.{option_map, unwrap_or, refl, sym, subst, ap, ◌∙◌, arith, get_or-set_other, get_or-set_same, length-set}
 use Rattle.std.proofs.lemmas.Bool.{cases_eq, eq-eqb, ne_eqb}
 use Rattle.silt_cuckoo.specs.Slots.{Slots, Entry, IsTable, bucket_count, entry_at, tag_at, place_at}
 use Rattle.silt_cuckoo.specs.Placing.{moved_along, moved_entry}
@@ -68,8 +69,12 @@ target slots s [] y e leads twice is = (y, λ same. let none = leads in let h : 
 target slots s (u ∷ path) y e leads twice is = elim (cases_eq y s) [
   | inl same ↦ (u, λ is_s. twice.0 (inl (sym is_s)), source_next s u path u refl ∙ sym same)
   | inr other ↦
-      let rest = target slots u path y e leads.1 twice.1 is in
-      (rest.0, λ is_s. source_not_first s u path y twice other (let off = source_off (u ∷ path) s twice.0 in let there = rest.2 in absurd (other (sym there ∙ ap (source (u ∷ path)) is_s ∙ off))), source_other s u path rest.0 rest.1 ∙ rest.2)
+      let rest = target slots u path y e leads.1 twice.1 is in (
+        rest.0,
+        λ is_s. source_not_first s u path y twice other (let off = source_off (u ∷ path) s twice.0 in let there = rest.2 in
+            absurd (other (sym there ∙ ap (source (u ∷ path)) is_s ∙ off))),
+        source_other s u path rest.0 rest.1 ∙ rest.2,
+      )
 ]
 
 -- the moves keep the number of slots
@@ -140,11 +145,13 @@ tag_at-moved_along slots (s ∷ u ∷ path) x table inside = elim (cases_eq x u)
       let long : u < length (moved_along slots (u ∷ path)) = omega (arith, length_moved slots (u ∷ path), inside u (inr (inl refl))) in
       let there = get_or-set_same (moved_along slots (u ∷ path)) u (moved_entry slots s) None long in
       let here : s < length slots = inside s (inl refl) in
-      let low : unwrap_or (option_map (λ (e : Entry). e.0) (moved_entry slots s)) 0 < bucket_count slots = moved_tag (entry_at slots s) s (omega (arith, table.four_each)) (omega (arith, table.buckets.least)) in
+      let low : unwrap_or (option_map (λ (e : Entry). e.0) (moved_entry slots s)) 0 < bucket_count slots =
+      moved_tag (entry_at slots s) s (omega (arith, table.four_each)) (omega (arith, table.buckets.least)) in
       rw (same, there) low
   | inr other ↦ rw (get_or-set_other (moved_along slots (u ∷ path)) u x (moved_entry slots s) None other) (tag_at-moved_along slots (u ∷ path) x table (λ t on. inside t (inr on)))
 ]
   where
-    moved_tag : (o : Option Entry) (s : ℕ) → s / 4 < bucket_count slots → 0 < bucket_count slots → unwrap_or (option_map (λ (e : Entry). e.0) (option_map (λ (e : Entry). (s / 4, e.1)) o)) 0 < bucket_count slots
+    moved_tag : (o : Option Entry) (s : ℕ) → s / 4 < bucket_count slots → 0 < bucket_count slots
+        → unwrap_or (option_map (λ (e : Entry). e.0) (option_map (λ (e : Entry). (s / 4, e.1)) o)) 0 < bucket_count slots
     moved_tag None s low some = some
     moved_tag (Some e) s low some = low

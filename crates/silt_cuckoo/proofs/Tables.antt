@@ -1,5 +1,6 @@
 -- What is a table.
-use Rattle.std.proofs.Common.{◌≡◌, ◌≢◌, inl, inr, ℕ, ◌*◌, ◌/◌, ◌<◌, zero, suc, length, replicate, get_or, Option, Some, None, IsSome, option_map, refl, sym, ap, ◌∙◌, arith, get_or-set_other, get_or-set_same, length-set}
+use Rattle.std.proofs.Common.{◌≡◌, ◌≢◌, inl, inr, ℕ, ◌*◌, ◌/◌, ◌<◌, zero, suc, length, replicate, get_or, Option, Some, None, IsSome, option_map, refl, sym, ap}
+use Rattle.std.proofs.Common.{◌∙◌, arith, get_or-set_other, get_or-set_same, length-set}
 use Rattle.std.proofs.lemmas.Bool.{cases_eq, cases_lt}
 use Rattle.std.proofs.lemmas.List.{length-replicate, get_or_past}
 use Rattle.silt_cuckoo.specs.Slots.{Slots, Entry, IsTable, IsBucketCount, HoldsPlace, bucket_count, empty_slots, entry_at, tag_at, place_at}

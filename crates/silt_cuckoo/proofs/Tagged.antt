@@ -1,5 +1,6 @@
 -- Whether a bucket has an entry with a tag.
-use Rattle.std.proofs.Common.{◌≡◌, ℕ, ◌+◌, ◌*◌, ◌≤◌, ◌<◌, ◌==◌, not, Bool, true, false, ◌||◌, cond, List, [], ◌∷◌, ◌++◌, length, get_or, slice_range, Option, Some, None, refl, sym, ap, ◌∙◌, arith, append-nil, is_some, option_and_then, eqb-true, ne_eqb}
+use Rattle.std.proofs.Common.{◌≡◌, ℕ, ◌+◌, ◌*◌, ◌≤◌, ◌<◌, ◌==◌, not, Bool, true, false, ◌||◌, cond, List, [], ◌∷◌, ◌++◌, length, get_or, slice_range, Option}
+use Rattle.std.proofs.Common.{Some, None, refl, sym, ap, ◌∙◌, arith, append-nil, is_some, option_and_then, eqb-true, ne_eqb}
 use Rattle.std.specs.List.{cons_option}
 use Rattle.std.proofs.lemmas.List.Edits.{get_or-between}
 use Rattle.silt_cuckoo.specs.declared.lookup.Candidate.{Candidate}
@@ -52,11 +53,18 @@ four None None None None = refl
 
 -- a bucket has a match if one of its four slots has the tag
 pub match_of_four : (slots : List Slot) (bucket tag : ℕ) (d : Slot) (zeroth first second third : Bool) → 4 * bucket + 4 ≤ length slots → let part = slice_range slots (4 * bucket) (4 * bucket + 4) in
-    zeroth ≡ has_tag tag (unpacked (get_or part 0 d)) → first ≡ has_tag tag (unpacked (get_or part 1 d)) → second ≡ has_tag tag (unpacked (get_or part 2 d)) → third ≡ has_tag tag (unpacked (get_or part 3 d))
+    zeroth ≡ has_tag tag (unpacked (get_or part 0 d)) → first ≡ has_tag tag (unpacked (get_or part 1 d))
+    → second ≡ has_tag tag (unpacked (get_or part 2 d)) → third ≡ has_tag tag (unpacked (get_or part 3 d))
     → (((zeroth || first) || second) || third) ≡ not (length (matches_in (unpacked_all slots) bucket tag) == 0)
 match_of_four slots bucket tag d zeroth first second third there at_0 at_1 at_2 at_3 =
     let s : ℕ = 4 * bucket in
-    rw (at_0 ∙ match_in 0 s (omega arith) (omega arith), at_1 ∙ match_in 1 (s + 1) (omega arith) (omega arith), at_2 ∙ match_in 2 (s + 1 + 1) (omega arith) (omega arith), at_3 ∙ match_in 3 (s + 1 + 1 + 1) (omega arith) (omega arith))
+    rw (
+      at_0 ∙ match_in 0 s (omega arith) (omega arith),
+      at_1 ∙ match_in 1 (s + 1) (omega arith) (omega arith),
+      at_2
+          ∙ match_in 2 (s + 1 + 1) (omega arith) (omega arith),
+      at_3 ∙ match_in 3 (s + 1 + 1 + 1) (omega arith) (omega arith),
+    )
     (four (m s) (m (s + 1)) (m (s + 1 + 1)) (m (s + 1 + 1 + 1)))
   where
     m : ℕ → Option Candidate
@@ -70,7 +78,8 @@ match_of_four slots bucket tag d zeroth first second third there at_0 at_1 at_2 
         ∙ sym (match_is (unpacked_all slots) tag slot)
 
 -- two buckets have a candidate if one of them has a match
-pub candidates_of_both : (slots : Slots) (first second : ℕ) (one two : Bool) → one ≡ some_in (matches_in slots first second) → two ≡ some_in (matches_in slots second first) → (one || two) ≡ has_candidates slots first second
+pub candidates_of_both : (slots : Slots) (first second : ℕ) (one two : Bool) → one ≡ some_in (matches_in slots first second)
+    → two ≡ some_in (matches_in slots second first) → (one || two) ≡ has_candidates slots first second
 unfolding candidates_of
 candidates_of_both slots first second one two one_is two_is =
     rw (one_is, two_is) (join (matches_in slots first second) (matches_in slots second first) (first == second)

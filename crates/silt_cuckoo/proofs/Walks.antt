@@ -30,11 +30,13 @@ pub not_ended : (slots : Slots) (bucket n : ℕ) (path : List ℕ) → turns slo
 not_ended slots bucket n path e none = rw (e, none) refl
 
 -- a turn whose bucket has a free slot ends the walk there
-pub ended : (slots : Slots) (bucket n free : ℕ) (path : List ℕ) → turns slots bucket n ≡ Some path → free_slot slots (bucket_after slots bucket path) ≡ Some free → ended_walk slots bucket n ≡ Some (path ++ free ∷ [])
+pub ended : (slots : Slots) (bucket n free : ℕ) (path : List ℕ) → turns slots bucket n ≡ Some path
+    → free_slot slots (bucket_after slots bucket path) ≡ Some free → ended_walk slots bucket n ≡ Some (path ++ free ∷ [])
 ended slots bucket n free path e some = rw (e, some) refl
 
 -- the first walk that ends is the shortest
-pub shortest_at : (slots : Slots) (bucket n : ℕ) (path : List ℕ) → n < 128 → ((k : ℕ) → 1 ≤ k → k < n + 1 → ended_walk slots bucket k ≡ None) → ended_walk slots bucket (n + 1) ≡ Some path → shortest_walk slots bucket ≡ Some path
+pub shortest_at : (slots : Slots) (bucket n : ℕ) (path : List ℕ) → n < 128 → ((k : ℕ) → 1 ≤ k → k < n + 1 → ended_walk slots bucket k ≡ None)
+    → ended_walk slots bucket (n + 1) ≡ Some path → shortest_walk slots bucket ≡ Some path
 unfolding shortest_walk
 shortest_at slots bucket n path below before here = first_at (ended_walk slots bucket) 1 128 n (n + 1) path (omega arith) below before here
 

@@ -1,5 +1,6 @@
 -- The placing rule: where a new entry goes, and which entries move to make room for it.
-use Rattle.std.specs.Prelude.{◌≡◌, ◌<◌, ℕ, zero, suc, ◌+◌, ◌*◌, ◌/◌, ◌%◌, ◌==◌, Bool, ◌&&◌, not, if◌then◌else◌, List, [], ◌∷◌, ◌++◌, map, slice_get, slice_set, slice_index, find, fold, filter_map, is_none, Option, Some, None, option_map, option_and_then}
+use Rattle.std.specs.Prelude.{◌≡◌, ◌<◌, ℕ, zero, suc, ◌+◌, ◌*◌, ◌/◌, ◌%◌, ◌==◌, Bool, ◌&&◌, not, if◌then◌else◌, List, [], ◌∷◌, ◌++◌, map, slice_get, slice_set}
+use Rattle.std.specs.Prelude.{slice_index, find, fold, filter_map, is_none, Option, Some, None, option_map, option_and_then}
 use Rattle.std.specs.List.{range_with_len, list_any}
 use Rattle.silt_cuckoo.specs.Slots.{Entry, Slots, bucket_count, entry_at, tag_at}
 

@@ -273,7 +273,8 @@ module _ {D F : Type 0} (facts : Ghosts D F) where
         → Serves facts trace (desk c0 t0) (desk c1 t1) seat after event reply
     serves reply told is does notes = serves_told reply does (subst (λ r. Notes trace t0 t1 totals after_totals seat after event r) is notes)
 
-    module _ (agrees : T → SeenStore → Type 0) (law : agrees t0 (seen facts c0) → (c : RecordedCall) → trace.extends t0 c t1 → SeenStep (seen facts c0) (seen facts c1) c.event c.reply → agrees t1 (seen facts c1)) where
+    module _ (agrees : T → SeenStore → Type 0) (law : agrees t0 (seen facts c0) → (c : RecordedCall) → trace.extends t0 c t1
+        → SeenStep (seen facts c0) (seen facts c1) c.event c.reply → agrees t1 (seen facts c1)) where
       keeps_told : (reply : Reply F) → Does facts c0 c1 event reply → Notes trace t0 t1 totals after_totals seat after event (plain reply) → agrees t0 (seen facts c0) → agrees t1 (seen facts c1)
       keeps_told (Accepted n) does notes held = law held (call seat.number event (plain {F = F} (Accepted n))) notes.0 (seen_step c0 c1 event (Accepted n) does)
       keeps_told (Acknowledged n) does notes held = law held (call seat.number event (plain {F = F} (Acknowledged n))) notes.0 (seen_step c0 c1 event (Acknowledged n) does)
@@ -297,7 +298,8 @@ module _ {D F : Type 0} (facts : Ghosts D F) where
       keeps_told (Refused HistoryFull) does notes held = absurd (never_full c0 c1 event does.cause)
 
       -- the trace agrees with the store on
-      pub keeps_agreeing : (reply : Reply F) (told : Reply (Unit {0})) → told ≡ plain reply → Does facts c0 c1 event reply → Notes trace t0 t1 totals after_totals seat after event told → agrees t0 (seen facts c0) → agrees t1 (seen facts c1)
+      pub keeps_agreeing : (reply : Reply F) (told : Reply (Unit {0})) → told ≡ plain reply → Does facts c0 c1 event reply
+          → Notes trace t0 t1 totals after_totals seat after event told → agrees t0 (seen facts c0) → agrees t1 (seen facts c1)
       keeps_agreeing reply told is does notes held = keeps_told reply does (subst (λ r. Notes trace t0 t1 totals after_totals seat after event r) is notes) held
 
 -- the books count on

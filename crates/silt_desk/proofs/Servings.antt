@@ -34,7 +34,8 @@ module _ {D F : Type 0} (facts : Ghosts D F) where
           count = last.count;
           end = map_of last;
           kept = kept.0;
-          legal = subst (λ (n : Map). Replays 0 n calls last.count (map_of last)) start (subst (λ (c : ℕ). Replays c (map_of first) calls last.count (map_of last)) opens.count (serves.leads.replays there));
+          legal = subst (λ (n : Map). Replays 0 n calls last.count (map_of last)) start
+              (subst (λ (c : ℕ). Replays c (map_of first) calls last.count (map_of last)) opens.count (serves.leads.replays there));
           keeps = record {
             begins = record { rest = kept.1.begins.rest; is = kept.1.begins.is ∙ ap (λ (cs : List Command). cs ++ commands_of calls) none };
             acknowledged = let settled : 0 + length first.waiting ≡ first.count = omega (arith, ap length none, opens.count) in omega (arith, kept.1.acknowledged 0 settled);

@@ -64,7 +64,11 @@ books_inside_sync N h =
     let B = BooksInside.the_type N h in
     let k = calls.ghosts N h calls.no_dict in
     let a = accepted.ghosts N h accepted.no_dict in
-    let all : AllSync (fields B) = (book_sync (CallsOf.the_row N) k, (book_sync (AcceptedOf.the_row N) a, (share_sync (CallsOf.the_row N) k, (share_sync (AcceptedOf.the_row N) a, tt)))) in recorded_sync (Struct (shape B)) B.D B.to B.to_one (struct_sync (shape B) all)
+    let all : AllSync (fields B) = (
+      book_sync (CallsOf.the_row N) k,
+      (book_sync (AcceptedOf.the_row N) a, (share_sync (CallsOf.the_row N) k, (share_sync (AcceptedOf.the_row N) a, tt))),
+    ) in
+    recorded_sync (Struct (shape B)) B.D B.to B.to_one (struct_sync (shape B) all)
 
 books_sync : (N : RattleType) (h : DeskId.Ghosts N.Denot) → IsSync (Books.the_row N h)
 books_sync N h = view_sync _ _ _ _ _ (books_inside_sync N h)

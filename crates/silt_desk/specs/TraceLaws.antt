@@ -1,5 +1,6 @@
 -- One call more, in a trace.
-use Rattle.std.proofs.Common.{◌≡◌, ℕ, ◌+◌, ◌%◌, ◌^◌, ◌≤◌, ◌==◌, Bool, true, false, IsTrue, List, [], ◌∷◌, ◌++◌, length, refl, sym, ◌∙◌, ap, subst, arith, length-append, append_assoc, IfSome, Option, Some, None}
+use Rattle.std.proofs.Common.{◌≡◌, ℕ, ◌+◌, ◌%◌, ◌^◌, ◌≤◌, ◌==◌, Bool, true, false, IsTrue, List, [], ◌∷◌, ◌++◌, length, refl, sym, ◌∙◌, ap, subst, arith}
+use Rattle.std.proofs.Common.{length-append, append_assoc, IfSome, Option, Some, None}
 use Rattle.std.proofs.lemmas.Bool.{ne_eqb}
 use Rattle.silt_disk.specs.Disk.{LeavesOnly}
 use Rattle.silt_disk.specs.Layout.{Shape}
@@ -87,7 +88,8 @@ pub ruleset accepted_laws = (count_accepted-le, accepted_by-le, count_accepted_p
 pub commands_more : (calls : List RecordedCall) (c : RecordedCall) → commands_of (calls ++ c ∷ []) ≡ commands_of calls ++ accepted_command c.event c.reply
 commands_more [] c = append_nil (accepted_command c.event c.reply)
 commands_more (x ∷ calls) c =
-    ap (λ (cs : List Command). accepted_command x.event x.reply ++ cs) (commands_more calls c) ∙ sym (append_assoc (accepted_command x.event x.reply) (commands_of calls) (accepted_command c.event c.reply))
+    ap (λ (cs : List Command). accepted_command x.event x.reply ++ cs) (commands_more calls c)
+    ∙ sym (append_assoc (accepted_command x.event x.reply) (commands_of calls) (accepted_command c.event c.reply))
 
 -- what is acknowledged after one call more
 pub acknowledged_more : (n : ℕ) (calls : List RecordedCall) (c : RecordedCall) → acknowledged_after n (replies_of (calls ++ c ∷ [])) ≡ acknowledged_by (acknowledged_after n (replies_of calls)) c.reply
@@ -175,7 +177,8 @@ survives_on a c opening base waiting s t survives step =
           record {
             opens = opens;
             few = few;
-            settled = λ h. settles_same a c base waiting s t (was h) (survives.settled (was h)) step (none stays.1) (ap (λ (x : SeenStore). x.base) stays.0) (ap (λ (x : SeenStore). x.waiting) stays.0);
+            settled = λ h. settles_same a c base waiting s t (was h) (survives.settled (was h)) step (none stays.1)
+                (ap (λ (x : SeenStore). x.base) stays.0) (ap (λ (x : SeenStore). x.waiting) stays.0);
             left = record {
               each = λ h image left.
                   subst (λ (shape : Shape). StandsRecorded (then_call a c) shape base waiting image) (sym step.shape)
@@ -186,7 +189,8 @@ survives_on a c opening base waiting s t survives step =
           }
       | false ↦ λ working. elim [
         | false ↦ λ goes.
-            let settled : IsTrue t.content.honest → HasSettled (then_call a c) base waiting t = λ h. settles_more a c base waiting s t (was h) (survives.settled (was h)) step (step.moves goes (was h)) in
+            let settled : IsTrue t.content.honest → HasSettled (then_call a c) base waiting t =
+            λ h. settles_more a c base waiting s t (was h) (survives.settled (was h)) step (step.moves goes (was h)) in
             record {
               opens = opens;
               few = few;
@@ -332,7 +336,8 @@ logged_more None (Some seen) c calls more logged = absurd more
 logged_more (Some before) (Some seen) c calls more logged = (before.calls, logged ∙ more)
 
 -- the log has the calls, and the one that was added
-logs_more : (old new : Option CallsSeen) (c : RecordedCall) (calls : List RecordedCall) → LogsCall old c new → IfSome old (λ seen. seen.calls ≡ calls) → IfSome new (λ seen. seen.calls ≡ calls ++ c ∷ [])
+logs_more : (old new : Option CallsSeen) (c : RecordedCall) (calls : List RecordedCall) → LogsCall old c new → IfSome old (λ seen. seen.calls ≡ calls)
+    → IfSome new (λ seen. seen.calls ≡ calls ++ c ∷ [])
 logs_more old None c calls more logged = tt
 logs_more None (Some seen) c calls more logged = absurd more
 logs_more (Some before) (Some seen) c calls more logged = more ∙ ap (λ (cs : List RecordedCall). cs ++ c ∷ []) logged

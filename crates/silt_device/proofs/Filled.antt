@@ -84,8 +84,10 @@ grown_on content written_at synced old sized written new len (Err error) cut ali
 -- the same
 pub shrunk_on : {F T E : Type 0} (content : F → Content) (written_at : F → ℕ → List ℕ → F → Type 0) (synced : F → F → Type 0) (old written whole sized new : F) (len : ℕ) (result : Result T E)
     → ShowsAlike (content old) (content written) → IsWritten written_at old len written → Settles (content written) (content whole)
-    → Resizes len (content whole) (content sized) → OnOk result (synced sized new) → OnOk result (Settles (content sized) (content new)) → OnOk result (IsFilledFile content written_at synced old len new)
-shrunk_on content written_at synced old written whole sized new len (Ok it) alike all kept cut settled settles = shrunk content written_at synced old written whole sized new len alike all kept cut settled settles
+    → Resizes len (content whole) (content sized) → OnOk result (synced sized new) → OnOk result (Settles (content sized) (content new))
+    → OnOk result (IsFilledFile content written_at synced old len new)
+shrunk_on content written_at synced old written whole sized new len (Ok it) alike all kept cut settled settles =
+    shrunk content written_at synced old written whole sized new len alike all kept cut settled settles
 shrunk_on content written_at synced old written whole sized new len (Err error) alike all kept cut settled settles = tt
 
 -- a file that was given a length has it

@@ -5,8 +5,11 @@ use Rattle.std.proofs.lemmas.Bool.{cases_Bool, cond-true, cond-false}
 use Rattle.std.proofs.lemmas.Bool.Decides.{nat_tests}
 use Rattle.silt_disk.specs.Disk.{Content, Makes, Restarts, Settles, Stays, Tears, Writes, size}
 use Rattle.silt_disk.proofs.Costs.{made_both, none_made}
-use Rattle.silt_device.specs.Buffered.{BufferedBytes, Buffers, HasPlaces, image_over, length-image_over, byte_elsewhere, byte_there, waits, content_over, content_over_all, lie_apart, turned, brought, takes, emptied, freed, freed_times, owed, owed_all, owed_by_last, cleared, to_free, readied, appended, grown, waiting_after, BufferedState, PassesOn, LaidOverAll, has_all, holds}
-use Rattle.silt_device.proofs.Waiting.{or_swap, none_waits, none_over, stays_twice, stays_over, out_at, not_out_at, restarts_over, settles_over, size_over, size_over_all, tears_over, writes_over, grown_places, grown_tears, grown_writes, laid_shows, laid_whole}
+use Rattle.silt_device.specs.Buffered.{BufferedBytes, Buffers, HasPlaces, image_over, length-image_over, byte_elsewhere, byte_there, waits, content_over}
+use Rattle.silt_device.specs.Buffered.{content_over_all, lie_apart, turned, brought, takes, emptied, freed, freed_times, owed, owed_all, owed_by_last, cleared}
+use Rattle.silt_device.specs.Buffered.{to_free, readied, appended, grown, waiting_after, BufferedState, PassesOn, LaidOverAll, has_all, holds}
+use Rattle.silt_device.proofs.Waiting.{or_swap, none_waits, none_over, stays_twice, stays_over, out_at, not_out_at, restarts_over, settles_over, size_over}
+use Rattle.silt_device.proofs.Waiting.{size_over_all, tears_over, writes_over, grown_places, grown_tears, grown_writes, laid_shows, laid_whole}
 
 -- ---- the order of buffers that lie apart
 
@@ -85,7 +88,8 @@ brought_keeps P b at count as_is swaps turns = elim (cases_Bool (takes b.first a
 -- the content stays
 pub brought_stays : (b : Buffers) (at count : ℕ) (inner : Content) → Stays (content_over_all b inner) (content_over_all (brought b at count) inner)
 brought_stays b at count inner =
-    brought_keeps (λ x. Stays (content_over_all b inner) (content_over_all x inner)) b at count (stays_same _) (λ apart. swapped_stays b.first b.second (content_over b.third inner) apart) (turned_stays b inner)
+    brought_keeps (λ x. Stays (content_over_all b inner) (content_over_all x inner)) b at count (stays_same _)
+    (λ apart. swapped_stays b.first b.second (content_over b.third inner) apart) (turned_stays b inner)
 
 -- the same bytes wait
 pub brought_owes : (b : Buffers) (at count : ℕ) → owed_all (brought b at count) ≡ owed_all b
@@ -169,7 +173,8 @@ module _ {D : Type 0} {content : D → Content} {writes_of syncs_of : D → ℕ}
       }
 
   -- once more, with bytes that were written
-  pub frees_out : (n : ℕ) (b : Buffers) (first : D) (now : Buffers) (inner new : D) (at : ℕ) (bytes : List ℕ) → Frees content writes_of syncs_of n b first now inner → (length now.third.bytes == 0) ≡ false
+  pub frees_out : (n : ℕ) (b : Buffers) (first : D) (now : Buffers) (inner new : D) (at : ℕ) (bytes : List ℕ)
+      → Frees content writes_of syncs_of n b first now inner → (length now.third.bytes == 0) ≡ false
       → at ≡ now.third.at → bytes ≡ now.third.bytes → Tears at (length bytes) (content inner) (content new) → Writes at bytes (content inner) (content new)
       → Makes writes_of syncs_of 1 0 inner new → size (content new) ≡ size (content inner) → Frees content writes_of syncs_of (n + 1) b first (freed now) new
   frees_out n b first now inner new at bytes frees some same_at same_bytes tears writes made size =
@@ -247,11 +252,13 @@ readied_none b at count refuses =
 
 -- ---- exits of a call, from how often the last buffer was freed
 
-module _ {D : Type 0} {content : D → Content} {writes_of syncs_of : D → ℕ} {n : ℕ} {b : Buffers} {first : D} {now : Buffers} {inner : D} (frees : Frees content writes_of syncs_of n b first now inner) where
+module _ {D : Type 0} {content : D → Content} {writes_of syncs_of : D → ℕ} {n : ℕ} {b : Buffers} {first : D} {now : Buffers}
+    {inner : D} (frees : Frees content writes_of syncs_of n b first now inner) where
   -- the bytes of the last buffer were not written: nothing changes
   pub not_freed : (new : D) (at : ℕ) (bytes : List ℕ) → at ≡ now.third.at → bytes ≡ now.third.bytes → Tears at (length bytes) (content inner) (content new)
       → Stays (content_over_all b (content first)) (content_over_all now (content new))
-  not_freed new at bytes same_at same_bytes tears = stays_twice _ _ _ frees.stays (last_stays now (content inner) (content new) (not_out_at now.third at bytes (content inner) (content new) same_at same_bytes tears))
+  not_freed new at bytes same_at same_bytes tears =
+      stays_twice _ _ _ frees.stays (last_stays now (content inner) (content new) (not_out_at now.third at bytes (content inner) (content new) same_at same_bytes tears))
 
   -- further calls of the inner disk
   pub freed_makes : (new : D) (more s : ℕ) → Makes writes_of syncs_of more s inner new → Makes writes_of syncs_of (owed_by_last n b + more) s first new
@@ -266,7 +273,8 @@ module _ {D : Type 0} {content : D → Content} {writes_of syncs_of : D → ℕ}
   freed_sizes later new same = sizes_over_all b later (content first) (content new) (same ∙ frees.size)
 
 -- bytes are appended to the one in front: they lie within the disk
-pub appended_places : {D : Type 0} (content : D → Content) (inner : D) (b : Buffers) (at : ℕ) (bytes : List ℕ) → HasPlaces content inner b → IsTrue (takes b.first at (length bytes)) → at + length bytes ≤ size (content inner)
+pub appended_places : {D : Type 0} (content : D → Content) (inner : D) (b : Buffers) (at : ℕ) (bytes : List ℕ) → HasPlaces content inner b
+    → IsTrue (takes b.first at (length bytes)) → at + length bytes ≤ size (content inner)
     → HasPlaces content inner (appended b at bytes)
 appended_places content inner b at bytes held room fits = record { first = grown_places b.first at bytes _ room fits; second = held.second; third = held.third }
 
@@ -303,10 +311,12 @@ waits_appended b now at bytes is room =
 pub waits_none : (b now : Buffers) (at : ℕ) (bytes : List ℕ) → now ≡ readied b at (length bytes) → takes now.first at (length bytes) ≡ false → now ≡ waiting_after b at bytes
 waits_none b now at bytes is long = subst (λ (x : Buffers). now ≡ cond (takes x.first at (length bytes)) (appended x at bytes) x) is (sym (cond-false _ _ _ long))
 
-module _ {D : Type 0} {content : D → Content} {writes_of syncs_of : D → ℕ} {n : ℕ} {m : Buffers} {first : D} {now : Buffers} {inner : D} (frees : Frees content writes_of syncs_of n m first now inner) (b : Buffers) (at count : ℕ) (is : m ≡ brought b at count) where
+module _ {D : Type 0} {content : D → Content} {writes_of syncs_of : D → ℕ} {n : ℕ} {m : Buffers} {first : D} {now : Buffers}
+    {inner : D} (frees : Frees content writes_of syncs_of n m first now inner) (b : Buffers) (at count : ℕ) (is : m ≡ brought b at count) where
   -- a buffer was brought in front, and then the last one was freed so many times: nothing changes
   pub way_stays : Stays (content_over_all b (content first)) (content_over_all now (content inner))
-  way_stays = stays_twice _ _ _ (subst (λ (x : Buffers). Stays (content_over_all b (content first)) (content_over_all x (content first))) (sym is) (brought_stays b at count (content first))) frees.stays
+  way_stays = stays_twice _ _ _ (subst (λ (x : Buffers). Stays (content_over_all b (content first)) (content_over_all x (content first)))
+      (sym is) (brought_stays b at count (content first))) frees.stays
 
   -- nor if the bytes of the last one are not written then
   pub way_unwritten : (new : D) (from : ℕ) (bytes : List ℕ) → from ≡ now.third.at → bytes ≡ now.third.bytes → Tears from (length bytes) (content inner) (content new)
@@ -335,7 +345,8 @@ module _ {D : Type 0} {content : D → Content} {writes_of syncs_of : D → ℕ}
 
 -- A write that returns Ok, from the buffers that were made ready for its bytes: they are appended
 pub passes_appended : {D : Type 0} {writes_of syncs_of : D → ℕ} (old new : BufferedState D) (at : ℕ) (bytes : List ℕ) (ready : Buffers) (made : ℕ) → ready ≡ readied old.buffers at (length bytes)
-    → takes ready.first at (length bytes) ≡ true → new.buffers ≡ appended ready at bytes → made ≡ owed_by_last (to_free (brought old.buffers at (length bytes)) at (length bytes)) (brought old.buffers at (length bytes))
+    → takes ready.first at (length bytes) ≡ true → new.buffers ≡ appended ready at bytes
+    → made ≡ owed_by_last (to_free (brought old.buffers at (length bytes)) at (length bytes)) (brought old.buffers at (length bytes))
     → Makes writes_of syncs_of made 0 old.inner new.inner → PassesOn writes_of syncs_of at bytes old new
 passes_appended {D} {writes_of} {syncs_of} old new at bytes ready made is room grows due makes =
     let none : cond {A = ℕ} (takes (readied old.buffers at (length bytes)).first at (length bytes)) 0 1 ≡ 0 = cond-true _ _ _ (ap (λ (x : Buffers). takes x.first at (length bytes)) (sym is) ∙ room) in
@@ -346,7 +357,8 @@ passes_appended {D} {writes_of} {syncs_of} old new at bytes ready made is room g
 
 -- or they fit no buffer, and are written
 pub passes_written : {D : Type 0} {writes_of syncs_of : D → ℕ} (old new : BufferedState D) (at : ℕ) (bytes : List ℕ) (ready : Buffers) (made : ℕ) → ready ≡ readied old.buffers at (length bytes)
-    → takes ready.first at (length bytes) ≡ false → new.buffers ≡ ready → made ≡ owed_by_last (to_free (brought old.buffers at (length bytes)) at (length bytes)) (brought old.buffers at (length bytes)) + 1
+    → takes ready.first at (length bytes) ≡ false → new.buffers ≡ ready
+    → made ≡ owed_by_last (to_free (brought old.buffers at (length bytes)) at (length bytes)) (brought old.buffers at (length bytes)) + 1
     → Makes writes_of syncs_of made 0 old.inner new.inner → PassesOn writes_of syncs_of at bytes old new
 passes_written {D} {writes_of} {syncs_of} old new at bytes ready made is long same due makes =
     let one : cond {A = ℕ} (takes (readied old.buffers at (length bytes)).first at (length bytes)) 0 1 ≡ 1 = cond-false _ _ _ (ap (λ (x : Buffers). takes x.first at (length bytes)) (sym is) ∙ long) in

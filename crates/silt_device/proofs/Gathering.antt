@@ -16,5 +16,6 @@ module _ {D : Type 0} {writes_of syncs_of : D → ℕ} where
   }
 
   -- the inner disk made so many writes, and so many others are still owed
-  pub gathers_so : (old new : BufferedState D) (made w s : ℕ) → Makes writes_of syncs_of made s old.inner new.inner → made + owed_all new.buffers ≤ w + owed_all old.buffers → SavesWrites writes_of syncs_of w s old new
+  pub gathers_so : (old new : BufferedState D) (made w s : ℕ) → Makes writes_of syncs_of made s old.inner new.inner
+      → made + owed_all new.buffers ≤ w + owed_all old.buffers → SavesWrites writes_of syncs_of w s old new
   gathers_so old new made w s makes fewer = record { made = made; fewer = fewer; makes = makes }

@@ -22,7 +22,9 @@ or_false true b is = absurd (cc)
 or_false false b is = (refl, is)
 
 -- after a write that marks its range
-pub agrees_written : (at : ℕ) (bytes shown written settled : List ℕ) (pending marked : List Bool) → at + length bytes ≤ length shown → written ≡ splice at bytes shown → ((place : ℕ) → get_or marked place false ≡ (get_or pending place false || within at (length bytes) place)) → Agrees shown settled pending → Agrees written settled marked
+pub agrees_written : (at : ℕ) (bytes shown written settled : List ℕ) (pending marked : List Bool) → at + length bytes ≤ length shown
+    → written ≡ splice at bytes shown → ((place : ℕ) → get_or marked place false ≡ (get_or pending place false || within at (length bytes) place))
+    → Agrees shown settled pending → Agrees written settled marked
 agrees_written at bytes shown written settled pending marked fits is marks agrees place unmarked =
     let torn = subst (λ image. Torn at (length bytes) shown image) (sym is) (torn_splice at bytes shown fits) in
     let both = or_false _ _ (sym (marks place) ∙ unmarked) in
@@ -60,7 +62,8 @@ or_true true b is = inl refl
 or_true false b is = inr is
 
 -- the first range that is marked
-pub marked_first : (at count from to : ℕ) (old new : List Bool) → LieWithin from to old → from ≡ to → at + count ≤ length new → ((place : ℕ) → get_or new place false ≡ (get_or old place false || within at count place)) → LieWithin at (at + count) new
+pub marked_first : (at count from to : ℕ) (old new : List Bool) → LieWithin from to old → from ≡ to → at + count ≤ length new
+    → ((place : ℕ) → get_or new place false ≡ (get_or old place false || within at count place)) → LieWithin at (at + count) new
 marked_first at count from to old new lie none fits marks =
     let bounds : (place : ℕ) → get_or new place false ≡ true → (at ≤ place) × (place < at + count) = λ place is. elim (or_true _ _ (sym (marks place) ∙ is)) [
       | inl before ↦
@@ -71,7 +74,8 @@ marked_first at count from to old new lie none fits marks =
     record { order = omega arith; fits = fits; low = λ place is. (bounds place is).0; high = λ place is. (bounds place is).1 }
 
 -- and a further one
-pub marked_more : (at count from to low high : ℕ) (old new : List Bool) → LieWithin from to old → low ≤ from → low ≤ at → to ≤ high → at + count ≤ high → high ≤ length new → ((place : ℕ) → get_or new place false ≡ (get_or old place false || within at count place)) → LieWithin low high new
+pub marked_more : (at count from to low high : ℕ) (old new : List Bool) → LieWithin from to old → low ≤ from → low ≤ at → to ≤ high
+    → at + count ≤ high → high ≤ length new → ((place : ℕ) → get_or new place false ≡ (get_or old place false || within at count place)) → LieWithin low high new
 marked_more at count from to low high old new lie low_from low_at high_to high_end fits marks =
     let bounds : (place : ℕ) → get_or new place false ≡ true → (low ≤ place) × (place < high) = λ place is. elim (or_true _ _ (sym (marks place) ∙ is)) [
       | inl before ↦
@@ -82,14 +86,16 @@ marked_more at count from to low high old new lie low_from low_at high_to high_e
     record { order = omega arith; fits = fits; low = λ place is. (bounds place is).0; high = λ place is. (bounds place is).1 }
 
 -- outside of the range the shown bytes are settled
-agrees_outside : (from to : ℕ) (shown settled : List ℕ) (pending : List Bool) → LieWithin from to pending → Agrees shown settled pending → (place : ℕ) → within from (to - from) place ≡ false → get_or shown place 0 ≡ get_or settled place 0
+agrees_outside : (from to : ℕ) (shown settled : List ℕ) (pending : List Bool) → LieWithin from to pending → Agrees shown settled pending
+    → (place : ℕ) → within from (to - from) place ≡ false → get_or shown place 0 ≡ get_or settled place 0
 agrees_outside from to shown settled pending lie agrees place outside = elim (cases_Bool (get_or pending place false)) [
   | inl there ↦ absurd (let inside = in_range from to place (lie.low place there) (lie.high place there) in cc)
   | inr none ↦ agrees place none
 ]
 
 -- so settling that range settles everything
-pub settled_all : (from to : ℕ) (settled shown : List ℕ) (pending : List Bool) → length shown ≡ length settled → length pending ≡ length shown → LieWithin from to pending → Agrees shown settled pending → splice from (slice_range shown from to) settled ≡ shown
+pub settled_all : (from to : ℕ) (settled shown : List ℕ) (pending : List Bool) → length shown ≡ length settled → length pending ≡ length shown
+    → LieWithin from to pending → Agrees shown settled pending → splice from (slice_range shown from to) settled ≡ shown
 settled_all from to settled shown pending sizes pending_size lie agrees =
     let bytes = slice_range shown from to in
     let fits : to ≤ length shown = omega (arith, lie.fits, pending_size) in

@@ -5,7 +5,8 @@ use Rattle.std.proofs.lemmas.List.Edits.{length-between, get_or-between}
 use Rattle.std.proofs.lemmas.Bool.{cases_lt, cases_Bool, cond-true, cond-false}
 use Rattle.std.proofs.lemmas.Bool.Decides.{nat_tests}
 use Rattle.silt_disk.specs.Disk.{Content, Torn, Tears, Writes, Settles, Stays, Restarts, size, splice, within}
-use Rattle.silt_device.specs.Buffered.{BufferedBytes, BufferedState, Buffers, buffered_content, content_over_all, takes, grown, emptied, waits, image_over, length-image_over, byte_elsewhere, byte_there, content_over, neither, holds, LaidOver}
+use Rattle.silt_device.specs.Buffered.{BufferedBytes, BufferedState, Buffers, buffered_content, content_over_all, takes, grown, emptied, waits, image_over}
+use Rattle.silt_device.specs.Buffered.{length-image_over, byte_elsewhere, byte_there, content_over, neither, holds, LaidOver}
 use Rattle.std.specs.Prelude.{Result, Ok, Err, IfOk}
 use Rattle.silt_device.specs.File.{FileState, IsOpened, file_content, random_access_content}
 use Rattle.silt_assumption.specs.Files.{system_content}
@@ -58,7 +59,8 @@ pub none_over : (g : BufferedBytes) (image : List ℕ) → length g.bytes ≡ 0 
 none_over g image none = ext_get_or 0 _ _ (length-image_over g image) (λ place inside. byte_elsewhere g image place (none_waits g place none))
 
 -- the byte of a place stays if the image's does
-byte_stays : (g : BufferedBytes) (old new : List ℕ) (place : ℕ) → length new ≡ length old → get_or new place 0 ≡ get_or old place 0 → get_or (image_over g new) place 0 ≡ get_or (image_over g old) place 0
+byte_stays : (g : BufferedBytes) (old new : List ℕ) (place : ℕ) → length new ≡ length old → get_or new place 0 ≡ get_or old place 0
+    → get_or (image_over g new) place 0 ≡ get_or (image_over g old) place 0
 byte_stays g old new place size same = elim (cases_Bool (waits g place)) [
   | inl there ↦ elim (cases_lt place (length old)) [
     | inl inside ↦ byte_there g new place there (omega arith) ∙ sym (byte_there g old place there inside)
@@ -171,7 +173,8 @@ settles_over g old new none settles = record {
 }
 
 -- a write of the waiting bytes returns Ok: no byte waits any longer, and nothing changes
-pub written_out : (g : BufferedBytes) (old new : Content) → g.at + length g.bytes ≤ size old → Tears g.at (length g.bytes) old new → Writes g.at g.bytes old new → Stays (content_over g old) (content_over (emptied g) new)
+pub written_out : (g : BufferedBytes) (old new : Content) → g.at + length g.bytes ≤ size old → Tears g.at (length g.bytes) old new
+    → Writes g.at g.bytes old new → Stays (content_over g old) (content_over (emptied g) new)
 written_out g old new fits tears writes = record {
   honest = tears.honest;
   shown = λ honest. none_over (emptied g) new.shown refl ∙ writes.shown honest ∙ sym (written_over g old.shown fits);
@@ -282,16 +285,19 @@ module _ (g : BufferedBytes) (from : ℕ) (bytes image : List ℕ) (room : IsTru
       ])
 
 -- more bytes wait: the disk is as after a write
-pub grown_tears : (g : BufferedBytes) (from : ℕ) (bytes : List ℕ) (inner : Content) → IsTrue (takes g from (length bytes)) → from + length bytes ≤ size inner → Tears from (length bytes) (content_over g inner) (content_over (grown g from bytes) inner)
+pub grown_tears : (g : BufferedBytes) (from : ℕ) (bytes : List ℕ) (inner : Content) → IsTrue (takes g from (length bytes))
+    → from + length bytes ≤ size inner → Tears from (length bytes) (content_over g inner) (content_over (grown g from bytes) inner)
 grown_tears g from bytes inner room fits = record {
   honest = refl;
   shown = λ honest. torn_grown g from bytes inner.shown room fits;
   settled = λ honest. refl;
-  pending = λ honest place. ap (λ (p : Bool). inner.pending place || p) (waits_grown g from bytes inner.shown room fits place) ∙ or_assoc (inner.pending place) (waits g place) (within from (length bytes) place);
+  pending = λ honest place. ap (λ (p : Bool). inner.pending place || p) (waits_grown g from bytes inner.shown room fits place)
+      ∙ or_assoc (inner.pending place) (waits g place) (within from (length bytes) place);
 }
 
 -- and as after one that returns Ok
-pub grown_writes : (g : BufferedBytes) (from : ℕ) (bytes : List ℕ) (inner : Content) → IsTrue (takes g from (length bytes)) → from + length bytes ≤ size inner → Writes from bytes (content_over g inner) (content_over (grown g from bytes) inner)
+pub grown_writes : (g : BufferedBytes) (from : ℕ) (bytes : List ℕ) (inner : Content) → IsTrue (takes g from (length bytes))
+    → from + length bytes ≤ size inner → Writes from bytes (content_over g inner) (content_over (grown g from bytes) inner)
 grown_writes g from bytes inner room fits = record {
   honest = refl;
   shown = λ honest. written_grown g from bytes inner.shown room fits;
@@ -300,7 +306,8 @@ grown_writes g from bytes inner room fits = record {
 -- ---- reads
 
 -- the waiting bytes laid over a part of the image give the same part of the image with the waiting bytes
-pub laid_shows : (g : BufferedBytes) (at : ℕ) (image old new : List ℕ) → LaidOver g at old new → at + length old ≤ length image → old ≡ slice_range image at (at + length old) → new ≡ slice_range (image_over g image) at (at + length old)
+pub laid_shows : (g : BufferedBytes) (at : ℕ) (image old new : List ℕ) → LaidOver g at old new → at + length old ≤ length image
+    → old ≡ slice_range image at (at + length old) → new ≡ slice_range (image_over g image) at (at + length old)
 laid_shows g at image old new laid fits is =
     let in_over : at + length old ≤ length (image_over g image) = omega (arith, length-image_over g image) in
     ext_get_or 0 _ _ (laid.size ∙ sym (omega (arith, length-between (image_over g image) at (at + length old) in_over))) (λ place inside.
@@ -315,7 +322,8 @@ laid_shows g at image old new laid fits is =
     ]))
 
 -- if all bytes of the range wait, the image does not matter
-pub laid_whole : (g : BufferedBytes) (at : ℕ) (image old new : List ℕ) → LaidOver g at old new → at + length old ≤ length image → IsTrue (holds g at (length old)) → new ≡ slice_range (image_over g image) at (at + length old)
+pub laid_whole : (g : BufferedBytes) (at : ℕ) (image old new : List ℕ) → LaidOver g at old new → at + length old ≤ length image
+    → IsTrue (holds g at (length old)) → new ≡ slice_range (image_over g image) at (at + length old)
 laid_whole g at image old new laid fits all =
     let in_over : at + length old ≤ length (image_over g image) = omega (arith, length-image_over g image) in
     ext_get_or 0 _ _ (laid.size ∙ sym (omega (arith, length-between (image_over g image) at (at + length old) in_over))) (λ place inside.
@@ -382,7 +390,8 @@ pub size_over_all : (b : Buffers) (inner : Content) → size (content_over_all b
 size_over_all b inner = size_over b.first (content_over b.second (content_over b.third inner)) ∙ size_over b.second (content_over b.third inner) ∙ size_over b.third inner
 
 -- more waiting bytes lie within the disk if the last of them does
-pub grown_places : (g : BufferedBytes) (from : ℕ) (bytes : List ℕ) (size : ℕ) → IsTrue (takes g from (length bytes)) → from + length bytes ≤ size → (grown g from bytes).at + length (grown g from bytes).bytes ≤ size
+pub grown_places : (g : BufferedBytes) (from : ℕ) (bytes : List ℕ) (size : ℕ) → IsTrue (takes g from (length bytes))
+    → from + length bytes ≤ size → (grown g from bytes).at + length (grown g from bytes).bytes ≤ size
 grown_places g from bytes size room fits =
     let before : length g.bytes ≤ from = elim (cases_lt 0 (length g.bytes)) [ inl some ↦ omega (arith, continues g from (length bytes) room some) | inr none ↦ omega arith ] in
     omega (arith, before, length-append g.bytes bytes)
@@ -390,7 +399,8 @@ grown_places g from bytes size room fits =
 -- ---- exits of a call, by the waiting bytes and their place
 
 -- the waiting bytes were written
-pub out_at : (g : BufferedBytes) (at : ℕ) (bytes : List ℕ) (old new : Content) → at ≡ g.at → bytes ≡ g.bytes → g.at + length g.bytes ≤ size old → Tears at (length bytes) old new → Writes at bytes old new → Stays (content_over g old) (content_over (emptied g) new)
+pub out_at : (g : BufferedBytes) (at : ℕ) (bytes : List ℕ) (old new : Content) → at ≡ g.at → bytes ≡ g.bytes → g.at + length g.bytes ≤ size old
+    → Tears at (length bytes) old new → Writes at bytes old new → Stays (content_over g old) (content_over (emptied g) new)
 out_at g at bytes old new same_at same_bytes fits tears writes =
     written_out g old new fits (subst (λ (n : ℕ). Tears n (length g.bytes) old new) same_at (subst (λ (l : List ℕ). Tears at (length l) old new) same_bytes tears))
     (subst (λ (n : ℕ). Writes n g.bytes old new) same_at (subst (λ (l : List ℕ). Writes at l old new) same_bytes writes))
@@ -407,6 +417,7 @@ opened_size : {F : Type 0} (content : F → Content) (len : ℕ) (disk : Buffere
 opened_size content len disk opened = size_over_all disk.buffers (random_access_content content disk.inner) ∙ opened.bytes
 
 -- if there is one
-pub opened_sizes : {E : Type 0} (len : ℕ) (answer : Result FileDisk E) → IfOk answer (λ disk. IsOpened system_content len disk.inner.inner) → IfOk answer (λ disk. size (buffered_content file_content disk.inner) ≡ len)
+pub opened_sizes : {E : Type 0} (len : ℕ) (answer : Result FileDisk E) → IfOk answer (λ disk. IsOpened system_content len disk.inner.inner)
+    → IfOk answer (λ disk. size (buffered_content file_content disk.inner) ≡ len)
 opened_sizes len (Ok disk) opened = opened_size system_content len disk.inner opened
 opened_sizes len (Err error) opened = opened

@@ -1,7 +1,8 @@
 -- The possible crash images after each call, one image at a time.
 use Rattle.std.proofs.Common.{◌≡◌, ℕ, ◌+◌, ◌-◌, ◌≤◌, ◌<◌, true, false, cond, List, ◌++◌, length, take, drop, get_or, map, slice_range, IsTrue, refl, sym, ap, ◌∙◌, subst, inl, inr, arith}
 use Rattle.std.specs.List.{range_with_len}
-use Rattle.std.proofs.lemmas.List.{ext_get_or, get_or_past, append_assoc, length-append, length-take-le, length-drop, get_or_append_left, get_or-append_right, get_or-take, get_or-drop, take_at, drop_at}
+use Rattle.std.proofs.lemmas.List.{ext_get_or, get_or_past, append_assoc, length-append, length-take-le, length-drop, get_or_append_left, get_or-append_right}
+use Rattle.std.proofs.lemmas.List.{get_or-take, get_or-drop, take_at, drop_at}
 use Rattle.std.proofs.lemmas.List.FromFn.{length-map-range_with_len, get_or-map-range_with_len}
 use Rattle.std.proofs.lemmas.List.Edits.{length-between, get_or-between}
 use Rattle.std.proofs.lemmas.Bool.{cases_lt, cases_Bool, cond-true, cond-false}
@@ -34,7 +35,13 @@ torn_slice_after at count old new torn from to above fits =
 
 -- a completed write keeps the length
 pub length-splice : (at : ℕ) (bytes image : List ℕ) → at + length bytes ≤ length image → length (splice at bytes image) ≡ length image
-length-splice at bytes image fits = omega (arith, length-append (take at image) bytes, length-append (take at image ++ bytes) (drop (at + length bytes) image), length-take-le at image (omega arith), length-drop (at + length bytes) image)
+length-splice at bytes image fits = omega (
+  arith,
+  length-append (take at image) bytes,
+  length-append (take at image ++ bytes) (drop (at + length bytes) image),
+  length-take-le at image (omega arith),
+  length-drop (at + length bytes) image,
+)
 
 -- a completed write changes its range alone
 pub torn_splice : (at : ℕ) (bytes image : List ℕ) → at + length bytes ≤ length image → Torn at (length bytes) image (splice at bytes image)
@@ -82,7 +89,8 @@ module _ (at count : ℕ) (settled image : List ℕ) (size : length image ≡ le
   undone_there : (place : ℕ) → within at count place ≡ true → get_or (undone at count settled image) place 0 ≡ get_or settled place 0
   undone_there place there =
       elim (cases_lt place (length settled)) [
-        | inl inside ↦ get_or-map-range_with_len (λ place. cond (within at count place) (get_or settled place 0) (get_or image place 0)) 0 (length settled) place place 0 inside (omega arith) ∙ cond-true _ _ _ there
+        | inl inside ↦ get_or-map-range_with_len (λ place. cond (within at count place) (get_or settled place 0) (get_or image place 0))
+            0 (length settled) place place 0 inside (omega arith) ∙ cond-true _ _ _ there
         | inr past ↦ get_or_past _ place 0 (omega (arith, length-undone)) ∙ sym (get_or_past settled place 0 past)
       ]
 
@@ -90,7 +98,8 @@ module _ (at count : ℕ) (settled image : List ℕ) (size : length image ≡ le
   undone_elsewhere : (place : ℕ) → within at count place ≡ false → get_or (undone at count settled image) place 0 ≡ get_or image place 0
   undone_elsewhere place elsewhere =
       elim (cases_lt place (length settled)) [
-        | inl inside ↦ get_or-map-range_with_len (λ place. cond (within at count place) (get_or settled place 0) (get_or image place 0)) 0 (length settled) place place 0 inside (omega arith) ∙ cond-false _ _ _ elsewhere
+        | inl inside ↦ get_or-map-range_with_len (λ place. cond (within at count place) (get_or settled place 0) (get_or image place 0))
+            0 (length settled) place place 0 inside (omega arith) ∙ cond-false _ _ _ elsewhere
         | inr past ↦ get_or_past _ place 0 (omega (arith, length-undone)) ∙ sym (get_or_past image place 0 (omega arith))
       ]
 
@@ -113,7 +122,8 @@ pub left_after_sync : {old new : Content} → Settles old new → IsTrue old.hon
 left_after_sync settles honest image left = left_at_rest settles.rests (settles.honest ∙ honest) image left ∙ settles.shown honest
 
 -- after a write, Ok or Err, each image is one that was possible before, torn in the range
-pub left_after_write : {at count : ℕ} {old new : Content} → Tears at count old new → IsTrue old.honest → (image : List ℕ) → Left new image → (before : List ℕ) × Left old before × Torn at count before image
+pub left_after_write : {at count : ℕ} {old new : Content} → Tears at count old new → IsTrue old.honest → (image : List ℕ) → Left new image
+    → (before : List ℕ) × Left old before × Torn at count before image
 left_after_write {at} {count} {old} {new} tears honest image left =
     let size : length image ≡ length old.settled = left.size ∙ ap length (tears.settled honest) in
     let was = undone at count old.settled image in (
@@ -137,7 +147,8 @@ left_after_write {at} {count} {old} {new} tears honest image left =
 -- ---- from call to call
 
 -- a write, Ok or Err: each image keeps what no bytes in its range can break
-pub write_leaves : {at count : ℕ} {old new : Content} {P Q : List ℕ → Type 0} → Tears at count old new → LeavesOnly old P → ((before after : List ℕ) → P before → Torn at count before after → Q after) → LeavesOnly new Q
+pub write_leaves : {at count : ℕ} {old new : Content} {P Q : List ℕ → Type 0} → Tears at count old new → LeavesOnly old P
+    → ((before after : List ℕ) → P before → Torn at count before after → Q after) → LeavesOnly new Q
 write_leaves tears leaves step = record {
   each = λ honest image left.
       let was : IsTrue _ = sym tears.honest ∙ honest in
@@ -146,7 +157,8 @@ write_leaves tears leaves step = record {
 }
 
 -- a write, Ok: what is shown has the property that the bytes bring about
-pub write_shows : {at : ℕ} {bytes : List ℕ} {old new : Content} {P Q : List ℕ → Type 0} → Writes at bytes old new → Shows old P → ((before : List ℕ) → P before → Q (splice at bytes before)) → Shows new Q
+pub write_shows : {at : ℕ} {bytes : List ℕ} {old new : Content} {P Q : List ℕ → Type 0} → Writes at bytes old new → Shows old P
+    → ((before : List ℕ) → P before → Q (splice at bytes before)) → Shows new Q
 write_shows {Q = Q} writes shows step = record {
   holds = λ honest.
       let was : IsTrue _ = sym writes.honest ∙ honest in
@@ -199,7 +211,8 @@ failed_sync_shows {P = P} stays shows = record {
 }
 
 -- a failed write may change what is shown, in its range
-pub failed_write_shows : {at count : ℕ} {old new : Content} {P Q : List ℕ → Type 0} → Tears at count old new → Shows old P → ((before after : List ℕ) → P before → Torn at count before after → Q after) → Shows new Q
+pub failed_write_shows : {at count : ℕ} {old new : Content} {P Q : List ℕ → Type 0} → Tears at count old new → Shows old P
+    → ((before after : List ℕ) → P before → Torn at count before after → Q after) → Shows new Q
 failed_write_shows tears shows step = record {
   holds = λ honest.
       let was : IsTrue _ = sym tears.honest ∙ honest in
@@ -312,7 +325,8 @@ within_wider from long low high changes = record {
 }
 
 -- each image keeps what no bytes in the range can break
-pub within_leaves : {at count : ℕ} {old new : Content} {P Q : List ℕ → Type 0} → ChangesWithin at count old new → LeavesOnly old P → ((before after : List ℕ) → P before → Torn at count before after → Q after) → LeavesOnly new Q
+pub within_leaves : {at count : ℕ} {old new : Content} {P Q : List ℕ → Type 0} → ChangesWithin at count old new → LeavesOnly old P
+    → ((before after : List ℕ) → P before → Torn at count before after → Q after) → LeavesOnly new Q
 within_leaves changes leaves step = record {
   each = λ honest image left.
       let was : IsTrue _ = sym changes.honest ∙ honest in
@@ -321,7 +335,8 @@ within_leaves changes leaves step = record {
 }
 
 -- what is shown keeps it too
-pub within_shows : {at count : ℕ} {old new : Content} {P Q : List ℕ → Type 0} → ChangesWithin at count old new → Shows old P → ((before after : List ℕ) → P before → Torn at count before after → Q after) → Shows new Q
+pub within_shows : {at count : ℕ} {old new : Content} {P Q : List ℕ → Type 0} → ChangesWithin at count old new → Shows old P
+    → ((before after : List ℕ) → P before → Torn at count before after → Q after) → Shows new Q
 within_shows changes shows step = record {
   holds = λ honest.
       let was : IsTrue _ = sym changes.honest ∙ honest in

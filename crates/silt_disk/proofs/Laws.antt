@@ -1,7 +1,9 @@
 -- The laws of disks that a crate above cites. Their variables are written out, so that a search finds them by name.
 use Rattle.std.proofs.Common.{◌≡◌, ℕ, ◌+◌, ◌≤◌, List, length, slice_range, IsTrue, sym, ◌∙◌, arith}
 use Rattle.silt_disk.specs.Disk.{Content, Torn, Left, LeavesOnly, Shows, Tears, Writes, Settles, Stays, Rests, Restarts, ChangesWithin, size, splice}
-use Rattle.silt_disk.proofs.Images.{torn_slice_before, torn_slice_after, left_at_rest, rests_leaves, write_shows, restart_shows, restart_leaves, weaker_leaves, weaker_shows, shown_left, within_refl, within_trans, within_wider, within_leaves, within_shows, write_within, sync_within, failed_sync_within, both_leaves, sized_leaves}
+use Rattle.silt_disk.proofs.Images.{torn_slice_before, torn_slice_after, left_at_rest, rests_leaves, write_shows, restart_shows, restart_leaves, weaker_leaves}
+use Rattle.silt_disk.proofs.Images.{weaker_shows, shown_left, within_refl, within_trans, within_wider, within_leaves, within_shows, write_within, sync_within}
+use Rattle.silt_disk.proofs.Images.{failed_sync_within, both_leaves, sized_leaves}
 
 -- ---- the possible crash images
 
@@ -70,36 +72,43 @@ pub changes_twice : (at count : ℕ) (a b c : Content) → ChangesWithin at coun
 changes_twice at count a b c first second = within_trans first second
 
 -- one after the other, each in its own part of one range
-pub changes_joined : (at count at' count' from long : ℕ) (a b c : Content) → ChangesWithin at count a b → ChangesWithin at' count' b c → from ≤ at → at + count ≤ from + long → from ≤ at' → at' + count' ≤ from + long → ChangesWithin from long a c
+pub changes_joined : (at count at' count' from long : ℕ) (a b c : Content) → ChangesWithin at count a b → ChangesWithin at' count' b c
+    → from ≤ at → at + count ≤ from + long → from ≤ at' → at' + count' ≤ from + long → ChangesWithin from long a c
 changes_joined at count at' count' from long a b c first second low high low' high' =
     within_trans (within_wider from long low high first) (within_wider from long low' high' second)
 
 -- each image keeps what no bytes in the range can break, and so does what is shown
-pub changes_leave : (at count : ℕ) (old new : Content) (P Q : List ℕ → Type 0) → ChangesWithin at count old new → LeavesOnly old P → ((before after : List ℕ) → P before → Torn at count before after → Q after) → LeavesOnly new Q
+pub changes_leave : (at count : ℕ) (old new : Content) (P Q : List ℕ → Type 0) → ChangesWithin at count old new → LeavesOnly old P
+    → ((before after : List ℕ) → P before → Torn at count before after → Q after) → LeavesOnly new Q
 changes_leave at count old new P Q changes leaves step = within_leaves changes leaves step
 
 -- what is shown keeps it too
-pub changes_show : (at count : ℕ) (old new : Content) (P Q : List ℕ → Type 0) → ChangesWithin at count old new → Shows old P → ((before after : List ℕ) → P before → Torn at count before after → Q after) → Shows new Q
+pub changes_show : (at count : ℕ) (old new : Content) (P Q : List ℕ → Type 0) → ChangesWithin at count old new → Shows old P
+    → ((before after : List ℕ) → P before → Torn at count before after → Q after) → Shows new Q
 changes_show at count old new P Q changes shows step = within_shows changes shows step
 
 -- a part that ends before the range stays the same in each image
-pub part_before_stays : (at count from to : ℕ) (bytes : List ℕ) (old new : Content) → ChangesWithin at count old new → LeavesOnly old (λ image. slice_range image from to ≡ bytes) → to ≤ at → to ≤ size old → LeavesOnly new (λ image. slice_range image from to ≡ bytes)
+pub part_before_stays : (at count from to : ℕ) (bytes : List ℕ) (old new : Content) → ChangesWithin at count old new
+    → LeavesOnly old (λ image. slice_range image from to ≡ bytes) → to ≤ at → to ≤ size old → LeavesOnly new (λ image. slice_range image from to ≡ bytes)
 part_before_stays at count from to bytes old new changes leaves below fits =
     within_leaves changes (sized_leaves leaves) (λ before after had torn. torn_slice_before at count before after torn from to below (omega (arith, had.0)) ∙ had.1)
 
 -- so does a part that begins after it
-pub part_after_stays : (at count from to : ℕ) (bytes : List ℕ) (old new : Content) → ChangesWithin at count old new → LeavesOnly old (λ image. slice_range image from to ≡ bytes) → at + count ≤ from → to ≤ size old → LeavesOnly new (λ image. slice_range image from to ≡ bytes)
+pub part_after_stays : (at count from to : ℕ) (bytes : List ℕ) (old new : Content) → ChangesWithin at count old new
+    → LeavesOnly old (λ image. slice_range image from to ≡ bytes) → at + count ≤ from → to ≤ size old → LeavesOnly new (λ image. slice_range image from to ≡ bytes)
 part_after_stays at count from to bytes old new changes leaves above fits =
     within_leaves changes (sized_leaves leaves) (λ before after had torn. torn_slice_after at count before after torn from to above (omega (arith, had.0)) ∙ had.1)
 
 -- ---- after a write that returned Ok, and its sync
 
 -- each image has what the write makes of the shown bytes
-pub written_leaves : (at : ℕ) (bytes : List ℕ) (old new : Content) (P Q : List ℕ → Type 0) → Writes at bytes old new → Rests new → Shows old P → ((before : List ℕ) → P before → Q (splice at bytes before)) → LeavesOnly new Q
+pub written_leaves : (at : ℕ) (bytes : List ℕ) (old new : Content) (P Q : List ℕ → Type 0) → Writes at bytes old new → Rests new
+    → Shows old P → ((before : List ℕ) → P before → Q (splice at bytes before)) → LeavesOnly new Q
 written_leaves at bytes old new P Q writes rests shows step = rests_leaves rests (write_shows writes shows step)
 
 -- what is shown has it, settled or not
-pub written_shows : (at : ℕ) (bytes : List ℕ) (old new : Content) (P Q : List ℕ → Type 0) → Writes at bytes old new → Shows old P → ((before : List ℕ) → P before → Q (splice at bytes before)) → Shows new Q
+pub written_shows : (at : ℕ) (bytes : List ℕ) (old new : Content) (P Q : List ℕ → Type 0) → Writes at bytes old new → Shows old P
+    → ((before : List ℕ) → P before → Q (splice at bytes before)) → Shows new Q
 written_shows at bytes old new P Q writes shows step = write_shows writes shows step
 
 -- ---- after a crash

@@ -21,7 +21,8 @@ abbrev pub with_entry : List (Key × List ℕ) → Key → List ℕ → List (Ke
 with_entry entries key value = entries ++ (key, value) ∷ []
 
 -- a key above the last one is not among them
-none_found : (last : Option Key) (entries : List (Key × List ℕ)) → AllByRecursion (λ (key : Key). IsAbove last key → ⊥) (keys_of entries) → (q : Key) → IsAbove last q → lookup (tree.is_at (key_cmp q)) entries ≡ None
+none_found : (last : Option Key) (entries : List (Key × List ℕ)) → AllByRecursion (λ (key : Key). IsAbove last key → ⊥) (keys_of entries)
+    → (q : Key) → IsAbove last q → lookup (tree.is_at (key_cmp q)) entries ≡ None
 none_found last [] all q above = refl
 none_found last (e ∷ es) all q above = go (key_cmp q e.0) refl (none_found last es all.1 q above)
   where
@@ -34,11 +35,13 @@ none_found last (e ∷ es) all q above = go (key_cmp q e.0) refl (none_found las
     go Greater is behind = rest (ap is_eq is) behind
 
 -- what a list with one more entry has
-found_more : (entries : List (Key × List ℕ)) (key : Key) (value : List ℕ) (q : Key) → is_eq (key_cmp q key) ≡ false → lookup (tree.is_at (key_cmp q)) (entries ++ (key, value) ∷ []) ≡ lookup (tree.is_at (key_cmp q)) entries
+found_more : (entries : List (Key × List ℕ)) (key : Key) (value : List ℕ) (q : Key) → is_eq (key_cmp q key) ≡ false
+    → lookup (tree.is_at (key_cmp q)) (entries ++ (key, value) ∷ []) ≡ lookup (tree.is_at (key_cmp q)) entries
 found_more [] key value q other = ap (λ (b : Bool). cond b (Some value) None) other
 found_more (e ∷ es) key value q other = ap (λ (found : Option (List ℕ)). cond (is_eq (key_cmp q e.0)) (Some e.1) found) (found_more es key value q other)
 
-found_last : (last : Option Key) (entries : List (Key × List ℕ)) (key : Key) (value : List ℕ) (q : Key) → AllByRecursion (λ (k : Key). IsAbove last k → ⊥) (keys_of entries) → IsAbove last q → is_eq (key_cmp q key) ≡ true
+found_last : (last : Option Key) (entries : List (Key × List ℕ)) (key : Key) (value : List ℕ) (q : Key)
+    → AllByRecursion (λ (k : Key). IsAbove last k → ⊥) (keys_of entries) → IsAbove last q → is_eq (key_cmp q key) ≡ true
     → lookup (tree.is_at (key_cmp q)) (entries ++ (key, value) ∷ []) ≡ Some value
 found_last last [] key value q all above same = ap (λ (b : Bool). cond b (Some value) None) same
 found_last last (e ∷ es) key value q all above same = go (key_cmp q e.0) refl (found_last last es key value q all.1 above same)
@@ -66,7 +69,8 @@ all_more : (P : Key → Type 0) (entries : List (Key × List ℕ)) (key : Key) (
 all_more P [] key value all holds = (holds, tt)
 all_more P (e ∷ es) key value all holds = (all.0, all_more P es key value all.1 holds)
 
-sorted_more : (last : Option Key) (entries : List (Key × List ℕ)) (key : Key) (value : List ℕ) → IsStrictlySortedBy key_cmp (keys_of entries) → AllByRecursion (λ (k : Key). IsAbove last k → ⊥) (keys_of entries) → IsAbove last key
+sorted_more : (last : Option Key) (entries : List (Key × List ℕ)) (key : Key) (value : List ℕ) → IsStrictlySortedBy key_cmp (keys_of entries)
+    → AllByRecursion (λ (k : Key). IsAbove last k → ⊥) (keys_of entries) → IsAbove last key
     → IsStrictlySortedBy key_cmp (keys_of (entries ++ (key, value) ∷ []))
 unfolding IsStrictlySortedBy
 sorted_more last [] key value sorted all above = (tt, tt)
@@ -74,7 +78,8 @@ sorted_more last (e ∷ es) key value sorted all above =
     (all_more (λ (k : Key). key_cmp e.0 k ≡ Less) es key value sorted.0 (below_next last e.0 key all.0 above), sorted_more last es key value sorted.1 all.1 above)
 
 -- a key that is above a new last one was above the old one, so none that was not is
-all_weaker : (last : Option Key) (key : Key) (entries : List (Key × List ℕ)) → IsAbove last key → AllByRecursion (λ (k : Key). IsAbove last k → ⊥) (keys_of entries) → AllByRecursion (λ (k : Key). IsBelow key k → ⊥) (keys_of entries)
+all_weaker : (last : Option Key) (key : Key) (entries : List (Key × List ℕ)) → IsAbove last key
+    → AllByRecursion (λ (k : Key). IsAbove last k → ⊥) (keys_of entries) → AllByRecursion (λ (k : Key). IsBelow key k → ⊥) (keys_of entries)
 all_weaker last key [] above all = tt
 all_weaker last key (e ∷ es) above all = ((λ below. all.0 (above_trans last key e.0 above below)), all_weaker last key es above all.1)
 
@@ -93,7 +98,8 @@ module _ (last : Option Key) (entries : List (Key × List ℕ)) (ordered : AreOr
   }
 
   -- with the next one
-  pub first_more : (m : Map) (key : Key) (value : List ℕ) → IsAbove last key → AreFirstEntries m last entries → IsNextEntry m last (Some key) value → AreFirstEntries m (Some key) (with_entry entries key value)
+  pub first_more : (m : Map) (key : Key) (value : List ℕ) → IsAbove last key → AreFirstEntries m last entries → IsNextEntry m last (Some key) value
+      → AreFirstEntries m (Some key) (with_entry entries key value)
   first_more m key value above first next = record { ordered = ordered_more key value above; same = same }
     where
       lower : (q : Key) → IsBelow q key → IsAbove last q ⊎ (IsAbove last q → ⊥) → lookup (tree.is_at (key_cmp q)) entries ≡ get m q.0

@@ -1,5 +1,6 @@
 -- Rows noted at their spots.
-use Rattle.std.proofs.Common.{◌≡◌, ◌<◌, ◌≤◌, ℕ, ◌+◌, ◌*◌, ◌==◌, Bool, IsTrue, cond, if◌then◌else◌, true, false, List, [], ◌∷◌, ◌++◌, length, filter, map, take, drop, get_or, Some, None, refl, ap, sym, ◌∙◌, subst, arith, append_assoc}
+use Rattle.std.proofs.Common.{◌≡◌, ◌<◌, ◌≤◌, ℕ, ◌+◌, ◌*◌, ◌==◌, Bool, IsTrue, cond, if◌then◌else◌, true, false, List, [], ◌∷◌, ◌++◌, length, filter, map, take}
+use Rattle.std.proofs.Common.{drop, get_or, Some, None, refl, ap, sym, ◌∙◌, subst, arith, append_assoc}
 use Rattle.std.specs.Ordering.{is_eq}
 use Rattle.std.specs.Str.{bytes_eq}
 use Rattle.std.specs.BTreeMap.{BTreeMap}
@@ -57,11 +58,13 @@ module _ (content : Content) (s : EngineState) where
       ∙ go (bytes_eq key.0 q.0) refl
       ∙ ap (value_over content s (get behind q.0)) (ap (λ (b : Bool). cond b (Some spot) (tree.get key_cmp old q)) (sym (is_eq-slice_cmp key.0 q.0)) ∙ sym (updates.0 q))
     where
-      go : (b : Bool) → bytes_eq key.0 q.0 ≡ b → cond (bytes_eq key.0 q.0) (value_given row) (get above q.0) ≡ value_over content s (get behind q.0) (cond (bytes_eq key.0 q.0) (Some spot) (tree.get key_cmp old q))
+      go : (b : Bool) → bytes_eq key.0 q.0 ≡ b → cond (bytes_eq key.0 q.0) (value_given row) (get above q.0) ≡ value_over content
+          s (get behind q.0) (cond (bytes_eq key.0 q.0) (Some spot) (tree.get key_cmp old q))
       go true is = rw is (sym value_is)
       go false is = rw is (over q)
 
-  pub notes_row : (row : StoredRow) (key : Key) (spot : Spot) (old new : BTreeMap Key Spot) → IsSpotOf s spot → (IsTrue content.honest → row.key ≡ key.0) → (IsTrue content.honest → spot_value content s spot ≡ value_given row)
+  pub notes_row : (row : StoredRow) (key : Key) (spot : Spot) (old new : BTreeMap Key Spot) → IsSpotOf s spot
+      → (IsTrue content.honest → row.key ≡ key.0) → (IsTrue content.honest → spot_value content s spot ≡ value_given row)
       → tree.Updates key_cmp old new key (Some spot) → NotesRows content s (row ∷ []) old new
   notes_row row key spot old new is key_is value_is updates = record {
     spots = spots_more key spot old new is updates;
@@ -82,10 +85,12 @@ module _ (content : Content) (s : EngineState) where
   }
 
   -- one more row of some was noted
-  pub notes_next : (rows : List StoredRow) (n : ℕ) (row : StoredRow) (a b c : BTreeMap Key Spot) → n < length rows → get_or rows n row ≡ row → NotesRows content s (take n rows) a b → NotesRows content s (row ∷ []) b c
+  pub notes_next : (rows : List StoredRow) (n : ℕ) (row : StoredRow) (a b c : BTreeMap Key Spot) → n < length rows → get_or rows n row ≡ row
+      → NotesRows content s (take n rows) a b → NotesRows content s (row ∷ []) b c
       → NotesRows content s (take (n + 1) rows) a c
   notes_next rows n row a b c inside is first second =
-      subst (λ (l : List StoredRow). NotesRows content s l a c) (sym (take_more rows n row inside ∙ ap (λ (r : StoredRow). take n rows ++ r ∷ []) is)) (notes_more (take n rows) (row ∷ []) a b c first second)
+      subst (λ (l : List StoredRow). NotesRows content s l a c) (sym (take_more rows n row inside ∙ ap (λ (r : StoredRow). take n rows ++ r ∷ []) is))
+      (notes_more (take n rows) (row ∷ []) a b c first second)
 
   -- all of some rows were noted
   pub notes_whole : (rows : List StoredRow) (n : ℕ) (a b : BTreeMap Key Spot) → length rows ≡ n → NotesRows content s (take n rows) a b → NotesRows content s rows a b
@@ -99,7 +104,8 @@ module _ (content : Content) (s : EngineState) where
       subst (λ l. NotesRows content s (oldest_first (map rows_of l)) a c) (sym split) (notes_more (oldest_first (map rows_of (drop k stores))) (rows_of store) a b c first second)
 
   -- at first no store's rows were noted
-  pub notes_from_start : {X : Type 0} (rows_of : X → List StoredRow) (stores : List X) (n : ℕ) (spots : BTreeMap Key Spot) → length stores ≤ n → NotesRows content s (oldest_first (map rows_of (drop n stores))) spots spots
+  pub notes_from_start : {X : Type 0} (rows_of : X → List StoredRow) (stores : List X) (n : ℕ) (spots : BTreeMap Key Spot)
+      → length stores ≤ n → NotesRows content s (oldest_first (map rows_of (drop n stores))) spots spots
   notes_from_start rows_of stores n spots most = subst (λ l. NotesRows content s (oldest_first (map rows_of l)) spots spots) (sym (drop_all n stores most)) (notes_none spots)
 
   -- at the end those of all stores were
@@ -151,7 +157,8 @@ module _ (content : Content) (s : EngineState) where
   }
 
   -- a row of a known kind was noted
-  pub notes_kept : (row : StoredRow) (key : Key) (spot : Spot) (old new : BTreeMap Key Spot) → IsSpotOf s spot → (IsTrue content.honest → has_known_kind row ≡ true) → (IsTrue content.honest → row.key ≡ key.0)
+  pub notes_kept : (row : StoredRow) (key : Key) (spot : Spot) (old new : BTreeMap Key Spot) → IsSpotOf s spot
+      → (IsTrue content.honest → has_known_kind row ≡ true) → (IsTrue content.honest → row.key ≡ key.0)
       → (IsTrue content.honest → spot_value content s spot ≡ value_given row) → tree.Updates key_cmp old new key (Some spot) → NotesRows content s (filter has_known_kind (row ∷ [])) old new
   notes_kept row key spot old new is known key_is value_is updates = record {
     spots = spots_more key spot old new is updates;
@@ -181,22 +188,27 @@ module _ (content : Content) (s : EngineState) where
     notes_no_slot spots = notes_none spots
 
     -- one slot more was noted
-    pub notes_slot : (slot : ℕ) (a b c : BTreeMap Key Spot) → NotesRows content s (filter has_known_kind (rows_before shape region image slot)) a b → NotesRows content s (filter has_known_kind (slot_row shape region image slot ∷ [])) b c
+    pub notes_slot : (slot : ℕ) (a b c : BTreeMap Key Spot) → NotesRows content s (filter has_known_kind (rows_before shape region image slot)) a b
+        → NotesRows content s (filter has_known_kind (slot_row shape region image slot ∷ [])) b c
         → NotesRows content s (filter has_known_kind (rows_before shape region image (slot + 1))) a c
     notes_slot slot a b c first second =
-        let split : filter has_known_kind (rows_before shape region image (slot + 1)) ≡ filter has_known_kind (rows_before shape region image slot) ++ filter has_known_kind (slot_row shape region image slot ∷ []) =
+        let split : filter has_known_kind (rows_before shape region image (slot + 1)) ≡ filter has_known_kind (rows_before shape region image slot)
+        ++ filter has_known_kind (slot_row shape region image slot ∷ []) =
         ap (filter has_known_kind) (before_more shape region image slot) ∙ filter-append has_known_kind (rows_before shape region image slot) (slot_row shape region image slot ∷ []) in
-        subst (λ (l : List StoredRow). NotesRows content s l a c) (sym split) (notes_more (filter has_known_kind (rows_before shape region image slot)) (filter has_known_kind (slot_row shape region image slot ∷ [])) a b c first second)
+        subst (λ (l : List StoredRow). NotesRows content s l a c) (sym split)
+        (notes_more (filter has_known_kind (rows_before shape region image slot)) (filter has_known_kind (slot_row shape region image slot ∷ [])) a b c first second)
 
     -- all slots were noted
-    pub notes_slots : (count : ℕ) (a b : BTreeMap Key Spot) → count ≡ 4 * shape.buckets → NotesRows content s (filter has_known_kind (rows_before shape region image count)) a b → NotesRows content s (filter has_known_kind (hash_rows shape region image)) a b
+    pub notes_slots : (count : ℕ) (a b : BTreeMap Key Spot) → count ≡ 4 * shape.buckets
+        → NotesRows content s (filter has_known_kind (rows_before shape region image count)) a b → NotesRows content s (filter has_known_kind (hash_rows shape region image)) a b
     notes_slots count a b all does =
         subst (λ (l : List StoredRow). NotesRows content s (filter has_known_kind l) a b) (ap (rows_before shape region image) all ∙ sym (all_before shape region image)) does
 
   -- ---- all rows
 
   -- from no spots: over the entries of the sorted store they give the map
-  pub notes_all : (first last : BTreeMap Key Spot) → ShowsStores content s → IsTrue content.honest → tree.IsEmpty first → NotesRows content s (hashed_rows content s ++ logged_rows content s) first last
+  pub notes_all : (first last : BTreeMap Key Spot) → ShowsStores content s → IsTrue content.honest → tree.IsEmpty first
+      → NotesRows content s (hashed_rows content s ++ logged_rows content s) first last
       → Overlays content s (current_map content s) (map_of_rows (entries_of content s.sorted)) last
   notes_all first last shows honest none notes =
       let entries : List StoredRow = entries_of content s.sorted in
@@ -204,7 +216,8 @@ module _ (content : Content) (s : EngineState) where
       let logs : List StoredRow = oldest_first (map (rows_in content) s.frozen) in
       let newest : List StoredRow = all_rows content s.active.log in
       let whole : map_of_rows (entries ++ rows) ≡ current_map content s =
-      ap map_of_rows (sym (append_assoc entries (hashed_rows content s) (logs ++ newest)) ∙ sym (append_assoc (entries ++ hashed_rows content s) logs newest)) ∙ sym (current_is content s shows honest) in
+      ap map_of_rows (sym (append_assoc entries (hashed_rows content s) (logs ++ newest)) ∙ sym (append_assoc (entries ++ hashed_rows content s) logs newest))
+      ∙ sym (current_is content s shows honest) in
       subst (λ (m : Map). Overlays content s m (map_of_rows entries) last) (sym (map_law entries rows) ∙ whole)
       (notes.notes honest (map_of_rows entries) (map_of_rows entries)
       (λ key. ap (value_over content s (get (map_of_rows entries) key.0)) (sym (ap (lookup (tree.is_at (key_cmp key))) none))))

@@ -1,5 +1,6 @@
 -- A stream passes a key.
-use Rattle.std.proofs.Common.{◌≡◌, ◌≢◌, ◌<◌, ◌≤◌, ◌+◌, ◌-◌, ◌⊎◌, ◌↔◌, ℕ, Bool, true, false, cond, IsTrue, IsSome, IfSome, List, drop, nat_lt, Option, Some, None, inl, inr, vec_len, refl, ap, sym, ◌∙◌, subst, arith}
+use Rattle.std.proofs.Common.{◌≡◌, ◌≢◌, ◌<◌, ◌≤◌, ◌+◌, ◌-◌, ◌⊎◌, ◌↔◌, ℕ, Bool, true, false, cond, IsTrue, IsSome, IfSome, List, drop, nat_lt, Option, Some}
+use Rattle.std.proofs.Common.{None, inl, inr, vec_len, refl, ap, sym, ◌∙◌, subst, arith}
 use Rattle.std.specs.Option.{is_some}
 use Rattle.std.specs.Ordering.{is_eq, is_gt, nat_cmp}
 use Rattle.std.specs.Cmp.Lexicographic.{slice_cmp}
@@ -59,7 +60,8 @@ is_entry content old entries piece entry same streams at none there holds key = 
     held honest = subst (λ (e : SortedState). HoldsPiece content e old.piece) (sym same) (streams.leaves honest).piece
 
 -- a stream on a disk that obeys the crash model can go on
-pub can_go_on : (content : Content) (old : EntryStream) (entries : SortedState) → entries ≡ (stores_of old).sorted → Streams content old → IsTrue content.honest → CanGoOn content entries old.piece old.place old.last
+pub can_go_on : (content : Content) (old : EntryStream) (entries : SortedState) → entries ≡ (stores_of old).sorted → Streams content old
+    → IsTrue content.honest → CanGoOn content entries old.piece old.place old.last
 can_go_on content old entries same streams honest =
     subst (λ (e : SortedState). CanGoOn content e old.piece old.place old.last) (sym same)
     (record { honest = honest; holds = (streams.leaves honest).piece; above = (streams.leaves honest).left old.place (omega arith) })
@@ -84,11 +86,13 @@ below_same a b other same below = subst (λ (bytes : List ℕ). slice_cmp nat_cm
 
 module _ (content : Content) (old : EntryStream) (streams : Streams content old) (piece : Piece) where
   -- an entry at the stream's place or behind it has no key below the one at the place
-  not_lower : IsTrue content.honest → (place : ℕ) → old.place ≤ place → place < (stores_of old).sorted.count → IsBelow (key_at (sorted_of content old) place) (key_at (sorted_of content old) old.place) → ⊥
+  not_lower : IsTrue content.honest → (place : ℕ) → old.place ≤ place → place < (stores_of old).sorted.count
+      → IsBelow (key_at (sorted_of content old) place) (key_at (sorted_of content old) old.place) → ⊥
   not_lower honest place from inside below = go (nat_lt old.place place) refl
     where
       go : (b : Bool) → nat_lt old.place place ≡ b → ⊥
-      go true less = not_both (key_at (sorted_of content old) old.place) (key_at (sorted_of content old) place) (rises content (stores_of old) streams.holds honest old.place place (ltb-true old.place place less) inside) below
+      go true less = not_both (key_at (sorted_of content old) old.place) (key_at (sorted_of content old) place)
+          (rises content (stores_of old) streams.holds honest old.place place (ltb-true old.place place less) inside) below
       go false same =
           let here : old.place ≡ place = omega (arith, ltb-false old.place place same, from) in
           not_itself (key_at (sorted_of content old) place) (subst (λ (n : ℕ). IsBelow (key_at (sorted_of content old) place) (key_at (sorted_of content old) n)) here below)
@@ -179,7 +183,8 @@ module _ (content : Content) (old : EntryStream) (streams : Streams content old)
     row_value : IsTrue content.honest → get (image_map content.shown) key.0 ≡ spot_value content (stores_of old) spot
     row_value honest = (streams.leaves honest).values key spot_above ∙ ap (value_over content (stores_of old) (get (map_of_rows (sorted_of content old)) key.0)) out.there
 
-    pub row_next : IsTrue content.honest → (found : Bool) (value : List ℕ) → (found ≡ true → spot_value content (stores_of old) spot ≡ Some value) → (found ≡ false → spot_value content (stores_of old) spot ≡ None)
+    pub row_next : IsTrue content.honest → (found : Bool) (value : List ℕ) → (found ≡ true → spot_value content (stores_of old) spot ≡ Some value)
+        → (found ≡ false → spot_value content (stores_of old) spot ≡ None)
         → HasNext (image_map content.shown) old.last (Some (key, found)) value
     row_next honest true value has lacks = (row_between honest, row_value honest ∙ has refl)
     row_next honest false value has lacks = (row_between honest, row_value honest ∙ lacks refl)
@@ -240,7 +245,8 @@ module _ (content : Content) (old : EntryStream) (streams : Streams content old)
                   let most : old.place + 1 ≤ place = subst (λ (b : Bool). old.place + cond b 1 0 ≤ place) its from in
                   omega (arith, most, here)
 
-          go : IsBelow key (key_at (sorted_of content old) place) ⊎ ((key.0 ≡ (key_at (sorted_of content old) place).0) ⊎ IsBelow (key_at (sorted_of content old) place) key) → IsBelow key (key_at (sorted_of content old) place)
+          go : IsBelow key (key_at (sorted_of content old) place)
+              ⊎ ((key.0 ≡ (key_at (sorted_of content old) place).0) ⊎ IsBelow (key_at (sorted_of content old) place) key) → IsBelow key (key_at (sorted_of content old) place)
           go (inl below) = below
           go (inr (inl same)) = absurd (equal entry refl same out.first)
           go (inr (inr above)) = absurd (lower entry refl above out.first)
@@ -256,7 +262,8 @@ module _ (content : Content) (old : EntryStream) (streams : Streams content old)
         left = row_left honest;
       }
 
-      row_streams : (new : EntryStream) → vec_len new.row ≡ vec_len old.row → Streams content (record old { spots = spots; piece = piece; place = old.place + cond is_entry 1 0; row = new.row; last = Some key })
+      row_streams : (new : EntryStream) → vec_len new.row ≡ vec_len old.row
+          → Streams content (record old { spots = spots; piece = piece; place = old.place + cond is_entry 1 0; row = new.row; last = Some key })
       row_streams new long = record {
         holds = streams.holds;
         spots = left_spots;
@@ -293,7 +300,8 @@ module _ (content : Content) (old : EntryStream) (streams : Streams content old)
         ∙ its_value content (stores_of old) streams.holds honest old.place (bytes_at (entry_len (stores_of old).sorted.shape) piece old.place)
         (subst (λ (n : ℕ). HasEntry (sorted_of content old) n (bytes_at (entry_len (stores_of old).sorted.shape) piece old.place)) here (is.holds honest (old.place - piece.first) within))
 
-    pub entry_next : IsTrue content.honest → (value : List ℕ) → value ≡ drop 20 (bytes_at (entry_len (stores_of old).sorted.shape) piece old.place) → HasNext (image_map content.shown) old.last (Some (key, true)) value
+    pub entry_next : IsTrue content.honest → (value : List ℕ) → value ≡ drop 20 (bytes_at (entry_len (stores_of old).sorted.shape) piece old.place)
+        → HasNext (image_map content.shown) old.last (Some (key, true)) value
     entry_next honest value is_value = (
       λ q above below. none_at honest (Some key) is q above below (entry_none q (λ other. not_both q key below other)),
       entry_value honest ∙ ap Some (sym is_value),

@@ -20,7 +20,8 @@ pub record HasSkipped (content : Content) (old new : EntryStream) (len : ℕ) : 
 
 module _ (content : Content) (old mid : EntryStream) (long : ℕ) (skipped : HasSkipped content old mid long) where
   -- one more with no value
-  pub skips_more : (new : EntryStream) (key : Key) (value : List ℕ) → PassesTo content mid new key → (IsTrue content.honest → HasNext (image_map content.shown) mid.last (Some (key, false)) value) → HasSkipped content old new long
+  pub skips_more : (new : EntryStream) (key : Key) (value : List ℕ) → PassesTo content mid new key
+      → (IsTrue content.honest → HasNext (image_map content.shown) mid.last (Some (key, false)) value) → HasSkipped content old new long
   skips_more new key value passes next = record {
     streams = passes.streams;
     same = passes.same ∙ skipped.same;
@@ -49,7 +50,8 @@ module _ (content : Content) (old mid : EntryStream) (long : ℕ) (skipped : Has
     same = passes.same ∙ skipped.same;
   }
 
-  pub next_entry : IsTrue content.honest → (key : Key) (value : List ℕ) → HasNext (image_map content.shown) mid.last (Some (key, true)) value → IsNextEntry (image_map content.shown) old.last (Some key) value
+  pub next_entry : IsTrue content.honest → (key : Key) (value : List ℕ) → HasNext (image_map content.shown) mid.last (Some (key, true)) value
+      → IsNextEntry (image_map content.shown) old.last (Some key) value
   next_entry honest key value next = (λ q above below. go q above below (above_or mid.last q), next.1)
     where
       go : (q : Key) → IsAbove old.last q → IsBelow q key → IsAbove mid.last q ⊎ (IsAbove mid.last q → ⊥) → get (image_map content.shown) q.0 ≡ None

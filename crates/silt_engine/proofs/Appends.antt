@@ -101,7 +101,9 @@ module _ (old new : Content) (s : EngineState) (after : LogStoreState) (more : L
       rest = ap (map command_of) (waits h) ∙ map-append command_of (waiting_rows old s.active.log) more;
       base =
           base_is new (with_active s after charge)
-          ∙ ap (λ (t : Stores). map_of_rows (rows_of t)) (shown_are new (with_active s after charge) (shown_stores old s) (named_shape s.manifest.shape s.manifest.current old.shown) (named_body s.manifest.shape s.manifest.current old.shown) named (there h))
+          ∙ ap (λ (t : Stores). map_of_rows (rows_of t))
+          (shown_are new (with_active s after charge) (shown_stores old s) (named_shape s.manifest.shape s.manifest.current old.shown)
+          (named_body s.manifest.shape s.manifest.current old.shown) named (there h))
           ∙ sym (base_is old s);
     };
   }
@@ -151,15 +153,19 @@ module _ (old new : Content) (s : EngineState) (after : LogStoreState) (kind : K
         let rows : List StoredRow = all_rows old s.active.log in
         let one : List StoredRow = stored_row kind key value ∷ [] in
         let is_shape : t.shape ≡ s.manifest.shape = named_shape s.manifest.shape s.manifest.current old.shown in
-        let table : IsTrue (fits_table after.log.shape (rows ++ one)) = table_fits after.log.shape (rows ++ one) after.table (ap (λ (r : List StoredRow). index_of_keys after.log.shape.buckets (keys_of r)) (sym (takes.log.all h)) ∙ takes.stands.index.indexed (ready h)) in
+        let table : IsTrue (fits_table after.log.shape (rows ++ one)) =
+        table_fits after.log.shape (rows ++ one) after.table
+        (ap (λ (r : List StoredRow). index_of_keys after.log.shape.buckets (keys_of r)) (sym (takes.log.all h)) ∙ takes.stands.index.indexed (ready h)) in
         let fits : IsTrue (fits_table t.shape (rows ++ one)) = subst (λ (sh : Shape). IsTrue (fits_table sh (rows ++ one))) (shape_same ∙ stands.whole.has_shape ∙ sym is_shape) table in
         let sound : IsSound (with_log_rows s.manifest.current.active rows t) = subst (λ (n : ℕ). IsSound (with_log_rows n rows t)) stands.whole.active_region (stands.sound h) in
         let all_of : rows_of (with_log_rows s.manifest.current.active (rows ++ one) t) ≡ (rows_of t ++ waiting_rows old s.active.log) ++ one =
-        ap (λ (r : List StoredRow). rows_of (with_log_rows s.manifest.current.active r t)) (ap (λ (r : List StoredRow). r ++ one) (rows_split old s stands) ∙ append_assoc (settled_rows old s.active.log) (waiting_rows old s.active.log) one)
+        ap (λ (r : List StoredRow). rows_of (with_log_rows s.manifest.current.active r t))
+        (ap (λ (r : List StoredRow). r ++ one) (rows_split old s stands) ∙ append_assoc (settled_rows old s.active.log) (waiting_rows old s.active.log) one)
         ∙ rows_with_more t s.manifest.current.active (settled_rows old s.active.log) [] (active_is old s stands) (has_active old s stands h) (waiting_rows old s.active.log ++ one)
         ∙ sym (append_assoc (rows_of t) (waiting_rows old s.active.log) one) in
         let charged : put_count (rows_of (with_log_rows s.manifest.current.active (rows ++ one) t)) ≡ s.charge + puts_of kind =
-        ap put_count all_of ∙ count_law (rows_of t ++ waiting_rows old s.active.log) one ∙ ap (λ (n : ℕ). n + put_count one) (sym (stands.counted h)) ∙ ap (λ (n : ℕ). s.charge + n) (counted_stored kind key value) in
+        ap put_count all_of ∙ count_law (rows_of t ++ waiting_rows old s.active.log) one ∙ ap (λ (n : ℕ). n + put_count one) (sym (stands.counted h))
+        ∙ ap (λ (n : ℕ). s.charge + n) (counted_stored kind key value) in
         let capacity : t.shape.sorted_capacity ≡ s.manifest.shape.sorted_capacity = ap (λ (sh : Shape). sh.sorted_capacity) is_shape in
         taken_law t s.manifest.current.active rows (stored_row kind key value) sound (known_stored kind key value) fits (omega (arith, charged, capacity, most))
 
@@ -176,7 +182,8 @@ module _ (old new : Content) (s : EngineState) (after : LogStoreState) (kind : K
   -- the row was not taken
   module _ (keeps : KeepsStore old new s.active after) where
     pub not_appended : Advances [] old new s (with_active s after s.charge)
-    not_appended = extended old new s after [] s.charge stands sizes changed (ap (λ (l : LogState). l.shape) keeps.log.log) (ap (λ (l : LogState). l.region) keeps.log.log) keeps.stands images keeps.log.settled
+    not_appended = extended old new s after [] s.charge stands sizes changed (ap (λ (l : LogState). l.shape) keeps.log.log)
+        (ap (λ (l : LogState). l.region) keeps.log.log) keeps.stands images keeps.log.settled
         (λ h. keeps.log.all h ∙ sym (append-nil (all_rows old s.active.log)))
         (λ h. subst (λ (rows : List StoredRow). IsSound (with_log_rows s.manifest.current.active rows (shown_stores old s))) (sym (append-nil (all_rows old s.active.log)))
         (subst (λ (n : ℕ). IsSound (with_log_rows n (all_rows old s.active.log) (shown_stores old s))) stands.whole.active_region (stands.sound h)))

@@ -24,7 +24,8 @@ pub honest_after : (a b : Content) → SameDisk a b → IsTrue a.honest → IsTr
 honest_after a b same h = subst IsTrue (sym same.honest) h
 
 -- what two calls move
-pub moves_trans : (one two : List Command) (a b c : Content) (first second third : EngineState) → MovesIntoBase one a b first second → MovesIntoBase two b c second third → MovesIntoBase (one ++ two) a c first third
+pub moves_trans : (one two : List Command) (a b c : Content) (first second third : EngineState) → MovesIntoBase one a b first second
+    → MovesIntoBase two b c second third → MovesIntoBase (one ++ two) a c first third
 moves_trans one two a b c first second third m n = record {
   moved = m.moved ++ n.moved;
   rest =
@@ -35,7 +36,8 @@ moves_trans one two a b c first second third m n = record {
 }
 
 -- two calls that advance
-pub advances_trans : (one two : List Command) (a b c : Content) (first second third : EngineState) → SameDisk a b → Advances one a b first second → Advances two b c second third → Advances (one ++ two) a c first third
+pub advances_trans : (one two : List Command) (a b c : Content) (first second third : EngineState) → SameDisk a b → Advances one a b first second
+    → Advances two b c second third → Advances (one ++ two) a c first third
 advances_trans one two a b c first second third same m n = record {
   stands = n.stands;
   shape = n.shape ∙ m.shape;
@@ -54,13 +56,15 @@ breaks_after a b c first second same later m breaks = record {
           rest = begun.begins.rest;
           is = append_assoc moves.moved begun.kept begun.begins.rest ∙ ap (λ (cs : List Command). moves.moved ++ cs) begun.begins.is ∙ moves.rest ∙ append-nil (waiting_commands a first);
         };
-        stands = subst (λ (m : Map). StandsFor first.manifest.shape m image) (ap (λ (base : Map). map_after base begun.kept) moves.base ∙ sym (map_after-append (base_map a first) moves.moved begun.kept))
+        stands = subst (λ (m : Map). StandsFor first.manifest.shape m image) (ap (λ (base : Map). map_after base begun.kept) moves.base
+            ∙ sym (map_after-append (base_map a first) moves.moved begun.kept))
             (subst (λ (s : Shape). StandsFor s (map_after (base_map b second) begun.kept) image) m.shape begun.stands);
       };
 }
 
 -- what two calls do to the map of the full image
-pub remaps_trans : (one two : List Command) (a b c : Content) (first second third : EngineState) → SameDisk a b → Remaps one a b first second → Remaps two b c second third → Remaps (one ++ two) a c first third
+pub remaps_trans : (one two : List Command) (a b c : Content) (first second third : EngineState) → SameDisk a b → Remaps one a b first second
+    → Remaps two b c second third → Remaps (one ++ two) a c first third
 remaps_trans one two a b c first second third same m n h =
     n (honest_after a b same h) ∙ ap (λ (base : Map). map_after base two) (m h) ∙ sym (map_after-append (image_map (full_image a first)) one two)
 
@@ -83,7 +87,8 @@ advances_break a b first second same m = record {
       record {
         kept = moves.moved;
         begins = record { rest = waiting_commands b second; is = moves.rest ∙ append-nil (waiting_commands a first) };
-        stands = subst (λ (m : Map). StandsFor first.manifest.shape m image) moves.base (subst (λ (s : Shape). StandsFor s (base_map b second) image) m.shape ((base_safe b second m.stands).each h image left));
+        stands = subst (λ (m : Map). StandsFor first.manifest.shape m image) moves.base
+            (subst (λ (s : Shape). StandsFor s (base_map b second) image) m.shape ((base_safe b second m.stands).each h image left));
       };
 }
 

@@ -57,14 +57,16 @@ new_body body t = refl
 settled_frozen : (content : Content) (store : LogStoreState) → IsLogStore content store → store.log.settled ≡ store.log.used → IsFrozen content store
 settled_frozen content store is settled = record {
   rows = λ h.
-      let rows : log_rows store.log.shape store.log.region content.shown ≡ all_rows content store.log = is.log.images.each h content.shown (shown_left content) ∙ ap (λ (n : ℕ). first_rows store.log.shape store.log.region content.shown n) settled in
+      let rows : log_rows store.log.shape store.log.region content.shown ≡ all_rows content store.log =
+      is.log.images.each h content.shown (shown_left content) ∙ ap (λ (n : ℕ). first_rows store.log.shape store.log.region content.shown n) settled in
       sym (all_count content store.log) ∙ ap length (sym rows) ∙ length-log_rows store.log.shape store.log.region content.shown;
   indexed = is.index;
 }
 
 -- ---- the body that names the new log
 
-module _ (old : Content) (s : EngineState) (next : NextLog) (digests : Digests) (stands : Stands old s) (is_quiet : IsQuiet old s) (emptied : IsEmptied old s next) (digests_are : digests ≡ own_digests s) where
+module _ (old : Content) (s : EngineState) (next : NextLog) (digests : Digests) (stands : Stands old s) (is_quiet : IsQuiet old s)
+    (emptied : IsEmptied old s next) (digests_are : digests ≡ own_digests s) where
   store_shape : next.store.log.shape ≡ s.manifest.shape
   store_shape = ap (λ (t : LogStoreState). t.log.shape) emptied.follows.store
 
@@ -141,8 +143,10 @@ module _ (old : Content) (s : EngineState) (next : NextLog) (digests : Digests) 
       hashed = subst (λ (sh : Shape). All (IsHashOf sh) s.hashes) (sym now.has_shape) stands.whole.hashed;
       sorted =
           stands.whole.sorted ∙ ap (λ (sh : Shape). sorted_named sh s.manifest.current) (sym now.has_shape)
-          ∙ ap (λ (n : ℕ). let t : SortedState = record { shape = m.shape; region = n; count = s.manifest.current.sorted_count } in t) (ap (λ (b : Body). b.sorted) (sym emptied.follows.body ∙ sym now.has_body))
-          ∙ ap (λ (n : ℕ). let t : SortedState = record { shape = m.shape; region = m.current.sorted; count = n } in t) (ap (λ (b : Body). b.sorted_count) (sym emptied.follows.body ∙ sym now.has_body));
+          ∙ ap (λ (n : ℕ). let t : SortedState = record { shape = m.shape; region = n; count = s.manifest.current.sorted_count } in
+          t) (ap (λ (b : Body). b.sorted) (sym emptied.follows.body ∙ sym now.has_body))
+          ∙ ap (λ (n : ℕ). let t : SortedState = record { shape = m.shape; region = m.current.sorted; count = n } in
+          t) (ap (λ (b : Body). b.sorted_count) (sym emptied.follows.body ∙ sym now.has_body));
       held = stands.whole.held;
       under_way = under_way_in s after s.converting now.has_shape (ap (λ (b : Body). b.hashed) now.has_body ∙ ap (λ (b : Body). b.hashed) emptied.follows.body) (omega arith) stands.whole.under_way;
       merging = merging_in s after s.merging now.has_shape refl (omega arith) stands.whole.merging;
@@ -194,7 +198,8 @@ module _ (old : Content) (s : EngineState) (next : NextLog) (digests : Digests) 
       same_body = frozen_may_become_current.has_body ∙ sym now.has_body;
       named = now_named old new s next.body digests stands frozen_may_become_current sizes m now;
       sound = λ h.
-          let own : with_log_rows m.current.active [] frozen_stores ≡ frozen_stores = own_rows frozen_stores m.current.active [] [] (ap (λ (b : Body). b.active) (frozen_may_become_current.has_body ∙ sym now.has_body)) (now_active (back h)) in
+          let own : with_log_rows m.current.active [] frozen_stores ≡ frozen_stores =
+          own_rows frozen_stores m.current.active [] [] (ap (λ (b : Body). b.active) (frozen_may_become_current.has_body ∙ sym now.has_body)) (now_active (back h)) in
           subst (λ (rows : List StoredRow). IsSound (with_log_rows m.current.active rows frozen_stores)) (sym new_rows) (subst IsSound (sym own) (frozen_may_become_current.sound (back h)));
       said = λ h. subst (λ (o : Option Digests). AreDigestsOf o frozen_stores) (sym now.has_digests) (frozen_may_become_current.said (back h));
       counted = λ h.

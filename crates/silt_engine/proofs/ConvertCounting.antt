@@ -1,5 +1,6 @@
 -- Which hash regions are free, and how many; and the body that names one more.
-use Rattle.std.proofs.Common.{◌≡◌, ◌≤◌, ◌<◌, ℕ, ◌+◌, ◌-◌, ◌%◌, ◌^◌, ◌==◌, ◌||◌, Bool, true, false, not, nat_lt, nat_le, suc, zero, List, [], ◌∷◌, length, take, inl, inr, Option, Some, refl, ap, sym, ◌∙◌, subst, arith}
+use Rattle.std.proofs.Common.{◌≡◌, ◌≤◌, ◌<◌, ℕ, ◌+◌, ◌-◌, ◌%◌, ◌^◌, ◌==◌, ◌||◌, Bool, true, false, not, nat_lt, nat_le, suc, zero, List, [], ◌∷◌, length, take}
+use Rattle.std.proofs.Common.{inl, inr, Option, Some, refl, ap, sym, ◌∙◌, subst, arith}
 use Rattle.std.specs.Prelude.{IfSome}
 use Rattle.std.specs.List.{list_any}
 use Rattle.std.proofs.Math.Dec.{eqb}
@@ -84,7 +85,8 @@ below_first most (id ∷ ids) (suc n) e =
     let parts = and_parts (nat_lt id most) (all_below most ids) e in
     and_from _ _ parts.0 (below_first most ids n parts.1)
 
-sound_logs_first : (logs : ℕ) (b : Body) (n generation : ℕ) (hashed : List ℕ) → has_sound_logs logs b ≡ true → has_sound_logs logs (record b { generation = generation; frozen = take n b.frozen; hashed = hashed }) ≡ true
+sound_logs_first : (logs : ℕ) (b : Body) (n generation : ℕ) (hashed : List ℕ) → has_sound_logs logs b ≡ true
+    → has_sound_logs logs (record b { generation = generation; frozen = take n b.frozen; hashed = hashed }) ≡ true
 sound_logs_first logs b n generation hashed sound =
     let l1 = and_parts _ _ sound in
     let l2 = and_parts _ _ l1.0 in
@@ -92,7 +94,8 @@ sound_logs_first logs b n generation hashed sound =
     let l4 = and_parts _ _ l3.0 in
     let was = ltb-true (length b.frozen) logs l4.0 in
     let fewer : nat_lt (length (take n b.frozen)) logs ≡ true = lt-ltb _ _ (omega (arith, was, length-take n b.frozen)) in
-    and_from _ _ (and_from _ _ (and_from _ _ (and_from _ _ fewer l4.1) (below_first logs b.frozen n l3.1)) (ap not (none_of_first b.frozen n b.active (not-true _ l2.1)))) (distinct_first b.frozen n l1.1)
+    and_from _ _ (and_from _ _ (and_from _ _ (and_from _ _ fewer l4.1) (below_first logs b.frozen n l3.1)) (ap not (none_of_first b.frozen n b.active (not-true _ l2.1))))
+    (distinct_first b.frozen n l1.1)
 
 -- the body that names a free region in place of the oldest log is well formed
 pub converted_sound_body : (s : Shape) (slot region : ℕ) (b : Body) → is_well_formed s slot b ≡ true → region < s.hashes → names_hash b region ≡ false → b.generation < 2 ^ 63 - 1
@@ -120,17 +123,20 @@ pub hash_count : (s : EngineState) → AreWhole s → length s.hashes ≡ length
 hash_count s whole = sym (length-map s.hashes hash_region_of) ∙ ap length whole.hash_regions
 
 -- if every region is named, there is a hash store in each
-pub no_hash_free : (s : EngineState) (slot : ℕ) → AreWhole s → is_well_formed s.manifest.shape slot s.manifest.current ≡ true → AreAllHashesNamed s.manifest.shape.hashes s.manifest.current → length s.hashes ≡ s.manifest.shape.hashes
+pub no_hash_free : (s : EngineState) (slot : ℕ) → AreWhole s → is_well_formed s.manifest.shape slot s.manifest.current ≡ true
+    → AreAllHashesNamed s.manifest.shape.hashes s.manifest.current → length s.hashes ≡ s.manifest.shape.hashes
 no_hash_free s slot whole sound named = hash_count s whole ∙ all_hashes_named s.manifest.shape slot s.manifest.current sound named
 
 -- if one is free, there are fewer
-pub hash_free : (s : EngineState) (slot region : ℕ) → AreWhole s → is_well_formed s.manifest.shape slot s.manifest.current ≡ true → region < s.manifest.shape.hashes → names_hash s.manifest.current region ≡ false → length s.hashes < s.manifest.shape.hashes
+pub hash_free : (s : EngineState) (slot region : ℕ) → AreWhole s → is_well_formed s.manifest.shape slot s.manifest.current ≡ true
+    → region < s.manifest.shape.hashes → names_hash s.manifest.current region ≡ false → length s.hashes < s.manifest.shape.hashes
 hash_free s slot region whole sound inside free =
     let fewer = fewer_hashes s.manifest.shape slot region s.manifest.current sound inside free in
     omega (arith, fewer, hash_count s whole)
 
 -- the record that ends a conversion may follow the current one
-pub may_end : (s : EngineState) (body : Body) (digests : Digests) → is_well_formed s.manifest.shape (current_slot s.manifest) s.manifest.current ≡ true → AreWhole s → EndsConversion s body digests → IsNext s.manifest body
+pub may_end : (s : EngineState) (body : Body) (digests : Digests) → is_well_formed s.manifest.shape (current_slot s.manifest) s.manifest.current ≡ true
+    → AreWhole s → EndsConversion s body digests → IsNext s.manifest body
 may_end s body digests sound whole ends =
     let way : IsUnderWay s ends.conversion = subst (λ (o : Option ConversionState). IfSome o (IsUnderWay s)) ends.was whole.under_way in
     record {
@@ -141,7 +147,8 @@ may_end s body digests sound whole ends =
     }
 
 -- it has room for one hash store more
-pub room_for_hash : (s : EngineState) (current : Body) (conversion : ConversionState) (limit : ℕ) → AreWhole s → is_well_formed s.manifest.shape (current_slot s.manifest) s.manifest.current ≡ true → s.converting ≡ Some conversion
+pub room_for_hash : (s : EngineState) (current : Body) (conversion : ConversionState) (limit : ℕ) → AreWhole s
+    → is_well_formed s.manifest.shape (current_slot s.manifest) s.manifest.current ≡ true → s.converting ≡ Some conversion
     → limit ≡ s.manifest.shape.hashes → limit ≤ 16 → current ≡ s.manifest.current → length current.hashed < 16
 room_for_hash s current conversion limit whole sound was limit_is most same =
     let way : IsUnderWay s conversion = subst (λ (o : Option ConversionState). IfSome o (IsUnderWay s)) was whole.under_way in

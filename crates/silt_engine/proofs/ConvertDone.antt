@@ -123,7 +123,8 @@ module _ (content : Content) (s : EngineState) (stands : Stands content s) (conv
 
   -- the oldest log has these rows, also once the waiting rows are settled
   pub oldest : IsTrue content.honest → HasOldest rows t
-  oldest h = subst (λ (r : List StoredRow). HasOldest r t) (shown_rows content s stands way.some_frozen h) (oldest_named s.manifest.shape s.manifest.current 0 content.shown (some_ids content s stands way.some_frozen))
+  oldest h = subst (λ (r : List StoredRow). HasOldest r t) (shown_rows content s stands way.some_frozen h)
+      (oldest_named s.manifest.shape s.manifest.current 0 content.shown (some_ids content s stands way.some_frozen))
 
   abbrev full : Stores
   full = with_log_rows s.manifest.current.active (all_rows content s.active.log) (shown_stores content s)
@@ -131,7 +132,8 @@ module _ (content : Content) (s : EngineState) (stands : Stands content s) (conv
   pub oldest_full : IsTrue content.honest → HasOldest rows full
   oldest_full h =
       subst (λ (r : List StoredRow). HasOldest r full) (shown_rows content s stands way.some_frozen h)
-      (oldest_named_with s.manifest.shape s.manifest.current 0 content.shown s.manifest.current.active (all_rows content s.active.log) (some_ids content s stands way.some_frozen) (not_the_active content s stands way.some_frozen h))
+      (oldest_named_with s.manifest.shape s.manifest.current 0 content.shown s.manifest.current.active (all_rows content s.active.log)
+      (some_ids content s stands way.some_frozen) (not_the_active content s stands way.some_frozen h))
 
   -- and their table
   pub table_of : IsTrue content.honest → IsTableOf t.shape rows (oldest_log s).table
@@ -162,7 +164,8 @@ module _ (content : Content) (s : EngineState) (stands : Stands content s) (conv
       let all : List StoredRow = all_rows content s.active.log in
       let same : full.shape ≡ t.shape = with_shape s.manifest.current.active all t in
       let sound : IsSound full = subst (λ (n : ℕ). IsSound (with_log_rows n all t)) stands.whole.active_region (stands.sound h) in
-      let is = (converts full ending_body rows (oldest_log s).table conversion.region (oldest_full h) (subst (λ (sh : Shape). IsTableOf sh rows (oldest_log s).table) (sym same) (table_of h)) sound).sound in
+      let is = (converts full ending_body rows (oldest_log s).table conversion.region (oldest_full h)
+      (subst (λ (sh : Shape). IsTableOf sh rows (oldest_log s).table) (sym same) (table_of h)) sound).sound in
       subst IsSound (sym (rows_converted s.manifest.current.active all ending_body ending_part t))
       (subst (λ (sh : Shape). IsSound (with_converted ending_body (record { region = conversion.region; rows = converted_rows sh (oldest_log s).table rows }) full)) same is)
 
@@ -185,7 +188,8 @@ module _ (content : Content) (s : EngineState) (stands : Stands content s) (conv
         ∙ ap (λ (l : List StoredRow). let part : Part = record { region = conversion.region; rows = l } in part_digest part) (ending_slots h)
 
     -- the puts that went away do not count
-    pub ending_counted : IsTrue content.honest → (charge : ℕ) → charge ≡ s.charge - ((oldest_log s).puts - conversion.puts) → charge ≡ put_count (rows_of ending_stores ++ waiting_rows content s.active.log)
+    pub ending_counted : IsTrue content.honest → (charge : ℕ) → charge ≡ s.charge - ((oldest_log s).puts - conversion.puts)
+        → charge ≡ put_count (rows_of ending_stores ++ waiting_rows content s.active.log)
     ending_counted h charge is =
         let waiting : List StoredRow = waiting_rows content s.active.log in
         let log_puts : (oldest_log s).puts ≡ put_count rows = (oldest_frozen content s stands way.some_frozen).indexed.counted h in

@@ -40,7 +40,8 @@ one_oldest rows other t has also = sym (last rows has) ∙ last other also
     last r is = ap (λ (l : List Part). part_rows (get_or l (length l - 1) no_part)) is.logs ∙ ap part_rows (last_is is.newer (record { region = is.region; rows = r }) no_part)
 
 -- its rows in the full image are those that a disk with the same stores shows, if it obeys the crash model
-pub oldest_same : (first old : Content) (s : EngineState) (stood : Stands first s) (stands : Stands old s) (conversion : ConversionState) → s.converting ≡ Some conversion → IsTrue first.honest → IsTrue old.honest
+pub oldest_same : (first old : Content) (s : EngineState) (stood : Stands first s) (stands : Stands old s) (conversion : ConversionState)
+    → s.converting ≡ Some conversion → IsTrue first.honest → IsTrue old.honest
     → shown_stores old s ≡ shown_stores first s → oldest_rows s.manifest.shape s.manifest.current (full_image first s) ≡ all_rows old (oldest_log s).log
 oldest_same first old s stood stands conversion was was_honest h same =
     let named = oldest_named s.manifest.shape s.manifest.current s.manifest.current.active (full_image first s) (some_ids first s stood (way first s stood conversion was).some_frozen) in
@@ -53,11 +54,13 @@ oldest_same first old s stood stands conversion was was_honest h same =
 -- ---- the hash store in front
 
 -- of the stores that the next body names
-pub front_named : (shape : Shape) (body : Body) (region : ℕ) (image : List ℕ) → part_rows (get_or (stores_named shape (converted_body body region) image).hashes 0 no_part) ≡ hash_rows shape region image
+pub front_named : (shape : Shape) (body : Body) (region : ℕ) (image : List ℕ)
+    → part_rows (get_or (stores_named shape (converted_body body region) image).hashes 0 no_part) ≡ hash_rows shape region image
 unfolding stores_named
 front_named shape body region image = refl
 
 -- and of the stores with it
-pub front_converted : (region : ℕ) (rows : List StoredRow) (body : Body) (part : Part) (t : Stores) → part_rows (get_or (with_log_rows region rows (with_converted body part t)).hashes 0 no_part) ≡ part.rows
+pub front_converted : (region : ℕ) (rows : List StoredRow) (body : Body) (part : Part) (t : Stores)
+    → part_rows (get_or (with_log_rows region rows (with_converted body part t)).hashes 0 no_part) ≡ part.rows
 unfolding with_log_rows with_converted
 front_converted region rows body part t = refl

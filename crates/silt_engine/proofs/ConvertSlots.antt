@@ -27,33 +27,40 @@ use Rattle.silt_engine.proofs.Freezes.{IsApart, IsOutsideMerge, merged_on, stays
 -- ---- places
 
 -- a slot of another hash region
-slot_elsewhere : (shape : Shape) (region other slot : ℕ) → region ≢ other → slot < 4 * shape.buckets → LiesOutside (hash_at shape region) (slots_len shape) (hash_slot_at shape other slot) (row_len shape)
+slot_elsewhere : (shape : Shape) (region other slot : ℕ) → region ≢ other → slot < 4 * shape.buckets
+    → LiesOutside (hash_at shape region) (slots_len shape) (hash_slot_at shape other slot) (row_len shape)
 slot_elsewhere shape region other slot differ below =
     let rows = up_least (4 * shape.buckets * row_len shape) in
-    let ends : hash_slot_at shape other slot + row_len shape ≤ hash_at shape other + 4 * shape.buckets * row_len shape = slot_inside shape other slot (hash_at shape other + 4 * shape.buckets * row_len shape) (omega arith) below in
+    let ends : hash_slot_at shape other slot + row_len shape ≤ hash_at shape other + 4 * shape.buckets * row_len shape =
+    slot_inside shape other slot (hash_at shape other + 4 * shape.buckets * row_len shape) (omega arith) below in
     elim (pieces_apart (hash_at shape 0) region other (hash_size shape) differ) [
       | inl before ↦ inr (omega (arith, before, rows))
       | inr behind ↦ inl (omega (arith, behind, rows, ends))
     ]
 
 -- the entries of each sorted region lie behind the slots
-entries_behind : (shape : Shape) (region slot sorted : ℕ) → region < shape.hashes → slot < 4 * shape.buckets → LiesOutside (sorted_at shape sorted) (entries_len shape) (hash_slot_at shape region slot) (row_len shape)
+entries_behind : (shape : Shape) (region slot sorted : ℕ) → region < shape.hashes → slot < 4 * shape.buckets
+    → LiesOutside (sorted_at shape sorted) (entries_len shape) (hash_slot_at shape region slot) (row_len shape)
 entries_behind shape region slot sorted there below =
     let regions = regions_apart shape in
     let slots = regions.hashes region shape.hashes there in
-    let ends : hash_slot_at shape region slot + row_len shape ≤ hash_at shape region + 4 * shape.buckets * row_len shape = slot_inside shape region slot (hash_at shape region + 4 * shape.buckets * row_len shape) (omega arith) below in
+    let ends : hash_slot_at shape region slot + row_len shape ≤ hash_at shape region + 4 * shape.buckets * row_len shape =
+    slot_inside shape region slot (hash_at shape region + 4 * shape.buckets * row_len shape) (omega arith) below in
     inl (omega (arith, ends, slots, regions.hash_end sorted))
 
 -- a slot lies in its region
-in_region : (shape : Shape) (region slot : ℕ) (before image : List ℕ) → slot < 4 * shape.buckets → Torn (hash_slot_at shape region slot) (row_len shape) before image → Torn (hash_at shape region) (hash_size shape) before image
+in_region : (shape : Shape) (region slot : ℕ) (before image : List ℕ) → slot < 4 * shape.buckets
+    → Torn (hash_slot_at shape region slot) (row_len shape) before image → Torn (hash_at shape region) (hash_size shape) before image
 in_region shape region slot before image below torn =
     let rows = up_least (4 * shape.buckets * row_len shape) in
-    let ends : hash_slot_at shape region slot + row_len shape ≤ hash_at shape region + 4 * shape.buckets * row_len shape = slot_inside shape region slot (hash_at shape region + 4 * shape.buckets * row_len shape) (omega arith) below in
+    let ends : hash_slot_at shape region slot + row_len shape ≤ hash_at shape region + 4 * shape.buckets * row_len shape =
+    slot_inside shape region slot (hash_at shape region + 4 * shape.buckets * row_len shape) (omega arith) below in
     torn_wider (hash_at shape region) (hash_size shape) (omega arith) (omega (arith, ends, rows)) torn
 
 -- ---- a slot is written
 
-module _ (old new : Content) (s : EngineState) (region slot : ℕ) (stands : Stands old s) (free : names_hash s.manifest.current region ≡ false) (there : region < s.manifest.shape.hashes) (below : slot < 4 * s.manifest.shape.buckets)
+module _ (old new : Content) (s : EngineState) (region slot : ℕ) (stands : Stands old s) (free : names_hash s.manifest.current region ≡ false)
+    (there : region < s.manifest.shape.hashes) (below : slot < 4 * s.manifest.shape.buckets)
     (sizes : size new ≡ size old) (changes : ChangesWithin (hash_slot_at s.manifest.shape region slot) (row_len s.manifest.shape) old new) where
   slot_disk : SameDisk old new
   slot_disk = record { size = sizes; honest = changes.honest }
@@ -82,7 +89,8 @@ module _ (old new : Content) (s : EngineState) (region slot : ℕ) (stands : Sta
   slot_before_entries : IsOutsideMerge s (hash_slot_at s.manifest.shape region slot) (row_len s.manifest.shape)
   slot_before_entries = behind s.merging
     where
-      behind : (o : Option MergeState) → IfSome o (λ merge. LiesOutside (sorted_at s.manifest.shape merge.region) (entries_len s.manifest.shape) (hash_slot_at s.manifest.shape region slot) (row_len s.manifest.shape))
+      behind : (o : Option MergeState)
+          → IfSome o (λ merge. LiesOutside (sorted_at s.manifest.shape merge.region) (entries_len s.manifest.shape) (hash_slot_at s.manifest.shape region slot) (row_len s.manifest.shape))
       behind None = tt
       behind (Some merge) = entries_behind s.manifest.shape region slot merge.region there below
 
@@ -93,14 +101,16 @@ module _ (old new : Content) (s : EngineState) (region slot : ℕ) (stands : Sta
       (behind_logs s.manifest.shape s.manifest.current.active region slot (active_below old s stands)))
 
   -- the stores still stand, with the conversion as it is then
-  pub slot_advances : (converting : Option ConversionState) → IfSome converting (IsUnderWay s) → IfSome converting (HasWritten new (oldest_log s)) → Advances [] old new s (record s { converting = converting })
+  pub slot_advances : (converting : Option ConversionState) → IfSome converting (IsUnderWay s) → IfSome converting (HasWritten new (oldest_log s))
+      → Advances [] old new s (record s { converting = converting })
   slot_advances converting under_way written = stays_with old new s (hash_slot_at s.manifest.shape region slot) (row_len s.manifest.shape) stands sizes changes slot_apart outside_active
       s.manifest converting s.merging refl refl refl stands.idle
       (current_record_elsewhere s.manifest (hash_slot_at s.manifest.shape region slot) (row_len s.manifest.shape) old new (omega (arith, stands.has_size)) (inr (omega arith)) changes stands.current)
       slot_named under_way written stands.whole.merging
       (merged_on old new s (hash_slot_at s.manifest.shape region slot) (row_len s.manifest.shape) stands sizes changes slot_apart outside_active (λ h. slot_before_entries))
 
-  pub slot_map : (converting : Option ConversionState) → IfSome converting (IsUnderWay s) → IfSome converting (HasWritten new (oldest_log s)) → Remaps [] old new s (record s { converting = converting })
+  pub slot_map : (converting : Option ConversionState) → IfSome converting (IsUnderWay s) → IfSome converting (HasWritten new (oldest_log s))
+      → Remaps [] old new s (record s { converting = converting })
   slot_map converting under_way written = advances_remap [] old new s (record s { converting = converting }) slot_disk stands (slot_advances converting under_way written)
 
   pub slot_breaks : (converting : Option ConversionState) → IfSome converting (IsUnderWay s) → IfSome converting (HasWritten new (oldest_log s)) → Breaks old new s

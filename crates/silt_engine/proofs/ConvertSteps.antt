@@ -24,7 +24,8 @@ use Rattle.silt_standing.specs.State.{AreWhole, IsUnderWay, EngineState, names_h
 use Rattle.silt_standing.specs.Standing.{Stands}
 use Rattle.silt_engine.specs.Calls.{Advances, Breaks, Remaps}
 use Rattle.silt_engine.specs.Digests.{digests_with}
-use Rattle.silt_engine.specs.Conversion.{AreAllHashesNamed, ConvertErrorCause, Converts, EndsConversion, IsLowestFreeHash, IsNextStep, convert_turn, converted_body, is_work, progress_due, refusal_of_step, written_by}
+use Rattle.silt_engine.specs.Conversion.{AreAllHashesNamed, ConvertErrorCause, Converts, EndsConversion, IsLowestFreeHash, IsNextStep, convert_turn}
+use Rattle.silt_engine.specs.Conversion.{converted_body, is_work, progress_due, refusal_of_step, written_by}
 use Rattle.silt_engine.proofs.ConvertCounting.{hash_free, no_hash_free}
 use Rattle.silt_engine.proofs.ConvertDone.{has_written, oldest_stands, way}
 use Rattle.silt_engine.proofs.ConvertSlots.{slot_advances, slot_breaks, slot_map}
@@ -63,7 +64,8 @@ module _ (s : EngineState) where
 
   -- with frozen logs, no conversion in progress, and this many hash stores
   pub begins_turn : s.converting ≡ None → 0 < length s.frozen → convert_turn s ≡ (if length s.hashes == s.manifest.shape.hashes then Waiting else Moved)
-  begins_turn none some = ap due none ∙ ap (λ (b : Bool). if b then Idle else if length s.hashes == s.manifest.shape.hashes then Waiting else Moved) (ne_eqb (length s.frozen) 0 (λ e. absurd (omega (arith, e, some))))
+  begins_turn none some = ap due none ∙ ap (λ (b : Bool). if b then Idle else if length s.hashes == s.manifest.shape.hashes then Waiting else Moved)
+      (ne_eqb (length s.frozen) 0 (λ e. absurd (omega (arith, e, some))))
 
   -- every hash region is in use
   pub waits_turn : s.converting ≡ None → 0 < length s.frozen → length s.hashes ≡ s.manifest.shape.hashes → convert_turn s ≡ Waiting
@@ -76,7 +78,8 @@ module _ (s : EngineState) where
 -- ---- the end
 
 -- a conversion that finishes may end with the next body and these digests
-pub may_finish : (s : EngineState) (body : Body) (digests : Digests) (conversion : ConversionState) (digest sorted : Digest) (hashes : List HashState) → AreWhole s → s.converting ≡ Some conversion → convert_turn s ≡ Finished
+pub may_finish : (s : EngineState) (body : Body) (digests : Digests) (conversion : ConversionState) (digest sorted : Digest) (hashes : List HashState)
+    → AreWhole s → s.converting ≡ Some conversion → convert_turn s ≡ Finished
     → s.manifest.current.generation < 2 ^ 63 - 1 → body ≡ converted_body s.manifest.current conversion.region → IsDigestOf conversion.hasher digest.0 → hashes ≡ s.hashes → sorted.0 ≡ s.digest
     → digests ≡ digests_with (Some digest) hashes sorted → EndsConversion s body digests
 may_finish s body digests conversion digest sorted hashes whole was turn unspent is digested hashes_are sorted_is digests_are = record {
@@ -134,7 +137,8 @@ module _ (old new : Content) (s : EngineState) (log : LogStoreState) (before aft
 -- ---- the next slot of the conversion under way
 
 module _ (old new : Content) (s : EngineState) (log : LogStoreState) (before after : ConversionState) (stands : Stands old s) (read : Some log ≡ slice_get s.frozen (length s.frozen - 1))
-    (was : s.converting ≡ Some before) (turn : convert_turn s ≡ Moved) (sizes : size new ≡ size old) (changes : ChangesWithin (hash_slot_at before.shape before.region before.next) (row_len before.shape) old new) where
+    (was : s.converting ≡ Some before) (turn : convert_turn s ≡ Moved) (sizes : size new ≡ size old)
+    (changes : ChangesWithin (hash_slot_at before.shape before.region before.next) (row_len before.shape) old new) where
   going : IsUnderWay s before
   going = way old s stands before was
 
@@ -189,7 +193,8 @@ module _ (s : EngineState) (log : LogStoreState) (current : Body) (hashes region
     pub begin_turn : convert_turn s ≡ Moved
     begin_turn = moves_turn s none some (hash_free s (current_slot s.manifest) region whole sound lowest_here.below lowest_here.free)
 
-    module _ (started : ConversionState) (is : started ≡ record { shape = log.log.shape; region = region; tags = replicate (4 * log.log.shape.buckets) None; next = 0; puts = 0; hasher = started.hasher }) (limits : InLimits s.manifest.shape) where
+    module _ (started : ConversionState) (is : started ≡ record
+        { shape = log.log.shape; region = region; tags = replicate (4 * log.log.shape.buckets) None; next = 0; puts = 0; hasher = started.hasher }) (limits : InLimits s.manifest.shape) where
       log_shape : log.log.shape ≡ s.manifest.shape
       log_shape = ap (λ (l : LogStoreState). l.log.shape) (last_log s log read).1 ∙ (whole.settled (length s.frozen - 1) s.active (omega (arith, some))).has_shape
 
@@ -248,7 +253,8 @@ module _ (s : EngineState) (log : LogStoreState) (current : Body) (hashes region
 
 module _ {D F : Type 0} (facts : Ghosts D F) (old new : D) (before after : EngineState) where
   -- the cause in place of that of the step
-  pub step_cause : (error : StepError F) → FailsStep (GaveAny facts.gave) (CountsFault facts.failures facts.gave old new) old new error → after ≡ before → convert_turn before ≡ Moved → Breaks (facts.content old) (facts.content new) before
+  pub step_cause : (error : StepError F) → FailsStep (GaveAny facts.gave) (CountsFault facts.failures facts.gave old new) old new error
+      → after ≡ before → convert_turn before ≡ Moved → Breaks (facts.content old) (facts.content new) before
       → Remaps [] (facts.content old) (facts.content new) before after → ConvertErrorCause facts old new before after (refusal_of_step error)
   step_cause (step_error.Read fault) fails same turn breaks remaps = (same, fails.0, turn, fails.1)
   step_cause (step_error.Write fault) fails same turn breaks remaps = (ap is_work turn, record { counted = fails; breaks = breaks; map = remaps })

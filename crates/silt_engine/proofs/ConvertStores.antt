@@ -47,7 +47,8 @@ converted_named shape body region rows image some are =
     let entries : List StoredRow = sorted_rows shape body.sorted body.sorted_count image in
     let logs : List Part = map (log_part shape image) (body.active ∷ take (length body.frozen - 1) body.frozen) in
     ap (λ (r : List StoredRow). record { shape = shape; body = next; logs = logs; hashes = record { region = region; rows = r } ∷ hashes; entries = entries }) are
-    ∙ ap (λ (l : List Part). record { shape = shape; body = next; logs = l; hashes = record { region = region; rows = rows } ∷ hashes; entries = entries }) (sym (all_but_last (log_part shape image) body.active body.frozen some))
+    ∙ ap (λ (l : List Part). record { shape = shape; body = next; logs = l; hashes = record { region = region; rows = rows } ∷ hashes; entries = entries })
+    (sym (all_but_last (log_part shape image) body.active body.frozen some))
 
 -- shape and body of the stores with it
 pub converted_shape : (body : Body) (part : Part) (t : Stores) → (with_converted body part t).shape ≡ t.shape
@@ -59,7 +60,8 @@ unfolding with_converted
 converted_current body part t = refl
 
 -- other rows of a log, before and after
-pub rows_converted : (region : ℕ) (rows : List StoredRow) (body : Body) (part : Part) (t : Stores) → with_log_rows region rows (with_converted body part t) ≡ with_converted body part (with_log_rows region rows t)
+pub rows_converted : (region : ℕ) (rows : List StoredRow) (body : Body) (part : Part) (t : Stores)
+    → with_log_rows region rows (with_converted body part t) ≡ with_converted body part (with_log_rows region rows t)
 unfolding with_converted with_log_rows
 rows_converted region rows body part t =
     let same : map (with_part_rows region rows) (take (length t.logs - 1) t.logs) ≡ take (length (map (with_part_rows region rows) t.logs) - 1) (map (with_part_rows region rows) t.logs) =
@@ -68,7 +70,8 @@ rows_converted region rows body part t =
     ap (λ (l : List Part). record { shape = t.shape; body = body; logs = l; hashes = part ∷ t.hashes; entries = t.entries }) same
 
 -- the oldest log of the stores that a body names
-pub oldest_named : (shape : Shape) (body : Body) (d : ℕ) (image : List ℕ) → 0 < length body.frozen → HasOldest (log_rows shape (get_or body.frozen (length body.frozen - 1) d) image) (stores_named shape body image)
+pub oldest_named : (shape : Shape) (body : Body) (d : ℕ) (image : List ℕ) → 0 < length body.frozen
+    → HasOldest (log_rows shape (get_or body.frozen (length body.frozen - 1) d) image) (stores_named shape body image)
 unfolding stores_named
 oldest_named shape body d image some = record {
   newer = map (log_part shape image) (body.active ∷ take (length body.frozen - 1) body.frozen);

@@ -47,7 +47,8 @@ use Rattle.silt_engine.proofs.Remains.{active_stays, digested_stays, frozen_stay
 use Rattle.silt_engine.proofs.NextBodies.{now_named, succeeds}
 use Rattle.silt_engine.proofs.ConvertStores.{converted_named, converted_current, converted_shape}
 use Rattle.silt_engine.proofs.Said.{converted_said}
-use Rattle.silt_engine.proofs.ConvertDone.{ending_counted, ending_digest, ending_full_sound, ending_map, ending_slots, ending_sound, ending_stores, oldest_frozen, oldest_shape, oldest_stands, table_of, way}
+use Rattle.silt_engine.proofs.ConvertDone.{ending_counted, ending_digest, ending_full_sound, ending_map, ending_slots, ending_sound, ending_stores}
+use Rattle.silt_engine.proofs.ConvertDone.{oldest_frozen, oldest_shape, oldest_stands, table_of, way}
 use Rattle.silt_engine.proofs.ConvertRows.{front_converted, front_named, no_part, oldest_same}
 use Rattle.silt_engine.proofs.MergeDone.{full_is}
 
@@ -117,9 +118,11 @@ module _ (old : Content) (s : EngineState) (body : Body) (digests : Digests) (st
           ∙ ap (take (length s.frozen - 1)) stands.whole.frozen_regions
           ∙ ap (λ (n : ℕ). take (n - 1) s.manifest.current.frozen) (sym ids)
           ∙ ap (λ (b : Body). b.frozen) (sym current_is);
-      settled = subst (λ (sh : Shape). All (IsSettled sh) (take (length s.frozen - 1) s.frozen)) (sym now.has_shape) (All-take (IsSettled s.manifest.shape) (length s.frozen - 1) s.frozen stands.whole.settled);
+      settled = subst (λ (sh : Shape). All (IsSettled sh) (take (length s.frozen - 1) s.frozen)) (sym now.has_shape)
+          (All-take (IsSettled s.manifest.shape) (length s.frozen - 1) s.frozen stands.whole.settled);
       hash_regions = ap (λ (l : List ℕ). ends.conversion.region ∷ l) stands.whole.hash_regions ∙ ap (λ (b : Body). b.hashed) (sym current_is);
-      hashed = subst (λ (sh : Shape). All (IsHashOf sh) (store_of ends.conversion digest ∷ s.hashes)) (sym now.has_shape) (All-cons (IsHashOf s.manifest.shape) (store_of ends.conversion digest) s.hashes (held_of digest held) stands.whole.hashed);
+      hashed = subst (λ (sh : Shape). All (IsHashOf sh) (store_of ends.conversion digest ∷ s.hashes)) (sym now.has_shape)
+          (All-cons (IsHashOf s.manifest.shape) (store_of ends.conversion digest) s.hashes (held_of digest held) stands.whole.hashed);
       sorted =
           stands.whole.sorted ∙ ap (λ (sh : Shape). sorted_named sh s.manifest.current) (sym now.has_shape)
           ∙ ap (λ (n : ℕ). let t : SortedState = record { shape = m.shape; region = n; count = s.manifest.current.sorted_count } in t) (ap (λ (b : Body). b.sorted) (sym current_is))
@@ -179,7 +182,8 @@ module _ (old : Content) (s : EngineState) (body : Body) (digests : Digests) (st
     count : IsTrue new.honest → IsBucketCount ends.conversion.shape.buckets
     count h =
         let limits = (whole_law old.shown (shown_stores old s) (shown_named old s stands (back h))).limits in
-        subst (λ (sh : Shape). IsBucketCount sh.buckets) (named_shape s.manifest.shape s.manifest.current old.shown ∙ sym under_way.has_shape) (bucket_count_is (shown_stores old s).shape.buckets limits.buckets)
+        subst (λ (sh : Shape). IsBucketCount sh.buckets) (named_shape s.manifest.shape s.manifest.current old.shown ∙ sym under_way.has_shape)
+        (bucket_count_is (shown_stores old s).shape.buckets limits.buckets)
 
     -- ---- with the digest of what was written
 
@@ -244,7 +248,8 @@ module _ (old : Content) (s : EngineState) (body : Body) (digests : Digests) (st
       converted_advances finished is_whole is =
           let whole_after : AreWhole (oldest_replaced s m ends.conversion digest) = subst AreWhole is is_whole in
           subst (λ (t : EngineState). Advances [] old new s t) (sym is)
-          (succeeds old new s body digests stands converted_may_become_current sizes m now after (fits whole_after) now.has_shape (λ h. ap (map command_of) (waiting_stays old new s stands sizes now.changes h)))
+          (succeeds old new s body digests stands converted_may_become_current sizes m now after (fits whole_after) now.has_shape
+          (λ h. ap (map command_of) (waiting_stays old new s stands sizes now.changes h)))
 
       -- its slots have the rows that are due
       slots_now : AreWhole (oldest_replaced s m ends.conversion digest) → IsTrue old.honest
@@ -264,7 +269,8 @@ module _ (old : Content) (s : EngineState) (body : Body) (digests : Digests) (st
           ∙ ap (λ (sh : Shape). converted_rows sh (oldest_log s).table (all_rows old (oldest_log s).log)) (named_shape s.manifest.shape s.manifest.current old.shown)
 
       -- which are the last rows of the log's keys, as the full image had them on a disk that shows the same stores
-      pub has_converted_rows : (first : Content) (finished : EngineState) → AreWhole finished → finished ≡ oldest_replaced s m ends.conversion digest → Stands first s → IsTrue first.honest → IsTrue old.honest
+      pub has_converted_rows : (first : Content) (finished : EngineState) → AreWhole finished → finished ≡ oldest_replaced s m ends.conversion digest
+          → Stands first s → IsTrue first.honest → IsTrue old.honest
           → shown_stores old s ≡ shown_stores first s → HasConvertedRows first new s finished
       has_converted_rows first finished is_whole is stood was_honest h same =
           let rows : List StoredRow = oldest_rows s.manifest.shape s.manifest.current (full_image first s) in
@@ -281,7 +287,8 @@ module _ (old : Content) (s : EngineState) (body : Body) (digests : Digests) (st
                 ∙ slots_now (subst AreWhole is is_whole) h
                 ∙ ap (converted_rows s.manifest.shape (oldest_log s).table) (sym log_rows_are);
           } in
-          subst (λ (o : Option ConversionState). IfSome o (λ conversion. AreConverted s.manifest.shape rows (hash_rows s.manifest.shape conversion.region (full_image new finished)))) (sym ends.was) converted
+          subst (λ (o : Option ConversionState). IfSome o
+          (λ conversion. AreConverted s.manifest.shape rows (hash_rows s.manifest.shape conversion.region (full_image new finished)))) (sym ends.was) converted
 
       -- the conversion is finished
       pub converted_finishes : (finished : EngineState) → finished ≡ oldest_replaced s m ends.conversion digest → Finishes s finished

@@ -1,5 +1,6 @@
 -- Digests in their places, one after the other.
-use Rattle.std.proofs.Common.{◌≡◌, ◌≤◌, ◌<◌, ℕ, ◌+◌, ◌-◌, suc, Bool, List, [], ◌∷◌, ◌++◌, length, map, take, get_or, replicate, slice_set, Option, Some, None, is_some, length-append, append_assoc, ap, sym, ◌∙◌, arith}
+use Rattle.std.proofs.Common.{◌≡◌, ◌≤◌, ◌<◌, ℕ, ◌+◌, ◌-◌, suc, Bool, List, [], ◌∷◌, ◌++◌, length, map, take, get_or, replicate, slice_set, Option, Some, None}
+use Rattle.std.proofs.Common.{is_some, length-append, append_assoc, ap, sym, ◌∙◌, arith}
 use Rattle.std.specs.Int.{from_bool}
 use Rattle.std.specs.Option.{option_to_list}
 use Rattle.std.proofs.lemmas.List.{length-map, length-take, map_more}
@@ -23,7 +24,8 @@ in_front None is newer counted same = counted ∙ ap from_bool same
 in_front (Some digest) is newer counted same = counted ∙ ap from_bool same
 
 -- the digest of one store more
-pub one_more : (front : List Digest) (stores : List HashState) (index newer : ℕ) (store : HashState) (digest : Digest) (hashed : List Digest) → length front + length stores ≤ 16 → newer ≡ length front → index < length stores
+pub one_more : (front : List Digest) (stores : List HashState) (index newer : ℕ) (store : HashState) (digest : Digest) (hashed : List Digest)
+    → length front + length stores ≤ 16 → newer ≡ length front → index < length stores
     → store ≡ get_or stores index store → digest.0 ≡ store.digest → hashed ≡ padded (front ++ map digest_of (take index stores))
     → slice_set hashed (newer + index) digest ≡ padded (front ++ map digest_of (take (index + 1) stores))
 one_more front stores index newer store digest hashed room counted inside here its was =

@@ -80,7 +80,8 @@ unfolding log_rows
 scanned_all content log counted = ap (λ (n : ℕ). first_rows log.shape log.region content.shown n) counted
 
 -- the table of a log's keys and the number of its puts depend on its rows alone
-pub indexed_same : (old new : Content) (store : LogStoreState) → (IsTrue new.honest → IsTrue old.honest) → (IsTrue new.honest → all_rows new store.log ≡ all_rows old store.log) → IsIndexed old store → IsIndexed new store
+pub indexed_same : (old new : Content) (store : LogStoreState) → (IsTrue new.honest → IsTrue old.honest)
+    → (IsTrue new.honest → all_rows new store.log ≡ all_rows old store.log) → IsIndexed old store → IsIndexed new store
 indexed_same old new store back same indexed = record {
   known = λ h. ap (list_all has_known_kind) (same h) ∙ indexed.known (back h);
   indexed = λ h. ap (λ (rows : List StoredRow). index_of_keys store.log.shape.buckets (keys_of rows)) (same h) ∙ indexed.indexed (back h);
@@ -89,7 +90,8 @@ indexed_same old new store back same indexed = record {
 
 -- a change outside a frozen log's region leaves the log
 pub frozen_elsewhere : (old new : Content) (store : LogStoreState) (at count : ℕ) → size old ≡ device_size store.log.shape → ChangesWithin at count old new
-    → (IsTrue old.honest → (store.log.region < store.log.shape.logs) × LiesOutside (gates_at store.log.shape store.log.region) (log_len store.log.shape) at count) → IsFrozen old store → IsFrozen new store
+    → (IsTrue old.honest → (store.log.region < store.log.shape.logs) × LiesOutside (gates_at store.log.shape store.log.region) (log_len store.log.shape) at count)
+    → IsFrozen old store → IsFrozen new store
 frozen_elsewhere old new store at count sized changes lies frozen =
     let s : Shape = store.log.shape in
     let r : ℕ = store.log.region in
@@ -113,7 +115,8 @@ not_among ids x id none (k, inside, here) e =
     absurd (cc)
 
 -- the body names the region of each frozen log
-pub frozen_named : (s : EngineState) → map region_of s.frozen ≡ s.manifest.current.frozen → (k : ℕ) (d : LogStoreState) → k < length s.frozen → Contains s.manifest.current.frozen (region_of (get_or s.frozen k d))
+pub frozen_named : (s : EngineState) → map region_of s.frozen ≡ s.manifest.current.frozen → (k : ℕ) (d : LogStoreState)
+    → k < length s.frozen → Contains s.manifest.current.frozen (region_of (get_or s.frozen k d))
 frozen_named s are k d inside = (
   k,
   omega (arith, inside, length-map s.frozen region_of, ap length are),
@@ -159,7 +162,8 @@ all_frozen_elsewhere old new s at count stands changes outside k d inside =
 -- ---- hash stores
 
 -- the body names the region of each hash store
-pub hash_named : (s : EngineState) → map hash_region_of s.hashes ≡ s.manifest.current.hashed → (k : ℕ) (d : HashState) → k < length s.hashes → Contains s.manifest.current.hashed (hash_region_of (get_or s.hashes k d))
+pub hash_named : (s : EngineState) → map hash_region_of s.hashes ≡ s.manifest.current.hashed → (k : ℕ) (d : HashState) → k < length s.hashes
+    → Contains s.manifest.current.hashed (hash_region_of (get_or s.hashes k d))
 hash_named s are k d inside = (
   k,
   omega (arith, inside, length-map s.hashes hash_region_of, ap length are),
@@ -168,14 +172,17 @@ hash_named s are k d inside = (
 
 -- a change outside the slots of the hash stores leaves these
 pub all_hashed_elsewhere : (old new : Content) (s : EngineState) (at count : ℕ) → Stands old s → ChangesWithin at count old new
-    → (IsTrue old.honest → (region : ℕ) → Contains s.manifest.current.hashed region → LiesOutside (hash_at s.manifest.shape region) (slots_len s.manifest.shape) at count) → All (IsHashStore new) s.hashes
+    → (IsTrue old.honest → (region : ℕ) → Contains s.manifest.current.hashed region → LiesOutside (hash_at s.manifest.shape region) (slots_len s.manifest.shape) at count)
+    → All (IsHashStore new) s.hashes
 all_hashed_elsewhere old new s at count stands changes outside k d inside =
     let store : HashState = get_or s.hashes k d in
     let is : IsHashOf s.manifest.shape store = stands.whole.hashed k d inside in
     let back : IsTrue new.honest → IsTrue old.honest = λ h. subst IsTrue changes.honest h in
     let fits : device_size store.shape ≤ size old = subst (λ (sh : Shape). device_size sh ≤ size old) (sym is.has_shape) (omega (arith, stands.has_size)) in
     let stays : IsTrue old.honest → IsHashStore new store =
-    λ h. hash_elsewhere store old new at count is.held fits (subst (λ (sh : Shape). LiesOutside (hash_at sh store.region) (slots_len sh) at count) (sym is.has_shape) (outside h store.region (hash_named s stands.whole.hash_regions k d inside))) changes (stands.hashed k d inside) in
+    λ h. hash_elsewhere store old new at count is.held fits
+    (subst (λ (sh : Shape). LiesOutside (hash_at sh store.region) (slots_len sh) at count) (sym is.has_shape)
+    (outside h store.region (hash_named s stands.whole.hash_regions k d inside))) changes (stands.hashed k d inside) in
     record {
       sound = λ h. (stays (back h)).sound h;
       tagged = λ h. (stays (back h)).tagged h;
@@ -191,9 +198,11 @@ unfolding open_count
 open_most shape region image fits = count_most (gates_at shape region) shape.log_capacity image fits
 
 -- a change outside a frozen log and the slots of its conversion leaves what this has written
-pub log_written_elsewhere : (old new : Content) (store : LogStoreState) (conversion : ConversionState) (at count : ℕ) → device_size store.log.shape ≤ size old → conversion.region < conversion.shape.hashes
+pub log_written_elsewhere : (old new : Content) (store : LogStoreState) (conversion : ConversionState) (at count : ℕ)
+    → device_size store.log.shape ≤ size old → conversion.region < conversion.shape.hashes
     → conversion.next ≤ 4 * conversion.shape.buckets → IsFrozen old store → ChangesWithin at count old new
-    → (IsTrue old.honest → (store.log.region < store.log.shape.logs) × LiesOutside (gates_at store.log.shape store.log.region) (log_len store.log.shape) at count × LiesOutside (hash_at conversion.shape conversion.region) (slots_len conversion.shape) at count)
+    → (IsTrue old.honest → (store.log.region < store.log.shape.logs) × LiesOutside (gates_at store.log.shape store.log.region) (log_len store.log.shape) at count
+    × LiesOutside (hash_at conversion.shape conversion.region) (slots_len conversion.shape) at count)
     → HasWritten old store conversion → HasWritten new store conversion
 log_written_elsewhere old new store conversion at count fits there most frozen changes lies is =
     let plain : LogStoreState = record store { log = record store.log { settled = store.log.used; stale = false } } in
@@ -282,7 +291,8 @@ merged_all_elsewhere old new s at count (Some merge) stands changes outside behi
     let fits : device_size s.sorted.shape ≤ size old = subst (λ (sh : Shape). device_size sh ≤ size old) (sym is_shape) (omega (arith, stands.has_size)) in
     let slots : IsTrue old.honest → All (λ (store : HashState). LiesOutside (hash_at s.sorted.shape store.region) (slots_len s.sorted.shape) at count) (oldest_stores merge.stores s.hashes) =
     λ h. All-drop (λ (store : HashState). LiesOutside (hash_at s.sorted.shape store.region) (slots_len s.sorted.shape) at count) (length s.hashes - merge.stores) s.hashes
-    (λ k d inside. subst (λ (sh : Shape). LiesOutside (hash_at sh (get_or s.hashes k d).region) (slots_len sh) at count) (sym is_shape) (outside h (get_or s.hashes k d).region (hash_named s stands.whole.hash_regions k d inside))) in
+    (λ k d inside. subst (λ (sh : Shape). LiesOutside (hash_at sh (get_or s.hashes k d).region) (slots_len sh) at count) (sym is_shape)
+    (outside h (get_or s.hashes k d).region (hash_named s stands.whole.hash_regions k d inside))) in
     let stays : IsTrue old.honest → HasMerged new (oldest_stores merge.stores s.hashes) s.sorted merge =
     λ h. merged_elsewhere (oldest_stores merge.stores s.hashes) s.sorted merge old new at count stands.whole.held way.held fits
     (subst (λ (sh : Shape). LiesOutside (sorted_at sh merge.region) (entries_len sh) at count) (sym is_shape) (apart h))

@@ -24,7 +24,8 @@ use Rattle.silt_manifest.proofs.Laws.{other_regions}
 use Rattle.silt_standing.specs.State.{EngineState}
 use Rattle.silt_standing.specs.Standing.{Stands, base_map, current_map, full_image, shown_stores}
 use Rattle.silt_engine.specs.Laws.{IsGoodWith}
-use Rattle.silt_engine.proofs.Named.{active_named, map_with_more, named_body, named_here, named_shape, region_torn, rows_with_more, said_with_rows, says_current, sound_settled, stands_for, stores_map, with_body, with_shape}
+use Rattle.silt_engine.proofs.Named.{active_named, map_with_more, named_body, named_here, named_shape, region_torn, rows_with_more, said_with_rows}
+use Rattle.silt_engine.proofs.Named.{says_current, sound_settled, stands_for, stores_map, with_body, with_shape}
 
 -- the map of the settled rows
 pub base_is : (content : Content) (s : EngineState) → base_map content s ≡ map_of_rows (rows_of (shown_stores content s))
@@ -49,7 +50,8 @@ full_torn content l bounds sized =
 
 -- with the gates of a log's waiting rows open, the map of the stores that are shown, of which it is the active one, is that after their
 -- commands
-pub opened_map : (content : Content) (l : LogState) (t : Stores) → log.IsLog content l → size content ≡ device_size l.shape → t.shape ≡ l.shape → t.body.active ≡ l.region → IsTrue content.honest → image_stores content.shown ≡ Ok t
+pub opened_map : (content : Content) (l : LogState) (t : Stores) → log.IsLog content l → size content ≡ device_size l.shape
+    → t.shape ≡ l.shape → t.body.active ≡ l.region → IsTrue content.honest → image_stores content.shown ≡ Ok t
     → image_map (log.opened_image content l) ≡ map_after (map_of_rows (rows_of t)) (map command_of (waiting_rows content l))
 opened_map content l t is sized same_shape same_region honest named =
     let settled : List StoredRow = settled_rows content l in
@@ -70,7 +72,8 @@ module _ (content : Content) (s : EngineState) (stands : Stands content s) where
 
   -- the active log's rows in an image
   pub active_rows : (image : List ℕ) → log_rows s.manifest.shape s.manifest.current.active image ≡ log_rows s.active.log.shape s.active.log.region image
-  active_rows image = ap (λ (sh : Shape). log_rows sh s.manifest.current.active image) (sym stands.whole.has_shape) ∙ ap (λ (n : ℕ). log_rows s.active.log.shape n image) (sym stands.whole.active_region)
+  active_rows image = ap (λ (sh : Shape). log_rows sh s.manifest.current.active image) (sym stands.whole.has_shape)
+      ∙ ap (λ (n : ℕ). log_rows s.active.log.shape n image) (sym stands.whole.active_region)
 
   -- the active log's size
   pub active_size : size content ≡ device_size s.active.log.shape
@@ -102,7 +105,8 @@ module _ (content : Content) (s : EngineState) (stands : Stands content s) where
 
   -- nothing is found in what is shown
   pub shown_sound : IsTrue content.honest → IsSound (shown_stores content s)
-  shown_sound honest = sound_settled (shown_stores content s) s.manifest.current.active (settled_rows content s.active.log) (waiting_rows content s.active.log) active_is (has_active honest) (all_sound honest)
+  shown_sound honest = sound_settled (shown_stores content s) s.manifest.current.active (settled_rows content s.active.log)
+      (waiting_rows content s.active.log) active_is (has_active honest) (all_sound honest)
 
   -- the rows of the active log in the full image
   pub full_rows : IsTrue content.honest → log_rows s.manifest.shape s.manifest.current.active (full_image content s) ≡ all_rows content s.active.log
@@ -119,15 +123,18 @@ module _ (content : Content) (s : EngineState) (stands : Stands content s) where
   -- and in the full image
   full_is_current : IsTrue content.honest → RecordIsCurrent s.manifest (full_image content s)
   full_is_current honest =
-      let torn : Torn (gates_at s.active.log.shape s.active.log.region) (log_size s.active.log.shape) content.shown (full_image content s) = full_torn content s.active.log stands.active.bounds active_size in
+      let torn : Torn (gates_at s.active.log.shape s.active.log.region) (log_size s.active.log.shape) content.shown (full_image content s) =
+      full_torn content s.active.log stands.active.bounds active_size in
       let same_header : header_of (full_image content s) ≡ header_of content.shown =
       torn_slice_before (gates_at s.active.log.shape s.active.log.region) (log_size s.active.log.shape) content.shown (full_image content s) torn 0 37 (omega arith) (omega arith) in
-      ap where_found (other_regions s.manifest.shape (gates_at s.active.log.shape s.active.log.region) (log_size s.active.log.shape) content.shown (full_image content s) (omega (arith, active_size)) (inr (omega arith)) torn
+      ap where_found (other_regions s.manifest.shape (gates_at s.active.log.shape s.active.log.region) (log_size s.active.log.shape)
+      content.shown (full_image content s) (omega (arith, active_size)) (inr (omega arith)) torn
       (ap version_of same_header))
       ∙ left_is_current honest content.shown (shown_left content)
 
   -- an image that is changed in the region of the active log
-  pub torn_active : (before image : List ℕ) (rows : List StoredRow) → image_stores before ≡ Ok (shown_stores content s) → Torn (gates_at s.active.log.shape s.active.log.region) (log_size s.active.log.shape) before image
+  pub torn_active : (before image : List ℕ) (rows : List StoredRow) → image_stores before ≡ Ok (shown_stores content s)
+      → Torn (gates_at s.active.log.shape s.active.log.region) (log_size s.active.log.shape) before image
       → log_rows s.active.log.shape s.active.log.region image ≡ rows → image_stores image ≡ Ok (with_log_rows s.manifest.current.active rows (shown_stores content s))
   torn_active before image rows named torn are =
       region_torn s.manifest.shape (shown_stores content s) s.manifest.current.active rows before image (named_shape s.manifest.shape s.manifest.current content.shown) named active_below
@@ -137,7 +144,8 @@ module _ (content : Content) (s : EngineState) (stands : Stands content s) where
 
   -- the stores of the full image
   pub full_stores : IsTrue content.honest → image_stores (full_image content s) ≡ Ok (with_log_rows s.manifest.current.active (all_rows content s.active.log) (shown_stores content s))
-  full_stores honest = torn_active content.shown (full_image content s) (all_rows content s.active.log) (shown_named honest) (full_torn content s.active.log stands.active.bounds active_size) (stands.active.full honest)
+  full_stores honest = torn_active content.shown (full_image content s) (all_rows content s.active.log) (shown_named honest)
+      (full_torn content s.active.log stands.active.bounds active_size) (stands.active.full honest)
 
   -- an image with these rows in the active log: its map
   pub map_with_rows : IsTrue content.honest → (image : List ℕ) (more : List StoredRow)
@@ -160,7 +168,8 @@ module _ (content : Content) (s : EngineState) (stands : Stands content s) where
       let split : t ≡ with_log_rows s.manifest.current.active (settled_rows content s.active.log ++ waiting_rows content s.active.log) (shown_stores content s) =
       ap (λ (rows : List StoredRow). with_log_rows s.manifest.current.active rows (shown_stores content s)) rows_split in
       let is : image_stores (full_image content s) ≡ Ok t = full_stores honest in
-      let same_shape : t.shape ≡ s.manifest.shape = with_shape s.manifest.current.active (all_rows content s.active.log) (shown_stores content s) ∙ named_shape s.manifest.shape s.manifest.current content.shown in
+      let same_shape : t.shape ≡ s.manifest.shape = with_shape s.manifest.current.active (all_rows content s.active.log) (shown_stores content s)
+      ∙ named_shape s.manifest.shape s.manifest.current content.shown in
       record {
         stores = is ∙ ap Ok (sym (named_here s.manifest.shape s.manifest.current t (full_image content s) is same_shape
             (with_body s.manifest.current.active (all_rows content s.active.log) (shown_stores content s) ∙ named_body s.manifest.shape s.manifest.current content.shown)));
@@ -168,7 +177,8 @@ module _ (content : Content) (s : EngineState) (stands : Stands content s) where
             (said_with_rows s.manifest.digests s.manifest.current.active (all_rows content s.active.log) (shown_stores content s) (stands.said honest))
             (says_held (full_image content s) t is same_shape (full_is_current honest)) refl).good;
         charged = charge_is (full_image content s) t is ∙ ap (λ (u : Stores). put_count (rows_of u)) split
-            ∙ ap put_count (rows_with_more (shown_stores content s) s.manifest.current.active (settled_rows content s.active.log) (waiting_rows content s.active.log) active_is (has_active honest) (waiting_rows content s.active.log))
+            ∙ ap put_count (rows_with_more (shown_stores content s) s.manifest.current.active (settled_rows content s.active.log)
+            (waiting_rows content s.active.log) active_is (has_active honest) (waiting_rows content s.active.log))
             ∙ sym (stands.counted honest);
       }
 
@@ -177,7 +187,8 @@ module _ (content : Content) (s : EngineState) (stands : Stands content s) where
   shown_map honest = stores_map (shown_stores content s) content.shown (shown_named honest) ∙ sym (base_is content s)
 
   -- each image represents the base
-  pub base_stands : IsTrue content.honest → (image : List ℕ) → image_stores image ≡ Ok (shown_stores content s) → RecordIsCurrent s.manifest image → StandsFor s.manifest.shape (base_map content s) image
+  pub base_stands : IsTrue content.honest → (image : List ℕ) → image_stores image ≡ Ok (shown_stores content s) → RecordIsCurrent s.manifest image
+      → StandsFor s.manifest.shape (base_map content s) image
   base_stands honest image is is_current =
       let same_shape = named_shape s.manifest.shape s.manifest.current content.shown in
       stands_for s.manifest.shape (shown_stores content s) s.manifest.digests (base_map content s) image is

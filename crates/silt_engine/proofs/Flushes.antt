@@ -40,7 +40,8 @@ module _ (old new : Content) (s : EngineState) (after : LogStoreState) (stands :
   there h = subst IsTrue (sym changes.honest) h
 
   changed : ChangesWithin (gates_at s.active.log.shape s.active.log.region) (log_size s.active.log.shape) old new
-  changed = gates_in_region s.active.log.shape s.active.log.region s.active.log.settled (s.active.log.used - s.active.log.settled) old new (omega (arith, stands.active.bounds.order, stands.active.bounds.room)) changes
+  changed = gates_in_region s.active.log.shape s.active.log.region s.active.log.settled (s.active.log.used - s.active.log.settled)
+      old new (omega (arith, stands.active.bounds.order, stands.active.bounds.room)) changes
 
   pub flushed_disk : SameDisk old new
   flushed_disk = record { size = sizes; honest = changes.honest }
@@ -86,7 +87,8 @@ module _ (old new : Content) (s : EngineState) (after : LogStoreState) (stands :
 
     -- all rows of the stores
     now_rows : IsTrue old.honest → rows_of now ≡ rows_of (shown_stores old s) ++ waiting_rows old s.active.log
-    now_rows h = ap rows_of now_is ∙ rows_with_more (shown_stores old s) s.manifest.current.active (settled_rows old s.active.log) [] (active_is old s stands) (has_active old s stands h) (waiting_rows old s.active.log)
+    now_rows h = ap rows_of now_is ∙ rows_with_more (shown_stores old s) s.manifest.current.active (settled_rows old s.active.log)
+        [] (active_is old s stands) (has_active old s stands h) (waiting_rows old s.active.log)
 
     none : waiting_rows new after.log ≡ []
     none = none_waiting new after.log settled_all
@@ -110,7 +112,8 @@ module _ (old new : Content) (s : EngineState) (after : LogStoreState) (stands :
       sound = λ h.
           subst (λ (t : Stores). IsSound (with_log_rows s.manifest.current.active (all_rows new after.log) t)) (sym now_is)
           (subst IsSound (sym (again_law (shown_stores old s) s.manifest.current.active (settled_rows old s.active.log ++ waiting_rows old s.active.log) (all_rows new after.log)))
-          (subst (λ (rows : List StoredRow). IsSound (with_log_rows s.manifest.current.active rows (shown_stores old s))) (sym (opens.log.all (was h) ∙ rows_split old s stands)) (all_sound old s stands (was h))));
+          (subst (λ (rows : List StoredRow). IsSound (with_log_rows s.manifest.current.active rows (shown_stores old s)))
+          (sym (opens.log.all (was h) ∙ rows_split old s stands)) (all_sound old s stands (was h))));
       said = λ h. subst (λ (t : Stores). AreDigestsOf s.manifest.digests t) (sym now_is)
           (said_with_rows s.manifest.digests s.manifest.current.active (settled_rows old s.active.log ++ waiting_rows old s.active.log) (shown_stores old s) (stands.said (was h)));
       counted = λ h.
@@ -153,7 +156,8 @@ module _ (old new : Content) (s : EngineState) (after : LogStoreState) (stands :
             kept = map command_of some;
             begins = record { rest = map command_of (drop has.0 waiting); is = sym (map-append command_of some (drop has.0 waiting)) ∙ ap (map command_of) (take-append-drop has.0 waiting) };
             stands = stands_with_rows old s stands o image some is ((current_record_stays old new s stands sizes changed).each h image left).current
-                (sound_some (shown_stores old s) s.manifest.current.active (settled_rows old s.active.log) waiting (active_is old s stands) (has_active old s stands o) has.0 (all_sound old s stands o));
+                (sound_some (shown_stores old s) s.manifest.current.active (settled_rows old s.active.log) waiting (active_is old s stands)
+                (has_active old s stands o) has.0 (all_sound old s stands o));
           };
     }
 

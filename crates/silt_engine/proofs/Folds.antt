@@ -1,5 +1,6 @@
 -- Rows done on a map in memory.
-use Rattle.std.proofs.Common.{◌≡◌, ◌<◌, ℕ, ◌+◌, ◌*◌, ◌==◌, Bool, cond, if◌then◌else◌, true, false, List, [], ◌∷◌, ◌++◌, ◌-◌, length, filter, map, take, drop, get_or, Some, None, refl, ap, sym, ◌∙◌, subst, arith}
+use Rattle.std.proofs.Common.{◌≡◌, ◌<◌, ℕ, ◌+◌, ◌*◌, ◌==◌, Bool, cond, if◌then◌else◌, true, false, List, [], ◌∷◌, ◌++◌, ◌-◌, length, filter, map, take, drop}
+use Rattle.std.proofs.Common.{get_or, Some, None, refl, ap, sym, ◌∙◌, subst, arith}
 use Rattle.std.specs.Ordering.{nat_cmp, eq_by_cmp}
 use Rattle.std.specs.Cmp.Lexicographic.{slice_cmp}
 use Rattle.std.specs.BTreeMap.{BTreeMap}
@@ -29,7 +30,8 @@ tied : (a b : List ℕ) → eq_by_cmp (slice_cmp nat_cmp) a b ≡ eq_by_cmp (sli
 tied a b = (eq_by_cmp_equiv nat_list_cmp_total).symm a b
 
 -- a put was done
-pub does_put : (row : StoredRow) (key : Key) (before after : BTreeMap Key (List ℕ)) → row.kind ≡ 1 → row.key ≡ key.0 → tree.Updates key_cmp before after key (Some row.value) → DoesRows (row ∷ []) before after
+pub does_put : (row : StoredRow) (key : Key) (before after : BTreeMap Key (List ℕ)) → row.kind ≡ 1 → row.key ≡ key.0
+    → tree.Updates key_cmp before after key (Some row.value) → DoesRows (row ∷ []) before after
 does_put row key before after kind same updates m are q =
     let is : command_of row ≡ put key.0 row.value = ap (λ (n : ℕ). if n == 1 then put row.key row.value else delete row.key) kind ∙ ap (λ (k : List ℕ). put k row.value) same in
     updates.0 q
@@ -39,7 +41,8 @@ does_put row key before after kind same updates m are q =
     ∙ ap (λ (c : Command). get (changed m c) q.0) (sym is)
 
 -- a row that is this put was done
-pub does_row : (row : StoredRow) (key : Key) (value : List ℕ) (before after : BTreeMap Key (List ℕ)) → row.kind ≡ 1 → key.0 ≡ row.key → value ≡ row.value → DoesRows (stored_row Put key value ∷ []) before after → DoesRows (row ∷ []) before after
+pub does_row : (row : StoredRow) (key : Key) (value : List ℕ) (before after : BTreeMap Key (List ℕ)) → row.kind ≡ 1 → key.0 ≡ row.key
+    → value ≡ row.value → DoesRows (stored_row Put key value ∷ []) before after → DoesRows (row ∷ []) before after
 does_row row key value before after kind same_key same_value does =
     let is : stored_row Put key value ≡ row = ap (λ (n : ℕ). record { kind = n; key = key.0; value = value }) (sym kind)
     ∙ ap (λ (k : List ℕ). record { kind = row.kind; key = k; value = value }) same_key
@@ -47,7 +50,8 @@ does_row row key value before after kind same_key same_value does =
     subst (λ (r : StoredRow). DoesRows (r ∷ []) before after) is does
 
 -- a delete was done
-pub does_delete : (row : StoredRow) (key : Key) (before after : BTreeMap Key (List ℕ)) → (row.kind == 1) ≡ false → row.key ≡ key.0 → tree.UpdatesBy key_cmp (key_cmp key) before after None → DoesRows (row ∷ []) before after
+pub does_delete : (row : StoredRow) (key : Key) (before after : BTreeMap Key (List ℕ)) → (row.kind == 1) ≡ false → row.key ≡ key.0
+    → tree.UpdatesBy key_cmp (key_cmp key) before after None → DoesRows (row ∷ []) before after
 does_delete row key before after kind same updates m are q =
     let is : command_of row ≡ delete key.0 = ap (λ (b : Bool). if b then put row.key row.value else delete row.key) kind ∙ ap delete same in
     updates.0 q
@@ -67,12 +71,14 @@ does_more rows more a b c first second m are =
     (second (map_after m (map command_of rows)) (first m are))
 
 -- one more row of some was done
-pub does_next : (rows : List StoredRow) (n : ℕ) (row : StoredRow) (a b c : BTreeMap Key (List ℕ)) → n < length rows → get_or rows n row ≡ row → DoesRows (take n rows) a b → DoesRows (row ∷ []) b c → DoesRows (take (n + 1) rows) a c
+pub does_next : (rows : List StoredRow) (n : ℕ) (row : StoredRow) (a b c : BTreeMap Key (List ℕ)) → n < length rows → get_or rows n row ≡ row
+    → DoesRows (take n rows) a b → DoesRows (row ∷ []) b c → DoesRows (take (n + 1) rows) a c
 does_next rows n row a b c inside is first second =
     subst (λ (l : List StoredRow). DoesRows l a c) (sym (take_more rows n row inside ∙ ap (λ (r : StoredRow). take n rows ++ r ∷ []) is)) (does_more (take n rows) (row ∷ []) a b c first second)
 
 -- one more entry was done
-pub does_entry : (rows : List StoredRow) (place : ℕ) (bytes : List ℕ) (key : Key) (value : List ℕ) (a b c : BTreeMap Key (List ℕ)) → HasEntry rows place bytes → key.0 ≡ take 20 bytes → value ≡ drop 20 bytes
+pub does_entry : (rows : List StoredRow) (place : ℕ) (bytes : List ℕ) (key : Key) (value : List ℕ) (a b c : BTreeMap Key (List ℕ))
+    → HasEntry rows place bytes → key.0 ≡ take 20 bytes → value ≡ drop 20 bytes
     → DoesRows (take place rows) a b → DoesRows (stored_row Put key value ∷ []) b c → DoesRows (take (place + 1) rows) a c
 does_entry rows place bytes key value a b c there key_is value_is first second =
     let row : StoredRow = entry_row bytes in
@@ -99,15 +105,19 @@ module _ (shape : Shape) (region : ℕ) (image : List ℕ) where
   does_no_slot entries = does_none entries
 
   -- one slot more was done
-  pub does_slot : (slot : ℕ) (a b c : BTreeMap Key (List ℕ)) → DoesRows (filter has_known_kind (rows_before shape region image slot)) a b → DoesRows (filter has_known_kind (slot_row shape region image slot ∷ [])) b c
+  pub does_slot : (slot : ℕ) (a b c : BTreeMap Key (List ℕ)) → DoesRows (filter has_known_kind (rows_before shape region image slot)) a b
+      → DoesRows (filter has_known_kind (slot_row shape region image slot ∷ [])) b c
       → DoesRows (filter has_known_kind (rows_before shape region image (slot + 1))) a c
   does_slot slot a b c first second =
-      let split : filter has_known_kind (rows_before shape region image (slot + 1)) ≡ filter has_known_kind (rows_before shape region image slot) ++ filter has_known_kind (slot_row shape region image slot ∷ []) =
+      let split : filter has_known_kind (rows_before shape region image (slot + 1)) ≡ filter has_known_kind (rows_before shape region image slot)
+      ++ filter has_known_kind (slot_row shape region image slot ∷ []) =
       ap (filter has_known_kind) (before_more shape region image slot) ∙ filter-append has_known_kind (rows_before shape region image slot) (slot_row shape region image slot ∷ []) in
-      subst (λ (l : List StoredRow). DoesRows l a c) (sym split) (does_more (filter has_known_kind (rows_before shape region image slot)) (filter has_known_kind (slot_row shape region image slot ∷ [])) a b c first second)
+      subst (λ (l : List StoredRow). DoesRows l a c) (sym split)
+      (does_more (filter has_known_kind (rows_before shape region image slot)) (filter has_known_kind (slot_row shape region image slot ∷ [])) a b c first second)
 
   -- all slots were done
-  pub does_slots : (count : ℕ) (a b : BTreeMap Key (List ℕ)) → count ≡ 4 * shape.buckets → DoesRows (filter has_known_kind (rows_before shape region image count)) a b → DoesRows (filter has_known_kind (hash_rows shape region image)) a b
+  pub does_slots : (count : ℕ) (a b : BTreeMap Key (List ℕ)) → count ≡ 4 * shape.buckets
+      → DoesRows (filter has_known_kind (rows_before shape region image count)) a b → DoesRows (filter has_known_kind (hash_rows shape region image)) a b
   does_slots count a b all does =
       subst (λ (l : List StoredRow). DoesRows (filter has_known_kind l) a b) (ap (rows_before shape region image) all ∙ sym (all_before shape region image)) does
 

@@ -1,5 +1,6 @@
 -- The steps of freezing.
-use Rattle.std.proofs.Common.{◌≡◌, ◌≢◌, ◌<◌, ℕ, ◌+◌, ◌-◌, ◌%◌, false, IsTrue, List, [], ◌∷◌, ◌++◌, suc, length, map, take, drop, replicate, Option, Some, None, Ok, inr, refl, ap, sym, ◌∙◌, subst, arith}
+use Rattle.std.proofs.Common.{◌≡◌, ◌≢◌, ◌<◌, ℕ, ◌+◌, ◌-◌, ◌%◌, false, IsTrue, List, [], ◌∷◌, ◌++◌, suc, length, map, take, drop, replicate, Option, Some, None}
+use Rattle.std.proofs.Common.{Ok, inr, refl, ap, sym, ◌∙◌, subst, arith}
 use Rattle.std.specs.Prelude.{Contains, IfSome}
 use Rattle.std.proofs.lemmas.List.{append-nil, take-append-drop}
 use Rattle.std.proofs.Math.Nat.{mod-lt}
@@ -33,7 +34,9 @@ use Rattle.silt_standing.specs.Standing.{IsQuiet, SameDisk}
 use Rattle.silt_engine.specs.NextLog.{names_region}
 use Rattle.silt_engine.proofs.Named.{named_body, named_shape, region_torn}
 use Rattle.silt_engine.proofs.Facts.{active_size, base_is, shown_named}
-use Rattle.silt_engine.proofs.Elsewhere.{all_frozen_elsewhere, all_hashed_elsewhere, digested_elsewhere, entries_behind_manifest, indexed_same, located_elsewhere, merged_all_elsewhere, not_among, outside_other, outside_slot, slots_behind_log, slots_behind_manifest, written_all_elsewhere}
+use Rattle.silt_engine.proofs.Elsewhere.{all_frozen_elsewhere, all_hashed_elsewhere, digested_elsewhere, entries_behind_manifest, indexed_same}
+use Rattle.silt_engine.proofs.Elsewhere.{located_elsewhere, merged_all_elsewhere, not_among, outside_other, outside_slot, slots_behind_log}
+use Rattle.silt_engine.proofs.Elsewhere.{slots_behind_manifest, written_all_elsewhere}
 use Rattle.silt_standing.proofs.Places.{entries_behind_log}
 use Rattle.silt_engine.proofs.Standing.{Fits, fits_stand, shown_are}
 use Rattle.silt_engine.proofs.Wholes.{whole_with}
@@ -66,7 +69,8 @@ store_elsewhere old new store at count stands sized sizes outside changes =
     }
 
 module _ (old new : Content) (s : EngineState) (at count : ℕ) (stands : Stands old s) (sizes : size new ≡ size old) (changes : ChangesWithin at count old new)
-    (apart : IsTrue old.honest → IsApart s.manifest.shape s.manifest.current at count) (outside : LiesOutside (gates_at s.active.log.shape s.active.log.region) (log_len s.active.log.shape) at count) where
+    (apart : IsTrue old.honest → IsApart s.manifest.shape s.manifest.current at count)
+    (outside : LiesOutside (gates_at s.active.log.shape s.active.log.region) (log_len s.active.log.shape) at count) where
   pub same_here : SameDisk old new
   same_here = record { size = sizes; honest = changes.honest }
 
@@ -74,9 +78,11 @@ module _ (old new : Content) (s : EngineState) (at count : ℕ) (stands : Stands
   kept = log_elsewhere old new s.active.log at count stands.active (omega (arith, active_size old s stands)) sizes outside changes
 
   -- the stores stand in this state, with the same rows waiting
-  module _ (m : ManifestState) (converting : Option ConversionState) (merging : Option MergeState) (same_shape : m.shape ≡ s.manifest.shape) (same_current : m.current ≡ s.manifest.current) (same_digests : m.digests ≡ s.manifest.digests) (idle : m.prepared ≡ None) (is_current : IsCurrent m new)
+  module _ (m : ManifestState) (converting : Option ConversionState) (merging : Option MergeState) (same_shape : m.shape ≡ s.manifest.shape)
+      (same_current : m.current ≡ s.manifest.current) (same_digests : m.digests ≡ s.manifest.digests) (idle : m.prepared ≡ None) (is_current : IsCurrent m new)
       (named : LeavesOnly new (λ image. image_stores image ≡ Ok (shown_stores old s)))
-      (under_way : IfSome converting (IsUnderWay s)) (written : IfSome converting (HasWritten new (oldest_log s))) (is_merging : IfSome merging (IsMerging s)) (merged : IfSome merging (HasGathered new s)) where
+      (under_way : IfSome converting (IsUnderWay s)) (written : IfSome converting (HasWritten new (oldest_log s)))
+      (is_merging : IfSome merging (IsMerging s)) (merged : IfSome merging (HasGathered new s)) where
     abbrev after : EngineState
     after = record s { manifest = m; converting = converting; merging = merging }
 
@@ -134,7 +140,8 @@ module _ (old new : Content) (s : EngineState) (at count : ℕ) (stands : Stands
   merged_on outside_merge = merged_all_elsewhere old new s at count s.merging stands changes (λ h. (apart h).hashed) (λ h. (apart h).sorted) outside_merge stands.whole.merging stands.merged
 
   -- so do the stores with their conversion and their merge as they are, after a change outside their slots and entries
-  pub stays_on : (IsTrue old.honest → IsOutsideConversion s at count) → (IsTrue old.honest → IsOutsideMerge s at count) → (m : ManifestState) → m.shape ≡ s.manifest.shape → m.current ≡ s.manifest.current → m.digests ≡ s.manifest.digests → m.prepared ≡ None → IsCurrent m new
+  pub stays_on : (IsTrue old.honest → IsOutsideConversion s at count) → (IsTrue old.honest → IsOutsideMerge s at count)
+      → (m : ManifestState) → m.shape ≡ s.manifest.shape → m.current ≡ s.manifest.current → m.digests ≡ s.manifest.digests → m.prepared ≡ None → IsCurrent m new
       → LeavesOnly new (λ image. image_stores image ≡ Ok (shown_stores old s)) → Advances [] old new s (record s { manifest = m })
   stays_on outside_slots outside_merge m same_shape same_current same_digests idle is_current named =
       stays_with m s.converting s.merging same_shape same_current same_digests idle is_current named stands.whole.under_way
@@ -163,7 +170,8 @@ region_apart shape body region below free = record {
 pub region_before_conversion : (s : EngineState) (region : ℕ) → region < s.manifest.shape.logs → IsOutsideConversion s (gates_at s.manifest.shape region) (log_size s.manifest.shape)
 region_before_conversion s region below = behind s.converting
   where
-    behind : (o : Option ConversionState) → IfSome o (λ conversion. LiesOutside (hash_at s.manifest.shape conversion.region) (slots_len s.manifest.shape) (gates_at s.manifest.shape region) (log_size s.manifest.shape))
+    behind : (o : Option ConversionState)
+        → IfSome o (λ conversion. LiesOutside (hash_at s.manifest.shape conversion.region) (slots_len s.manifest.shape) (gates_at s.manifest.shape region) (log_size s.manifest.shape))
     behind None = tt
     behind (Some conversion) = slots_behind_log s.manifest.shape region conversion.region below
 
@@ -171,7 +179,8 @@ region_before_conversion s region below = behind s.converting
 pub region_before_merge : (s : EngineState) (region : ℕ) → region < s.manifest.shape.logs → IsOutsideMerge s (gates_at s.manifest.shape region) (log_size s.manifest.shape)
 region_before_merge s region below = behind s.merging
   where
-    behind : (o : Option MergeState) → IfSome o (λ merge. LiesOutside (sorted_at s.manifest.shape merge.region) (entries_len s.manifest.shape) (gates_at s.manifest.shape region) (log_size s.manifest.shape))
+    behind : (o : Option MergeState) → IfSome o (λ merge. LiesOutside (sorted_at s.manifest.shape merge.region) (entries_len s.manifest.shape)
+        (gates_at s.manifest.shape region) (log_size s.manifest.shape))
     behind None = tt
     behind (Some merge) = entries_behind_log s.manifest.shape region merge.region below
 
@@ -187,19 +196,23 @@ module _ (old new : Content) (s : EngineState) (region : ℕ) (stands : Stands o
         let o : IsTrue old.honest = subst IsTrue gates.honest h in
         let t : Stores = shown_stores old s in
         let from = in_region.left o image left in
-        let names : names_log t region ≡ false = (whole_law old.shown t (shown_named old s stands o)).names region ∙ ap (λ (b : Body). names_region b region) (named_body s.manifest.shape s.manifest.current old.shown) ∙ free in
-        region_torn s.manifest.shape t region (log_rows s.manifest.shape region image) from.0 image (named_shape s.manifest.shape s.manifest.current old.shown) (stands.named.each o from.0 from.1) below from.2 refl
+        let names : names_log t region ≡ false = (whole_law old.shown t (shown_named old s stands o)).names region
+        ∙ ap (λ (b : Body). names_region b region) (named_body s.manifest.shape s.manifest.current old.shown) ∙ free in
+        region_torn s.manifest.shape t region (log_rows s.manifest.shape region image) from.0 image (named_shape s.manifest.shape s.manifest.current old.shown)
+        (stands.named.each o from.0 from.1) below from.2 refl
         ∙ ap Ok (unnamed_law t region (log_rows s.manifest.shape region image) names);
   }
 
   outside_active : LiesOutside (gates_at s.active.log.shape s.active.log.region) (log_len s.active.log.shape) (gates_at s.manifest.shape region) (log_size s.manifest.shape)
   outside_active =
       subst (λ (sh : Shape). LiesOutside (gates_at sh s.active.log.region) (log_len sh) (gates_at s.manifest.shape region) (log_size s.manifest.shape)) (sym stands.whole.has_shape)
-      (subst (λ (n : ℕ). LiesOutside (gates_at s.manifest.shape n) (log_len s.manifest.shape) (gates_at s.manifest.shape region) (log_size s.manifest.shape)) (sym stands.whole.active_region) (region_apart s.manifest.shape s.manifest.current region below free).active)
+      (subst (λ (n : ℕ). LiesOutside (gates_at s.manifest.shape n) (log_len s.manifest.shape) (gates_at s.manifest.shape region) (log_size s.manifest.shape))
+      (sym stands.whole.active_region) (region_apart s.manifest.shape s.manifest.current region below free).active)
 
   -- the stores still stand
   pub cleared : Advances [] old new s s
-  cleared = stays_on old new s (gates_at s.manifest.shape region) (log_size s.manifest.shape) stands sizes in_region (λ h. region_apart s.manifest.shape s.manifest.current region below free) outside_active
+  cleared = stays_on old new s (gates_at s.manifest.shape region) (log_size s.manifest.shape) stands sizes in_region
+      (λ h. region_apart s.manifest.shape s.manifest.current region below free) outside_active
       (λ h. region_before_conversion s region below) (λ h. region_before_merge s region below) s.manifest refl refl refl stands.idle
       (current_record_elsewhere s.manifest (gates_at s.manifest.shape region) (log_size s.manifest.shape) old new (omega (arith, stands.has_size)) (inr (omega arith)) in_region stands.current)
       free_named

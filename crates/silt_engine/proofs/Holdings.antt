@@ -23,13 +23,15 @@ pub frozen_count : (s : EngineState) → AreWhole s → length s.frozen ≡ leng
 frozen_count s whole = sym (length-map s.frozen region_of) ∙ ap length whole.frozen_regions
 
 -- the stores if every region is named
-pub no_room : (s : EngineState) (slot logs : ℕ) → logs ≡ s.manifest.shape.logs → AreWhole s → is_well_formed s.manifest.shape slot s.manifest.current ≡ true → AreAllNamed logs s.manifest.current → HasNoFreeLog s
+pub no_room : (s : EngineState) (slot logs : ℕ) → logs ≡ s.manifest.shape.logs → AreWhole s → is_well_formed s.manifest.shape slot s.manifest.current ≡ true
+    → AreAllNamed logs s.manifest.current → HasNoFreeLog s
 no_room s slot logs is whole sound named =
     let all = all_in_use s.manifest.shape slot s.manifest.current sound (subst (λ (n : ℕ). AreAllNamed n s.manifest.current) is named) in
     omega (arith, all, frozen_count s whole)
 
 -- and if one is free
-pub has_room : (s : EngineState) (slot logs region : ℕ) → logs ≡ s.manifest.shape.logs → AreWhole s → is_well_formed s.manifest.shape slot s.manifest.current ≡ true → IsLowestFree logs s.manifest.current region
+pub has_room : (s : EngineState) (slot logs region : ℕ) → logs ≡ s.manifest.shape.logs → AreWhole s
+    → is_well_formed s.manifest.shape slot s.manifest.current ≡ true → IsLowestFree logs s.manifest.current region
     → length s.frozen + 1 < s.manifest.shape.logs
 has_room s slot logs region is whole sound lowest =
     let spare = one_to_spare s.manifest.shape slot region s.manifest.current sound (subst (λ (n : ℕ). IsLowestFree n s.manifest.current region) is lowest) in
@@ -39,7 +41,8 @@ pub not_all : (s : EngineState) → length s.frozen + 1 < s.manifest.shape.logs 
 not_all s room all = absurd (omega (arith, room, all))
 
 -- the next log is made
-pub is_next : (s : EngineState) (slot logs region : ℕ) (next : NextLog) → logs ≡ s.manifest.shape.logs → AreWhole s → is_well_formed s.manifest.shape slot s.manifest.current ≡ true → IsLowestFree logs s.manifest.current region
+pub is_next : (s : EngineState) (slot logs region : ℕ) (next : NextLog) → logs ≡ s.manifest.shape.logs → AreWhole s
+    → is_well_formed s.manifest.shape slot s.manifest.current ≡ true → IsLowestFree logs s.manifest.current region
     → s.manifest.current.generation ≢ 2 ^ 63 - 1 → next.body ≡ next_body s.manifest.current region → next.store ≡ empty_store s.manifest.shape region → IsNextLog s next
 is_next s slot logs region next is whole sound lowest unspent body store = record {
   region = region;

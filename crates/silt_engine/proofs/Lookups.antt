@@ -1,5 +1,7 @@
 -- What a walk through the stores finds.
-use Rattle.std.proofs.Common.{◌≡◌, ◌≢◌, ◌<◌, ◌*◌, ℕ, ◌==◌, Bool, true, false, cond, if◌then◌else◌, IsTrue, List, [], ◌∷◌, ◌++◌, suc, zero, inl, inr, length, filter, map, take, get_or, slice_get, reverse, find, Option, Some, None, option_and_then, refl, ap, sym, ◌∙◌, subst, arith, append_assoc}
+use Rattle.std.proofs.Common.{◌≡◌, ◌≢◌, ◌<◌, ◌*◌, ℕ, ◌==◌, Bool, true, false, cond, if◌then◌else◌, IsTrue, List, [], ◌∷◌, ◌++◌, suc, zero, inl, inr, length}
+use Rattle.std.proofs.Common.{filter, map, take, get_or, slice_get, reverse, find, Option, Some, None, option_and_then, refl, ap, sym, ◌∙◌, subst, arith}
+use Rattle.std.proofs.Common.{append_assoc}
 use Rattle.std.specs.Prelude.{All}
 use Rattle.std.specs.Option.{is_some, option_or}
 use Rattle.std.specs.Str.{bytes_eq}
@@ -53,7 +55,8 @@ use Rattle.silt_engine.proofs.Elsewhere.{scanned_all}
 
 -- in a list behind another
 newest_append : (older newer : List StoredRow) (key : List ℕ) → newest_row (older ++ newer) key ≡ option_or (newest_row newer key) (newest_row older key)
-newest_append older newer key = ap (find (λ (row : StoredRow). bytes_eq row.key key)) (reverse-append older newer) ∙ find-append (λ (row : StoredRow). bytes_eq row.key key) (reverse newer) (reverse older)
+newest_append older newer key = ap (find (λ (row : StoredRow). bytes_eq row.key key)) (reverse-append older newer)
+    ∙ find-append (λ (row : StoredRow). bytes_eq row.key key) (reverse newer) (reverse older)
 
 -- of one row
 newest_one : (row : StoredRow) (key : List ℕ) → newest_row (row ∷ []) key ≡ cond (bytes_eq row.key key) (Some row) None
@@ -163,7 +166,8 @@ module _ (shape : Shape) (region : ℕ) (image : List ℕ) (key : List ℕ) wher
   hash_there : (slot : ℕ) (row : StoredRow) → slice_get (hash_rows shape region image) slot ≡ Some row → (slot < 4 * shape.buckets) × (row ≡ slot_row shape region image slot)
   hash_there slot row there =
       let before : slice_get (rows_before shape region image (4 * shape.buckets)) slot ≡ Some row = ap (λ (rows : List StoredRow). slice_get rows slot) (sym (all_before shape region image)) ∙ there in
-      let inside : slot < 4 * shape.buckets = omega (arith, slice_get_within (rows_before shape region image (4 * shape.buckets)) slot row before, before_count shape region image (4 * shape.buckets)) in
+      let inside : slot < 4 * shape.buckets =
+      omega (arith, slice_get_within (rows_before shape region image (4 * shape.buckets)) slot row before, before_count shape region image (4 * shape.buckets)) in
       let here : slice_get (rows_before shape region image (4 * shape.buckets)) slot ≡ Some (slot_row shape region image slot) = before_there shape region image (4 * shape.buckets) slot inside in
       let same : row ≡ slot_row shape region image slot = cc in
       (inside, same)
@@ -205,7 +209,8 @@ walk_none (newest ∷ older) key none =
     ∙ ap (λ (o : Option StoredRow). option_or o (newest_row (oldest_first older) key)) (none 0 (omega arith))
     ∙ walk_none older key (λ index inside. none (suc index) (omega (arith, inside)))
 
-pub walk_some : (stores : List (List StoredRow)) (key : List ℕ) (number : ℕ) (row : StoredRow) → number < length stores → ((index : ℕ) → index < number → newest_row (get_or stores index []) key ≡ None)
+pub walk_some : (stores : List (List StoredRow)) (key : List ℕ) (number : ℕ) (row : StoredRow) → number < length stores
+    → ((index : ℕ) → index < number → newest_row (get_or stores index []) key ≡ None)
     → newest_row (get_or stores number []) key ≡ Some row → newest_row (oldest_first stores) key ≡ Some row
 walk_some [] key number row inside none is = absurd (omega arith)
 walk_some (newest ∷ older) key zero row inside none is = newest_append (oldest_first older) newest key ∙ ap (λ (o : Option StoredRow). option_or o (newest_row (oldest_first older) key)) is
@@ -286,7 +291,8 @@ module _ (content : Content) (s : EngineState) (shows : ShowsStores content s) (
 
   -- the rows of the active log
   active_shown : log_rows s.manifest.shape s.manifest.current.active content.shown ≡ log_rows s.active.log.shape s.active.log.region content.shown
-  active_shown = ap (λ (sh : Shape). log_rows sh s.manifest.current.active content.shown) (sym shows.whole.has_shape) ∙ ap (λ (n : ℕ). log_rows s.active.log.shape n content.shown) (sym shows.whole.active_region)
+  active_shown = ap (λ (sh : Shape). log_rows sh s.manifest.current.active content.shown) (sym shows.whole.has_shape)
+      ∙ ap (λ (n : ℕ). log_rows s.active.log.shape n content.shown) (sym shows.whole.active_region)
 
   -- all rows, the oldest first: the entries, those of the hash stores, of the frozen logs and of the active one
   pub rows_by_log : rows_of (shown_stores content s) ++ waiting_rows content s.active.log ≡ rows_behind content s ++ oldest_first (map (rows_in content) s.frozen) ++ all_rows content s.active.log
@@ -322,7 +328,8 @@ module _ (content : Content) (s : EngineState) (stands : Stands content s) (hone
 
   -- what the map has for a key
   current_get : (key : List ℕ) → get (current_map content s) key
-      ≡ option_and_then value_given (option_or (newest_row (all_rows content s.active.log) key) (option_or (newest_row (oldest_first (map (rows_in content) s.frozen)) key) (newest_row (rows_behind content s) key)))
+      ≡ option_and_then value_given (option_or (newest_row (all_rows content s.active.log) key)
+      (option_or (newest_row (oldest_first (map (rows_in content) s.frozen)) key) (newest_row (rows_behind content s) key)))
   current_get key =
       let frozen : List StoredRow = oldest_first (map (rows_in content) s.frozen) in
       ap (λ (m : Map). get m key) (current_is content s (stands_shown content s stands) honest)
@@ -333,7 +340,8 @@ module _ (content : Content) (s : EngineState) (stands : Stands content s) (hone
   -- ---- a row that is found
 
   -- its value, in its store
-  row_value : (store : LogStoreState) (key : List ℕ) (place : ℕ) (row : StoredRow) → IsLastRow (all_rows content store.log) key place row → row ≡ row_at store.log.shape store.log.region content.shown place
+  row_value : (store : LogStoreState) (key : List ℕ) (place : ℕ) (row : StoredRow) → IsLastRow (all_rows content store.log) key place row
+      → row ≡ row_at store.log.shape store.log.region content.shown place
   row_value store key place row is =
       let inside = slice_get_within (all_rows content store.log) place row is.there in
       sym (get_or_from_slice_get (all_rows content store.log) place row row is.there) ∙ row_of_all content store.log place row (omega (arith, inside, all_count content store.log))
@@ -374,7 +382,8 @@ module _ (content : Content) (s : EngineState) (stands : Stands content s) (hone
   rows_at index inside = get_or-map (rows_in content) s.frozen index s.active [] inside
 
   -- one that has no row of a key
-  frozen_lacks : (key : List ℕ) (index : ℕ) → index < length s.frozen → HasNoRow (all_rows content (frozen_at s index).log) key → newest_row (get_or (map (rows_in content) s.frozen) index []) key ≡ None
+  frozen_lacks : (key : List ℕ) (index : ℕ) → index < length s.frozen → HasNoRow (all_rows content (frozen_at s index).log) key
+      → newest_row (get_or (map (rows_in content) s.frozen) index []) key ≡ None
   frozen_lacks key index inside none = ap (λ (rows : List StoredRow). newest_row rows key) (rows_at index inside) ∙ newest_none (all_rows content (frozen_at s index).log) key none
 
   -- the row is in a frozen log
@@ -403,7 +412,8 @@ module _ (content : Content) (s : EngineState) (stands : Stands content s) (hone
   known_at index inside = get_or-map (known_in content) s.hashes index (record { shape = s.manifest.shape; region = 0; tags = []; puts = 0; digest = [] }) [] inside
 
   -- one that has no row of a key
-  hash_lacks : (key : List ℕ) (index : ℕ) → index < length s.hashes → holds_key key (hash_rows_of content (hash_store_at s index)) ≡ false → newest_row (get_or (map (known_in content) s.hashes) index []) key ≡ None
+  hash_lacks : (key : List ℕ) (index : ℕ) → index < length s.hashes → holds_key key (hash_rows_of content (hash_store_at s index)) ≡ false
+      → newest_row (get_or (map (known_in content) s.hashes) index []) key ≡ None
   hash_lacks key index inside none = ap (λ (rows : List StoredRow). newest_row rows key) (known_at index inside) ∙ newest_known_none (hash_rows_of content (hash_store_at s index)) key none
 
   -- the row is in a hash store

@@ -32,7 +32,8 @@ merged_sound_body s slot count region written b sound there room unspent =
     and_from _ _ (and_from _ _ (and_from _ _ (and_from _ _ (and_from _ _ generation remainder) logs) hashes) (lt-ltb region 2 there)) (le-leb written s.sorted_capacity room)
 
 -- the record that ends a merge may follow the current one
-pub may_end_merge : (s : EngineState) (body : Body) (digests : Digests) (store : IndexedState) → is_well_formed s.manifest.shape (current_slot s.manifest) s.manifest.current ≡ true → AreWhole s → EndsMerge s body digests store → IsNext s.manifest body
+pub may_end_merge : (s : EngineState) (body : Body) (digests : Digests) (store : IndexedState)
+    → is_well_formed s.manifest.shape (current_slot s.manifest) s.manifest.current ≡ true → AreWhole s → EndsMerge s body digests store → IsNext s.manifest body
 may_end_merge s body digests store sound whole ends =
     let way : IsMerging s ends.merge = subst (λ (o : Option MergeState). IfSome o (IsMerging s)) ends.was whole.merging in
     record {
@@ -44,7 +45,8 @@ may_end_merge s body digests store sound whole ends =
     }
 
 -- there are no more hash stores than a manifest has room for
-pub few_hashes : (s : EngineState) (limit : ℕ) → AreWhole s → is_well_formed s.manifest.shape (current_slot s.manifest) s.manifest.current ≡ true → limit ≡ s.manifest.shape.hashes → limit ≤ 16 → length s.hashes ≤ 16
+pub few_hashes : (s : EngineState) (limit : ℕ) → AreWhole s → is_well_formed s.manifest.shape (current_slot s.manifest) s.manifest.current ≡ true
+    → limit ≡ s.manifest.shape.hashes → limit ≤ 16 → length s.hashes ≤ 16
 few_hashes s limit whole sound limit_is most =
     let fewer = (sound_hashes s.manifest.shape (current_slot s.manifest) s.manifest.current sound).most in
     omega (arith, fewer, limit_is, most, hash_count s whole)

@@ -59,7 +59,8 @@ module _ (content : Content) (s : EngineState) (stands : Stands content s) where
 
   -- the stores of the full image
   pub full_is : IsTrue content.honest → spec.full_stores content s ≡ with_log_rows s.manifest.current.active (all_rows content s.active.log) (shown_stores content s)
-  full_is h = named_here s.manifest.shape s.manifest.current (with_log_rows s.manifest.current.active (all_rows content s.active.log) (shown_stores content s)) (full_image content s) (full_stores content s stands h)
+  full_is h = named_here s.manifest.shape s.manifest.current (with_log_rows s.manifest.current.active (all_rows content s.active.log) (shown_stores content s))
+      (full_image content s) (full_stores content s stands h)
       (with_shape s.manifest.current.active (all_rows content s.active.log) (shown_stores content s) ∙ named_shape s.manifest.shape s.manifest.current content.shown)
       (with_body s.manifest.current.active (all_rows content s.active.log) (shown_stores content s) ∙ named_body s.manifest.shape s.manifest.current content.shown)
 
@@ -81,7 +82,8 @@ module _ (content : Content) (s : EngineState) (stands : Stands content s) where
       each None merging merged = tt
       each (Some merge) merging merged =
           let way : IsMerging s merge = merging in
-          subst (λ (rows : List StoredRow). (is_done merge s.sorted ≡ true → steps_of merge ≡ steps_for merge (key_count rows)) × (steps_of merge ≡ steps_for merge (key_count rows) → is_done merge s.sorted ≡ true))
+          subst (λ (rows : List StoredRow). (is_done merge s.sorted ≡ true → steps_of merge ≡ steps_for merge (key_count rows))
+          × (steps_of merge ≡ steps_for merge (key_count rows) → is_done merge s.sorted ≡ true))
           (sym (sources_full h merge.stores))
           (done_steps merge s.sorted content (oldest_stores merge.stores s.hashes) (is_done merge s.sorted) refl way.held merged.0 h (taken_sound h merge.stores))
 
@@ -169,7 +171,8 @@ module _ (content : Content) (s : EngineState) (merge : MergeState) (stands : St
       let taken : put_count rows ≡ s.sorted.count + puts_in (oldest_stores merge.stores s.hashes) =
       ap put_count (sources_shown content s stands merge.stores)
       ∙ sources_puts content (oldest_stores merge.stores s.hashes) s.sorted h
-      (All-drop (λ (store : HashState). store.shape ≡ s.sorted.shape) (length s.hashes - merge.stores) s.hashes (λ k d inside. (stands.whole.hashed k d inside).has_shape ∙ sym (sorted_shape content s stands)))
+      (All-drop (λ (store : HashState). store.shape ≡ s.sorted.shape) (length s.hashes - merge.stores) s.hashes
+      (λ k d inside. (stands.whole.hashed k d inside).has_shape ∙ sym (sorted_shape content s stands)))
       (All-drop (IsHashStore content) (length s.hashes - merge.stores) s.hashes stands.hashed) in
       let written : length new_entries ≡ merge.written = entry_count s.manifest.shape merge.region merge.written content.shown in
       let fewer : length new_entries ≤ put_count rows = let few = (is_merge h).charge in let all = (is_merge h).counted in omega (arith, few, all) in

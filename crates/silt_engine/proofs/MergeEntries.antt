@@ -87,7 +87,8 @@ module _ (old new : Content) (s : EngineState) (region : ℕ) (stands : Stands o
   outside_conversion : IsOutsideConversion s (sorted_at s.manifest.shape region) (sorted_size s.manifest.shape)
   outside_conversion = behind s.converting stands.whole.under_way
     where
-      behind : (o : Option ConversionState) → IfSome o (IsUnderWay s) → IfSome o (λ conversion. LiesOutside (hash_at s.manifest.shape conversion.region) (slots_len s.manifest.shape) (sorted_at s.manifest.shape region) (sorted_size s.manifest.shape))
+      behind : (o : Option ConversionState) → IfSome o (IsUnderWay s)
+          → IfSome o (λ conversion. LiesOutside (hash_at s.manifest.shape conversion.region) (slots_len s.manifest.shape) (sorted_at s.manifest.shape region) (sorted_size s.manifest.shape))
       behind None way = tt
       behind (Some conversion) way =
           let is : IsUnderWay s conversion = way in
@@ -99,7 +100,8 @@ module _ (old new : Content) (s : EngineState) (region : ℕ) (stands : Stands o
       s.manifest s.converting merging refl refl refl stands.idle
       (current_record_elsewhere s.manifest (sorted_at s.manifest.shape region) (sorted_size s.manifest.shape) old new (omega (arith, stands.has_size)) (inr (omega arith)) changes stands.current)
       entry_named stands.whole.under_way
-      (written_all_elsewhere old new s (sorted_at s.manifest.shape region) (sorted_size s.manifest.shape) s.converting stands changes (λ h. (entry_apart h).frozen) (λ h. outside_conversion) stands.whole.under_way stands.written)
+      (written_all_elsewhere old new s (sorted_at s.manifest.shape region) (sorted_size s.manifest.shape) s.converting stands changes
+      (λ h. (entry_apart h).frozen) (λ h. outside_conversion) stands.whole.under_way stands.written)
       is_merging merged
 
   pub entry_map : (merging : Option MergeState) → IfSome merging (IsMerging s) → IfSome merging (HasGathered new s) → Remaps [] old new s (record s { merging = merging })

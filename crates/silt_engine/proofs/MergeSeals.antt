@@ -36,7 +36,8 @@ abbrev sealed_stores : EngineState → MergeState → Option MarkedCode → Engi
 sealed_stores s merge trie = record s { merging = Some (with_trie merge trie) }
 
 -- they advance by nothing
-seal_advances : (content : Content) (s : EngineState) (merge : MergeState) (trie : Option MarkedCode) → s.merging ≡ Some merge → Stands content s → Advances [] content content s (sealed_stores s merge trie)
+seal_advances : (content : Content) (s : EngineState) (merge : MergeState) (trie : Option MarkedCode) → s.merging ≡ Some merge
+    → Stands content s → Advances [] content content s (sealed_stores s merge trie)
 seal_advances content s merge trie was stands =
     let way = merging_of s merge stands.whole was in
     let gathered = gathered_of content s merge stands was in
@@ -105,30 +106,35 @@ may_end before s body digests digest seals done sound unspent is digests_are dig
     let was : s.merging ≡ Some seals.sealed = ap (λ (v : EngineState). v.merging) seals.is in
     let trie = seals.seals.made in
     let same = seals.seals.same in
-    let earlier : (content : Content) (stores : List HashState) (sorted : SortedState) → HasMerged content stores sorted seals.sealed → HasMerged content stores sorted seals.merge = λ content stores sorted merged.
-        merged_with_trie (with_trie seals.merge (Some trie)) seals.merge.index.sealed content stores sorted (subst (HasMerged content stores sorted) same merged) in
+    let earlier : (content : Content) (stores : List HashState) (sorted : SortedState) → HasMerged content stores sorted seals.sealed
+    → HasMerged content stores sorted seals.merge = λ content stores sorted merged.
+    merged_with_trie (with_trie seals.merge (Some trie)) seals.merge.index.sealed content stores sorted (subst (HasMerged content stores sorted) same merged) in
     let done_before : is_done seals.merge s.sorted ≡ true = ap (λ (m : MergeState). is_done m s.sorted) (sym same) ∙ done in
-    let made_of : sorted_in seals.sealed ≡ sorted_in seals.merge = ap sorted_in same in
-    (record { sorted = sorted_in seals.sealed; index = trie; digest = digest }, refl, record {
-      merge = seals.sealed;
-      was = was;
-      done = done;
-      unspent = unspent;
-      entries = refl;
-      located = λ content stands honest.
-          let gathers = (gathered_of content s seals.sealed stands was).0 in
-          subst (λ (t : SortedState). IsIndexOf (entries_of content t) trie) (sym made_of)
-          (seals.seals.indexed content (oldest_stores seals.sealed.stores s.hashes) s.sorted done_before (earlier content (oldest_stores seals.sealed.stores s.hashes) s.sorted gathers) honest
-          (taken_sound content s stands honest seals.sealed.stores));
-      digested = λ content stands. digested content (oldest_stores seals.sealed.stores s.hashes) s.sorted (gathered_of content s seals.sealed stands was).0;
-      is = is;
-      digests_are = digests_are;
-      sealed = ap (λ (m : MergeState). m.index.sealed) same;
-      sound = sound;
-    })
+    let made_of : sorted_in seals.sealed ≡ sorted_in seals.merge = ap sorted_in same in (
+      record { sorted = sorted_in seals.sealed; index = trie; digest = digest },
+      refl,
+      record {
+        merge = seals.sealed;
+        was = was;
+        done = done;
+        unspent = unspent;
+        entries = refl;
+        located = λ content stands honest.
+            let gathers = (gathered_of content s seals.sealed stands was).0 in
+            subst (λ (t : SortedState). IsIndexOf (entries_of content t) trie) (sym made_of)
+            (seals.seals.indexed content (oldest_stores seals.sealed.stores s.hashes) s.sorted done_before (earlier content (oldest_stores seals.sealed.stores s.hashes) s.sorted gathers) honest
+            (taken_sound content s stands honest seals.sealed.stores));
+        digested = λ content stands. digested content (oldest_stores seals.sealed.stores s.hashes) s.sorted (gathered_of content s seals.sealed stands was).0;
+        is = is;
+        digests_are = digests_are;
+        sealed = ap (λ (m : MergeState). m.index.sealed) same;
+        sound = sound;
+      },
+    )
 
 -- the same in the words of the merge in progress
-pub may_end_now : (before s : EngineState) (body : Body) (digests : Digests) (digest : List ℕ) (seals : SealsMerge before s) (merge : MergeState) → s.merging ≡ Some merge → is_done merge s.sorted ≡ true → merge.damaged ≡ None
+pub may_end_now : (before s : EngineState) (body : Body) (digests : Digests) (digest : List ℕ) (seals : SealsMerge before s) (merge : MergeState)
+    → s.merging ≡ Some merge → is_done merge s.sorted ≡ true → merge.damaged ≡ None
     → s.manifest.current.generation < 2 ^ 63 - 1 → body ≡ merged_body s.manifest.current merge.stores merge.region merge.written → digests ≡ merged_digests s merge.stores digest
     → ((content : Content) (stores : List HashState) (sorted : SortedState) → HasMerged content stores sorted merge → HasDigest content (sorted_in merge) digest)
     → (store : IndexedState) × (store.digest ≡ digest) × EndsMerge s body digests store

@@ -1,5 +1,6 @@
 -- The steps of a merge.
-use Rattle.std.proofs.Common.{◌≡◌, ◌≢◌, ◌≤◌, ◌<◌, ℕ, ◌+◌, ◌-◌, ◌*◌, ◌==◌, ◌&&◌, nat_le, nat_lt, Bool, true, false, if◌then◌else◌, IsTrue, List, [], get_or, length, drop, Option, Some, None, Result, ◌⊎◌, inl, inr, refl, ap, sym, ◌∙◌, subst, arith}
+use Rattle.std.proofs.Common.{◌≡◌, ◌≢◌, ◌≤◌, ◌<◌, ℕ, ◌+◌, ◌-◌, ◌*◌, ◌==◌, ◌&&◌, nat_le, nat_lt, Bool, true, false, if◌then◌else◌, IsTrue, List, [], get_or}
+use Rattle.std.proofs.Common.{length, drop, Option, Some, None, Result, ◌⊎◌, inl, inr, refl, ap, sym, ◌∙◌, subst, arith}
 use Rattle.std.specs.Prelude.{All, IfSome}
 use Rattle.std.specs.Option.{option_map}
 use Rattle.std.proofs.lemmas.Bool.{eq-eqb, eqb-false, lt-ltb, ne_eqb}
@@ -79,7 +80,8 @@ gathered_of content s merge stands was = subst (λ (o : Option MergeState). IfSo
 -- its hash stores have its shape
 pub taken_shapes : (s : EngineState) (merge : MergeState) → AreWhole s → IsMerging s merge → All (λ (store : HashState). store.shape ≡ merge.shape) (oldest_stores merge.stores s.hashes)
 taken_shapes s merge whole way =
-    All-drop (λ (store : HashState). store.shape ≡ merge.shape) (length s.hashes - merge.stores) s.hashes (λ k d inside. let is : IsHashOf s.manifest.shape _ = whole.hashed k d inside in is.has_shape ∙ sym way.has_shape)
+    All-drop (λ (store : HashState). store.shape ≡ merge.shape) (length s.hashes - merge.stores) s.hashes
+    (λ k d inside. let is : IsHashOf s.manifest.shape _ = whole.hashed k d inside in is.has_shape ∙ sym way.has_shape)
 
 -- and so has the sorted store
 pub sorted_shape : (s : EngineState) (merge : MergeState) → AreWhole s → IsMerging s merge → s.sorted.shape ≡ merge.shape
@@ -92,14 +94,16 @@ abbrev pub StepsIn : {D F T : Type 0} → Ghosts D F → EngineState → D → D
 StepsIn facts s old new before after result = TakesStep facts (oldest_stores before.stores s.hashes) s.sorted s.digest old new before after result
 
 -- from the step's own words
-pub steps_in : {D F T : Type 0} {facts : Ghosts D F} (s : EngineState) (stores : List HashState) (sorted : SortedState) (digest : List ℕ) {old new : D} {before after : MergeState} {result : Result T (StepError F)} → stores ≡ s.hashes → sorted ≡ s.sorted → digest ≡ s.digest
+pub steps_in : {D F T : Type 0} {facts : Ghosts D F} (s : EngineState) (stores : List HashState) (sorted : SortedState) (digest : List ℕ)
+    {old new : D} {before after : MergeState} {result : Result T (StepError F)} → stores ≡ s.hashes → sorted ≡ s.sorted → digest ≡ s.digest
     → TakesStep facts (oldest_stores before.stores stores) sorted digest old new before after result → StepsIn facts s old new before after result
 steps_in {facts = facts} s stores sorted digest {old = old} {new = new} {before = before} {after = after} {result = result} stores_are sorted_is digest_is step =
     subst (λ (d : List ℕ). TakesStep facts (oldest_stores before.stores s.hashes) s.sorted d old new before after result) digest_is
     (subst (λ (t : SortedState). TakesStep facts (oldest_stores before.stores s.hashes) t digest old new before after result) sorted_is
     (subst (λ (l : List HashState). TakesStep facts (oldest_stores before.stores l) sorted digest old new before after result) stores_are step))
 
-module _ {D F T : Type 0} (facts : Ghosts D F) (old new : D) (s : EngineState) (before after : MergeState) (result : Result T (StepError F)) (stands : Stands (facts.content old) s) (way : IsMerging s before)
+module _ {D F T : Type 0} (facts : Ghosts D F) (old new : D) (s : EngineState) (before after : MergeState) (result : Result T (StepError F))
+    (stands : Stands (facts.content old) s) (way : IsMerging s before)
     (step : StepsIn facts s old new before after result) where
   -- in the words of the stores
   entry_changes : ChangesWithin (sorted_at s.manifest.shape before.region) (sorted_size s.manifest.shape) (facts.content old) (facts.content new)
@@ -149,7 +153,8 @@ module _ {D F T : Type 0} (facts : Ghosts D F) (old new : D) (s : EngineState) (
     )
 
     pub step_advances : HasGathered (facts.content old) s before → Advances [] (facts.content old) (facts.content new) s (record s { merging = Some after })
-    step_advances gathered = entry_advances (facts.content old) (facts.content new) s before.region stands way.held.there way.apart step.size entry_changes (Some after) way_after (gathered_after gathered)
+    step_advances gathered = entry_advances (facts.content old) (facts.content new) s before.region stands way.held.there way.apart
+        step.size entry_changes (Some after) way_after (gathered_after gathered)
 
     -- it makes a write for the entry that it writes, if it writes one
     pub step_made : written_by_merge s.merging ≡ before.written → StepMakes facts old new s (record s { merging = Some after }) Moved
@@ -162,7 +167,8 @@ module _ {D F T : Type 0} (facts : Ghosts D F) (old new : D) (s : EngineState) (
       (found : (place : Place) → before.damaged ≡ Some place → damaged_in s.merging ≡ Some place)
       (remaps : Remaps [] (facts.content old) (facts.content new) s finished) where
     -- the cause in place of that of the step
-    pub step_cause : (error : StepError F) → FailsMerge facts (oldest_stores before.stores s.hashes) s.sorted old new before after error → MergeErrorCause facts old new s finished (refusal_of_step error)
+    pub step_cause : (error : StepError F) → FailsMerge facts (oldest_stores before.stores s.hashes) s.sorted old new before after error
+        → MergeErrorCause facts old new s finished (refusal_of_step error)
     step_cause step_error.NoMemory fails = (same fails.0, fails.1, inl (turn, lacks (fails.2 gathered.0 (λ h. taken_sound (facts.content old) s stands h before.stores))))
     step_cause (step_error.Read fault) fails = (same fails.0, fails.1, turn, fails.2)
     step_cause (step_error.Damaged place) fails = (same fails.0, fails.1, found place fails.2, ap is_work turn, λ h. let no : None ≡ Some place = sym (gathered.2 h) ∙ fails.2 in cc)
@@ -178,8 +184,28 @@ module _ {D F T : Type 0} (facts : Ghosts D F) (old new : D) (s : EngineState) (
 pub some_stores : (stores : List HashState) (len : ℕ) (empty : Bool) → empty ≡ (len == 0) → empty ≡ false → len ≡ length stores → 0 < length stores
 some_stores stores len empty is none same = let differ = eqb-false len 0 (sym is ∙ none) in omega (arith, differ, same)
 
-module _ (s : EngineState) (region : ℕ) (read : List HashState) (none : s.merging ≡ None) (some : 0 < length s.hashes) (whole : AreWhole s) (other : region ≡ 1 - s.sorted.region) (read_is : read ≡ s.hashes)
-    (sorted : SortedState) (sorted_is : sorted ≡ s.sorted) (started : MergeState) (is : started ≡ record { shape = sorted.shape; region = region; stores = length read; store = 0; slot = 0; waiting = []; passed = 0; written = 0; index = started.index; decided = 0; last = None; slots = []; ahead = []; input = started.input; hasher = started.hasher; damaged = None }) (held : IsHeldMerge started) where
+module _ (s : EngineState) (region : ℕ) (read : List HashState) (none : s.merging ≡ None) (some : 0 < length s.hashes) (whole : AreWhole s)
+    (other : region ≡ 1 - s.sorted.region) (read_is : read ≡ s.hashes)
+    (sorted : SortedState) (sorted_is : sorted ≡ s.sorted) (started : MergeState)
+    (is : started ≡ record {
+      shape = sorted.shape;
+      region = region;
+      stores = length read;
+      store = 0;
+      slot = 0;
+      waiting = [];
+      passed = 0;
+      written = 0;
+      index = started.index;
+      decided = 0;
+      last = None;
+      slots = [];
+      ahead = [];
+      input = started.input;
+      hasher = started.hasher;
+      damaged = None;
+    })
+    (held : IsHeldMerge started) where
   pub started_sound : started.damaged ≡ None
   started_sound = ap (λ (v : MergeState). v.damaged) is
 
@@ -273,7 +299,8 @@ found_by content stores sorted digest before after finds = elim finds [
 ]
 
 -- a merge that has found a store damaged is refused
-pub refused_merge : {D F : Type 0} (facts : Ghosts D F) (disk : D) (s : EngineState) (place : Place) → Stands (facts.content disk) s → damaged_in s.merging ≡ Some place → MergeErrorCause facts disk disk s s (Damaged place)
+pub refused_merge : {D F : Type 0} (facts : Ghosts D F) (disk : D) (s : EngineState) (place : Place) → Stands (facts.content disk) s
+    → damaged_in s.merging ≡ Some place → MergeErrorCause facts disk disk s s (Damaged place)
 refused_merge facts disk s place stands found = (refl, refl, found, in_progress s.merging found, λ h. never s.merging stands.merged found h)
   where
     in_progress : (o : Option MergeState) → damaged_in o ≡ Some place → is_work (due s o) ≡ true

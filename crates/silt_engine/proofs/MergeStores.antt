@@ -34,7 +34,8 @@ taken_named shape image ids stores count are =
     ∙ ap (map (hash_part shape image)) (drop-map hash_region_of (length stores - count) stores)
 
 -- what a merge takes of the stores that a body names is what it takes of the stores in memory
-pub sources_named : (shape : Shape) (body : Body) (stores : List HashState) (sorted : SortedState) (count : ℕ) (image : List ℕ) → sorted ≡ sorted_named shape body → map hash_region_of stores ≡ body.hashed
+pub sources_named : (shape : Shape) (body : Body) (stores : List HashState) (sorted : SortedState) (count : ℕ) (image : List ℕ)
+    → sorted ≡ sorted_named shape body → map hash_region_of stores ≡ body.hashed
     → merge_sources count (stores_named shape body image) ≡ sources image (oldest_stores count stores) sorted
 unfolding stores_named sources
 sources_named shape body stores sorted count image is are =
@@ -50,7 +51,8 @@ sources_with region count rows t = refl
 
 -- the next body names the newer hash stores and the new entries
 pub merged_named : (shape : Shape) (body : Body) (count region written : ℕ) (image : List ℕ) → stores_named shape (merged_body body count region written) image
-    ≡ with_merged (merged_body body count region written) (take (length (stores_named shape body image).hashes - count) (stores_named shape body image).hashes) (sorted_rows shape region written image) (stores_named shape body image)
+    ≡ with_merged (merged_body body count region written) (take (length (stores_named shape body image).hashes - count) (stores_named shape body image).hashes)
+    (sorted_rows shape region written image) (stores_named shape body image)
 unfolding stores_named with_merged
 merged_named shape body count region written image =
     let next : Body = merged_body body count region written in
@@ -79,7 +81,8 @@ unfolding with_log_rows
 with_entries region rows t = refl
 
 -- if the merge may replace what it took, it may do so with other rows of a log
-pub sound_with : (body : Body) (newer taken : List Part) (entries rows : List StoredRow) (region : ℕ) (t : Stores) → t.hashes ≡ newer ++ taken → IsMergeOf (taken_rows taken t) entries → IsSound (with_log_rows region rows t)
+pub sound_with : (body : Body) (newer taken : List Part) (entries rows : List StoredRow) (region : ℕ) (t : Stores) → t.hashes ≡ newer
+    ++ taken → IsMergeOf (taken_rows taken t) entries → IsSound (with_log_rows region rows t)
     → IsSound (with_log_rows region rows (with_merged body newer entries t))
 unfolding with_log_rows with_merged
 sound_with body newer taken entries rows region t split is sound = (merges (with_log_rows region rows t) body newer taken entries split sound is).sound

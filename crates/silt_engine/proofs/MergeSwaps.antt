@@ -17,7 +17,8 @@ pub same_merge : (a b : MergeState) (o : Option MergeState) → o ≡ Some a →
 same_merge a b o first second = let e : Some a ≡ Some b = sym first ∙ second in cc
 
 -- the merge that ends has made its index
-pub is_sealed : (s : EngineState) (m : ManifestState) (store : IndexedState) (may : MayStandFor s m store) (merge : MergeState) (taken : Option MergeState) → taken ≡ s.merging → taken ≡ Some merge → IsSome merge.index.sealed
+pub is_sealed : (s : EngineState) (m : ManifestState) (store : IndexedState) (may : MayStandFor s m store) (merge : MergeState) (taken : Option MergeState)
+    → taken ≡ s.merging → taken ≡ Some merge → IsSome merge.index.sealed
 is_sealed s m store may merge taken taken_is taken_some =
     let same = same_merge may.merge merge s.merging may.was (sym taken_is ∙ taken_some) in
     subst (λ (v : MergeState). IsSome v.index.sealed) same (subst IsSome (sym may.sealed) refl)
@@ -27,7 +28,8 @@ pub from_on : (place : ℕ) (stores : List HashState) → take (length stores - 
 from_on place stores = take_all (length stores - place) (drop place stores) (omega (arith, length-drop place stores))
 
 -- the store that a merge has become is the one that may stand for it
-pub store_is : (s : EngineState) (m : ManifestState) (store made : IndexedState) (may : MayStandFor s m store) (merge : MergeState) (taken : Option MergeState) (digest : List ℕ) → taken ≡ s.merging → taken ≡ Some merge → store.digest ≡ digest
+pub store_is : (s : EngineState) (m : ManifestState) (store made : IndexedState) (may : MayStandFor s m store) (merge : MergeState)
+    (taken : Option MergeState) (digest : List ℕ) → taken ≡ s.merging → taken ≡ Some merge → store.digest ≡ digest
     → made.sorted ≡ sorted_in merge → merge.index.sealed ≡ Some made.index → made.digest ≡ digest → store ≡ made
 store_is s m store made may merge taken digest taken_is taken_some has_digest sorted index made_digest =
     let same = same_merge may.merge merge s.merging may.was (sym taken_is ∙ taken_some) in
@@ -38,9 +40,12 @@ store_is s m store made may merge taken digest taken_is taken_some has_digest so
     ∙ ap (λ (i : MarkedCode). record store { sorted = made.sorted; index = i }) indexed
     ∙ ap (λ (d : List ℕ). record made { digest = d }) digested
 
-module _ (s : EngineState) (m : ManifestState) (store : IndexedState) (may : MayStandFor s m store) (ended : MergeState) (taken : Option MergeState) (taken_is : taken ≡ s.merging) (taken_some : taken ≡ Some ended) (count newer : ℕ) (count_is : count ≡ ended.stores)
-    (newer_is : newer ≡ length s.hashes - count) (merged hashes : List HashState) (merged_are : merged ≡ drop newer s.hashes) (hashes_are : hashes ≡ take newer s.hashes) (merging : Option MergeState) (merging_is : merging ≡ None)
-    (entries written without left gone dropped charge : ℕ) (entries_are : entries ≡ s.sorted.count) (written_is : written ≡ store.sorted.count) (without_is : without ≡ s.charge - puts_in merged) (left_is : left ≡ without - entries)
+module _ (s : EngineState) (m : ManifestState) (store : IndexedState) (may : MayStandFor s m store) (ended : MergeState)
+    (taken : Option MergeState) (taken_is : taken ≡ s.merging) (taken_some : taken ≡ Some ended) (count newer : ℕ) (count_is : count ≡ ended.stores)
+    (newer_is : newer ≡ length s.hashes - count) (merged hashes : List HashState) (merged_are : merged ≡ drop newer s.hashes)
+    (hashes_are : hashes ≡ take newer s.hashes) (merging : Option MergeState) (merging_is : merging ≡ None)
+    (entries written without left gone dropped charge : ℕ) (entries_are : entries ≡ s.sorted.count) (written_is : written ≡ store.sorted.count)
+    (without_is : without ≡ s.charge - puts_in merged) (left_is : left ≡ without - entries)
     (gone_is : gone ≡ s.charge - left) (dropped_is : dropped ≡ gone - written) (charge_is : charge ≡ s.charge - dropped) where
   pub counted : count ≡ may.merge.stores
   counted = count_is ∙ ap (λ (v : MergeState). v.stores) (same_merge ended may.merge s.merging (sym taken_is ∙ taken_some) may.was)
@@ -55,7 +60,8 @@ module _ (s : EngineState) (m : ManifestState) (store : IndexedState) (may : May
   left_now = left_is ∙ ap (λ (n : ℕ). n - entries) without_now ∙ ap (λ (n : ℕ). (s.charge - puts_in (oldest_stores may.merge.stores s.hashes)) - n) entries_are
 
   charge_now : charge ≡ s.charge - ((s.charge - charge_without s may.merge.stores) - store.sorted.count)
-  charge_now = charge_is ∙ ap (λ (n : ℕ). s.charge - n) (dropped_is ∙ ap (λ (n : ℕ). n - written) (gone_is ∙ ap (λ (n : ℕ). s.charge - n) left_now) ∙ ap (λ (n : ℕ). (s.charge - charge_without s may.merge.stores) - n) written_is)
+  charge_now = charge_is ∙ ap (λ (n : ℕ). s.charge - n) (dropped_is ∙ ap (λ (n : ℕ). n - written) (gone_is ∙ ap (λ (n : ℕ). s.charge - n) left_now)
+      ∙ ap (λ (n : ℕ). (s.charge - charge_without s may.merge.stores) - n) written_is)
 
   abbrev parts : List HashState → Option MergeState → ℕ → EngineState
   parts l o n = record s { manifest = m; hashes = l; sorted = store.sorted; index = store.index; digest = store.digest; merging = o; charge = n }
@@ -67,7 +73,8 @@ module _ (s : EngineState) (m : ManifestState) (store : IndexedState) (may : May
       ∙ ap (λ (o : Option MergeState). parts (take (length s.hashes - may.merge.stores) s.hashes) o charge) merging_is
       ∙ ap (parts (take (length s.hashes - may.merge.stores) s.hashes) None) charge_now
 
-  pub replaced : IfSome s.merging (λ merge. record s { manifest = m; hashes = hashes; sorted = store.sorted; index = store.index; digest = store.digest; merging = merging; charge = charge } ≡ sorted_replaced s m merge.stores store)
+  pub replaced : IfSome s.merging (λ merge. record s
+      { manifest = m; hashes = hashes; sorted = store.sorted; index = store.index; digest = store.digest; merging = merging; charge = charge } ≡ sorted_replaced s m merge.stores store)
   replaced = subst (λ (o : Option MergeState). IfSome o (λ merge. parts hashes merging charge ≡ sorted_replaced s m merge.stores store)) (sym may.was) sorted_are
 
   -- are whole

@@ -41,7 +41,8 @@ use Rattle.silt_engine.proofs.Said.{merged_said}
 use Rattle.silt_engine.proofs.MergeDone.{all_compared, entries_are, full_is, merged_counted, merged_full_sound, merged_map, merged_sound, merged_stores, way}
 
 -- a conversion is in progress in stores with fewer hash stores
-under_way_fewer : (s t : EngineState) (count : ℕ) (o : Option ConversionState) → t.manifest.shape ≡ s.manifest.shape → t.manifest.current.hashed ≡ take count s.manifest.current.hashed → t.frozen ≡ s.frozen → IfSome o (IsUnderWay s) → IfSome o (IsUnderWay t)
+under_way_fewer : (s t : EngineState) (count : ℕ) (o : Option ConversionState) → t.manifest.shape ≡ s.manifest.shape
+    → t.manifest.current.hashed ≡ take count s.manifest.current.hashed → t.frozen ≡ s.frozen → IfSome o (IsUnderWay s) → IfSome o (IsUnderWay t)
 under_way_fewer s t count None same_shape fewer same_frozen is = tt
 under_way_fewer s t count (Some conversion) same_shape fewer same_frozen is = record {
   has_shape = is.has_shape ∙ sym same_shape;
@@ -127,7 +128,8 @@ module _ (old : Content) (s : EngineState) (body : Body) (digests : Digests) (st
       held = subst IsHeldSorted (sym ends.entries) (record { region = under_way.held.there; room = under_way.held.room });
       under_way = under_way_fewer s after (length s.manifest.current.hashed - ends.merge.stores) s.converting now.has_shape (ap (λ (b : Body). b.hashed) current_is) refl stands.whole.under_way;
       merging = tt;
-      most = subst (λ (sh : Shape). s.charge - ((s.charge - charge_without s ends.merge.stores) - store.sorted.count) ≤ sh.sorted_capacity) (sym now.has_shape) (let most = stands.whole.most in omega (arith, most));
+      most = subst (λ (sh : Shape). s.charge - ((s.charge - charge_without s ends.merge.stores) - store.sorted.count) ≤ sh.sorted_capacity)
+          (sym now.has_shape) (let most = stands.whole.most in omega (arith, most));
     }
 
     pub may_stand_for : MayStandFor s m store
@@ -215,7 +217,8 @@ module _ (old : Content) (s : EngineState) (body : Body) (digests : Digests) (st
         ∙ merged_entries _ _ _ _
         ∙ entries_are old s ends.merge stands ends.was ends.done h
 
-    pub has_merged_entries : (first : Content) (finished : EngineState) → finished ≡ sorted_replaced s m ends.merge.stores store → Stands first s → IsTrue first.honest → IsTrue old.honest → shown_stores old s ≡ shown_stores first s → HasMergedEntries first new s finished
+    pub has_merged_entries : (first : Content) (finished : EngineState) → finished ≡ sorted_replaced s m ends.merge.stores store
+        → Stands first s → IsTrue first.honest → IsTrue old.honest → shown_stores old s ≡ shown_stores first s → HasMergedEntries first new s finished
     has_merged_entries first finished is stood was_honest h same =
         subst (λ (o : Option MergeState). IfSome o (λ merge. (spec.full_stores new finished).entries ≡ merged_rows (merge_sources merge.stores (spec.full_stores first s)))) (sym ends.was) (
         ap (λ (t : EngineState). (spec.full_stores new t).entries) is

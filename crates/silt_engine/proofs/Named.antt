@@ -55,9 +55,11 @@ region_torn shape t region rows before image same named below torn are =
     log_region_law before image t region named inside here ∙ ap (λ (r : List StoredRow). Ok (with_log_rows region r t)) (ap (λ (s : Shape). log_rows s region image) same ∙ are)
 
 -- the first log is the active one
-pub active_named : (shape : Shape) (body : Body) (t : Stores) (rows : List StoredRow) (image : List ℕ) → image_stores image ≡ Ok t → t.shape ≡ shape → t.body ≡ body → log_rows shape body.active image ≡ rows → HasActive rows t
+pub active_named : (shape : Shape) (body : Body) (t : Stores) (rows : List StoredRow) (image : List ℕ) → image_stores image ≡ Ok t
+    → t.shape ≡ shape → t.body ≡ body → log_rows shape body.active image ≡ rows → HasActive rows t
 active_named shape body t rows image is same_shape same_body are =
-    subst (λ (r : List StoredRow). HasActive r t) (ap (λ (s : Shape). log_rows s t.body.active image) same_shape ∙ ap (λ (b : Body). log_rows shape b.active image) same_body ∙ are) (whole_law image t is).active
+    subst (λ (r : List StoredRow). HasActive r t) (ap (λ (s : Shape). log_rows s t.body.active image) same_shape
+    ∙ ap (λ (b : Body). log_rows shape b.active image) same_body ∙ are) (whole_law image t is).active
 
 -- the map of an image with stores
 pub stores_map : (t : Stores) (image : List ℕ) → image_stores image ≡ Ok t → image_map image ≡ map_of_rows (rows_of t)
@@ -65,7 +67,8 @@ unfolding image_map
 stores_map t image is = ap map_of_rows (rows_law image t is)
 
 -- an image with sound stores and with these digests in its record, which are theirs
-pub stands_for : (shape : Shape) (t : Stores) (said : Option Digests) (m : Map) (image : List ℕ) → image_stores image ≡ Ok t → t.shape ≡ shape → IsSound t → AreDigestsOf said t → image_digests image ≡ said → map_of_rows (rows_of t) ≡ m → StandsFor shape m image
+pub stands_for : (shape : Shape) (t : Stores) (said : Option Digests) (m : Map) (image : List ℕ) → image_stores image ≡ Ok t
+    → t.shape ≡ shape → IsSound t → AreDigestsOf said t → image_digests image ≡ said → map_of_rows (rows_of t) ≡ m → StandsFor shape m image
 stands_for shape t said m image is same_shape sound are says has_map =
     subst (λ (n : Map). StandsFor shape n image) has_map
     (subst (λ (s : Shape). StandsFor s (map_of_rows (rows_of t)) image) same_shape (stands_law image t is sound (subst (λ (o : Option Digests). AreDigestsOf o t) (sym says) are)))
@@ -76,7 +79,8 @@ found_current (Ok other) found e = ap Ok (let same : other ≡ found = let g : S
 found_current (Err damage) found e = absurd (let no : None ≡ Some found = e in cc)
 
 -- an image with stores has the digests of the current record
-pub says_current : (shape : Shape) (t : Stores) (found : SlotRecord) (image : List ℕ) → image_stores image ≡ Ok t → t.shape ≡ shape → current_manifest shape image ≡ Some found → image_digests image ≡ found.digests
+pub says_current : (shape : Shape) (t : Stores) (found : SlotRecord) (image : List ℕ) → image_stores image ≡ Ok t → t.shape ≡ shape
+    → current_manifest shape image ≡ Some found → image_digests image ≡ found.digests
 says_current shape t found image is same_shape is_current =
     digests_law image t found is (ap (λ (s : Shape). manifest_found s image) same_shape ∙ found_current (manifest_found shape image) found is_current)
 

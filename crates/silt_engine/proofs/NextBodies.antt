@@ -47,7 +47,8 @@ module _ (s : EngineState) (body : Body) (digests : Digests) (m : ManifestState)
   at_gate new each = subst (λ (n : ManifestState). LeavesOnly new (OldOrNewIsCurrent n)) is each
 
   -- both steps change the spare slot alone
-  pub both_steps : (old middle new : Content) → ChangesWithin (slot_at (spare_slot s.manifest)) 4096 old middle → ChangesWithin (slot_at (spare_slot m)) 1 middle new → ChangesWithin (slot_at (spare_slot s.manifest)) 4096 old new
+  pub both_steps : (old middle new : Content) → ChangesWithin (slot_at (spare_slot s.manifest)) 4096 old middle
+      → ChangesWithin (slot_at (spare_slot m)) 1 middle new → ChangesWithin (slot_at (spare_slot s.manifest)) 4096 old new
   both_steps old middle new first second =
       let same : spare_slot m ≡ spare_slot s.manifest = ap (λ (n : ManifestState). spare_slot n) is in
       let gate : ChangesWithin (slot_at (spare_slot s.manifest)) 1 middle new = subst (λ (slot : ℕ). ChangesWithin (slot_at slot) 1 middle new) same second in
@@ -81,7 +82,8 @@ module _ (old new : Content) (s : EngineState) (body : Body) (digests : Digests)
   there h = subst IsTrue (sym changes.honest) h
 
   -- an image in which the record is current has the stores that it names
-  next_named : (h : IsTrue new.honest) (before image : List ℕ) → Left old before → Torn (slot_at (spare_slot s.manifest)) 4096 before image → NextIsCurrent s body digests image → image_stores image ≡ Ok may.stores
+  next_named : (h : IsTrue new.honest) (before image : List ℕ) → Left old before → Torn (slot_at (spare_slot s.manifest)) 4096 before image
+      → NextIsCurrent s body digests image → image_stores image ≡ Ok may.stores
   next_named h before image left torn is_current =
       current_named old new s (spare_slot s.manifest) slot_below stands sizes changes h before image (long_record body digests) (stands.named.each (back h) before left) torn is_current
       ∙ ap Ok (may.names.each (back h) before left)
@@ -140,7 +142,8 @@ module _ (old new : Content) (s : EngineState) (body : Body) (digests : Digests)
 
 -- ---- once the record is_current
 
-module _ (old new : Content) (s : EngineState) (body : Body) (digests : Digests) (stands : Stands old s) (may : MayBecomeCurrent old s body digests) (sizes : size new ≡ size old) (m : ManifestState) (now : BecomesCurrent old new s body digests m) where
+module _ (old new : Content) (s : EngineState) (body : Body) (digests : Digests) (stands : Stands old s) (may : MayBecomeCurrent old s body digests)
+    (sizes : size new ≡ size old) (m : ManifestState) (now : BecomesCurrent old new s body digests m) where
   -- each image has the stores that it names
   pub now_named : LeavesOnly new (λ image. image_stores image ≡ Ok may.stores)
   now_named = record {
@@ -153,7 +156,8 @@ module _ (old new : Content) (s : EngineState) (body : Body) (digests : Digests)
   }
 
   -- stores that fit the disk with them, and with the same waiting rows, stand
-  pub succeeds : (after : EngineState) → Fits new after may.stores → after.manifest.shape ≡ s.manifest.shape → (IsTrue old.honest → waiting_commands new after ≡ waiting_commands old s) → Advances [] old new s after
+  pub succeeds : (after : EngineState) → Fits new after may.stores → after.manifest.shape ≡ s.manifest.shape
+      → (IsTrue old.honest → waiting_commands new after ≡ waiting_commands old s) → Advances [] old new s after
   succeeds after fits same_shape waiting = record {
     stands = fits_stand new after may.stores fits;
     shape = same_shape;

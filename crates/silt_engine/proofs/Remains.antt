@@ -45,9 +45,11 @@ module _ (old new : Content) (s : EngineState) (stands : Stands old s) (sizes : 
 
   -- and what a conversion and a merge have written
   pub written_stays : IfSome s.converting (HasWritten new (oldest_log s))
-  written_stays = written_all_elsewhere old new s (slot_at (spare_slot s.manifest)) 4096 s.converting stands changes (λ h. apart.frozen) (λ h. slot_before_conversion s (spare_slot s.manifest) slot_below)
+  written_stays = written_all_elsewhere old new s (slot_at (spare_slot s.manifest)) 4096 s.converting stands changes (λ h. apart.frozen)
+      (λ h. slot_before_conversion s (spare_slot s.manifest) slot_below)
       stands.whole.under_way stands.written
 
   pub merged_stays : IfSome s.merging (HasGathered new s)
-  merged_stays = merged_all_elsewhere old new s (slot_at (spare_slot s.manifest)) 4096 s.merging stands changes (λ h. apart.hashed) (λ h. apart.sorted) (λ h. slot_before_merge s (spare_slot s.manifest) slot_below)
+  merged_stays = merged_all_elsewhere old new s (slot_at (spare_slot s.manifest)) 4096 s.merging stands changes (λ h. apart.hashed)
+      (λ h. apart.sorted) (λ h. slot_before_merge s (spare_slot s.manifest) slot_below)
       stands.whole.merging stands.merged

@@ -94,7 +94,8 @@ module _ (content : Content) (s : EngineState) (stands : Stands content s) (hone
 
   -- without the oldest hash stores, and with other entries
   pub merged_said : (body : Body) (count : ℕ) (entries : List StoredRow) (store : IndexedState) → store.digest ≡ entries_digest entries
-      → AreDigestsOf (Some (merged_digests s count store.digest)) (with_merged body (take (length (shown_stores content s).hashes - count) (shown_stores content s).hashes) entries (shown_stores content s))
+      → AreDigestsOf (Some (merged_digests s count store.digest))
+      (with_merged body (take (length (shown_stores content s).hashes - count) (shown_stores content s).hashes) entries (shown_stores content s))
   unfolding with_merged
   merged_said body count entries store is =
       let newer : ℕ = length s.hashes - count in

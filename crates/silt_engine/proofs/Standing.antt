@@ -20,11 +20,13 @@ use Rattle.silt_merge.specs.State.{MergeState}
 use Rattle.silt_standing.specs.Standing.{HasGathered, IsDigested, IsFrozen, IsLocated, Stands, shown_stores}
 use Rattle.silt_engine.proofs.Named.{named_here}
 use Rattle.silt_engine.proofs.Facts.{active_below, full_torn, torn_active}
-use Rattle.silt_engine.proofs.Elsewhere.{all_frozen_elsewhere, all_hashed_elsewhere, digested_elsewhere, located_elsewhere, merged_all_elsewhere, not_active, outside_other, slots_behind_log, written_all_elsewhere}
+use Rattle.silt_engine.proofs.Elsewhere.{all_frozen_elsewhere, all_hashed_elsewhere, digested_elsewhere, located_elsewhere, merged_all_elsewhere, not_active}
+use Rattle.silt_engine.proofs.Elsewhere.{outside_other, slots_behind_log, written_all_elsewhere}
 use Rattle.silt_standing.proofs.Places.{entries_behind_log}
 
 -- the stores that are shown are those that all images have
-pub shown_are : (content : Content) (s : EngineState) (t : Stores) → t.shape ≡ s.manifest.shape → t.body ≡ s.manifest.current → LeavesOnly content (λ image. image_stores image ≡ Ok t) → IsTrue content.honest → shown_stores content s ≡ t
+pub shown_are : (content : Content) (s : EngineState) (t : Stores) → t.shape ≡ s.manifest.shape → t.body ≡ s.manifest.current
+    → LeavesOnly content (λ image. image_stores image ≡ Ok t) → IsTrue content.honest → shown_stores content s ≡ t
 shown_are content s t same_shape same_body named honest = named_here s.manifest.shape s.manifest.current t content.shown (named.each honest content.shown (shown_left content)) same_shape same_body
 
 -- what has to be known for stores to stand on a disk
@@ -77,7 +79,8 @@ after_same (x ∷ xs) ys zs e = after_same xs ys zs (cc)
 
 -- ---- a change in the region of the active log
 
-module _ (old new : Content) (s : EngineState) (stands : Stands old s) (sizes : size new ≡ size old) (changes : ChangesWithin (gates_at s.active.log.shape s.active.log.region) (log_size s.active.log.shape) old new) where
+module _ (old new : Content) (s : EngineState) (stands : Stands old s) (sizes : size new ≡ size old)
+    (changes : ChangesWithin (gates_at s.active.log.shape s.active.log.region) (log_size s.active.log.shape) old new) where
   pub back : IsTrue new.honest → IsTrue old.honest
   back h = subst IsTrue changes.honest h
 
@@ -89,7 +92,8 @@ module _ (old new : Content) (s : EngineState) (stands : Stands old s) (sizes : 
 
   -- the same manifest is current
   pub current_record_stays : IsCurrent s.manifest new
-  current_record_stays = current_record_elsewhere s.manifest (gates_at s.manifest.shape s.manifest.current.active) (log_size s.manifest.shape) old new (omega (arith, stands.has_size)) (inr (omega arith)) changes_active stands.current
+  current_record_stays = current_record_elsewhere s.manifest (gates_at s.manifest.shape s.manifest.current.active) (log_size s.manifest.shape)
+      old new (omega (arith, stands.has_size)) (inr (omega arith)) changes_active stands.current
 
   -- the frozen logs match the disk as before
   pub frozen_stay : All (IsFrozen new) s.frozen
@@ -118,7 +122,9 @@ module _ (old new : Content) (s : EngineState) (stands : Stands old s) (sizes : 
       (λ h. behind s.converting)
       stands.whole.under_way stands.written
     where
-      behind : (o : Option ConversionState) → IfSome o (λ conversion. LiesOutside (hash_at s.manifest.shape conversion.region) (slots_len s.manifest.shape) (gates_at s.manifest.shape s.manifest.current.active) (log_size s.manifest.shape))
+      behind : (o : Option ConversionState)
+          → IfSome o (λ conversion. LiesOutside (hash_at s.manifest.shape conversion.region) (slots_len s.manifest.shape)
+          (gates_at s.manifest.shape s.manifest.current.active) (log_size s.manifest.shape))
       behind None = tt
       behind (Some conversion) = slots_behind_log s.manifest.shape s.manifest.current.active conversion.region (active_below old s stands)
 
@@ -130,7 +136,8 @@ module _ (old new : Content) (s : EngineState) (stands : Stands old s) (sizes : 
       (λ h. behind s.merging)
       stands.whole.merging stands.merged
     where
-      behind : (o : Option MergeState) → IfSome o (λ merge. LiesOutside (sorted_at s.manifest.shape merge.region) (entries_len s.manifest.shape) (gates_at s.manifest.shape s.manifest.current.active) (log_size s.manifest.shape))
+      behind : (o : Option MergeState)
+          → IfSome o (λ merge. LiesOutside (sorted_at s.manifest.shape merge.region) (entries_len s.manifest.shape) (gates_at s.manifest.shape s.manifest.current.active) (log_size s.manifest.shape))
       behind None = tt
       behind (Some merge) = entries_behind_log s.manifest.shape s.manifest.current.active merge.region (active_below old s stands)
 
@@ -148,7 +155,8 @@ module _ (old new : Content) (s : EngineState) (stands : Stands old s) (sizes : 
       → log_rows s.active.log.shape s.active.log.region (log.opened_image new l) ≡ rows
       → image_stores (log.opened_image new l) ≡ Ok (with_log_rows s.manifest.current.active rows (shown_stores old s))
   full_with h l rows same_shape same_region bounds are =
-      let opened : Torn (gates_at l.shape l.region) (log_size l.shape) new.shown (log.opened_image new l) = full_torn new l bounds (sizes ∙ stands.has_size ∙ ap device_size (sym stands.whole.has_shape ∙ sym same_shape)) in
+      let opened : Torn (gates_at l.shape l.region) (log_size l.shape) new.shown (log.opened_image new l) =
+      full_torn new l bounds (sizes ∙ stands.has_size ∙ ap device_size (sym stands.whole.has_shape ∙ sym same_shape)) in
       let here : Torn (gates_at s.active.log.shape s.active.log.region) (log_size s.active.log.shape) new.shown (log.opened_image new l) =
       subst (λ (n : ℕ). Torn (gates_at s.active.log.shape n) (log_size s.active.log.shape) new.shown (log.opened_image new l)) same_region
       (subst (λ (sh : Shape). Torn (gates_at sh l.region) (log_size sh) new.shown (log.opened_image new l)) same_shape opened) in

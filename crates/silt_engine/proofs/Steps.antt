@@ -20,7 +20,8 @@ next_for s t next manifest frozen is = record {
 }
 
 -- the first log of later stores
-pub frozen_from : (next : NextLog) (content : Content) (first before after : EngineState) → StaysBehind first before → before.charge ≡ first.charge → HasFrozen next content before after → HasFrozen next content first after
+pub frozen_from : (next : NextLog) (content : Content) (first before after : EngineState) → StaysBehind first before
+    → before.charge ≡ first.charge → HasFrozen next content before after → HasFrozen next content first after
 frozen_from next content first before after behind charge has = record {
   quiet = has.quiet;
   active = has.active;

@@ -37,7 +37,8 @@ last_off xs rest x d o both some =
 -- ---- the oldest log and the hash store
 
 -- the body then names one hash store more
-pub named_more : (s : EngineState) (m : ManifestState) (may : MayReplace s m) (ended : ConversionState) (taken : Option ConversionState) → taken ≡ s.converting → taken ≡ Some ended → (made : HashState) (digest : List ℕ) → made ≡ store_of ended digest → IsHeldHash made
+pub named_more : (s : EngineState) (m : ManifestState) (may : MayReplace s m) (ended : ConversionState) (taken : Option ConversionState)
+    → taken ≡ s.converting → taken ≡ Some ended → (made : HashState) (digest : List ℕ) → made ≡ store_of ended digest → IsHeldHash made
     → length m.current.hashed ≡ length s.hashes + 1
 named_more s m may ended taken taken_is taken_some made digest made_is held =
     let same : ended ≡ may.conversion = same_conversion ended may.conversion s.converting (sym taken_is ∙ taken_some) may.was in
@@ -47,7 +48,8 @@ named_more s m may ended taken taken_is taken_some made digest made_is held =
 
 module _ (s : EngineState) (m : ManifestState) (may : MayReplace s m) (ended : ConversionState) (taken : Option ConversionState) (taken_is : taken ≡ s.converting) (taken_some : taken ≡ Some ended)
     (log : LogStoreState) (frozen : List LogStoreState) (popped : Option LogStoreState) (frozen_items : s.frozen ≡ frozen ++ option_to_list popped) (popped_some : popped ≡ Some log)
-    (made : HashState) (digest : List ℕ) (made_is : made ≡ store_of ended digest) (made_digested : IsDigestOf ended.hasher digest) (made_held : IsHeldHash made) (hashes : List HashState) (hashes_are : hashes ≡ insert s.hashes 0 made)
+    (made : HashState) (digest : List ℕ) (made_is : made ≡ store_of ended digest) (made_digested : IsDigestOf ended.hasher digest)
+    (made_held : IsHeldHash made) (hashes : List HashState) (hashes_are : hashes ≡ insert s.hashes 0 made)
     (converting : Option ConversionState) (converting_is : converting ≡ None) (log_puts puts dropped charge : ℕ) (log_puts_are : log_puts ≡ log.puts) (puts_are : puts ≡ ended.puts)
     (dropped_is : dropped ≡ log_puts - puts) (charge_is : charge ≡ s.charge - dropped) where
   same : ended ≡ may.conversion

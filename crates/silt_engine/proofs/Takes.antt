@@ -29,20 +29,23 @@ use Rattle.silt_engine.proofs.Works.{broke_off}
 
 -- what waits if none of it went into the base
 pub waits_behind : (command : Command) (old new : Content) (before after : EngineState) → MovesIntoBase (command ∷ []) old new before after
-    → waiting_commands new after ≡ waiting_commands old before ++ command ∷ [] → WaitsBehind command (base_map old before) (base_map new after) (waiting_commands old before) (waiting_commands new after)
+    → waiting_commands new after ≡ waiting_commands old before ++ command ∷ []
+    → WaitsBehind command (base_map old before) (base_map new after) (waiting_commands old before) (waiting_commands new after)
 waits_behind command old new before after moves waits =
     let none : moves.moved ≡ [] = append_cancel_right moves.moved [] (waiting_commands new after) (moves.rest ∙ sym waits) in
     record { waiting = waits; base = moves.base ∙ ap (map_after (base_map old before)) none }
 
 -- what waits if all that waited went into the base
-pub waits_alone : (command : Command) (old new : Content) (before after : EngineState) → MovesIntoBase (command ∷ []) old new before after → waiting_commands new after ≡ command ∷ [] → WaitsAlone command (base_map old before) (base_map new after) (waiting_commands old before) (waiting_commands new after)
+pub waits_alone : (command : Command) (old new : Content) (before after : EngineState) → MovesIntoBase (command ∷ []) old new before after
+    → waiting_commands new after ≡ command ∷ [] → WaitsAlone command (base_map old before) (base_map new after) (waiting_commands old before) (waiting_commands new after)
 waits_alone command old new before after moves waits =
     let all : moves.moved ≡ waiting_commands old before =
     append_cancel_right moves.moved (waiting_commands old before) (command ∷ []) (ap (λ (cs : List Command). moves.moved ++ cs) (sym waits) ∙ moves.rest) in
     record { waiting = waits; base = moves.base ∙ ap (map_after (base_map old before)) all }
 
 -- the record that is current after the next log took the row, and what waits then
-pub turns_for : (command : Command) (old middle_content new : Content) (before middle after : EngineState) (next : NextLog) (key : List ℕ) → SameDisk old middle_content → NeedsNext old before key → (is : IsNextLog before next)
+pub turns_for : (command : Command) (old middle_content new : Content) (before middle after : EngineState) (next : NextLog) (key : List ℕ)
+    → SameDisk old middle_content → NeedsNext old before key → (is : IsNextLog before next)
     → HasFrozen next middle_content before middle → after.manifest ≡ middle.manifest → Advances (command ∷ []) old new before after
     → (IsTrue middle_content.honest → waiting_commands new after ≡ waiting_commands middle_content middle ++ command ∷ []) → TurnsFor old new before after key command
 turns_for command old middle_content new before middle after next key disk needs is frozen same goes waits = record {

@@ -25,7 +25,8 @@ use Rattle.silt_engine.proofs.Elsewhere.{outside_slot}
 use Rattle.silt_engine.proofs.Freezes.{IsApart, full_quiet, kept, quiet_map, slot_apart}
 
 -- an image that represents the base represents it after none of what waited
-pub begun_none : (content : Content) (s : EngineState) (image : List ℕ) → StandsFor s.manifest.shape (base_map content s) image → HasBegun s.manifest.shape (base_map content s) (waiting_commands content s) image
+pub begun_none : (content : Content) (s : EngineState) (image : List ℕ) → StandsFor s.manifest.shape (base_map content s) image
+    → HasBegun s.manifest.shape (base_map content s) (waiting_commands content s) image
 begun_none content s image stands = record { kept = []; begins = record { rest = waiting_commands content s; is = refl }; stands = stands }
 
 -- the active log lies outside the slots
@@ -60,10 +61,12 @@ module _ (old new : Content) (s : EngineState) (slot : ℕ) (below : slot < 2) (
       → RecordIsCurrent s.manifest image → image_stores image ≡ Ok (shown_stores old s)
   same_named h before image named torn is_current =
       current_named h before image (current_record s.manifest) named torn is_current
-      ∙ ap Ok (named_here s.manifest.shape s.manifest.current (shown_stores old s) before named (named_shape s.manifest.shape s.manifest.current old.shown) (named_body s.manifest.shape s.manifest.current old.shown))
+      ∙ ap Ok (named_here s.manifest.shape s.manifest.current (shown_stores old s) before named (named_shape s.manifest.shape s.manifest.current old.shown)
+      (named_body s.manifest.shape s.manifest.current old.shown))
 
   -- the map of the full image, if nothing waited and nothing waits
-  pub quiet_remap : IsQuiet old s → (after : EngineState) → after.active.log.settled ≡ after.active.log.used → IsTrue old.honest → image_map new.shown ≡ base_map old s → image_map (full_image new after) ≡ image_map (full_image old s)
+  pub quiet_remap : IsQuiet old s → (after : EngineState) → after.active.log.settled ≡ after.active.log.used → IsTrue old.honest
+      → image_map new.shown ≡ base_map old s → image_map (full_image new after) ≡ image_map (full_image old s)
   quiet_remap is_quiet after settled h same = ap image_map (full_quiet new after settled) ∙ same ∙ sym (quiet_map old s is_quiet) ∙ sym (full_map old s stands h)
 
   -- and if the same rows wait in the same log, with stores that have it and the same map
@@ -72,7 +75,8 @@ module _ (old new : Content) (s : EngineState) (slot : ℕ) (below : slot < 2) (
   waiting_remap after t same_log same_shape same_active h named same_map =
       let l : LogState = s.active.log in
       ap (λ (other : LogState). image_map (log.opened_image new other)) same_log
-      ∙ opened_map new l t active_kept.stands (sizes ∙ stands.has_size ∙ ap device_size (sym stands.whole.has_shape)) (same_shape ∙ sym stands.whole.has_shape) (same_active ∙ sym stands.whole.active_region) (there h) named
+      ∙ opened_map new l t active_kept.stands (sizes ∙ stands.has_size ∙ ap device_size (sym stands.whole.has_shape))
+      (same_shape ∙ sym stands.whole.has_shape) (same_active ∙ sym stands.whole.active_region) (there h) named
       ∙ ap (λ (m : Map). map_after m (map command_of (waiting_rows new l))) same_map
       ∙ ap (λ (rows : List StoredRow). map_after (base_map old s) (map command_of rows)) (waiting_kept old new l l stands.active h active_kept)
       ∙ sym (full_map old s stands h)

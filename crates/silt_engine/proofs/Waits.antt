@@ -1,5 +1,6 @@
 -- Whether the row that a lookup found waits for a flush.
-use Rattle.std.proofs.Common.{◌≡◌, ◌≢◌, ◌<◌, ◌≤◌, ◌+◌, ◌-◌, ◌||◌, ◌==◌, ℕ, Bool, true, false, cond, if◌then◌else◌, nat_le, IsTrue, List, [], ◌∷◌, ◌++◌, length, map, get_or, Option, Some, None, inl, inr, refl, ap, sym, ◌∙◌, subst, arith, length-append}
+use Rattle.std.proofs.Common.{◌≡◌, ◌≢◌, ◌<◌, ◌≤◌, ◌+◌, ◌-◌, ◌||◌, ◌==◌, ℕ, Bool, true, false, cond, if◌then◌else◌, nat_le, IsTrue, List, [], ◌∷◌, ◌++◌, length}
+use Rattle.std.proofs.Common.{map, get_or, Option, Some, None, inl, inr, refl, ap, sym, ◌∙◌, subst, arith, length-append}
 use Rattle.std.specs.List.{list_any}
 use Rattle.std.specs.Str.{bytes_eq}
 use Rattle.std.specs.FinMap.{get, get-insert, get-remove}
@@ -78,7 +79,8 @@ module _ (settled waiting : List StoredRow) (key : List ℕ) where
   one_waits : (place : ℕ) (row : StoredRow) → length settled ≤ place → IsLastRow (settled ++ waiting) key place row → changes_key (map command_of waiting) key ≡ true
   one_waits place row behind is =
       let inside = slice_get_within (settled ++ waiting) place row is.there in
-      let here : get_or waiting (place - length settled) row ≡ row = sym (get_or-append_right settled waiting (length settled) place row refl behind) ∙ get_or_from_slice_get (settled ++ waiting) place row row is.there in
+      let here : get_or waiting (place - length settled) row ≡ row =
+      sym (get_or-append_right settled waiting (length settled) place row refl behind) ∙ get_or_from_slice_get (settled ++ waiting) place row row is.there in
       of_rows key waiting
       ∙ list_any_at (λ (row : StoredRow). bytes_eq row.key key) waiting (place - length settled) row (omega (arith, behind, inside, length-append settled waiting))
       ((bytes_eq-Decides (get_or waiting (place - length settled) row).key key).1 (ap (λ (r : StoredRow). r.key) here ∙ is.has_key))
@@ -109,8 +111,10 @@ module _ (content : Content) (view s : EngineState) (is : view ≡ s) (key : Lis
   pub active_waits : (found : Found) → o ≡ Some found → is_waiting_row s (Some (Active, found)) ≡ changes_key (waiting_commands content s) key
   active_waits found some =
       ap (λ (n : ℕ). nat_le n found.place) (sym (all_count content (record s.active.log { used = s.active.log.settled })))
-      ∙ last_waits (settled_rows content s.active.log) (waiting_rows content s.active.log) key found (subst (FindsLast (settled_rows content s.active.log ++ waiting_rows content s.active.log) key) some finds_last)
+      ∙ last_waits (settled_rows content s.active.log) (waiting_rows content s.active.log) key found
+      (subst (FindsLast (settled_rows content s.active.log ++ waiting_rows content s.active.log) key) some finds_last)
 
   -- it is not, so no row of the key waits
   pub nothing_waits : o ≡ None → false ≡ changes_key (waiting_commands content s) key
-  nothing_waits none = lacking_waits (settled_rows content s.active.log) (waiting_rows content s.active.log) key (subst (FindsLast (settled_rows content s.active.log ++ waiting_rows content s.active.log) key) none finds_last)
+  nothing_waits none = lacking_waits (settled_rows content s.active.log) (waiting_rows content s.active.log) key
+      (subst (FindsLast (settled_rows content s.active.log ++ waiting_rows content s.active.log) key) none finds_last)

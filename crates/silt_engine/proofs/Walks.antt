@@ -90,7 +90,8 @@ log_passed content s items number store key o are inside is stands honest finds 
 pub hash_passed : (content : Content) (s : EngineState) (items : List HashState) (number : ℕ) (store : HashState) (key : List ℕ) (o : Option Found)
     → items ≡ s.hashes → number < length items → store ≡ get_or items number store → Stands content s → IsTrue content.honest
     → (IsTrue content.honest → IsHashStore content store → FindsRow (hash_rows_of content store) key o) → ((found : Found) → o ≡ Some found → ⊥)
-    → ((index : ℕ) → index < number → holds_key key (hash_rows_of content (hash_store_at s index)) ≡ false) → (index : ℕ) → index < number + 1 → holds_key key (hash_rows_of content (hash_store_at s index)) ≡ false
+    → ((index : ℕ) → index < number → holds_key key (hash_rows_of content (hash_store_at s index)) ≡ false) → (index : ℕ)
+    → index < number + 1 → holds_key key (hash_rows_of content (hash_store_at s index)) ≡ false
 hash_passed content s items number store key o are inside is stands honest finds not_some before =
     one_more (λ index. holds_key key (hash_rows_of content (hash_store_at s index)) ≡ false) number before
     (subst (FindsRow (hash_rows_of content (hash_store_at s number)) key) (none_of o not_some) (hash_finds content s items number store key o are inside is stands honest finds))
@@ -109,14 +110,16 @@ module _ (content : Content) (view s : EngineState) (is : view ≡ s) (key : Lis
   -- the active log has no row of the key
   active_lacks : HasNoRow (all_rows content s.active.log) key
   active_lacks =
-      let found : FindsLast (all_rows content s.active.log) key o = subst (λ (v : EngineState). IsTrue content.honest → IsIndexed content v.active → FindsLast (all_rows content v.active.log) key o) is finds honest stands.indexed in
+      let found : FindsLast (all_rows content s.active.log) key o =
+      subst (λ (v : EngineState). IsTrue content.honest → IsIndexed content v.active → FindsLast (all_rows content v.active.log) key o) is finds honest stands.indexed in
       subst (FindsLast (all_rows content s.active.log) key) none found
 
   -- and a frozen log has one
   pub newest_frozen : (number : ℕ) (found : Found) → IfSome walked (λ row. (row.0 < length s.frozen) × (row.1.place < (frozen_at s row.0).log.used)) → walked ≡ Some (number, found)
       → FindsNewest content s key (Some (Frozen number, found))
   newest_frozen number found inside some =
-      let there : (number < length s.frozen) × (found.place < (frozen_at s number).log.used) = subst (λ (w : Option (ℕ × Found)). IfSome w (λ row. (row.0 < length s.frozen) × (row.1.place < (frozen_at s row.0).log.used))) some inside in
+      let there : (number < length s.frozen) × (found.place < (frozen_at s number).log.used) =
+      subst (λ (w : Option (ℕ × Found)). IfSome w (λ row. (row.0 < length s.frozen) × (row.1.place < (frozen_at s row.0).log.used))) some inside in
       found_frozen content s stands honest key number found there.0 active_lacks (subst (FindsFrozen content s key) some (walks stands honest))
 
   -- no log has one, and this is what the hash stores have
@@ -128,7 +131,8 @@ module _ (content : Content) (view s : EngineState) (is : view ≡ s) (key : Lis
     pub newest_hashed : (number : ℕ) (found : Found) → IfSome hash_walked (λ row. (row.0 < length s.hashes) × (row.1.place < 4 * s.manifest.shape.buckets)) → hash_walked ≡ Some (number, found)
         → FindsNewest content s key (Some (Hashed number, found))
     newest_hashed number found inside some =
-        let there : (number < length s.hashes) × (found.place < 4 * s.manifest.shape.buckets) = subst (λ (w : Option (ℕ × Found)). IfSome w (λ row. (row.0 < length s.hashes) × (row.1.place < 4 * s.manifest.shape.buckets))) some inside in
+        let there : (number < length s.hashes) × (found.place < 4 * s.manifest.shape.buckets) =
+        subst (λ (w : Option (ℕ × Found)). IfSome w (λ row. (row.0 < length s.hashes) × (row.1.place < 4 * s.manifest.shape.buckets))) some inside in
         found_hashed content s stands honest key number found there.0 active_lacks frozen_lack (subst (FindsHashed content s key) some (hash_walks stands honest))
 
     -- none has one
@@ -175,49 +179,57 @@ hashed_value content s items number store o found out are inside is some has =
     (subst (λ (o : Option Found). IfSome (put_place o) (λ place. out ≡ (slot_row store.shape store.region content.shown place).value)) some has)
 
 -- a put gives the key its value
-put_gives : (content : Content) (s : EngineState) (key : List ℕ) (holder : Holder) (kind : Kind) (place : ℕ) (out : List ℕ) → FindsNewest content s key (Some (holder, record { kind = kind; place = place }))
+put_gives : (content : Content) (s : EngineState) (key : List ℕ) (holder : Holder) (kind : Kind) (place : ℕ) (out : List ℕ)
+    → FindsNewest content s key (Some (holder, record { kind = kind; place = place }))
     → IsItsValue content s holder (record { kind = kind; place = place }) out → is_put kind ≡ true → get (current_map content s) key ≡ Some out
 put_gives content s key holder Put place out finds has puts = finds ∙ ap Some (sym has)
 put_gives content s key holder Delete place out finds has puts = absurd (cc)
 
 -- and a delete gives it none
-delete_gives : (content : Content) (s : EngineState) (key : List ℕ) (holder : Holder) (kind : Kind) (place : ℕ) → FindsNewest content s key (Some (holder, record { kind = kind; place = place })) → is_put kind ≡ false
+delete_gives : (content : Content) (s : EngineState) (key : List ℕ) (holder : Holder) (kind : Kind) (place : ℕ)
+    → FindsNewest content s key (Some (holder, record { kind = kind; place = place })) → is_put kind ≡ false
     → get (current_map content s) key ≡ None
 delete_gives content s key holder Put place finds deletes = absurd (cc)
 delete_gives content s key holder Delete place finds deletes = finds
 
 -- the row that was found is a put, and this is the value
-pub found_put : (content : Content) (s : EngineState) (key : List ℕ) (walked : Option (Holder × Found)) (holder : Holder) (found : Found) (out : List ℕ) → FindsNewest content s key walked → walked ≡ Some (holder, found)
+pub found_put : (content : Content) (s : EngineState) (key : List ℕ) (walked : Option (Holder × Found)) (holder : Holder) (found : Found) (out : List ℕ)
+    → FindsNewest content s key walked → walked ≡ Some (holder, found)
     → IfSome walked (λ row. IsItsValue content s row.0 row.1 out) → is_put found.kind ≡ true → get (current_map content s) key ≡ Some out
 found_put content s key walked holder found out finds some has puts =
     put_gives content s key holder found.kind found.place out (subst (FindsNewest content s key) some finds)
     (subst (λ (w : Option (Holder × Found)). IfSome w (λ row. IsItsValue content s row.0 row.1 out)) some has) puts
 
 -- it is a delete
-pub found_delete : (content : Content) (s : EngineState) (key : List ℕ) (walked : Option (Holder × Found)) (holder : Holder) (found : Found) → FindsNewest content s key walked → walked ≡ Some (holder, found)
+pub found_delete : (content : Content) (s : EngineState) (key : List ℕ) (walked : Option (Holder × Found)) (holder : Holder) (found : Found)
+    → FindsNewest content s key walked → walked ≡ Some (holder, found)
     → is_put found.kind ≡ false → get (current_map content s) key ≡ None
 found_delete content s key walked holder found finds some deletes = delete_gives content s key holder found.kind found.place (subst (FindsNewest content s key) some finds) deletes
 
 -- ---- the answer of a lookup
 
 -- no log and no hash store has a row of the key; the entries are seen through the stores' fields
-module _ (content : Content) (view s : EngineState) (is : view ≡ s) (key : List ℕ) (walked : Option (Holder × Found)) (walks : Stands content s → IsTrue content.honest → FindsNewest content s key walked) (none : walked ≡ None)
+module _ (content : Content) (view s : EngineState) (is : view ≡ s) (key : List ℕ) (walked : Option (Holder × Found))
+    (walks : Stands content s → IsTrue content.honest → FindsNewest content s key walked) (none : walked ≡ None)
     (stands : Stands content s) (honest : IsTrue content.honest) where
   newest : FindsNewest content s key None
   newest = subst (FindsNewest content s key) none (walks stands honest)
 
   -- what is found in entries without a finding, if the index is theirs
-  told : (P : List StoredRow → Type 0) → (sorted_findings (entries_of content view.sorted) ≡ [] → IsIndexOf (entries_of content view.sorted) view.index → P (entries_of content view.sorted)) → P (entries_of content s.sorted)
+  told : (P : List StoredRow → Type 0) → (sorted_findings (entries_of content view.sorted) ≡ [] → IsIndexOf (entries_of content view.sorted) view.index
+      → P (entries_of content view.sorted)) → P (entries_of content s.sorted)
   told P tells =
       subst (λ (v : EngineState). sorted_findings (entries_of content v.sorted) ≡ [] → IsIndexOf (entries_of content v.sorted) v.index → P (entries_of content v.sorted)) is tells
       (entries_sound content s stands honest) (stands.located honest)
 
   -- its value was read
-  pub gets_value : (value : List ℕ) → (IsTrue content.honest → sorted_findings (entries_of content view.sorted) ≡ [] → IsIndexOf (entries_of content view.sorted) view.index → HasOnlyValue (entries_of content view.sorted) key value)
+  pub gets_value : (value : List ℕ) → (IsTrue content.honest → sorted_findings (entries_of content view.sorted) ≡ []
+      → IsIndexOf (entries_of content view.sorted) view.index → HasOnlyValue (entries_of content view.sorted) key value)
       → get (current_map content s) key ≡ Some value
   gets_value value reads = found_value content s stands honest key value newest (told (λ rows. HasOnlyValue rows key value) (reads honest))
 
   -- there is none to read
-  pub gets_none : (IsTrue content.honest → sorted_findings (entries_of content view.sorted) ≡ [] → IsIndexOf (entries_of content view.sorted) view.index → HasNoEntry (entries_of content view.sorted) key)
+  pub gets_none : (IsTrue content.honest → sorted_findings (entries_of content view.sorted) ≡ [] → IsIndexOf (entries_of content view.sorted) view.index
+      → HasNoEntry (entries_of content view.sorted) key)
       → get (current_map content s) key ≡ None
   gets_none lacks = found_nowhere content s stands honest key newest (told (λ rows. HasNoEntry rows key) (lacks honest))

@@ -47,7 +47,8 @@ written_in content s log (Some conversion) same is written = subst (λ (l : LogS
 -- ---- a merge
 
 -- it is in progress in stores with the same shape and sorted region, and with no fewer hash stores
-pub merging_in : (s t : EngineState) (o : Option MergeState) → t.manifest.shape ≡ s.manifest.shape → t.sorted.region ≡ s.sorted.region → length s.hashes ≤ length t.hashes → IfSome o (IsMerging s) → IfSome o (IsMerging t)
+pub merging_in : (s t : EngineState) (o : Option MergeState) → t.manifest.shape ≡ s.manifest.shape → t.sorted.region ≡ s.sorted.region
+    → length s.hashes ≤ length t.hashes → IfSome o (IsMerging s) → IfSome o (IsMerging t)
 merging_in s t None same_shape same_region more is = tt
 merging_in s t (Some merge) same_shape same_region more is = record {
   has_shape = is.has_shape ∙ sym same_shape;
@@ -60,7 +61,8 @@ merging_in s t (Some merge) same_shape same_region more is = record {
 -- ---- whole stores
 
 -- with another active log of the same region
-pub whole_with_active : (s : EngineState) (after : LogStoreState) (charge : ℕ) → AreWhole s → after.log.shape ≡ s.active.log.shape → after.log.region ≡ s.active.log.region → charge ≤ s.manifest.shape.sorted_capacity
+pub whole_with_active : (s : EngineState) (after : LogStoreState) (charge : ℕ) → AreWhole s → after.log.shape ≡ s.active.log.shape
+    → after.log.region ≡ s.active.log.region → charge ≤ s.manifest.shape.sorted_capacity
     → AreWhole (record s { active = after; charge = charge })
 whole_with_active s after charge whole same_shape same_region most = record {
   has_shape = same_shape ∙ whole.has_shape;
@@ -79,7 +81,8 @@ whole_with_active s after charge whole same_shape same_region most = record {
 -- what a conversion has written is of the same log
 pub written_with_active : (content : Content) (s : EngineState) (after : LogStoreState) (charge : ℕ) → AreWhole s → IfSome s.converting (HasWritten content (oldest_log s))
     → IfSome s.converting (HasWritten content (oldest_log (record s { active = after; charge = charge })))
-written_with_active content s after charge whole written = written_in content s (oldest_log (record s { active = after; charge = charge })) s.converting (oldest_any s.frozen after s.active) whole.under_way written
+written_with_active content s after charge whole written =
+    written_in content s (oldest_log (record s { active = after; charge = charge })) s.converting (oldest_any s.frozen after s.active) whole.under_way written
 
 -- with another manifest of the same shape and the same current record, and with this conversion and this merge
 pub whole_with : (s : EngineState) (m : ManifestState) (converting : Option ConversionState) (merging : Option MergeState) → m.shape ≡ s.manifest.shape → m.current ≡ s.manifest.current

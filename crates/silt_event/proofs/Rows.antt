@@ -51,7 +51,8 @@ newest_of [] key = get-empty (slice_cmp nat_cmp) key
 newest_of (row ∷ rows) key =
     let turned : reverse (row ∷ rows) ≡ reverse rows ++ row ∷ [] = reverse-append (row ∷ []) rows in
     let found : Option StoredRow = find (λ (r : StoredRow). bytes_eq r.key key) rows in
-    let go : (b : Bool) → bytes_eq row.key key ≡ b → cond (bytes_eq row.key key) (value_given row) (option_and_then value_given found) ≡ option_and_then value_given (find (λ (r : StoredRow). bytes_eq r.key key) (row ∷ rows)) = elim [
+    let go : (b : Bool) → bytes_eq row.key key ≡ b → cond (bytes_eq row.key key) (value_given row) (option_and_then value_given found) ≡ option_and_then
+    value_given (find (λ (r : StoredRow). bytes_eq r.key key) (row ∷ rows)) = elim [
       | true ↦ λ is. rw is refl
       | false ↦ λ is. rw is refl
     ] in

@@ -1,5 +1,6 @@
 -- Lemmas on the bits of numbers and of bytes.
-use Rattle.std.proofs.Common.{◌≡◌, ℕ, zero, suc, ◌+◌, ◌-◌, ◌*◌, ◌/◌, ◌%◌, ◌^◌, ◌<◌, ◌≤◌, List, [], ◌∷◌, ◌++◌, length, take, drop, replicate, refl, sym, ap, ◌∙◌, zero-add, add-zero, arith, length-append}
+use Rattle.std.proofs.Common.{◌≡◌, ℕ, zero, suc, ◌+◌, ◌-◌, ◌*◌, ◌/◌, ◌%◌, ◌^◌, ◌<◌, ◌≤◌, List, [], ◌∷◌, ◌++◌, length, take, drop, replicate, refl, sym, ap, ◌∙◌}
+use Rattle.std.proofs.Common.{zero-add, add-zero, arith, length-append}
 use Rattle.std.proofs.lemmas.List.{take_at, drop_at, take-append-drop, length-take-le, replicate-append-replicate, take-replicate}
 use Rattle.std.proofs.Math.Seq.{take-append-add}
 use Rattle.std.specs.Int.{w64, byte_at, bytes_high_first, to_be_bytes}
@@ -19,7 +20,8 @@ low_bits_split zero b n = ap (λ (w : ℕ). low_bits w n) (zero-add b)
 low_bits_split (suc a) b n =
     let e : suc a + b ≡ suc (b + a) = omega arith in
     let f : b + a ≡ a + b = omega arith in
-    ap (λ (w : ℕ). low_bits w n) e ∙ ap (λ (x : ℕ). x % 2 ∷ low_bits (b + a) n) (sym (shr-shr n b a)) ∙ ap (λ (w : ℕ). n / 2 ^ b / 2 ^ a % 2 ∷ low_bits w n) f ∙ ap (λ (xs : List ℕ). n / 2 ^ b / 2 ^ a % 2 ∷ xs) (low_bits_split a b n)
+    ap (λ (w : ℕ). low_bits w n) e ∙ ap (λ (x : ℕ). x % 2 ∷ low_bits (b + a) n) (sym (shr-shr n b a)) ∙ ap (λ (w : ℕ). n / 2 ^ b / 2 ^ a % 2 ∷ low_bits w n) f
+    ∙ ap (λ (xs : List ℕ). n / 2 ^ b / 2 ^ a % 2 ∷ xs) (low_bits_split a b n)
 
 -- a byte has eight bits
 pub length-bits_of : (bytes : List ℕ) → length (bits_of bytes) ≡ 8 * length bytes
@@ -45,7 +47,8 @@ low_bits_above (suc w) h n =
     let double : 2 ^ suc w ≡ 2 * 2 ^ w = pow-succ' 2 w in
     let positive : 0 < 2 ^ w = pow_pos w in
     let outer : h * 2 ^ suc w + n ≡ (2 * h) * 2 ^ w + n = ap (λ (x : ℕ). h * x + n) double ∙ ap (λ (x : ℕ). x + n) (sym (mul_assoc h 2 (2 ^ w)) ∙ ap (λ (x : ℕ). x * 2 ^ w) (mul_comm h 2)) in
-    let head : (h * 2 ^ suc w + n) / 2 ^ w % 2 ≡ n / 2 ^ w % 2 = ap (λ (x : ℕ). x / 2 ^ w % 2) outer ∙ ap (λ (x : ℕ). x % 2) (mul-add-div_right positive (2 * h) n) ∙ mul-add-mod_self_left 2 h (n / 2 ^ w) in
+    let head : (h * 2 ^ suc w + n) / 2 ^ w % 2 ≡ n / 2 ^ w % 2 =
+    ap (λ (x : ℕ). x / 2 ^ w % 2) outer ∙ ap (λ (x : ℕ). x % 2) (mul-add-div_right positive (2 * h) n) ∙ mul-add-mod_self_left 2 h (n / 2 ^ w) in
     let tail : low_bits w (h * 2 ^ suc w + n) ≡ low_bits w n = ap (low_bits w) outer ∙ low_bits_above w (2 * h) n in
     ap (λ (x : ℕ). x ∷ low_bits w (h * 2 ^ suc w + n)) head ∙ ap (λ (xs : List ℕ). n / 2 ^ w % 2 ∷ xs) tail
 
@@ -58,7 +61,8 @@ low_bits-zero (suc w) = ap (λ (x : ℕ). x % 2 ∷ low_bits w 0) (zero-div (2 ^
 pub low_bits_moved : (w k n : ℕ) → low_bits (w + k) (n * 2 ^ k) ≡ low_bits w n ++ replicate k 0
 low_bits_moved w k n =
     let e : n * 2 ^ k ≡ n * 2 ^ k + 0 = omega arith in
-    low_bits_split w k (n * 2 ^ k) ∙ ap (λ (x : ℕ). low_bits w x ++ low_bits k (n * 2 ^ k)) (shl-shr n k) ∙ ap (λ (xs : List ℕ). low_bits w n ++ xs) (ap (low_bits k) e ∙ low_bits_above k n 0 ∙ low_bits-zero k)
+    low_bits_split w k (n * 2 ^ k) ∙ ap (λ (x : ℕ). low_bits w x ++ low_bits k (n * 2 ^ k)) (shl-shr n k)
+    ∙ ap (λ (xs : List ℕ). low_bits w n ++ xs) (ap (low_bits k) e ∙ low_bits_above k n 0 ∙ low_bits-zero k)
 
 -- a number of w bits has zeros above
 pub low_bits_small : (k w n : ℕ) → n < 2 ^ w → low_bits (k + w) n ≡ replicate k 0 ++ low_bits w n
@@ -72,7 +76,8 @@ low_bits_mod w n = sym (low_bits_above w (n / 2 ^ w) (n % 2 ^ w)) ∙ ap (low_bi
 -- what a word of s + t bits holds after a move up by s
 pub moved_word : (s t n : ℕ) → n * 2 ^ s % 2 ^ (t + s) ≡ (n % 2 ^ t) * 2 ^ s
 moved_word s t n =
-    mod-pow-add (n * 2 ^ s) t s ∙ ap (λ (x : ℕ). (x % 2 ^ t) * 2 ^ s + n * 2 ^ s % 2 ^ s) (shl-shr n s) ∙ ap (λ (x : ℕ). (n % 2 ^ t) * 2 ^ s + x) (mul-mod_left n (2 ^ s)) ∙ add-zero ((n % 2 ^ t) * 2 ^ s)
+    mod-pow-add (n * 2 ^ s) t s ∙ ap (λ (x : ℕ). (x % 2 ^ t) * 2 ^ s + n * 2 ^ s % 2 ^ s) (shl-shr n s)
+    ∙ ap (λ (x : ℕ). (n % 2 ^ t) * 2 ^ s + x) (mul-mod_left n (2 ^ s)) ∙ add-zero ((n % 2 ^ t) * 2 ^ s)
 
 -- bits that are joined: those of x above those of y
 pub low_bits_joined : (t s x y : ℕ) → y < 2 ^ s → low_bits (t + s) (x * 2 ^ s + y) ≡ low_bits t x ++ low_bits s y
@@ -94,7 +99,8 @@ bits_of_high_first (suc k) n =
     let power : 256 ^ k ≡ 2 ^ (8 * k) = byte_power k in
     let worth : byte_at k n ≡ n / 2 ^ (8 * k) % 2 ^ 8 = byte_at_is k n ∙ ap (λ (x : ℕ). n / x % 256) power in
     let head : low_bits 8 (byte_at k n) ≡ low_bits 8 (n / 2 ^ (8 * k)) = ap (low_bits 8) worth ∙ low_bits_mod 8 (n / 2 ^ (8 * k)) in
-    ap (λ (xs : List ℕ). low_bits 8 (byte_at k n) ++ xs) (bits_of_high_first k n) ∙ ap (λ (xs : List ℕ). xs ++ low_bits (8 * k) n) head ∙ sym (low_bits_split 8 (8 * k) n) ∙ ap (λ (w : ℕ). low_bits w n) (sym eight)
+    ap (λ (xs : List ℕ). low_bits 8 (byte_at k n) ++ xs) (bits_of_high_first k n) ∙ ap (λ (xs : List ℕ). xs ++ low_bits (8 * k) n) head
+    ∙ sym (low_bits_split 8 (8 * k) n) ∙ ap (λ (w : ℕ). low_bits w n) (sym eight)
   where
     byte_at_is : (i m : ℕ) → byte_at i m ≡ m / 256 ^ i % 256
     byte_at_is zero m = ap (λ (x : ℕ). x % 256) (sym (div-one m))

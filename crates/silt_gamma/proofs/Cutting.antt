@@ -23,7 +23,8 @@ cut_whole len k bytes new within whole is =
     holds_front len 0 bytes new within (omega arith) (code ∙ sym (append-nil (take len (bits_of bytes))))
 
 -- the highest u bits of the last byte stay, and zeros follow them
-pub cut_partly : (len q u f b : ℕ) (bytes kept new : List ℕ) → len ≤ 8 * length bytes → len ≡ 8 * q + u → 0 < u → u + f ≡ 8 → kept ≡ take (q + 1) bytes → b ≡ get_or kept q b → new ≡ set kept q (b / 2 ^ f * 2 ^ f % 2 ^ 8)
+pub cut_partly : (len q u f b : ℕ) (bytes kept new : List ℕ) → len ≤ 8 * length bytes → len ≡ 8 * q + u → 0 < u → u + f ≡ 8
+    → kept ≡ take (q + 1) bytes → b ≡ get_or kept q b → new ≡ set kept q (b / 2 ^ f * 2 ^ f % 2 ^ 8)
     → Holds len new (take len (bits_of bytes))
 cut_partly len q u f b bytes kept new within place some byte kept_is read is =
     let c = b / 2 ^ f * 2 ^ f % 2 ^ 8 in
@@ -38,11 +39,13 @@ cut_partly len q u f b bytes kept new within place some byte kept_is read is =
     let b_bits : low_bits 8 b ≡ top ++ low_bits f b = ap (λ w. low_bits w b) (sym byte) ∙ low_bits_split u f b in
     let rest = bits_of (drop (q + 1) bytes) in
     let old_is : bits_of bytes ≡ (whole ++ top) ++ (low_bits f b ++ rest) =
-    ap bits_of (sym (take-append-drop q bytes) ∙ ap (λ xs. take q bytes ++ xs) (drop_more bytes q b here ∙ ap (λ x. x ∷ drop (q + 1) bytes) (sym b_is))) ∙ bits_of-append (take q bytes) (b ∷ drop (q + 1) bytes)
+    ap bits_of (sym (take-append-drop q bytes) ∙ ap (λ xs. take q bytes ++ xs) (drop_more bytes q b here ∙ ap (λ x. x ∷ drop (q + 1) bytes) (sym b_is)))
+    ∙ bits_of-append (take q bytes) (b ∷ drop (q + 1) bytes)
     ∙ ap (λ xs. whole ++ (xs ++ rest)) b_bits ∙ ap (λ xs. whole ++ xs) (append_assoc top (low_bits f b) rest) ∙ sym (append_assoc whole top (low_bits f b ++ rest))
     in
     let long : length (whole ++ top) ≡ len = let a = length-append whole top in let d = length-bits_of (take q bytes) in let e = length-low_bits u (b / 2 ^ f) in omega arith in
     let front : take len (bits_of bytes) ≡ whole ++ top = ap (take len) old_is ∙ take_at (whole ++ top) (low_bits f b ++ rest) len long in
     let code : bits_of new ≡ take len (bits_of bytes) ++ replicate f 0 =
-    ap bits_of new_is ∙ bits_of-append (take q bytes) (c ∷ []) ∙ ap (λ xs. whole ++ xs) (append-nil (low_bits 8 c) ∙ c_bits) ∙ sym (append_assoc whole top (replicate f 0)) ∙ ap (λ xs. xs ++ replicate f 0) (sym front) in
+    ap bits_of new_is ∙ bits_of-append (take q bytes) (c ∷ []) ∙ ap (λ xs. whole ++ xs) (append-nil (low_bits 8 c) ∙ c_bits)
+    ∙ sym (append_assoc whole top (replicate f 0)) ∙ ap (λ xs. xs ++ replicate f 0) (sym front) in
     holds_front len f bytes new within (omega arith) code

@@ -40,7 +40,8 @@ front_of bytes at end window ready w left shows word within =
     let place : (64 - ready) + (ready - w) ≡ 64 - w = omega arith in
     let high : top / 2 ^ (ready - w) ≡ window / 2 ^ (64 - w) = shr-shr window (64 - ready) (ready - w) ∙ ap (λ (k : ℕ). window / 2 ^ k) place in
     let from_word : take w (low_bits ready top) ≡ low_bits w (window / 2 ^ (64 - w)) =
-    ap (take w) (ap (λ (n : ℕ). low_bits n top) (sym parts) ∙ low_bits_split w (ready - w) top) ∙ take_at (low_bits w (top / 2 ^ (ready - w))) _ w (length-low_bits w (top / 2 ^ (ready - w))) ∙ ap (low_bits w) high in
+    ap (take w) (ap (λ (n : ℕ). low_bits n top) (sym parts) ∙ low_bits_split w (ready - w) top)
+    ∙ take_at (low_bits w (top / 2 ^ (ready - w))) _ w (length-low_bits w (top / 2 ^ (ready - w))) ∙ ap (low_bits w) high in
     let from_bits : take w (low_bits ready top) ≡ take w (drop at bits) =
     ap (take w) is.word ∙ take-take w ready (drop at (bits ++ replicate 72 0)) word
     ∙ ap (take w) (drop-append-le at bits (replicate 72 0) (omega arith)) ∙ take-append-le w (drop at bits) (replicate 72 0) (omega arith)
@@ -57,7 +58,8 @@ length_left bytes at end window ready left shows =
     sym (ap length shows.view) ∙ length-take-le (end - at) (drop at (bits_of bytes)) (omega arith)
 
 -- what is left after w bits
-pub left_after : (bytes : List ℕ) (at end window ready w : ℕ) (left : List ℕ) → Shows bytes at end window ready left → w ≤ end - at → take (end - (at + w)) (drop (at + w) (bits_of bytes)) ≡ drop w left
+pub left_after : (bytes : List ℕ) (at end window ready w : ℕ) (left : List ℕ) → Shows bytes at end window ready left → w ≤ end - at
+    → take (end - (at + w)) (drop (at + w) (bits_of bytes)) ≡ drop w left
 left_after bytes at end window ready w left shows within =
     let count : end - at ≡ w + (end - (at + w)) = let ordered = shows.is.ordered in omega arith in
     let bits = bits_of bytes in
@@ -92,7 +94,8 @@ window_after bytes at end window ready w is word within =
     }
 
 -- the fields with a word read anew
-pub window_full : (bytes : List ℕ) (at end window ready fresh : ℕ) → IsWindow bytes at end window ready → fresh < 2 ^ 64 → low_bits 64 fresh ≡ take 64 (drop at (bits_of bytes ++ replicate 72 0)) → IsWindow bytes at end fresh 64
+pub window_full : (bytes : List ℕ) (at end window ready fresh : ℕ) → IsWindow bytes at end window ready → fresh < 2 ^ 64
+    → low_bits 64 fresh ≡ take 64 (drop at (bits_of bytes ++ replicate 72 0)) → IsWindow bytes at end fresh 64
 window_full bytes at end window ready fresh is small word =
     record { ordered = is.ordered; inside = is.inside; small = small; upto = omega arith; word = ap (low_bits 64) (div-one fresh) ∙ word }
 
@@ -141,8 +144,14 @@ reads_code bytes at end window ready w left shows width word within =
     let some : 1 ≤ 2 ^ z = pow_pos z in
     let fits : n < 2 ^ 32 = omega arith in
     let has : HasCode n = (omega arith, fits) in
-    let code : take w left ≡ gamma_code n = front_of bytes at end window ready w left shows word within ∙ ap (λ (x : ℕ). low_bits x n) width ∙ sym (gamma_code_is z n has low high) in
-    (fits, record { in_range = has; split = sym (take-append-drop w left) ∙ ap (λ (xs : List ℕ). xs ++ drop w left) code ∙ ap (λ (xs : List ℕ). gamma_code n ++ xs) (sym (left_after bytes at end window ready w left shows within)) })
+    let code : take w left ≡ gamma_code n = front_of bytes at end window ready w left shows word within ∙ ap (λ (x : ℕ). low_bits x n) width ∙ sym (gamma_code_is z n has low high) in (
+      fits,
+      record {
+        in_range = has;
+        split = sym (take-append-drop w left) ∙ ap (λ (xs : List ℕ). xs ++ drop w left) code
+            ∙ ap (λ (xs : List ℕ). gamma_code n ++ xs) (sym (left_after bytes at end window ready w left shows within));
+      },
+    )
 
 -- if a word is long enough and begins with a code, it has as many zeros in front as the code
 code_reads : (bytes : List ℕ) (at end window ready n : ℕ) (left rest : List ℕ) → Shows bytes at end window ready left → BeginsWithCode left n rest → (ready ≡ 64) ⊎ (end - at < ready)
@@ -159,7 +168,8 @@ code_reads bytes at end window ready n left rest shows begins enough =
     let within : w ≤ end - at = omega arith in
     let long : w ≤ ready = elim enough [ inl all ↦ omega arith | inr more ↦ omega arith ] in
     let upto = shows.is.upto in
-    let front : low_bits w (window / 2 ^ (64 - w)) ≡ low_bits w n = sym (front_of bytes at end window ready w left shows long within) ∙ ap (take w) code ∙ take_at (low_bits w n) rest w (length-low_bits w n) in
+    let front : low_bits w (window / 2 ^ (64 - w)) ≡ low_bits w n =
+    sym (front_of bytes at end window ready w left shows long within) ∙ ap (take w) code ∙ take_at (low_bits w n) rest w (length-low_bits w n) in
     let same = low_bits_same w (window / 2 ^ (64 - w)) n [] [] (ap (λ (xs : List ℕ). xs ++ []) front) in
     let whole : w + (64 - w) ≡ 64 = omega arith in
     let word : window < 2 ^ (w + (64 - w)) = rw whole shows.is.small in
@@ -169,7 +179,8 @@ code_reads bytes at end window ready n left rest shows begins enough =
     let zeros_are = zeros (64 - w) refl number fits.0 fits.1 few in
     (omega arith, omega arith)
   where
-    zeros : (spare : ℕ) → spare ≡ 64 - (2 * exponent_up_to 31 n + 1) → window / 2 ^ spare ≡ n → 2 ^ exponent_up_to 31 n ≤ n → n < 2 ^ (exponent_up_to 31 n + 1) → exponent_up_to 31 n ≤ 31 → count_leading_zeros 64 window ≡ exponent_up_to 31 n
+    zeros : (spare : ℕ) → spare ≡ 64 - (2 * exponent_up_to 31 n + 1) → window / 2 ^ spare ≡ n → 2 ^ exponent_up_to 31 n ≤ n
+        → n < 2 ^ (exponent_up_to 31 n + 1) → exponent_up_to 31 n ≤ 31 → count_leading_zeros 64 window ≡ exponent_up_to 31 n
     zeros spare e number low high few =
         let some : 0 < 2 ^ exponent_up_to 31 n = pow_pos (exponent_up_to 31 n) in
         let whole = div-mul-le_self window (2 ^ spare) in
@@ -182,7 +193,8 @@ code_reads bytes at end window ready n left rest shows begins enough =
 pub no_code : (bytes : List ℕ) (at end window ready w n : ℕ) (left rest : List ℕ) → Shows bytes at end window ready left → w ≡ 2 * count_leading_zeros 64 window + 1 → (ready ≡ 64) ⊎ (w ≤ ready)
     → (ready < w) ⊎ (end - at < w) → BeginsWithCode left n rest → ⊥
 no_code bytes at end window ready w n left rest shows width full short begins = elim full [
-  | inl all ↦ let reads = code_reads bytes at end window ready n left rest shows begins (inl all) in let few = reads.0 in let within = reads.1 in elim short [ inl above ↦ absurd (omega arith) | inr past ↦ absurd (omega arith) ]
+  | inl all ↦ let reads = code_reads bytes at end window ready n left rest shows begins (inl all) in let few = reads.0 in let within =
+      reads.1 in elim short [ inl above ↦ absurd (omega arith) | inr past ↦ absurd (omega arith) ]
   | inr word ↦ elim short [
     | inl above ↦ absurd (omega arith)
     | inr past ↦ let reads = code_reads bytes at end window ready n left rest shows begins (inr (omega arith)) in let within = reads.1 in absurd (omega arith)

@@ -6,7 +6,8 @@ use Rattle.std.proofs.lemmas.Nat.{or_shifted, shr_below, be_bytes_8}
 use Rattle.std.proofs.lemmas.Bool.{cases_lt}
 use Rattle.std.specs.Int.{w64, from_be_bytes}
 use Rattle.silt_gamma.specs.Bits.{low_bits, bits_of}
-use Rattle.silt_gamma.proofs.BitLists.{length-low_bits, length-bits_of, low_bits_split, low_bits_joined, low_bits_mod, moved_word, drop-bits_of, bits_of-append, bits_of_to_be, bits_of-zeros, take_filled}
+use Rattle.silt_gamma.proofs.BitLists.{length-low_bits, length-bits_of, low_bits_split, low_bits_joined, low_bits_mod, moved_word, drop-bits_of, bits_of-append}
+use Rattle.silt_gamma.proofs.BitLists.{bits_of_to_be, bits_of-zeros, take_filled}
 
 -- a word moved up by s bits, and the highest s bits of the byte after it
 pub joined_window : (s t u word ninth : ℕ) (more : List ℕ) → t + s ≡ 64 → s + u ≡ 8 → ninth < 256
@@ -29,8 +30,10 @@ joined_window s t u word ninth more whole byte small =
     ∙ append_assoc high (low_bits t word) _ ∙ ap (λ (xs : List ℕ). high ++ (low_bits t word ++ xs)) (append_assoc (low_bits s (ninth / 2 ^ u)) (low_bits u ninth) more)
     in
     let front = low_bits t word ++ low_bits s (ninth / 2 ^ u) in
-    let sized : length front ≡ 64 = length-append (low_bits t word) (low_bits s (ninth / 2 ^ u)) ∙ ap (λ (x : ℕ). x + length (low_bits s (ninth / 2 ^ u))) (length-low_bits t word) ∙ ap (λ (x : ℕ). t + x) (length-low_bits s (ninth / 2 ^ u)) ∙ whole in
-    left ∙ sym (ap (λ (xs : List ℕ). take 64 (drop s xs)) cut ∙ ap (take 64) (drop_at high _ s (length-low_bits s (word / 2 ^ t)) ∙ sym (append_assoc (low_bits t word) (low_bits s (ninth / 2 ^ u)) rest)) ∙ take_at front rest 64 sized)
+    let sized : length front ≡ 64 = length-append (low_bits t word) (low_bits s (ninth / 2 ^ u))
+    ∙ ap (λ (x : ℕ). x + length (low_bits s (ninth / 2 ^ u))) (length-low_bits t word) ∙ ap (λ (x : ℕ). t + x) (length-low_bits s (ninth / 2 ^ u)) ∙ whole in
+    left ∙ sym (ap (λ (xs : List ℕ). take 64 (drop s xs)) cut
+    ∙ ap (take 64) (drop_at high _ s (length-low_bits s (word / 2 ^ t)) ∙ sym (append_assoc (low_bits t word) (low_bits s (ninth / 2 ^ u)) rest)) ∙ take_at front rest 64 sized)
 
 -- the same bits, by their place in all the bytes
 pub window_inside : (at q s : ℕ) (bytes : List ℕ) → at ≡ 8 * q + s → q + 9 ≤ length bytes → s < 8
@@ -48,7 +51,8 @@ pub window_padded : (at q s r : ℕ) (bytes : List ℕ) → at ≡ 8 * q + s →
 window_padded at q s r bytes place small within sized short =
     let size = length-bits_of bytes in
     let spare = 8 * (9 - r) in
-    let split : bits_of (drop q bytes ++ replicate (9 - r) 0) ≡ bits_of (drop q bytes) ++ replicate spare 0 = bits_of-append (drop q bytes) (replicate (9 - r) 0) ∙ ap (λ (xs : List ℕ). bits_of (drop q bytes) ++ xs) (bits_of-zeros (9 - r)) in
+    let split : bits_of (drop q bytes ++ replicate (9 - r) 0) ≡ bits_of (drop q bytes) ++ replicate spare 0 =
+    bits_of-append (drop q bytes) (replicate (9 - r) 0) ∙ ap (λ (xs : List ℕ). bits_of (drop q bytes) ++ xs) (bits_of-zeros (9 - r)) in
     let rest = length-bits_of (drop q bytes) in
     let fewer = length-drop q bytes in
     let here : drop s (bits_of (drop q bytes)) ≡ drop at (bits_of bytes) =

@@ -1,6 +1,7 @@
 -- Lemmas on appending bits.
 use Rattle.std.proofs.Common.{◌≡◌, ℕ, ◌+◌, ◌-◌, ◌*◌, ◌/◌, ◌%◌, ◌^◌, ◌<◌, ◌≤◌, List, [], ◌∷◌, ◌++◌, length, take, drop, get_or, replicate, sym, ap, ◌∙◌, add-zero, arith, length-append}
-use Rattle.std.proofs.lemmas.List.{append-nil, append_assoc, drop_all, drop_at, drop_more, get_or_append_left, length-replicate, length-take-le, replicate-append-replicate, set_at, take-append-drop, take_at}
+use Rattle.std.proofs.lemmas.List.{append-nil, append_assoc, drop_all, drop_at, drop_more, get_or_append_left, length-replicate, length-take-le}
+use Rattle.std.proofs.lemmas.List.{replicate-append-replicate, set_at, take-append-drop, take_at}
 use Rattle.std.proofs.Math.Seq.{take-append-add}
 use Rattle.std.proofs.Math.ListN.{set}
 use Rattle.std.proofs.Math.Nat.{zero-mod}
@@ -10,14 +11,16 @@ use Rattle.std.proofs.lemmas.Nat.{or_shifted, shl_whole, shl-shr, shr_below, shr
 use Rattle.std.specs.Int.{w64, to_be_bytes}
 use Rattle.silt_gamma.specs.Bits.{low_bits, bits_of, HoldsBits}
 use Rattle.silt_gamma.proofs.Gamma.{low_bits_same}
-use Rattle.silt_gamma.proofs.BitLists.{length-bits_of, length-low_bits, low_bits_moved, low_bits_mod, low_bits_split, low_bits_joined, low_bits-zero, bits_of-append, bits_of-take, bits_of_to_be, take_into_zeros}
+use Rattle.silt_gamma.proofs.BitLists.{length-bits_of, length-low_bits, low_bits_moved, low_bits_mod, low_bits_split, low_bits_joined, low_bits-zero}
+use Rattle.silt_gamma.proofs.BitLists.{bits_of-append, bits_of-take, bits_of_to_be, take_into_zeros}
 
 -- how many bits the first ones are
 pub length_front : (len : ℕ) (bytes : List ℕ) → len ≤ 8 * length bytes → length (take len (bits_of bytes)) ≡ len
 length_front len bytes within = let size = length-bits_of bytes in length-take-le len (bits_of bytes) (omega arith)
 
 -- a number of some bits at the top of a word
-pub aligned : (width value : ℕ) → 1 ≤ width → width ≤ 64 → value < 2 ^ width → (value * 2 ^ (64 - width) % 2 ^ 64 / 2 ^ (64 - width) ≡ value) × (low_bits 64 (value * 2 ^ (64 - width) % 2 ^ 64) ≡ low_bits width value ++ replicate (64 - width) 0)
+pub aligned : (width value : ℕ) → 1 ≤ width → width ≤ 64 → value < 2 ^ width → (value * 2 ^ (64 - width) % 2 ^ 64 / 2 ^ (64 - width) ≡ value)
+    × (low_bits 64 (value * 2 ^ (64 - width) % 2 ^ 64) ≡ low_bits width value ++ replicate (64 - width) 0)
 aligned width value some word small =
     let whole : width + (64 - width) ≡ 64 = omega arith in
     let fits : value * 2 ^ (64 - width) % 2 ^ 64 ≡ value * 2 ^ (64 - width) = shl_whole value width (64 - width) 64 small (omega arith) in
@@ -39,9 +42,15 @@ append_whole width word len k bytes more new filled within whole small alone mad
     let eight : length more ≡ 8 = let e = ap length (ap bits_of made ∙ bits_of_to_be word) in let f = length-bits_of more in let g = length-low_bits 64 word in omega arith in
     let wide = length-low_bits width (word / 2 ^ (64 - width)) in
     let added : bits_of (take k more) ≡ top ++ replicate (8 * k - width) 0 =
-    bits_of-take k more (omega arith) ∙ ap (take (8 * k)) (ap bits_of made ∙ bits_of_to_be word ∙ alone) ∙ take_into_zeros top (8 * k) (64 - width) (omega arith) (omega arith) ∙ ap (λ n. top ++ replicate (8 * k - n) 0) wide
+    bits_of-take k more (omega arith) ∙ ap (take (8 * k)) (ap bits_of made ∙ bits_of_to_be word ∙ alone)
+    ∙ take_into_zeros top (8 * k) (64 - width) (omega arith) (omega arith) ∙ ap (λ n. top ++ replicate (8 * k - n) 0) wide
     in
-    record { spare = 8 * k - width; short = omega arith; code = ap bits_of is ∙ bits_of-append bytes (take k more) ∙ ap (λ xs. xs ++ bits_of (take k more)) old ∙ ap (λ xs. bits ++ xs) added ∙ sym (append_assoc bits top (replicate (8 * k - width) 0)) }
+    record {
+      spare = 8 * k - width;
+      short = omega arith;
+      code = ap bits_of is ∙ bits_of-append bytes (take k more)
+          ∙ ap (λ xs. xs ++ bits_of (take k more)) old ∙ ap (λ xs. bits ++ xs) added ∙ sym (append_assoc bits top (replicate (8 * k - width) 0));
+    }
 
 -- what of a word goes into the rest of a byte and into the bytes behind it
 tail_bits : (f k width word : ℕ) → f ≤ 8 → k ≤ 8 → width ≤ 64 → width ≤ f + 8 * k → low_bits 64 word ≡ low_bits width (word / 2 ^ (64 - width)) ++ replicate (64 - width) 0
@@ -78,7 +87,8 @@ record LastByte (len q u f b : ℕ) (bytes : List ℕ) : Type 0 where
   zeros : low_bits f b ≡ replicate f 0
 
 -- the last byte of bits that do not fill it
-last_byte : (len q u f b : ℕ) (bytes more : List ℕ) → HoldsBits bytes (take len (bits_of bytes)) → len ≤ 8 * length bytes → len ≡ 8 * q + u → 0 < u → u + f ≡ 8 → b ≡ get_or (bytes ++ more) q b → LastByte len q u f b bytes
+last_byte : (len q u f b : ℕ) (bytes more : List ℕ) → HoldsBits bytes (take len (bits_of bytes)) → len ≤ 8 * length bytes
+    → len ≡ 8 * q + u → 0 < u → u + f ≡ 8 → b ≡ get_or (bytes ++ more) q b → LastByte len q u f b bytes
 last_byte len q u f b bytes more filled within place some byte read =
     let bits = take len (bits_of bytes) in
     let count = length_front len bytes within in
@@ -89,13 +99,15 @@ last_byte len q u f b bytes more filled within place some byte read =
     let spare : filled.spare ≡ f = omega arith in
     let here : q < length bytes = omega arith in
     let is : bytes ≡ take q bytes ++ b ∷ [] =
-    sym (take-append-drop q bytes) ∙ ap (λ xs. take q bytes ++ xs) (drop_more bytes q b here ∙ ap (λ x. x ∷ drop (q + 1) bytes) (sym (read ∙ get_or_append_left bytes more b q here)) ∙ ap (λ xs. b ∷ xs) (drop_all (q + 1) bytes (omega arith)))
+    sym (take-append-drop q bytes) ∙ ap (λ xs. take q bytes ++ xs)
+    (drop_more bytes q b here ∙ ap (λ x. x ∷ drop (q + 1) bytes) (sym (read ∙ get_or_append_left bytes more b q here)) ∙ ap (λ xs. b ∷ xs) (drop_all (q + 1) bytes (omega arith)))
     in
     let front = length-take-le q bytes (omega arith) in
     let eight : low_bits 8 b ≡ low_bits u (b / 2 ^ f) ++ low_bits f b = ap (λ w. low_bits w b) (sym byte) ∙ low_bits_split u f b in
     let before = bits_of (take q bytes) ++ low_bits u (b / 2 ^ f) in
     let all : bits_of bytes ≡ before ++ low_bits f b =
-    ap bits_of is ∙ bits_of-append (take q bytes) (b ∷ []) ∙ ap (λ xs. bits_of (take q bytes) ++ xs) (append-nil (low_bits 8 b) ∙ eight) ∙ sym (append_assoc (bits_of (take q bytes)) (low_bits u (b / 2 ^ f)) (low_bits f b)) in
+    ap bits_of is ∙ bits_of-append (take q bytes) (b ∷ []) ∙ ap (λ xs. bits_of (take q bytes) ++ xs) (append-nil (low_bits 8 b) ∙ eight)
+    ∙ sym (append_assoc (bits_of (take q bytes)) (low_bits u (b / 2 ^ f)) (low_bits f b)) in
     let long : length before ≡ len =
     let a = length-append (bits_of (take q bytes)) (low_bits u (b / 2 ^ f)) in let d = length-bits_of (take q bytes) in let e = length-low_bits u (b / 2 ^ f) in omega arith in
     record {
@@ -123,20 +135,25 @@ append_partly width word len k b bytes more new filled within some one small fit
     let low : x < 2 ^ f = shr_below word f (56 + u) wide in
     let value : low_bits 8 (bit_or b x) ≡ low_bits u (b / 2 ^ f) ++ low_bits f x =
     let eight : 8 ≡ u + f = omega arith in ap (low_bits 8) (low_zeros f b x last.zeros low) ∙ ap (λ w. low_bits w (b / 2 ^ f * 2 ^ f + x)) eight ∙ low_bits_joined u f (b / 2 ^ f) x low in
-    let eight : length more ≡ 8 = let e = ap length (ap bits_of made ∙ bits_of_to_be (word * 2 ^ f % 2 ^ 64)) in let g = length-bits_of more in let h = length-low_bits 64 (word * 2 ^ f % 2 ^ 64) in omega arith in
-    let behind : bits_of (take k more) ≡ take (8 * k) (low_bits 64 (word * 2 ^ f % 2 ^ 64)) = bits_of-take k more (omega arith) ∙ ap (take (8 * k)) (ap bits_of made ∙ bits_of_to_be (word * 2 ^ f % 2 ^ 64)) in
+    let eight : length more ≡ 8 = let e = ap length (ap bits_of made ∙ bits_of_to_be (word * 2 ^ f % 2 ^ 64)) in let g =
+    length-bits_of more in let h = length-low_bits 64 (word * 2 ^ f % 2 ^ 64) in omega arith in
+    let behind : bits_of (take k more) ≡ take (8 * k) (low_bits 64 (word * 2 ^ f % 2 ^ 64)) =
+    bits_of-take k more (omega arith) ∙ ap (take (8 * k)) (ap bits_of made ∙ bits_of_to_be (word * 2 ^ f % 2 ^ 64)) in
     let front : low_bits f x ≡ low_bits f (word / 2 ^ (64 - f)) = ap (λ n. low_bits f (word / 2 ^ n)) turned in
     let tail : low_bits f x ++ bits_of (take k more) ≡ top ++ replicate (f + 8 * k - width) 0 =
     ap (λ xs. xs ++ bits_of (take k more)) front ∙ ap (λ xs. low_bits f (word / 2 ^ (64 - f)) ++ xs) behind ∙ tail_bits f k width word (omega arith) (omega arith) small (omega arith) alone in
     let placed : new ≡ take q bytes ++ bit_or b x ∷ take k more =
-    is ∙ ap (λ xs. set (xs ++ take k more) q (bit_or b x)) last.bytes_are ∙ ap (λ xs. set xs q (bit_or b x)) (append_assoc (take q bytes) (b ∷ []) (take k more)) ∙ set_at (take q bytes) b (take k more) (bit_or b x) q last.front_len in
+    is ∙ ap (λ xs. set (xs ++ take k more) q (bit_or b x)) last.bytes_are ∙ ap (λ xs. set xs q (bit_or b x)) (append_assoc (take q bytes) (b ∷ []) (take k more))
+    ∙ set_at (take q bytes) b (take k more) (bit_or b x) q last.front_len in
     record {
       spare = f + 8 * k - width;
       short = omega arith;
       code =
           ap bits_of placed ∙ bits_of-append (take q bytes) (bit_or b x ∷ take k more) ∙ ap (λ xs. bits_of (take q bytes) ++ (xs ++ bits_of (take k more))) value
-          ∙ ap (λ xs. bits_of (take q bytes) ++ xs) (append_assoc (low_bits u (b / 2 ^ f)) (low_bits f x) (bits_of (take k more))) ∙ sym (append_assoc (bits_of (take q bytes)) (low_bits u (b / 2 ^ f)) (low_bits f x ++ bits_of (take k more)))
-          ∙ ap (λ xs. xs ++ (low_bits f x ++ bits_of (take k more))) (sym last.bits_are) ∙ ap (λ xs. take len (bits_of bytes) ++ xs) tail ∙ sym (append_assoc (take len (bits_of bytes)) top (replicate (f + 8 * k - width) 0));
+          ∙ ap (λ xs. bits_of (take q bytes) ++ xs) (append_assoc (low_bits u (b / 2 ^ f)) (low_bits f x) (bits_of (take k more)))
+          ∙ sym (append_assoc (bits_of (take q bytes)) (low_bits u (b / 2 ^ f)) (low_bits f x ++ bits_of (take k more)))
+          ∙ ap (λ xs. xs ++ (low_bits f x ++ bits_of (take k more))) (sym last.bits_are) ∙ ap (λ xs. take len (bits_of bytes) ++ xs) tail
+          ∙ sym (append_assoc (take len (bits_of bytes)) top (replicate (f + 8 * k - width) 0));
     }
 
 -- what a writer's fields mean

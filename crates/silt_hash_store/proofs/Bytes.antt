@@ -1,5 +1,6 @@
 -- The bytes of the rows in slots, as a hasher is fed them.
-use Rattle.std.proofs.Common.{◌≡◌, ℕ, zero, suc, ◌+◌, ◌-◌, ◌*◌, ◌≤◌, ◌<◌, Result, Ok, Err, OnOk, List, [], ◌++◌, length, take, drop, slice_range, refl, sym, subst, ap, ◌∙◌, arith, append_assoc, append-nil}
+use Rattle.std.proofs.Common.{◌≡◌, ℕ, zero, suc, ◌+◌, ◌-◌, ◌*◌, ◌≤◌, ◌<◌, Result, Ok, Err, OnOk, List, [], ◌++◌, length, take, drop, slice_range, refl, sym}
+use Rattle.std.proofs.Common.{subst, ap, ◌∙◌, arith, append_assoc, append-nil}
 use Rattle.std.proofs.lemmas.List.{take_all}
 use Rattle.std.proofs.lemmas.List.Edits.{length-between}
 use Rattle.std.proofs.Math.Nat.{add-mul}

@@ -26,7 +26,8 @@ behind_logs s log_region region slot there =
     inr (omega (arith, apart.bodies log_region s.logs there, apart.logs region))
 
 -- a change outside the slots leaves each row
-pub slot_outside : (s : Shape) (region slot at count : ℕ) (old new : List ℕ) → hash_at s region + 4 * s.buckets * row_len s ≤ length old → slot < 4 * s.buckets → LiesOutside (hash_at s region) (slots_len s) at count
+pub slot_outside : (s : Shape) (region slot at count : ℕ) (old new : List ℕ) → hash_at s region + 4 * s.buckets * row_len s ≤ length old
+    → slot < 4 * s.buckets → LiesOutside (hash_at s region) (slots_len s) at count
     → Torn at count old new → slot_row s region new slot ≡ slot_row s region old slot
 unfolding slot_row
 slot_outside s region slot at count old new fits below outside torn =
@@ -39,7 +40,8 @@ slot_outside s region slot at count old new fits below outside torn =
     ]
 
 -- and so all rows
-rows_same : (s : Shape) (region at count : ℕ) (old new : List ℕ) → hash_at s region + 4 * s.buckets * row_len s ≤ length old → LiesOutside (hash_at s region) (slots_len s) at count → Torn at count old new
+rows_same : (s : Shape) (region at count : ℕ) (old new : List ℕ) → hash_at s region + 4 * s.buckets * row_len s ≤ length old
+    → LiesOutside (hash_at s region) (slots_len s) at count → Torn at count old new
     → hash_rows s region new ≡ hash_rows s region old
 unfolding rows_before
 rows_same s region at count old new fits outside torn =
@@ -53,14 +55,16 @@ hash_elsewhere store old new at count held fits outside changes is =
     let inside : hash_at store.shape store.region + 4 * store.shape.buckets * row_len store.shape ≤ size old = omega (arith, slots_inside store.shape store.region held.there, fits) in record {
       sound = λ honest.
           let was : IsTrue old.honest = sym changes.honest ∙ honest in
-          ap (λ (rows : List StoredRow). hash_findings store.shape (record { region = store.region; rows = rows })) (rows_same store.shape store.region at count old.shown new.shown inside outside (changes.shown was))
+          ap (λ (rows : List StoredRow). hash_findings store.shape (record { region = store.region; rows = rows }))
+          (rows_same store.shape store.region at count old.shown new.shown inside outside (changes.shown was))
           ∙ is.sound was;
       tagged = λ honest slot below.
           let was : IsTrue old.honest = sym changes.honest ∙ honest in
           is.tagged was slot below ∙ ap (tag_of store.shape.buckets slot) (sym (slot_outside store.shape store.region slot at count old.shown new.shown inside below outside (changes.shown was)));
       counted = λ honest.
           let was : IsTrue old.honest = sym changes.honest ∙ honest in
-          is.counted was ∙ ap (λ (rows : List StoredRow). put_count (filter has_known_kind rows)) (sym (rows_same store.shape store.region at count old.shown new.shown inside outside (changes.shown was)));
+          is.counted was ∙ ap (λ (rows : List StoredRow). put_count (filter has_known_kind rows))
+          (sym (rows_same store.shape store.region at count old.shown new.shown inside outside (changes.shown was)));
       digested = λ honest.
           let was : IsTrue old.honest = sym changes.honest ∙ honest in
           is.digested was ∙ ap (λ (rows : List StoredRow). sha1 (rows_bytes rows)) (sym (rows_same store.shape store.region at count old.shown new.shown inside outside (changes.shown was)));

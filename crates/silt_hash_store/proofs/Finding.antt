@@ -31,7 +31,8 @@ module _ (store : HashState) (image : List ℕ) (count : ℕ) (is : IsTagged sto
   row_in slot = slot_row store.shape store.region image slot
 
   -- a row that was found is one of the rows before
-  pub row_found : (bucket tag : ℕ) (found : Found) → FindsIn store.shape store.region store.tags image bucket tag key (Some found) → FindsRow (rows_before store.shape store.region image count) key (Some found)
+  pub row_found : (bucket tag : ℕ) (found : Found) → FindsIn store.shape store.region store.tags image bucket tag key (Some found)
+      → FindsRow (rows_before store.shape store.region image count) key (Some found)
   row_found bucket tag found (tagged, here, kind) = elim (cases_lt found.place count) [
     | inl below ↦
         let parts = and_parts (has_known_kind (row_in found.place)) (bytes_eq (row_in found.place).key key) here in
@@ -50,15 +51,18 @@ module _ (store : HashState) (image : List ℕ) (count : ℕ) (is : IsTagged sto
         let parts = and_parts (has_known_kind (row_in slot)) (bytes_eq (row_in slot).key key) has in
         let same : (row_in slot).key ≡ key = (bytes_eq-Decides (row_in slot).key key).0 parts.1 in
         let tagged : slot_tag store.tags slot ≡ Some (other_bucket (first_bucket store.shape.buckets key) (second_bucket store.shape.buckets key) slot) =
-        is.tagged slot below ∙ tag_known store.shape.buckets slot (row_in slot) parts.0 ∙ ap (λ (k : List ℕ). Some (other_bucket (first_bucket store.shape.buckets k) (second_bucket store.shape.buckets k) slot)) same in
-        let inside : is_in_bucket store.shape slot key ≡ true = ap (is_in_bucket store.shape slot) (sym same) ∙ (sound_parts store.shape (hash_rows store.shape store.region image) slot (row_in slot) parts.0 (is.sound slot below)).0 in
+        is.tagged slot below ∙ tag_known store.shape.buckets slot (row_in slot) parts.0
+        ∙ ap (λ (k : List ℕ). Some (other_bucket (first_bucket store.shape.buckets k) (second_bucket store.shape.buckets k) slot)) same in
+        let inside : is_in_bucket store.shape slot key ≡ true =
+        ap (is_in_bucket store.shape slot) (sym same) ∙ (sound_parts store.shape (hash_rows store.shape store.region image) slot (row_in slot) parts.0 (is.sound slot below)).0 in
         elim (cases_Bool (eqb (slot / 4) (first_bucket store.shape.buckets key))) [
           | inl first ↦
               let at : slot / 4 ≡ first_bucket store.shape.buckets key = eqb-true _ _ first in
               let tag : slot_tag store.tags slot ≡ Some (second_bucket store.shape.buckets key) = tagged ∙ ap Some (cond-true _ _ _ first) in
               first_none slot (omega (arith, at)) (omega (arith, at)) tag
           | inr other ↦
-              let second : eqb (slot / 4) (second_bucket store.shape.buckets key) ≡ true = elim (or_cases (eqb (slot / 4) (first_bucket store.shape.buckets key)) (eqb (slot / 4) (second_bucket store.shape.buckets key)) inside) [
+              let second : eqb (slot / 4) (second_bucket store.shape.buckets key) ≡ true =
+              elim (or_cases (eqb (slot / 4) (first_bucket store.shape.buckets key)) (eqb (slot / 4) (second_bucket store.shape.buckets key)) inside) [
                 | inl first ↦ absurd (cc)
                 | inr second ↦ second
               ] in
@@ -96,13 +100,16 @@ module _ (store : HashState) (image : List ℕ) (count : ℕ) (is : IsTagged sto
 
   -- the same for buckets under other names
   pub both_decide : (buckets first second : ℕ) (found : Option Found) → buckets ≡ store.shape.buckets → first ≡ first_bucket buckets key → second ≡ second_bucket buckets key
-      → FindsIn store.shape store.region store.tags image first second key None → FindsIn store.shape store.region store.tags image second first key found → FindsRow (rows_before store.shape store.region image count) key found
+      → FindsIn store.shape store.region store.tags image first second key None → FindsIn store.shape store.region store.tags image second first key found
+      → FindsRow (rows_before store.shape store.region image count) key found
   both_decide buckets first second found same first_is second_is first_none finds =
       let one : first ≡ first_bucket store.shape.buckets key = first_is ∙ ap (λ n. first_bucket n key) same in
       let two : second ≡ second_bucket store.shape.buckets key = second_is ∙ ap (λ n. second_bucket n key) same in
       second_decides found
-      (subst (λ (n : ℕ). FindsIn store.shape store.region store.tags image (first_bucket store.shape.buckets key) n key None) two (subst (λ (n : ℕ). FindsIn store.shape store.region store.tags image n second key None) one first_none))
-      (subst (λ (n : ℕ). FindsIn store.shape store.region store.tags image (second_bucket store.shape.buckets key) n key found) one (subst (λ (n : ℕ). FindsIn store.shape store.region store.tags image n first key found) two finds))
+      (subst (λ (n : ℕ). FindsIn store.shape store.region store.tags image (first_bucket store.shape.buckets key) n key None) two
+      (subst (λ (n : ℕ). FindsIn store.shape store.region store.tags image n second key None) one first_none))
+      (subst (λ (n : ℕ). FindsIn store.shape store.region store.tags image (second_bucket store.shape.buckets key) n key found) one
+      (subst (λ (n : ℕ). FindsIn store.shape store.region store.tags image n first key found) two finds))
 
   -- one bucket decides if both are the same
   pub one_decides : (buckets first second : ℕ) → buckets ≡ store.shape.buckets → first ≡ first_bucket buckets key → second ≡ second_bucket buckets key → first ≡ second

@@ -1,5 +1,7 @@
 -- A rebuild, slot by slot, and the findings in a hash region.
-use Rattle.std.proofs.Common.{◌≡◌, ◌≢◌, ℕ, zero, suc, ◌+◌, ◌*◌, ◌<◌, ◌==◌, eqb, Bool, true, false, not, cond, IsTrue, List, [], ◌∷◌, ◌++◌, length, filter, flat_map, take, get_or, slice_get, slice_set, replicate, Option, Some, None, inl, inr, refl, sym, subst, ap, ◌∙◌, arith, length-append, append-nil, get_or-set_other, get_or-set_same}
+use Rattle.std.proofs.Common.{◌≡◌, ◌≢◌, ℕ, zero, suc, ◌+◌, ◌*◌, ◌<◌, ◌==◌, eqb, Bool, true, false, not, cond, IsTrue, List, [], ◌∷◌, ◌++◌, length, filter}
+use Rattle.std.proofs.Common.{flat_map, take, get_or, slice_get, slice_set, replicate, Option, Some, None, inl, inr, refl, sym, subst, ap, ◌∙◌, arith}
+use Rattle.std.proofs.Common.{length-append, append-nil, get_or-set_other, get_or-set_same}
 use Rattle.std.specs.List.{enumerate_from}
 use Rattle.std.specs.Option.{is_some}
 use Rattle.std.proofs.lemmas.Bool.{and_from, cases_eq}
@@ -36,7 +38,8 @@ use Rattle.silt_log.specs.declared.scan.ScanError.{ScanError}
 use Rattle.silt_log.specs.declared.scan.ScanError.TheVariants.{Damaged, Device, NoMemory}
 use Rattle.silt_hash_store.specs.declared.rebuild.Rebuilt.{Rebuilt}
 use Rattle.silt_hash_store.proofs.Finding.{untagged_none}
-use Rattle.silt_hash_store.proofs.Slotting.{all_before, before_count, before_more, before_taken, before_there, empty_not_known, sound_empty, sound_known, tag_empty, tag_known, unsound_bucket, unsound_kind, unsound_twice}
+use Rattle.silt_hash_store.proofs.Slotting.{all_before, before_count, before_more, before_taken, before_there, empty_not_known, sound_empty, sound_known}
+use Rattle.silt_hash_store.proofs.Slotting.{tag_empty, tag_known, unsound_bucket, unsound_kind, unsound_twice}
 
 -- ---- findings
 
@@ -61,7 +64,8 @@ sound_from s part k (first ∷ rows) none zero row there =
     let same : first ≡ row = cc in
     let here : k + 0 ≡ k = omega arith in
     ap (λ n. is_sound_hash_slot s part.rows n row) here ∙ ap (is_sound_hash_slot s part.rows k) (sym same)
-    ∙ passes_where_nothing (is_sound_hash_slot s part.rows k first) (finding.Damaged (Hash part.region k)) (nothing_first (slot_findings s part (k, first)) (flat_map (slot_findings s part) (enumerate_from (k + 1) rows)) none)
+    ∙ passes_where_nothing (is_sound_hash_slot s part.rows k first) (finding.Damaged (Hash part.region k))
+    (nothing_first (slot_findings s part (k, first)) (flat_map (slot_findings s part) (enumerate_from (k + 1) rows)) none)
 sound_from s part k (first ∷ rows) none (suc i) row there =
     let further : k + suc i ≡ k + 1 + i = omega arith in
     ap (λ n. is_sound_hash_slot s part.rows n row) further
@@ -155,7 +159,8 @@ tagged_all content store held honest is = record {
 }
 
 -- so what is found among the rows before the last slot is found among all rows
-pub found_in_all : (s : Shape) (region : ℕ) (image : List ℕ) (key : List ℕ) (found : Option Found) → FindsRow (rows_before s region image (4 * s.buckets)) key found → FindsRow (hash_rows s region image) key found
+pub found_in_all : (s : Shape) (region : ℕ) (image : List ℕ) (key : List ℕ) (found : Option Found)
+    → FindsRow (rows_before s region image (4 * s.buckets)) key found → FindsRow (hash_rows s region image) key found
 found_in_all s region image key found finds = subst (λ (rows : List StoredRow). FindsRow rows key found) (sym (all_before s region image)) finds
 
 -- and if no slot has a tag of a key, no row has the key
@@ -189,11 +194,16 @@ module _ (store : HashState) (image : List ℕ) (slot : ℕ) (is : IsTagged stor
       let known : has_known_kind shown ≡ true = head_known shown kind is_kind in record {
         sound = sound_known store.shape (hash_rows store.shape store.region image) slot shown known (ap (is_in_bucket store.shape slot) (sym same) ∙ inside)
             (ap (holds_key shown.key) earlier ∙ ap (λ (k : List ℕ). holds_key k (rows_before store.shape store.region image slot)) (sym same) ∙ none);
-        adds = (is_kind, tag_known store.shape.buckets slot shown known ∙ ap Some (ap (λ (k : List ℕ). other_bucket (first_bucket store.shape.buckets k) (second_bucket store.shape.buckets k) slot) (sym same) ∙ sym other));
+        adds = (
+          is_kind,
+          tag_known store.shape.buckets slot shown known
+              ∙ ap Some (ap (λ (k : List ℕ). other_bucket (first_bucket store.shape.buckets k) (second_bucket store.shape.buckets k) slot) (sym same) ∙ sym other),
+        );
       }
 
   -- a row in another bucket is not sound
-  pub elsewhere_unsound : (kind : Kind) (key : List ℕ) → kind_of shown.kind ≡ Some kind → key ≡ shown.key → TagsKey store.shape slot key None → is_sound_slot store.shape store.region image slot ≡ false
+  pub elsewhere_unsound : (kind : Kind) (key : List ℕ) → kind_of shown.kind ≡ Some kind → key ≡ shown.key → TagsKey store.shape slot key None
+      → is_sound_slot store.shape store.region image slot ≡ false
   elsewhere_unsound kind key is_kind same outside =
       unsound_bucket store.shape (hash_rows store.shape store.region image) slot shown (head_known shown kind is_kind) (ap (is_in_bucket store.shape slot) (sym same) ∙ outside)
 
@@ -204,7 +214,8 @@ module _ (store : HashState) (image : List ℕ) (slot : ℕ) (is : IsTagged stor
       let inside = slice_get_within (rows_before store.shape store.region image slot) found.place other there in
       let known : has_known_kind other ≡ true = known_byte found.kind other.kind its_kind in
       let held : is_row_of key other ≡ true = and_from _ _ known ((bytes_eq-Decides other.key key).1 its_key) in
-      let at : is_row_of key (get_or (rows_before store.shape store.region image slot) found.place other) ≡ true = ap (is_row_of key) (get_or_from_slice_get (rows_before store.shape store.region image slot) found.place other other there) ∙ held in
+      let at : is_row_of key (get_or (rows_before store.shape store.region image slot) found.place other) ≡ true =
+      ap (is_row_of key) (get_or_from_slice_get (rows_before store.shape store.region image slot) found.place other other there) ∙ held in
       unsound_twice store.shape (hash_rows store.shape store.region image) slot shown (head_known shown kind is_kind)
       (ap (holds_key shown.key) earlier ∙ ap (λ (k : List ℕ). holds_key k (rows_before store.shape store.region image slot)) (sym same)
       ∙ list_any_at (is_row_of key) (rows_before store.shape store.region image slot) found.place other inside at)
@@ -214,13 +225,15 @@ module _ (store : HashState) (image : List ℕ) (slot : ℕ) (is : IsTagged stor
       known_byte Delete byte e = ap (λ n. is_some (kind_of n)) (sym e)
 
 -- a slot of an unknown kind is not sound
-pub unknown_unsound : (s : Shape) (region : ℕ) (image : List ℕ) (slot : ℕ) → kind_of (slot_row s region image slot).kind ≡ None → (slot_row s region image slot).kind ≢ 0 → is_sound_slot s region image slot ≡ false
+pub unknown_unsound : (s : Shape) (region : ℕ) (image : List ℕ) (slot : ℕ) → kind_of (slot_row s region image slot).kind ≡ None
+    → (slot_row s region image slot).kind ≢ 0 → is_sound_slot s region image slot ≡ false
 unknown_unsound s region image slot unknown some = unsound_kind s (hash_rows s region image) slot (slot_row s region image slot) unknown some
 
 -- ---- one slot more
 
 -- the rows of known kinds with one slot more
-known_more : (s : Shape) (region : ℕ) (image : List ℕ) (slot : ℕ) → filter has_known_kind (rows_before s region image (slot + 1)) ≡ filter has_known_kind (rows_before s region image slot) ++ filter has_known_kind (slot_row s region image slot ∷ [])
+known_more : (s : Shape) (region : ℕ) (image : List ℕ) (slot : ℕ)
+    → filter has_known_kind (rows_before s region image (slot + 1)) ≡ filter has_known_kind (rows_before s region image slot) ++ filter has_known_kind (slot_row s region image slot ∷ [])
 known_more s region image slot = ap (filter has_known_kind) (before_more s region image slot) ∙ filter-append has_known_kind (rows_before s region image slot) (slot_row s region image slot ∷ [])
 
 -- a row of an unknown kind is no row of these
@@ -241,7 +254,8 @@ pub slot_taken : (old new : Rebuilt) (image : List ℕ) (slot : ℕ) (added : Op
 slot_taken old new image slot None below long is adds takes =
     let row : StoredRow = slot_row old.store.shape old.store.region image slot in
     let same : filter has_known_kind (rows_before old.store.shape old.store.region image (slot + 1)) ≡ filter has_known_kind (rows_before old.store.shape old.store.region image slot) ++ [] =
-    known_more old.store.shape old.store.region image slot ∙ ap (λ (l : List StoredRow). filter has_known_kind (rows_before old.store.shape old.store.region image slot) ++ l) (none_kept row (empty_not_known row adds.adds)) in
+    known_more old.store.shape old.store.region image slot
+    ∙ ap (λ (l : List StoredRow). filter has_known_kind (rows_before old.store.shape old.store.region image slot) ++ l) (none_kept row (empty_not_known row adds.adds)) in
     let kept = same ∙ append-nil (filter has_known_kind (rows_before old.store.shape old.store.region image slot)) in
     subst (λ (r : Rebuilt). IsGrown r image (slot + 1)) (sym takes) (record {
       tagged = record {
@@ -323,15 +337,18 @@ all_grown content rebuilt honest is digest = record {
 }
 
 -- a rebuild that was refused at a slot
-pub refused_at : {F : Type 0} (content : Content) (rebuilt : Rebuilt) (s : Shape) (region slot : ℕ) (given : F → Type 0) (error : ScanError F) → rebuilt.store.shape ≡ s → rebuilt.store.region ≡ region → slot < 4 * s.buckets
+pub refused_at : {F : Type 0} (content : Content) (rebuilt : Rebuilt) (s : Shape) (region slot : ℕ) (given : F → Type 0) (error : ScanError F)
+    → rebuilt.store.shape ≡ s → rebuilt.store.region ≡ region → slot < 4 * s.buckets
     → (IsTrue content.honest → IsGrown rebuilt content.shown slot)
     → IsScanRefused (λ at. (at ≡ slot) × (IsTrue content.honest → IsGrown rebuilt content.shown slot → is_sound_slot rebuilt.store.shape rebuilt.store.region content.shown slot ≡ false)) given error
     → IsScanRefused (λ at. IsTrue content.honest → IsFirstUnsound content s region at) given error
 refused_at content rebuilt s region slot given (Damaged at) shape number below is refused = λ honest.
     let grown = is honest in
-    let unsound : is_sound_slot s region content.shown slot ≡ false = ap (λ n. is_sound_slot s n content.shown slot) (sym number) ∙ ap (λ (t : Shape). is_sound_slot t rebuilt.store.region content.shown slot) (sym shape) ∙ refused.1 honest grown in
+    let unsound : is_sound_slot s region content.shown slot ≡ false = ap (λ n. is_sound_slot s n content.shown slot) (sym number)
+    ∙ ap (λ (t : Shape). is_sound_slot t rebuilt.store.region content.shown slot) (sym shape) ∙ refused.1 honest grown in
     let sound : (earlier : ℕ) → earlier < slot → is_sound_slot s region content.shown earlier ≡ true =
-    λ earlier low. ap (λ n. is_sound_slot s n content.shown earlier) (sym number) ∙ ap (λ (t : Shape). is_sound_slot t rebuilt.store.region content.shown earlier) (sym shape) ∙ grown.tagged.sound earlier low in
+    λ earlier low. ap (λ n. is_sound_slot s n content.shown earlier) (sym number)
+    ∙ ap (λ (t : Shape). is_sound_slot t rebuilt.store.region content.shown earlier) (sym shape) ∙ grown.tagged.sound earlier low in
     subst (λ n. IsFirstUnsound content s region n) (sym refused.0) (record { first = first_found s region content.shown slot below sound unsound })
 refused_at content rebuilt s region slot given (Device fault) shape number below is refused = refused
 refused_at content rebuilt s region slot given NoMemory shape number below is refused = tt

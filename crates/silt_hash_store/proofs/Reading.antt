@@ -33,13 +33,16 @@ head_read s region slot at image head said same fits read says =
 
 -- the head of a front that was read is that of the row in the slot
 pub front_read : (s : Shape) (region slot at count : ℕ) (image bytes head : List ℕ) (said : Head) → at ≡ hash_slot_at s region slot → at + row_len s ≤ length image → 21 ≤ count → count ≤ row_len s
-    → bytes ≡ slice_range image at (at + count) → head ≡ take 21 bytes → HeadSays (get_or head 0 0) (drop 1 head) said → HeadSays (slot_row s region image slot).kind (slot_row s region image slot).key said
+    → bytes ≡ slice_range image at (at + count) → head ≡ take 21 bytes → HeadSays (get_or head 0 0) (drop 1 head) said
+    → HeadSays (slot_row s region image slot).kind (slot_row s region image slot).key said
 front_read s region slot at count image bytes head said same fits least most read front says =
-    let part : slice_range image at (at + 21) ≡ take 21 (slice_range image at (at + count)) = ap (λ n. slice_range image n (n + 21)) (omega arith) ∙ slice_of_slice image at count 0 21 least (omega (arith, most, fits)) in
+    let part : slice_range image at (at + 21) ≡ take 21 (slice_range image at (at + count)) =
+    ap (λ n. slice_range image n (n + 21)) (omega arith) ∙ slice_of_slice image at count 0 21 least (omega (arith, most, fits)) in
     head_read s region slot at image head said same fits (front ∙ ap (take 21) read ∙ sym part) says
 
 -- and the value follows the head of a whole row
-pub front_value : (s : Shape) (region slot at count : ℕ) (image bytes : List ℕ) → at ≡ hash_slot_at s region slot → count ≡ row_len s → bytes ≡ slice_range image at (at + count) → drop 21 bytes ≡ (slot_row s region image slot).value
+pub front_value : (s : Shape) (region slot at count : ℕ) (image bytes : List ℕ) → at ≡ hash_slot_at s region slot → count ≡ row_len s
+    → bytes ≡ slice_range image at (at + count) → drop 21 bytes ≡ (slot_row s region image slot).value
 unfolding slot_row
 front_value s region slot at count image bytes same whole read =
     ap (drop 21) read ∙ ap (λ n. drop 21 (slice_range image at (at + n))) whole ∙ ap (λ n. drop 21 (slice_range image n (n + row_len s))) same
@@ -52,13 +55,15 @@ value_read s region slot at count image bytes here fits long read =
     read ∙ slice_to_end image at (row_len s) 21 count (omega arith) fits ∙ ap (λ n. drop 21 (slice_range image n (n + row_len s))) here
 
 -- slots that are read together lie within the device
-pub slots_within : (s : Shape) (region slot count at n end : ℕ) → hash_at s region + 4 * s.buckets * row_len s ≤ end → slot + count ≤ 4 * s.buckets → at ≡ hash_slot_at s region slot → n ≡ count * row_len s → at + n ≤ end
+pub slots_within : (s : Shape) (region slot count at n end : ℕ) → hash_at s region + 4 * s.buckets * row_len s ≤ end
+    → slot + count ≤ 4 * s.buckets → at ≡ hash_slot_at s region slot → n ≡ count * row_len s → at + n ≤ end
 slots_within s region slot count at n end fits within here long =
     let most : (slot + count) * row_len s ≤ 4 * s.buckets * row_len s = mul-le-mul_right (row_len s) within in
     omega (arith, fits, most, add-mul slot count (row_len s), here, long)
 
 -- and hold their rows
-pub slots_read : (s : Shape) (region slot count at n : ℕ) (image bytes : List ℕ) → at ≡ hash_slot_at s region slot → n ≡ count * row_len s → at + n ≤ length image → bytes ≡ slice_range image at (at + n) → HoldsSlots s region image slot count bytes
+pub slots_read : (s : Shape) (region slot count at n : ℕ) (image bytes : List ℕ) → at ≡ hash_slot_at s region slot → n ≡ count * row_len s
+    → at + n ≤ length image → bytes ≡ slice_range image at (at + n) → HoldsSlots s region image slot count bytes
 unfolding slot_row
 slots_read s region slot count at n image bytes here long fits read = λ i below.
     let len : ℕ = row_len s in
@@ -69,7 +74,8 @@ slots_read s region slot count at n image bytes here long fits read = λ i below
     ap (λ k. row_of (slice_range image k (k + len))) (sym there) ∙ ap row_of part
 
 -- a slot that was written shows the row of its bytes
-pub slot_written : (s : Shape) (region slot at : ℕ) (bytes : List ℕ) (old new : Content) → at ≡ hash_slot_at s region slot → length bytes ≡ row_len s → at + row_len s ≤ size old → Writes at bytes old new
+pub slot_written : (s : Shape) (region slot at : ℕ) (bytes : List ℕ) (old new : Content) → at ≡ hash_slot_at s region slot
+    → length bytes ≡ row_len s → at + row_len s ≤ size old → Writes at bytes old new
     → IsTrue old.honest → slot_row s region new.shown slot ≡ row_of bytes
 unfolding slot_row
 slot_written s region slot at bytes old new same long fits writes honest =

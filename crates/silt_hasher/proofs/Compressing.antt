@@ -42,7 +42,8 @@ one_word_made block words t m n word at next is made =
     before k least most = get_or-take t words (t - k) 0 (omega arith)
 
     seen : next_word (take t words) t ≡ next_word words t
-    seen = rw (before 3 (search (arith)) (search (arith))) (rw (before 8 (search (arith)) (search (arith))) (rw (before 14 (search (arith)) (search (arith))) (rw (before 16 (search (arith)) (search (arith))) refl)))
+    seen = rw (before 3 (search (arith)) (search (arith)))
+        (rw (before 8 (search (arith)) (search (arith))) (rw (before 14 (search (arith)) (search (arith))) (rw (before 16 (search (arith)) (search (arith))) refl)))
 
 -- a block's words and all rounds make its compression
 pub compressed : (h block words after : List ℕ) → words ≡ schedule block 64 → after ≡ rounds h words 80 → add_state h after ≡ compress h block

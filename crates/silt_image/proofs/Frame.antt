@@ -1,5 +1,6 @@
 -- Which bytes of an image count, and what a change leaves of its stores.
-use Rattle.std.proofs.Common.{◌≡◌, ◌≢◌, ℕ, zero, suc, ◌+◌, ◌*◌, ◌%◌, ◌≤◌, ◌<◌, ◌⊎◌, ◌==◌, inl, inr, true, false, nat_lt, List, [], ◌∷◌, length, map, slice_range, slice_get, Contains, Option, Result, Ok, Err, refl, sym, ap, ◌∙◌, arith}
+use Rattle.std.proofs.Common.{◌≡◌, ◌≢◌, ℕ, zero, suc, ◌+◌, ◌*◌, ◌%◌, ◌≤◌, ◌<◌, ◌⊎◌, ◌==◌, inl, inr, true, false, nat_lt, List, [], ◌∷◌, length, map}
+use Rattle.std.proofs.Common.{slice_range, slice_get, Contains, Option, Result, Ok, Err, refl, sym, ap, ◌∙◌, arith}
 use Rattle.std.specs.List.{list_any, prefix_len, range_with_len}
 use Rattle.std.proofs.lemmas.Bool.{and_parts, or_parts, ltb-true, eq-eqb, eqb-false, ne_eqb, cases_eq, cases_order}
 use Rattle.std.proofs.lemmas.List.{ext_get_or}
@@ -25,7 +26,8 @@ use Rattle.silt_log.specs.Parts.{Part, log_part}
 use Rattle.silt_image.specs.Stores.{Stores, digests_found, image_digests, image_stores, shape_found, stores_named, stores_of_current, stores_shaped}
 use Rattle.silt_hash_store.specs.Slots.{hash_part, hash_rows}
 use Rattle.silt_sorted_store.specs.State.{sorted_rows}
-use Rattle.silt_image.specs.Meaning.{image_charge, image_fits, image_map, image_rows, image_stands, image_verdict, findings_of, map_where_sound, all_logs_fit, rows_found, with_log_rows, with_new_log, with_part_rows}
+use Rattle.silt_image.specs.Meaning.{image_charge, image_fits, image_map, image_rows, image_stands, image_verdict, findings_of, map_where_sound, all_logs_fit}
+use Rattle.silt_image.specs.Meaning.{rows_found, with_log_rows, with_new_log, with_part_rows}
 use Rattle.silt_event.specs.Rows.{map_of_rows}
 use Rattle.silt_image.specs.Laws.{Agree, FrameLaw, FreeHashLaw, FreeSortedLaw, FreezeLaw, FreezesActive, HasStores, LogRegionLaw, ManifestLaw, MeaningLaw, SameRegions, SameWithin}
 use Rattle.silt_event.specs.declared.damage.Finding.{Finding}
@@ -35,7 +37,8 @@ use Rattle.silt_image.proofs.Rows.{keeps_rows, takes_rows}
 -- ---- ranges
 
 -- a part of a range in which both images have the same bytes
-same_part : (at count from to : ℕ) (before after : List ℕ) → length after ≡ length before → to ≤ length before → at ≤ from → to ≤ at + count → SameWithin at count before after → slice_range after from to ≡ slice_range before from to
+same_part : (at count from to : ℕ) (before after : List ℕ) → length after ≡ length before → to ≤ length before → at ≤ from
+    → to ≤ at + count → SameWithin at count before after → slice_range after from to ≡ slice_range before from to
 same_part at count from to before after size fits low high same =
     let in_after : to ≤ length after = omega (arith, size) in
     ext_get_or 0 (slice_range after from to) (slice_range before from to) (length-between after from to in_after ∙ sym (length-between before from to fits))
@@ -91,7 +94,8 @@ module _ (logs hashes log_len hash_len sorted_len : ℕ) where
 -- ---- the rows of a region
 
 -- the bytes of a log region decide its rows
-pub log_rows_same : (s : Shape) (region : ℕ) (before after : List ℕ) → length after ≡ length before → gates_at s region + log_size s ≤ length before → SameWithin (gates_at s region) (log_size s) before after → log_rows s region after ≡ log_rows s region before
+pub log_rows_same : (s : Shape) (region : ℕ) (before after : List ℕ) → length after ≡ length before → gates_at s region + log_size s ≤ length before
+    → SameWithin (gates_at s region) (log_size s) before after → log_rows s region after ≡ log_rows s region before
 unfolding log_rows rows_from row_at open_count
 log_rows_same s region before after size fits same =
     let gates_end : gates_at s region + s.log_capacity ≤ gates_at s region + log_size s = omega (arith, up_least s.log_capacity) in
@@ -104,23 +108,27 @@ log_rows_same s region before after size fits same =
     ap (λ (l : List ℕ). map (body_row (bodies_at s region) (row_len s) after) (range_with_len 0 (prefix_len is_open l))) bytes
     ∙ map_range_same (body_row (bodies_at s region) (row_len s) after) (body_row (bodies_at s region) (row_len s) before) 0 counted
     (λ place low high.
-    let inside : bodies_at s region + place * row_len s + row_len s ≤ bodies_at s region + s.log_capacity * row_len s = body_before (bodies_at s region) (row_len s) place s.log_capacity (omega (arith, most, high)) in
+    let inside : bodies_at s region + place * row_len s + row_len s ≤ bodies_at s region + s.log_capacity * row_len s =
+    body_before (bodies_at s region) (row_len s) place s.log_capacity (omega (arith, most, high)) in
     ap row_of (same_part (gates_at s region) (log_size s) (bodies_at s region + place * row_len s) (bodies_at s region + place * row_len s + row_len s) before after size
     (omega (arith, inside, bodies_end, fits)) (omega arith) (omega (arith, inside, bodies_end)) same))
 
 -- and those of a hash region
-pub hash_rows_same : (s : Shape) (region : ℕ) (before after : List ℕ) → length after ≡ length before → hash_at s region + hash_size s ≤ length before → SameWithin (hash_at s region) (hash_size s) before after → hash_rows s region after ≡ hash_rows s region before
+pub hash_rows_same : (s : Shape) (region : ℕ) (before after : List ℕ) → length after ≡ length before → hash_at s region + hash_size s ≤ length before
+    → SameWithin (hash_at s region) (hash_size s) before after → hash_rows s region after ≡ hash_rows s region before
 unfolding hash_rows
 hash_rows_same s region before after size fits same =
     let slots_end : hash_at s region + 4 * s.buckets * row_len s ≤ hash_at s region + hash_size s = omega (arith, up_least (4 * s.buckets * row_len s)) in
     map_range_same (body_row (hash_at s region) (row_len s) after) (body_row (hash_at s region) (row_len s) before) 0 (4 * s.buckets)
     (λ place low high.
-    let inside : hash_at s region + place * row_len s + row_len s ≤ hash_at s region + 4 * s.buckets * row_len s = body_before (hash_at s region) (row_len s) place (4 * s.buckets) (omega (arith, high)) in
+    let inside : hash_at s region + place * row_len s + row_len s ≤ hash_at s region + 4 * s.buckets * row_len s =
+    body_before (hash_at s region) (row_len s) place (4 * s.buckets) (omega (arith, high)) in
     ap row_of (same_part (hash_at s region) (hash_size s) (hash_at s region + place * row_len s) (hash_at s region + place * row_len s + row_len s) before after size
     (omega (arith, inside, slots_end, fits)) (omega arith) (omega (arith, inside, slots_end)) same))
 
 -- and the entries of a sorted region
-pub sorted_rows_same : (s : Shape) (region count : ℕ) (before after : List ℕ) → length after ≡ length before → count ≤ s.sorted_capacity → sorted_at s region + sorted_size s ≤ length before → SameWithin (sorted_at s region) (sorted_size s) before after → sorted_rows s region count after ≡ sorted_rows s region count before
+pub sorted_rows_same : (s : Shape) (region count : ℕ) (before after : List ℕ) → length after ≡ length before → count ≤ s.sorted_capacity
+    → sorted_at s region + sorted_size s ≤ length before → SameWithin (sorted_at s region) (sorted_size s) before after → sorted_rows s region count after ≡ sorted_rows s region count before
 unfolding sorted_rows
 sorted_rows_same s region count before after size room fits same =
     let at : ℕ = sorted_at s region in
@@ -179,7 +187,8 @@ names_regions s slot b sound =
     }
 
 -- the same hash stores
-hashes_same : (s : Shape) (ids : List ℕ) (before after : List ℕ) → length after ≡ length before → device_size s ≤ length before → ((region : ℕ) → Contains ids region → region < s.hashes) → ((region : ℕ) → Contains ids region → SameWithin (hash_at s region) (hash_size s) before after)
+hashes_same : (s : Shape) (ids : List ℕ) (before after : List ℕ) → length after ≡ length before → device_size s ≤ length before
+    → ((region : ℕ) → Contains ids region → region < s.hashes) → ((region : ℕ) → Contains ids region → SameWithin (hash_at s region) (hash_size s) before after)
     → map (hash_part s after) ids ≡ map (hash_part s before) ids
 hashes_same s ids before after size fits there same =
     map_same (hash_part s after) (hash_part s before) ids (λ region named.
@@ -187,19 +196,22 @@ hashes_same s ids before after size fits there same =
     ap (λ (rows : List StoredRow). record { region = region; rows = rows }) (hash_rows_same s region before after size (omega (arith, inside, fits)) (same region named)))
 
 -- the same entries
-entries_same : (s : Shape) (region count : ℕ) (before after : List ℕ) → length after ≡ length before → device_size s ≤ length before → region < 2 → count ≤ s.sorted_capacity → SameWithin (sorted_at s region) (sorted_size s) before after → sorted_rows s region count after ≡ sorted_rows s region count before
+entries_same : (s : Shape) (region count : ℕ) (before after : List ℕ) → length after ≡ length before → device_size s ≤ length before → region < 2
+    → count ≤ s.sorted_capacity → SameWithin (sorted_at s region) (sorted_size s) before after → sorted_rows s region count after ≡ sorted_rows s region count before
 entries_same s region count before after size fits there room same =
     let inside : sorted_at s region + sorted_size s ≤ device_size s = sorted_end s.logs s.hashes (log_size s) (hash_size s) (sorted_size s) region there in
     sorted_rows_same s region count before after size room (omega (arith, inside, fits)) same
 
 -- the same rows of a log
-log_same : (s : Shape) (region : ℕ) (before after : List ℕ) → length after ≡ length before → device_size s ≤ length before → region < s.logs → SameWithin (gates_at s region) (log_size s) before after → log_rows s region after ≡ log_rows s region before
+log_same : (s : Shape) (region : ℕ) (before after : List ℕ) → length after ≡ length before → device_size s ≤ length before
+    → region < s.logs → SameWithin (gates_at s region) (log_size s) before after → log_rows s region after ≡ log_rows s region before
 log_same s region before after size fits there same =
     let inside : gates_at s region + log_size s ≤ device_size s = log_fits s.logs s.hashes (log_size s) (hash_size s) (sorted_size s) region there in
     log_rows_same s region before after size (omega (arith, inside, fits)) same
 
 -- stores of one shape and body whose parts are the same
-named_from : (s : Shape) (b : Body) (before after : List ℕ) → map (log_part s after) (b.active ∷ b.frozen) ≡ map (log_part s before) (b.active ∷ b.frozen) → map (hash_part s after) b.hashed ≡ map (hash_part s before) b.hashed
+named_from : (s : Shape) (b : Body) (before after : List ℕ) → map (log_part s after) (b.active ∷ b.frozen) ≡ map (log_part s before) (b.active ∷ b.frozen)
+    → map (hash_part s after) b.hashed ≡ map (hash_part s before) b.hashed
     → sorted_rows s b.sorted b.sorted_count after ≡ sorted_rows s b.sorted b.sorted_count before → stores_named s b after ≡ stores_named s b before
 unfolding stores_named
 named_from s b before after logs hashes entries =
@@ -208,24 +220,28 @@ named_from s b before after logs hashes entries =
     ∙ ap (λ (es : List StoredRow). record { shape = s; body = b; logs = map (log_part s before) (b.active ∷ b.frozen); hashes = map (hash_part s before) b.hashed; entries = es }) entries
 
 -- the named regions decide the stores
-pub stores_named_same : (s : Shape) (b : Body) (before after : List ℕ) → NamesRegions s b → length after ≡ length before → device_size s ≤ length before → SameRegions s b before after → stores_named s b after ≡ stores_named s b before
+pub stores_named_same : (s : Shape) (b : Body) (before after : List ℕ) → NamesRegions s b → length after ≡ length before
+    → device_size s ≤ length before → SameRegions s b before after → stores_named s b after ≡ stores_named s b before
 stores_named_same s b before after there size fits same =
     named_from s b before after
-    (map_same (log_part s after) (log_part s before) (b.active ∷ b.frozen) (λ region named. ap (λ (rows : List StoredRow). record { region = region; rows = rows }) (log_same s region before after size fits (there.logs region named) (same.logs region named))))
+    (map_same (log_part s after) (log_part s before) (b.active ∷ b.frozen)
+    (λ region named. ap (λ (rows : List StoredRow). record { region = region; rows = rows }) (log_same s region before after size fits (there.logs region named) (same.logs region named))))
     (hashes_same s b.hashed before after size fits there.hashes same.hashes)
     (entries_same s b.sorted b.sorted_count before after size fits there.sorted there.sorted_count same.sorted)
 
 -- ---- the manifest
 
 -- one header, and two slots with the same records
-same_manifest : (s : Shape) (before after : List ℕ) → header_of after ≡ header_of before → open_record after 0 ≡ open_record before 0 → open_record after 1 ≡ open_record before 1 → manifest_found s after ≡ manifest_found s before
+same_manifest : (s : Shape) (before after : List ℕ) → header_of after ≡ header_of before → open_record after 0 ≡ open_record before 0
+    → open_record after 1 ≡ open_record before 1 → manifest_found s after ≡ manifest_found s before
 same_manifest s before after header first second =
     ap (λ (bytes : List ℕ). record_found s (version_of bytes) (open_record after 0) (open_record after 1)) header
     ∙ ap (λ (held : Option SlotRecord). record_found s (version_of (header_of before)) held (open_record after 1)) first
     ∙ ap (λ (held : Option SlotRecord). record_found s (version_of (header_of before)) (open_record before 0) held) second
 
 -- a change after the slots leaves their records
-manifest_before : (s : Shape) (at count : ℕ) (before after : List ℕ) → 12288 ≤ at → 12288 ≤ length before → header_of after ≡ header_of before → Torn at count before after → manifest_found s after ≡ manifest_found s before
+manifest_before : (s : Shape) (at count : ℕ) (before after : List ℕ) → 12288 ≤ at → 12288 ≤ length before → header_of after ≡ header_of before
+    → Torn at count before after → manifest_found s after ≡ manifest_found s before
 manifest_before s at count before after low long header torn =
     same_manifest s before after header
     (ap record_behind (torn_slice_before at count before after torn (slot_at 0) (slot_at 0 + 461) (omega arith) (omega arith)))
@@ -239,7 +255,8 @@ unfolding stores_named
 frame_regions before after shape body agree stores = agree.regions (stores_named shape body before) stores
 
 -- the stores of an image, from its shape and its body
-frame_of_current : (shape : Shape) (before after : List ℕ) → Agree before after → shape_found (length before) (header_of before) ≡ Ok shape → stores_of_current shape after (manifest_found shape before) ≡ stores_of_current shape before (manifest_found shape before)
+frame_of_current : (shape : Shape) (before after : List ℕ) → Agree before after → shape_found (length before) (header_of before) ≡ Ok shape
+    → stores_of_current shape after (manifest_found shape before) ≡ stores_of_current shape before (manifest_found shape before)
 unfolding image_stores
 frame_of_current shape before after agree has_shape = go (manifest_found shape before) refl
   where
@@ -290,7 +307,8 @@ meaning_law before after same said = record {
 -- ---- changes
 
 -- after the manifest slots: the header and the current body stay
-pub stores_after : (at count : ℕ) (before after : List ℕ) (s other : Stores) → HasStores s before → 12288 ≤ at → Torn at count before after → other.shape ≡ s.shape → other.body ≡ s.body → other ≡ stores_named s.shape s.body after → image_stores after ≡ Ok other
+pub stores_after : (at count : ℕ) (before after : List ℕ) (s other : Stores) → HasStores s before → 12288 ≤ at → Torn at count before after
+    → other.shape ≡ s.shape → other.body ≡ s.body → other ≡ stores_named s.shape s.body after → image_stores after ≡ Ok other
 stores_after at count before after s other has low torn shape body named =
     let shaped = shape_parts (length before) (header_of before) s.shape has.shape in
     let long : 12288 ≤ length before = omega (arith, shaped.size) in
@@ -307,7 +325,8 @@ stores_regions : (image : List ℕ) (s : Stores) → HasStores s image → Names
 stores_regions image s has = names_regions s.shape (s.body.generation % 2) s.body (current_sound s.shape image (record_with has.digests s.body) has.current)
 
 -- one log, with the rows that it has now
-log_after : (s : Shape) (region id : ℕ) (before after : List ℕ) → Torn (gates_at s region) (log_size s) before after → device_size s ≤ length before → id < s.logs → with_part_rows region (log_rows s region after) (log_part s before id) ≡ log_part s after id
+log_after : (s : Shape) (region id : ℕ) (before after : List ℕ) → Torn (gates_at s region) (log_size s) before after
+    → device_size s ≤ length before → id < s.logs → with_part_rows region (log_rows s region after) (log_part s before id) ≡ log_part s after id
 log_after s region id before after torn fits there = elim (cases_eq id region) [
   | inl is ↦
       takes_rows region (log_rows s region after) (log_part s before id) (eq-eqb id region is)
@@ -315,11 +334,13 @@ log_after s region id before after torn fits there = elim (cases_eq id region) [
   | inr other ↦
       keeps_rows region (log_rows s region after) (log_part s before id) (ne_eqb id region other)
       ∙ ap (λ (rows : List StoredRow). record { region = id; rows = rows })
-      (sym (log_same s id before after torn.size fits there (torn_same (gates_at s region) (log_size s) (gates_at s id) (log_size s) before after torn (pieces_apart 12288 id region (log_size s) other))))
+      (sym (log_same s id before after torn.size fits there
+      (torn_same (gates_at s region) (log_size s) (gates_at s id) (log_size s) before after torn (pieces_apart 12288 id region (log_size s) other))))
 ]
 
 -- the logs, with the rows that they have now
-logs_after : (s : Shape) (region : ℕ) (ids : List ℕ) (before after : List ℕ) → Torn (gates_at s region) (log_size s) before after → device_size s ≤ length before → ((id : ℕ) → Contains ids id → id < s.logs)
+logs_after : (s : Shape) (region : ℕ) (ids : List ℕ) (before after : List ℕ) → Torn (gates_at s region) (log_size s) before after
+    → device_size s ≤ length before → ((id : ℕ) → Contains ids id → id < s.logs)
     → map (with_part_rows region (log_rows s region after)) (map (log_part s before) ids) ≡ map (log_part s after) ids
 logs_after s region [] before after torn fits there = refl
 logs_after s region (id ∷ ids) before after torn fits there =
@@ -336,10 +357,12 @@ log_changed s b region before after there torn fits below =
     let logs = logs_after s region (b.active ∷ b.frozen) before after torn fits there.logs in
     let hashes : map (hash_part s before) b.hashed ≡ map (hash_part s after) b.hashed =
     sym (hashes_same s b.hashed before after torn.size fits there.hashes
-    (λ id named. torn_same (gates_at s region) (log_size s) (hash_at s id) (hash_size s) before after torn (inr (log_before_hash s.logs s.hashes (log_size s) (hash_size s) (sorted_size s) region id below)))) in
+    (λ id named. torn_same (gates_at s region) (log_size s) (hash_at s id) (hash_size s) before after torn
+    (inr (log_before_hash s.logs s.hashes (log_size s) (hash_size s) (sorted_size s) region id below)))) in
     let entries : sorted_rows s b.sorted b.sorted_count before ≡ sorted_rows s b.sorted b.sorted_count after =
     sym (entries_same s b.sorted b.sorted_count before after torn.size fits there.sorted there.sorted_count
-    (torn_same (gates_at s region) (log_size s) (sorted_at s b.sorted) (sorted_size s) before after torn (inr (log_before_sorted s.logs s.hashes (log_size s) (hash_size s) (sorted_size s) region b.sorted below)))) in
+    (torn_same (gates_at s region) (log_size s) (sorted_at s b.sorted) (sorted_size s) before after torn
+    (inr (log_before_sorted s.logs s.hashes (log_size s) (hash_size s) (sorted_size s) region b.sorted below)))) in
     ap (λ (ps : List Part). record { shape = s; body = b; logs = ps; hashes = map (hash_part s before) b.hashed; entries = sorted_rows s b.sorted b.sorted_count before }) logs
     ∙ ap (λ (ps : List Part). record { shape = s; body = b; logs = map (log_part s after) (b.active ∷ b.frozen); hashes = ps; entries = sorted_rows s b.sorted b.sorted_count before }) hashes
     ∙ ap (λ (es : List StoredRow). record { shape = s; body = b; logs = map (log_part s after) (b.active ∷ b.frozen); hashes = map (hash_part s after) b.hashed; entries = es }) entries
@@ -364,7 +387,8 @@ log_region_law before after s region e below torn =
     stores_after (gates_at s.shape region) (log_size s.shape) before after s (with_log_rows region rows s) has (omega arith) torn (shape_stays region rows s) (body_stays region rows s) changed
 
 -- stores that a change leaves
-unchanged : (at count : ℕ) (before after : List ℕ) (s : Stores) → image_stores before ≡ Ok s → 12288 ≤ at → Torn at count before after → SameRegions s.shape s.body before after → image_stores after ≡ Ok s
+unchanged : (at count : ℕ) (before after : List ℕ) (s : Stores) → image_stores before ≡ Ok s → 12288 ≤ at → Torn at count before after
+    → SameRegions s.shape s.body before after → image_stores after ≡ Ok s
 unchanged at count before after s e low torn same =
     let has = (stores_law before s).0 e in
     let shaped = shape_parts (length before) (header_of before) s.shape has.shape in
@@ -434,14 +458,50 @@ manifest_law before after s slot found e below torn is_current =
     })
 
 -- the stores of a next body, over those of the body before it
-freeze_named : (sh : Shape) (old next : Body) (image : List ℕ) → FreezesActive old next → log_rows sh next.active image ≡ [] → stores_named sh next image ≡ with_new_log next (stores_named sh old image)
+freeze_named : (sh : Shape) (old next : Body) (image : List ℕ) → FreezesActive old next → log_rows sh next.active image ≡ []
+    → stores_named sh next image ≡ with_new_log next (stores_named sh old image)
 unfolding stores_named with_new_log
 freeze_named sh old next image freezes none =
-    ap (λ (ids : List ℕ). record { shape = sh; body = next; logs = log_part sh image next.active ∷ map (log_part sh image) ids; hashes = map (hash_part sh image) next.hashed; entries = sorted_rows sh next.sorted next.sorted_count image }) freezes.frozen
-    ∙ ap (λ (rows : List StoredRow). record { shape = sh; body = next; logs = record { region = next.active; rows = rows } ∷ map (log_part sh image) (old.active ∷ old.frozen); hashes = map (hash_part sh image) next.hashed; entries = sorted_rows sh next.sorted next.sorted_count image }) none
-    ∙ ap (λ (ids : List ℕ). record { shape = sh; body = next; logs = record { region = next.active; rows = [] } ∷ map (log_part sh image) (old.active ∷ old.frozen); hashes = map (hash_part sh image) ids; entries = sorted_rows sh next.sorted next.sorted_count image }) freezes.hashed
-    ∙ ap (λ (n : ℕ). record { shape = sh; body = next; logs = record { region = next.active; rows = [] } ∷ map (log_part sh image) (old.active ∷ old.frozen); hashes = map (hash_part sh image) old.hashed; entries = sorted_rows sh n next.sorted_count image }) freezes.sorted
-    ∙ ap (λ (n : ℕ). record { shape = sh; body = next; logs = record { region = next.active; rows = [] } ∷ map (log_part sh image) (old.active ∷ old.frozen); hashes = map (hash_part sh image) old.hashed; entries = sorted_rows sh old.sorted n image }) freezes.sorted_count
+    ap (λ (ids : List ℕ). record {
+      shape = sh;
+      body = next;
+      logs = log_part sh image next.active ∷ map (log_part sh image) ids;
+      hashes = map (hash_part sh image) next.hashed;
+      entries = sorted_rows sh next.sorted next.sorted_count image;
+    })
+    freezes.frozen
+    ∙ ap (λ (rows : List StoredRow). record {
+      shape = sh;
+      body = next;
+      logs = record { region = next.active; rows = rows } ∷ map (log_part sh image) (old.active ∷ old.frozen);
+      hashes = map (hash_part sh image) next.hashed;
+      entries = sorted_rows sh next.sorted next.sorted_count image;
+    })
+    none
+    ∙ ap (λ (ids : List ℕ). record {
+      shape = sh;
+      body = next;
+      logs = record { region = next.active; rows = [] } ∷ map (log_part sh image) (old.active ∷ old.frozen);
+      hashes = map (hash_part sh image) ids;
+      entries = sorted_rows sh next.sorted next.sorted_count image;
+    })
+    freezes.hashed
+    ∙ ap (λ (n : ℕ). record {
+      shape = sh;
+      body = next;
+      logs = record { region = next.active; rows = [] } ∷ map (log_part sh image) (old.active ∷ old.frozen);
+      hashes = map (hash_part sh image) old.hashed;
+      entries = sorted_rows sh n next.sorted_count image;
+    })
+    freezes.sorted
+    ∙ ap (λ (n : ℕ). record {
+      shape = sh;
+      body = next;
+      logs = record { region = next.active; rows = [] } ∷ map (log_part sh image) (old.active ∷ old.frozen);
+      hashes = map (hash_part sh image) old.hashed;
+      entries = sorted_rows sh old.sorted n image;
+    })
+    freezes.sorted_count
 
 -- a body that freezes the active log names the stores with a new log in front
 pub freeze_law : FreezeLaw

@@ -22,23 +22,27 @@ third a b c d shape p q r = ap (λ (t : Bool). tested t b c shape) p ∙ ap (λ 
 pub too_short : (len : ℕ) (header : List ℕ) → len < 37 → shape_found len header ≡ Err NotFormatted
 unfolding shape_found
 too_short len header short =
-    first_fails (nat_le 37 len && is_formatted header) (is_in_limits (header_shape header)) (len == device_size (header_shape header)) (header_shape header) (and_left (nat_le 37 len) (is_formatted header) (lt-leb 37 len short))
+    first_fails (nat_le 37 len && is_formatted header) (is_in_limits (header_shape header)) (len == device_size (header_shape header))
+    (header_shape header) (and_left (nat_le 37 len) (is_formatted header) (lt-leb 37 len short))
 
 -- other bytes than those of a header
 pub not_formatted : (len : ℕ) (header : List ℕ) → is_formatted header ≡ false → shape_found len header ≡ Err NotFormatted
 unfolding shape_found
 not_formatted len header other =
-    first_fails (nat_le 37 len && is_formatted header) (is_in_limits (header_shape header)) (len == device_size (header_shape header)) (header_shape header) (and_right (nat_le 37 len) (is_formatted header) other)
+    first_fails (nat_le 37 len && is_formatted header) (is_in_limits (header_shape header)) (len == device_size (header_shape header))
+    (header_shape header) (and_right (nat_le 37 len) (is_formatted header) other)
 
 -- a number out of its limits
 pub out_of_limits : (len : ℕ) (header : List ℕ) → 37 ≤ len → is_formatted header ≡ true → ¬ InLimits (header_shape header) → shape_found len header ≡ Err (Damaged Header)
 unfolding shape_found
 out_of_limits len header long formatted out =
     second_fails (nat_le 37 len && is_formatted header) (is_in_limits (header_shape header)) (len == device_size (header_shape header)) (header_shape header)
-    (and_from (nat_le 37 len) (is_formatted header) (test_at_most 37 len long) formatted) (false_from_ne_true (is_in_limits (header_shape header)) (λ is. out ((limits_law (header_shape header)).0 is)))
+    (and_from (nat_le 37 len) (is_formatted header) (test_at_most 37 len long) formatted)
+    (false_from_ne_true (is_in_limits (header_shape header)) (λ is. out ((limits_law (header_shape header)).0 is)))
 
 -- a length that is not the one of the numbers
-pub another_length : (len size : ℕ) (header : List ℕ) (shape : Shape) → 37 ≤ len → is_formatted header ≡ true → (shape ≡ header_shape header) × InLimits (header_shape header) → size ≡ device_size shape → len ≢ size → shape_found len header ≡ Err (Damaged Length)
+pub another_length : (len size : ℕ) (header : List ℕ) (shape : Shape) → 37 ≤ len → is_formatted header ≡ true → (shape ≡ header_shape header)
+    × InLimits (header_shape header) → size ≡ device_size shape → len ≢ size → shape_found len header ≡ Err (Damaged Length)
 unfolding shape_found
 another_length len size header shape long formatted (same, limits) is other =
     third (nat_le 37 len && is_formatted header) (is_in_limits (header_shape header)) (len == device_size (header_shape header)) false (header_shape header)
@@ -46,7 +50,8 @@ another_length len size header shape long formatted (same, limits) is other =
     (ne_eqb len (device_size (header_shape header)) (λ e. other (e ∙ ap (λ (s : Shape). device_size s) (sym same) ∙ sym is)))
 
 -- the shape
-pub has_shape : (len size : ℕ) (header : List ℕ) (shape : Shape) → 37 ≤ len → is_formatted header ≡ true → (shape ≡ header_shape header) × InLimits (header_shape header) → size ≡ device_size shape → len ≡ size → shape_found len header ≡ Ok shape
+pub has_shape : (len size : ℕ) (header : List ℕ) (shape : Shape) → 37 ≤ len → is_formatted header ≡ true → (shape ≡ header_shape header)
+    × InLimits (header_shape header) → size ≡ device_size shape → len ≡ size → shape_found len header ≡ Ok shape
 unfolding shape_found
 has_shape len size header shape long formatted (same, limits) is equal =
     third (nat_le 37 len && is_formatted header) (is_in_limits (header_shape header)) (len == device_size (header_shape header)) true (header_shape header)

@@ -63,4 +63,5 @@ formatted_law shape limits =
     let front : (nat_le 37 (device_size shape) && is_formatted header) ≡ true = and_from _ _ long (formatted_header shape) in
     let limited : is_in_limits (header_shape header) ≡ true = ap is_in_limits back ∙ (limits_law shape).1 limits in
     let size : (device_size shape == device_size (header_shape header)) ≡ true = eq-eqb _ _ (ap (λ (s : Shape). device_size s) (sym back)) in
-    all_tests (nat_le 37 (device_size shape) && is_formatted header) (is_in_limits (header_shape header)) (device_size shape == device_size (header_shape header)) (header_shape header) front limited size ∙ ap Ok back
+    all_tests (nat_le 37 (device_size shape) && is_formatted header) (is_in_limits (header_shape header))
+    (device_size shape == device_size (header_shape header)) (header_shape header) front limited size ∙ ap Ok back

@@ -1,5 +1,6 @@
 -- What an image with stores has.
-use Rattle.std.proofs.Common.{◌≡◌, ◌⊎◌, inl, inr, ℕ, ◌*◌, ◌%◌, ◌≤◌, ◌==◌, Bool, true, false, not, nat_le, nat_lt, ◌&&◌, ◌||◌, if◌then◌else◌, List, [], ◌∷◌, length, map, slice_range, Option, Some, None, Result, Ok, Err, refl, sym, ap, ◌∙◌, arith}
+use Rattle.std.proofs.Common.{◌≡◌, ◌⊎◌, inl, inr, ℕ, ◌*◌, ◌%◌, ◌≤◌, ◌==◌, Bool, true, false, not, nat_le, nat_lt, ◌&&◌, ◌||◌, if◌then◌else◌, List, [], ◌∷◌}
+use Rattle.std.proofs.Common.{length, map, slice_range, Option, Some, None, Result, Ok, Err, refl, sym, ap, ◌∙◌, arith}
 use Rattle.std.specs.List.{list_any}
 use Rattle.std.proofs.lemmas.Bool.{and_parts, not-true, eqb-true}
 use Rattle.std.proofs.lemmas.Bool.Decides.{nat_tests}
@@ -147,7 +148,8 @@ sound_body s version slot held found sound same =
     ap (λ (r : SlotRecord). is_well_formed s slot r.body) (sym same) ∙ (and_parts (has_due_digests version held.digests) (is_well_formed s slot held.body) sound).1
 
 -- the record of greater generation is one of the two
-greater_sound : (s : Shape) (version : Version) (first second : Option SlotRecord) (found : SlotRecord) → is_sound_record s version 0 first ≡ true → is_sound_record s version 1 second ≡ true → greater_record first second ≡ Ok found → (slot : ℕ) × (is_well_formed s slot found.body ≡ true)
+greater_sound : (s : Shape) (version : Version) (first second : Option SlotRecord) (found : SlotRecord) → is_sound_record s version 0 first ≡ true
+    → is_sound_record s version 1 second ≡ true → greater_record first second ≡ Ok found → (slot : ℕ) × (is_well_formed s slot found.body ≡ true)
 greater_sound s version None None found s0 s1 e = absurd (cc)
 greater_sound s version None (Some b) found s0 s1 e = (1, sound_body s version 1 b found s1 (cc))
 greater_sound s version (Some a) None found s0 s1 e = (0, sound_body s version 0 a found s0 (cc))
@@ -172,7 +174,8 @@ pub current_sound : (s : Shape) (image : List ℕ) (found : SlotRecord) → mani
 unfolding record_found
 current_sound s image found e =
     let version : Version = version_of (header_of image) in
-    let tests = both_sound (is_sound_record s version 0 (open_record image 0)) (is_sound_record s version 1 (open_record image 1)) (greater_record (open_record image 0) (open_record image 1)) found e in
+    let tests = both_sound (is_sound_record s version 0 (open_record image 0)) (is_sound_record s version 1 (open_record image 1))
+    (greater_record (open_record image 0) (open_record image 1)) found e in
     let sound = greater_sound s version (open_record image 0) (open_record image 1) found tests.0 tests.1 tests.2 in
     own_slot s sound.0 found.body sound.1
 
@@ -192,7 +195,8 @@ abbrev pub record_with : Option Digests → Body → SlotRecord
 record_with digests body = record { body = body; digests = digests }
 
 -- stores that were named are so by their own shape and body
-pub named_has : (image : List ℕ) (s : Stores) (shape : Shape) (found : SlotRecord) → shape_found (length image) (header_of image) ≡ Ok shape → manifest_found shape image ≡ Ok found → stores_named shape found.body image ≡ s → HasStores s image
+pub named_has : (image : List ℕ) (s : Stores) (shape : Shape) (found : SlotRecord) → shape_found (length image) (header_of image) ≡ Ok shape
+    → manifest_found shape image ≡ Ok found → stores_named shape found.body image ≡ s → HasStores s image
 named_has image s shape found has_shape has_record same =
     let is_shape : shape ≡ s.shape = sym (shape_of_named shape found.body image) ∙ ap (λ (t : Stores). t.shape) same in
     let is_body : found.body ≡ s.body = sym (body_of_named shape found.body image) ∙ ap (λ (t : Stores). t.body) same in
@@ -203,7 +207,8 @@ named_has image s shape found has_shape has_record same =
       named = sym same ∙ ap (λ t. stores_named t found.body image) is_shape ∙ ap (λ b. stores_named s.shape b image) is_body;
     }
 
-from_current : (image : List ℕ) (s : Stores) (shape : Shape) → shape_found (length image) (header_of image) ≡ Ok shape → (r : Result SlotRecord Damage) → manifest_found shape image ≡ r → stores_of_current shape image r ≡ Ok s → HasStores s image
+from_current : (image : List ℕ) (s : Stores) (shape : Shape) → shape_found (length image) (header_of image) ≡ Ok shape
+    → (r : Result SlotRecord Damage) → manifest_found shape image ≡ r → stores_of_current shape image r ≡ Ok s → HasStores s image
 from_current image s shape has_shape (Err damaged) has e = absurd (cc)
 from_current image s shape has_shape (Ok found) has e = named_has image s shape found has_shape has (let same : stores_named shape found.body image ≡ s = cc in same)
 

@@ -38,7 +38,8 @@ first_row shape part k n [] row finding there known fits found = absurd (cc)
 first_row shape part k zero (first ∷ rows) row finding there known fits found =
     let same : first ≡ row = cc in
     let here : k + 0 ≡ k = omega arith in
-    let found_here : slice_get (row_findings shape part (k, first)) 0 ≡ Some finding = ap (λ (r : StoredRow). slice_get (row_findings shape part (k, r)) 0) same ∙ ap (λ (j : ℕ). slice_get (row_findings shape part (j, row)) 0) (sym here) ∙ found in
+    let found_here : slice_get (row_findings shape part (k, first)) 0 ≡ Some finding =
+    ap (λ (r : StoredRow). slice_get (row_findings shape part (k, r)) 0) same ∙ ap (λ (j : ℕ). slice_get (row_findings shape part (j, row)) 0) (sym here) ∙ found in
     first_of_front (row_findings shape part (k, first)) (flat_map (row_findings shape part) (enumerate_from (k + 1) rows)) finding found_here
 first_row shape part k (suc n) (first ∷ rows) row finding there known fits found =
     let parts = and_parts (has_known_kind first) (list_all has_known_kind (take n rows)) known in
@@ -80,7 +81,8 @@ first_finding_law image s before after part place row finding e logs none first 
     (first_of_front (flat_map (log_findings s.shape) s.logs) hashes finding in_logs))
 
 -- and in one of a known kind without a place
-crowded_row : (shape : Shape) (part : Part) (place : ℕ) (row : StoredRow) → has_known_kind row ≡ true → fits_table shape (take (place + 1) part.rows) ≡ false → slice_get (row_findings shape part (place, row)) 0 ≡ Some Crowded
+crowded_row : (shape : Shape) (part : Part) (place : ℕ) (row : StoredRow) → has_known_kind row ≡ true → fits_table shape (take (place + 1) part.rows) ≡ false
+    → slice_get (row_findings shape part (place, row)) 0 ≡ Some Crowded
 crowded_row shape part place row known crowded =
     ap (λ (b : Bool). slice_get (finding_if (not b) (Damaged (Log part.region place)) ++ finding_if (not (fits_table shape (take (place + 1) part.rows))) Crowded) 0) known
     ∙ ap (λ (b : Bool). slice_get (finding_if (not b) Crowded) 0) crowded
@@ -105,7 +107,8 @@ first_slot_law image s before after part finding e logs hashes none found =
     let places : enumerate_from 0 s.hashes ≡ enumerate_from 0 before ++ (length before, part) ∷ enumerate_from (length before + 1) after =
     ap (enumerate_from 0) hashes ∙ places_append 0 before (part ∷ after) ∙ ap (λ (n : ℕ). enumerate_from 0 before ++ enumerate_from n (part ∷ after)) start in
     let in_hashes : slice_get all 0 ≡ Some finding =
-    ap (λ l. slice_get l 0) (ap (flat_map (said_hash_findings s.shape said)) places ∙ flat_map-append (said_hash_findings s.shape said) (enumerate_from 0 before) ((length before, part) ∷ enumerate_from (length before + 1) after))
+    ap (λ l. slice_get l 0) (ap (flat_map (said_hash_findings s.shape said)) places
+    ∙ flat_map-append (said_hash_findings s.shape said) (enumerate_from 0 before) ((length before, part) ∷ enumerate_from (length before + 1) after))
     ∙ first_behind (flat_map (said_hash_findings s.shape said) (enumerate_from 0 before)) (own ++ rest) finding none (first_of_front own rest finding found) in
     verdict_of image s e
     ∙ first_of_front (flat_map (log_findings s.shape) s.logs ++ all ++ entries) (charge_findings s) finding

@@ -1,5 +1,6 @@
 -- When stores have no finding.
-use Rattle.std.proofs.Common.{◌≡◌, ℕ, zero, suc, ◌+◌, ◌≤◌, ◌==◌, Bool, true, false, nat_lt, List, [], ◌∷◌, ◌++◌, map, take, drop, flat_map, slice_get, Option, Some, None, refl, sym, ap, ◌∙◌, subst, arith, append_assoc, take-append-drop}
+use Rattle.std.proofs.Common.{◌≡◌, ℕ, zero, suc, ◌+◌, ◌≤◌, ◌==◌, Bool, true, false, nat_lt, List, [], ◌∷◌, ◌++◌, map, take, drop, flat_map, slice_get, Option}
+use Rattle.std.proofs.Common.{Some, None, refl, sym, ap, ◌∙◌, subst, arith, append_assoc, take-append-drop}
 use Rattle.std.specs.List.{enumerate_from}
 use Rattle.std.specs.Option.{ForSome}
 use Rattle.std.specs.Str.{bytes_eq}
@@ -11,7 +12,9 @@ use Rattle.silt_frame.specs.Rows.{has_known_kind, StoredRow, put_count}
 use Rattle.silt_log.specs.Parts.{Part, known_rows, oldest_first, part_rows}
 use Rattle.silt_image.specs.Stores.{Stores}
 use Rattle.silt_manifest.specs.declared.digests.Digests.{Digests}
-use Rattle.silt_image.specs.Meaning.{AreDigestsOf, IsSound, charge_findings, charge_of, digest_findings, entries_digest, part_digest, rows_of, said_entry_findings, said_hash, said_hash_findings, said_sorted, store_findings, with_log_rows, with_new_log, with_part_rows}
+use Rattle.silt_image.specs.Meaning.{AreDigestsOf, IsSound, charge_findings, charge_of, digest_findings, entries_digest, part_digest, rows_of}
+use Rattle.silt_image.specs.Meaning.{said_entry_findings, said_hash, said_hash_findings, said_sorted, store_findings, with_log_rows, with_new_log}
+use Rattle.silt_image.specs.Meaning.{with_part_rows}
 use Rattle.silt_event.specs.Findings.{finding_if}
 use Rattle.silt_log_store.specs.Findings.{log_findings}
 use Rattle.silt_hash_store.specs.Findings.{hash_findings}
@@ -45,17 +48,20 @@ AreHashDigests : Option Digests → ℕ → List Part → Type 0
 AreHashDigests said k parts = (n : ℕ) (part : Part) → slice_get parts n ≡ Some part → ForSome (said_hash said (k + n)) (λ digest. digest ≡ part_digest part)
 
 -- some hash stores without a finding in them or in their digests, taken apart
-hashes_are : (shape : Shape) (said : Option Digests) (k : ℕ) (parts : List Part) → flat_map (said_hash_findings shape said) (enumerate_from k parts) ≡ [] → (flat_map (hash_findings shape) parts ≡ []) × AreHashDigests said k parts
+hashes_are : (shape : Shape) (said : Option Digests) (k : ℕ) (parts : List Part) → flat_map (said_hash_findings shape said) (enumerate_from k parts) ≡ []
+    → (flat_map (hash_findings shape) parts ≡ []) × AreHashDigests said k parts
 unfolding AreHashDigests
 hashes_are shape said k [] none = (refl, λ n part there. absurd (cc))
 hashes_are shape said k (first ∷ parts) none =
     let own : said_hash_findings shape said (k, first) ≡ [] = nothing_first (said_hash_findings shape said (k, first)) (flat_map (said_hash_findings shape said) (enumerate_from (k + 1) parts)) none in
     let others = hashes_are shape said (k + 1) parts (nothing_second (said_hash_findings shape said (k, first)) (flat_map (said_hash_findings shape said) (enumerate_from (k + 1) parts)) none) in
     let slots = nothing_first (hash_findings shape first) (digest_findings (HashDigest first.region) (said_hash said k) (part_digest first)) own in
-    let digest = digest_is (HashDigest first.region) (said_hash said k) (part_digest first) (nothing_second (hash_findings shape first) (digest_findings (HashDigest first.region) (said_hash said k) (part_digest first)) own) in
+    let digest = digest_is (HashDigest first.region) (said_hash said k) (part_digest first)
+    (nothing_second (hash_findings shape first) (digest_findings (HashDigest first.region) (said_hash said k) (part_digest first)) own) in
     (nothing_both (hash_findings shape first) (flat_map (hash_findings shape) parts) slots others.0, go digest others.1)
   where
-    go : ForSome (said_hash said k) (λ digest. digest ≡ part_digest first) → ((n : ℕ) (part : Part) → slice_get parts n ≡ Some part → ForSome (said_hash said (k + 1 + n)) (λ digest. digest ≡ part_digest part))
+    go : ForSome (said_hash said k) (λ digest. digest ≡ part_digest first)
+        → ((n : ℕ) (part : Part) → slice_get parts n ≡ Some part → ForSome (said_hash said (k + 1 + n)) (λ digest. digest ≡ part_digest part))
         → (n : ℕ) (part : Part) → slice_get (first ∷ parts) n ≡ Some part → ForSome (said_hash said (k + n)) (λ digest. digest ≡ part_digest part)
     go digest later zero part there =
         let same : first ≡ part = cc in
@@ -66,7 +72,8 @@ hashes_are shape said k (first ∷ parts) none =
         subst (λ (j : ℕ). ForSome (said_hash said j) (λ d. d ≡ part_digest part)) next (later n part there)
 
 -- and put together
-nothing_of_hashes : (shape : Shape) (said : Option Digests) (k : ℕ) (parts : List Part) → flat_map (hash_findings shape) parts ≡ [] → AreHashDigests said k parts → flat_map (said_hash_findings shape said) (enumerate_from k parts) ≡ []
+nothing_of_hashes : (shape : Shape) (said : Option Digests) (k : ℕ) (parts : List Part) → flat_map (hash_findings shape) parts ≡ []
+    → AreHashDigests said k parts → flat_map (said_hash_findings shape said) (enumerate_from k parts) ≡ []
 unfolding AreHashDigests
 nothing_of_hashes shape said k [] none digests = refl
 nothing_of_hashes shape said k (first ∷ parts) none digests =
@@ -84,13 +91,15 @@ nothing_of_hashes shape said k (first ∷ parts) none digests =
         subst (λ (j : ℕ). ForSome (said_hash said j) (λ d. d ≡ part_digest part)) next (digests (suc n) part there)
 
 -- the same for all hash stores, from the first one on
-from_first : (said : Option Digests) (parts : List Part) → AreHashDigests said 0 parts → (place : ℕ) (part : Part) → slice_get parts place ≡ Some part → ForSome (said_hash said place) (λ digest. digest ≡ part_digest part)
+from_first : (said : Option Digests) (parts : List Part) → AreHashDigests said 0 parts → (place : ℕ) (part : Part)
+    → slice_get parts place ≡ Some part → ForSome (said_hash said place) (λ digest. digest ≡ part_digest part)
 unfolding AreHashDigests
 from_first said parts digests place part there =
     let same : 0 + place ≡ place = omega arith in
     subst (λ (j : ℕ). ForSome (said_hash said j) (λ d. d ≡ part_digest part)) same (digests place part there)
 
-to_first : (said : Option Digests) (parts : List Part) → ((place : ℕ) (part : Part) → slice_get parts place ≡ Some part → ForSome (said_hash said place) (λ digest. digest ≡ part_digest part)) → AreHashDigests said 0 parts
+to_first : (said : Option Digests) (parts : List Part)
+    → ((place : ℕ) (part : Part) → slice_get parts place ≡ Some part → ForSome (said_hash said place) (λ digest. digest ≡ part_digest part)) → AreHashDigests said 0 parts
 unfolding AreHashDigests
 to_first said parts digests n part there =
     let same : n ≡ 0 + n = omega arith in
@@ -162,7 +171,8 @@ said_nothing said s none =
       },
       record {
         hashed = from_first said s.hashes hashes.1;
-        sorted = digest_is SortedDigest (said_sorted said) (entries_digest s.entries) (nothing_second (sorted_findings s.entries) (digest_findings SortedDigest (said_sorted said) (entries_digest s.entries)) parts.entries);
+        sorted = digest_is SortedDigest (said_sorted said) (entries_digest s.entries)
+            (nothing_second (sorted_findings s.entries) (digest_findings SortedDigest (said_sorted said) (entries_digest s.entries)) parts.entries);
       },
     )
 
@@ -172,7 +182,8 @@ nothing_said said s nothing digests =
     none_found said s (record {
       logs = nothing.logs;
       hashes = nothing_of_hashes s.shape said 0 s.hashes nothing.hashes (to_first said s.hashes digests.hashed);
-      entries = nothing_both (sorted_findings s.entries) (digest_findings SortedDigest (said_sorted said) (entries_digest s.entries)) nothing.entries (nothing_of_digest SortedDigest (said_sorted said) (entries_digest s.entries) digests.sorted);
+      entries = nothing_both (sorted_findings s.entries) (digest_findings SortedDigest (said_sorted said) (entries_digest s.entries))
+          nothing.entries (nothing_of_digest SortedDigest (said_sorted said) (entries_digest s.entries) digests.sorted);
       charge = charge_nothing (charge_of s) s.shape.sorted_capacity nothing.charge;
     })
 
@@ -199,7 +210,8 @@ pub charge_law : ChargeLaw
 charge_law s sound = (finds_nothing s sound).charge
 
 -- one log with other rows
-log_with : (shape : Shape) (region : ℕ) (old new : List StoredRow) (part : Part) → (AreFine shape old → AreFine shape new) → log_findings shape (with_part_rows region old part) ≡ [] → log_findings shape (with_part_rows region new part) ≡ []
+log_with : (shape : Shape) (region : ℕ) (old new : List StoredRow) (part : Part) → (AreFine shape old → AreFine shape new)
+    → log_findings shape (with_part_rows region old part) ≡ [] → log_findings shape (with_part_rows region new part) ≡ []
 log_with shape region old new part fine none = go (part.region == region) refl
   where
     go : (b : Bool) → (part.region == region) ≡ b → log_findings shape (with_part_rows region new part) ≡ []
@@ -210,7 +222,8 @@ log_with shape region old new part fine none = go (part.region == region) refl
         ap (log_findings shape) (keeps_rows region new part other ∙ sym (keeps_rows region old part other)) ∙ none
 
 -- all logs, one of them with other rows
-logs_with : (shape : Shape) (region : ℕ) (old new : List StoredRow) (parts : List Part) → (AreFine shape old → AreFine shape new) → flat_map (log_findings shape) (map (with_part_rows region old) parts) ≡ [] → flat_map (log_findings shape) (map (with_part_rows region new) parts) ≡ []
+logs_with : (shape : Shape) (region : ℕ) (old new : List StoredRow) (parts : List Part) → (AreFine shape old → AreFine shape new)
+    → flat_map (log_findings shape) (map (with_part_rows region old) parts) ≡ [] → flat_map (log_findings shape) (map (with_part_rows region new) parts) ≡ []
 logs_with shape region old new [] fine none = refl
 logs_with shape region old new (part ∷ parts) fine none =
     nothing_both (log_findings shape (with_part_rows region new part)) (flat_map (log_findings shape) (map (with_part_rows region new) parts))
@@ -218,7 +231,8 @@ logs_with shape region old new (part ∷ parts) fine none =
     (logs_with shape region old new parts fine (nothing_second (log_findings shape (with_part_rows region old part)) (flat_map (log_findings shape) (map (with_part_rows region old) parts)) none))
 
 -- sound stores, one log with other rows
-sound_with : (s : Stores) (region : ℕ) (old new : List StoredRow) → (AreFine s.shape old → AreFine s.shape new) → charge_of (with_log_rows region new s) ≤ s.shape.sorted_capacity → IsSound (with_log_rows region old s) → IsSound (with_log_rows region new s)
+sound_with : (s : Stores) (region : ℕ) (old new : List StoredRow) → (AreFine s.shape old → AreFine s.shape new)
+    → charge_of (with_log_rows region new s) ≤ s.shape.sorted_capacity → IsSound (with_log_rows region old s) → IsSound (with_log_rows region new s)
 unfolding with_log_rows
 sound_with s region old new fine most sound =
     let nothing = finds_nothing (with_log_rows region old s) sound in

@@ -1,5 +1,6 @@
 -- When an image is good, and what it then represents.
-use Rattle.std.proofs.Common.{◌≡◌, ◌↔◌, ℕ, ◌+◌, ◌-◌, Bool, true, false, not, nat_lt, if◌then◌else◌, List, [], ◌∷◌, ◌++◌, length, take, flat_map, get_or, slice_get, Option, Some, None, is_some, IsSome, IsTrue, Result, Ok, Err, refl, sym, ap, ◌∙◌, arith}
+use Rattle.std.proofs.Common.{◌≡◌, ◌↔◌, ℕ, ◌+◌, ◌-◌, Bool, true, false, not, nat_lt, if◌then◌else◌, List, [], ◌∷◌, ◌++◌, length, take, flat_map, get_or}
+use Rattle.std.proofs.Common.{slice_get, Option, Some, None, is_some, IsSome, IsTrue, Result, Ok, Err, refl, sym, ap, ◌∙◌, arith}
 use Rattle.std.specs.List.{list_all, enumerate_from, range_with_len}
 use Rattle.std.specs.Str.{bytes_eq}
 use Rattle.std.proofs.lemmas.Bool.{and_parts, and_from}
@@ -13,7 +14,9 @@ use Rattle.silt_manifest.specs.declared.digests.Digests.{Digests}
 use Rattle.silt_log.specs.Parts.{Part}
 use Rattle.silt_image.specs.Stores.{Stores, image_digests, image_stores, stores_named, stores_of_current, stores_shaped}
 use Rattle.silt_sorted_store.specs.State.{sorted_rows}
-use Rattle.silt_image.specs.Meaning.{AreDigestsOf, IsSound, all_logs_fit, charge_findings, charge_of, digest_findings, entries_digest, findings_of, image_fits, image_map, image_rows, image_stands, image_verdict, is_crowding, map_where_sound, part_digest, rows_found, rows_of, said_entry_findings, said_hash, said_hash_findings, said_sorted, store_findings}
+use Rattle.silt_image.specs.Meaning.{AreDigestsOf, IsSound, all_logs_fit, charge_findings, charge_of, digest_findings, entries_digest, findings_of, image_fits}
+use Rattle.silt_image.specs.Meaning.{image_map, image_rows, image_stands, image_verdict, is_crowding, map_where_sound, part_digest, rows_found, rows_of}
+use Rattle.silt_image.specs.Meaning.{said_entry_findings, said_hash, said_hash_findings, said_sorted, store_findings}
 use Rattle.silt_sorted_store.specs.Findings.{entry_findings, is_key_below, sorted_findings}
 use Rattle.silt_event.specs.Findings.{finding_if}
 use Rattle.silt_log_store.specs.Findings.{fits_table, log_findings, row_findings}
@@ -215,7 +218,9 @@ no_rows s region logs hashes entries = rw (logs, hashes, entries) refl
 -- and no finding
 nothing_found : (s : Stores) (region : ℕ) → s.logs ≡ record { region = region; rows = [] } ∷ [] → s.hashes ≡ [] → s.entries ≡ [] → IsSound s
 nothing_found s region logs hashes entries =
-    let none : flat_map (log_findings s.shape) s.logs ≡ [] = ap (flat_map (log_findings s.shape)) logs ∙ nothing_both (log_findings s.shape (record { region = region; rows = [] })) [] (of_fine s.shape (record { region = region; rows = [] }) (record { known = refl; fits = fits_none s.shape })) refl in
+    let none : flat_map (log_findings s.shape) s.logs ≡ [] =
+    ap (flat_map (log_findings s.shape)) logs ∙ nothing_both (log_findings s.shape (record { region = region; rows = [] })) []
+    (of_fine s.shape (record { region = region; rows = [] }) (record { known = refl; fits = fits_none s.shape })) refl in
     let puts : charge_of s ≡ 0 = ap put_count (no_rows s region logs hashes entries) in
     (logs_sound_law s none hashes entries).1 (omega (arith, puts))
 

@@ -64,11 +64,13 @@ formatted : List ℕ
 formatted = device (0xA7 ∷ short_bytes first_body) [] [] [] [] []
 
 formatted_is_good : image_verdict formatted ≡ None
-unfolding image_verdict image_digests image_stores shape_found record_found record_behind stores_named log_rows rows_from row_at open_count hash_rows sorted_rows store_findings log_findings hash_findings sorted_findings rows_of fits_table added indexed lib.Count.ones formatted device sector small old_header short_bytes
+unfolding image_verdict image_digests image_stores shape_found record_found record_behind stores_named log_rows rows_from row_at open_count
+    hash_rows sorted_rows store_findings log_findings hash_findings sorted_findings rows_of fits_table added indexed lib.Count.ones formatted device sector small old_header short_bytes
 formatted_is_good = refl
 
 formatted_has_no_rows : image_rows formatted ≡ []
-unfolding image_rows image_stores shape_found record_found record_behind stores_named log_rows rows_from row_at open_count hash_rows sorted_rows rows_of lib.Count.ones formatted device sector small old_header short_bytes
+unfolding image_rows image_stores shape_found record_found record_behind stores_named log_rows rows_from row_at open_count hash_rows
+    sorted_rows rows_of lib.Count.ones formatted device sector small old_header short_bytes
 formatted_has_no_rows = refl
 
 -- a key of 20 bytes
@@ -80,11 +82,14 @@ one_put : List ℕ
 one_put = device (0xA7 ∷ short_bytes first_body) [] (0xA7 ∷ []) (1 ∷ abc ++ 1 ∷ 2 ∷ []) [] []
 
 one_put_is_good : image_verdict one_put ≡ None
-unfolding image_verdict image_digests image_stores shape_found record_found record_behind stores_named log_rows rows_from row_at open_count hash_rows sorted_rows store_findings log_findings hash_findings sorted_findings rows_of fits_table added indexed placed path_for put_along moved_along free_slot lib.Count.ones one_put abc device sector small old_header short_bytes
+unfolding image_verdict image_digests image_stores shape_found record_found record_behind stores_named log_rows rows_from row_at open_count
+    hash_rows sorted_rows store_findings log_findings hash_findings sorted_findings rows_of fits_table added indexed placed path_for
+    put_along moved_along free_slot lib.Count.ones one_put abc device sector small old_header short_bytes
 one_put_is_good = refl
 
 one_put_row : image_rows one_put ≡ record { kind = 1; key = abc; value = 1 ∷ 2 ∷ [] } ∷ []
-unfolding image_rows image_stores shape_found record_found record_behind stores_named log_rows rows_from row_at open_count hash_rows sorted_rows rows_of lib.Count.ones one_put abc device sector small old_header short_bytes
+unfolding image_rows image_stores shape_found record_found record_behind stores_named log_rows rows_from row_at open_count hash_rows
+    sorted_rows rows_of lib.Count.ones one_put abc device sector small old_header short_bytes
 one_put_row = refl
 
 -- ---- what is found
@@ -104,7 +109,9 @@ unfolding image_verdict image_digests image_stores shape_found record_found reco
 wrong_slot = refl
 
 unknown_kind : image_verdict (device (0xA7 ∷ short_bytes first_body) [] (0xA7 ∷ []) (3 ∷ []) [] []) ≡ Some (Damaged (Log 0 0))
-unfolding image_verdict image_digests image_stores shape_found record_found record_behind stores_named log_rows rows_from row_at open_count hash_rows sorted_rows store_findings log_findings hash_findings sorted_findings rows_of fits_table added indexed placed path_for put_along moved_along free_slot lib.Count.ones device sector small old_header short_bytes
+unfolding image_verdict image_digests image_stores shape_found record_found record_behind stores_named log_rows rows_from row_at open_count
+    hash_rows sorted_rows store_findings log_findings hash_findings sorted_findings rows_of fits_table added indexed placed path_for
+    put_along moved_along free_slot lib.Count.ones device sector small old_header short_bytes
 unknown_kind = refl
 
 -- a body that names a hash store and two sorted entries
@@ -112,7 +119,8 @@ all_named : Body
 all_named = record first_body { hashed = 0 ∷ []; sorted_count = 2 }
 
 equal_entries : image_verdict (device (0xA7 ∷ short_bytes all_named) [] [] [] [] (replicate 44 1)) ≡ Some (Damaged (Sorted 1))
-unfolding image_verdict image_digests image_stores shape_found record_found record_behind stores_named log_rows rows_from row_at open_count hash_rows sorted_rows store_findings log_findings hash_findings sorted_findings rows_of fits_table added indexed lib.Count.ones all_named device sector small old_header short_bytes
+unfolding image_verdict image_digests image_stores shape_found record_found record_behind stores_named log_rows rows_from row_at open_count
+    hash_rows sorted_rows store_findings log_findings hash_findings sorted_findings rows_of fits_table added indexed lib.Count.ones all_named device sector small old_header short_bytes
 equal_entries = refl
 
 -- the bytes of a row of this kind, whose key begins with this byte
@@ -129,12 +137,14 @@ empty_slot = replicate 23 0
 
 -- a row in a bucket that its key does not have: the keys here have buckets 0 and 0
 wrong_bucket : image_verdict (device (0xA7 ∷ short_bytes all_named) [] [] [] (empty_slot ++ empty_slot ++ empty_slot ++ empty_slot ++ body 1 1 7) []) ≡ Some (Damaged (Hash 0 4))
-unfolding image_verdict image_digests image_stores shape_found record_found record_behind stores_named log_rows rows_from row_at open_count hash_rows sorted_rows store_findings log_findings hash_findings sorted_findings rows_of fits_table added indexed lib.Count.ones all_named device sector small body empty_slot old_header short_bytes
+unfolding image_verdict image_digests image_stores shape_found record_found record_behind stores_named log_rows rows_from row_at open_count
+    hash_rows sorted_rows store_findings log_findings hash_findings sorted_findings rows_of fits_table added indexed lib.Count.ones all_named device sector small body empty_slot old_header short_bytes
 wrong_bucket = refl
 
 -- a key in two slots
 key_twice : image_verdict (device (0xA7 ∷ short_bytes all_named) [] [] [] (empty_slot ++ body 1 1 7 ++ empty_slot ++ body 2 1 7) []) ≡ Some (Damaged (Hash 0 3))
-unfolding image_verdict image_digests image_stores shape_found record_found record_behind stores_named log_rows rows_from row_at open_count hash_rows sorted_rows store_findings log_findings hash_findings sorted_findings rows_of fits_table added indexed lib.Count.ones all_named device sector small body empty_slot old_header short_bytes
+unfolding image_verdict image_digests image_stores shape_found record_found record_behind stores_named log_rows rows_from row_at open_count
+    hash_rows sorted_rows store_findings log_findings hash_findings sorted_findings rows_of fits_table added indexed lib.Count.ones all_named device sector small body empty_slot old_header short_bytes
 key_twice = refl
 
 -- ---- the rows of all stores
@@ -145,16 +155,20 @@ full = device (0xA7 ∷ short_bytes all_named) [] (0xA7 ∷ 0xA7 ∷ []) (body 1
     ((1 ∷ replicate 19 0 ++ 0 ∷ 1 ∷ []) ++ 2 ∷ replicate 19 0 ++ 0 ∷ 2 ∷ [])
 
 full_rows : image_rows full ≡ row 1 1 1 ∷ row 1 2 2 ∷ row 2 1 0 ∷ row 1 3 4 ∷ row 1 1 5 ∷ row 2 2 0 ∷ []
-unfolding image_rows image_stores shape_found record_found record_behind stores_named log_rows rows_from row_at open_count hash_rows sorted_rows rows_of lib.Count.ones full all_named device sector small body row empty_slot old_header short_bytes
+unfolding image_rows image_stores shape_found record_found record_behind stores_named log_rows rows_from row_at open_count hash_rows
+    sorted_rows rows_of lib.Count.ones full all_named device sector small body row empty_slot old_header short_bytes
 full_rows = refl
 
 full_is_good : image_verdict full ≡ None
-unfolding image_verdict image_digests image_stores shape_found record_found record_behind stores_named log_rows rows_from row_at open_count hash_rows sorted_rows store_findings log_findings hash_findings sorted_findings rows_of fits_table added indexed placed path_for put_along moved_along free_slot lib.Count.ones full all_named device sector small body row empty_slot old_header short_bytes
+unfolding image_verdict image_digests image_stores shape_found record_found record_behind stores_named log_rows rows_from row_at open_count
+    hash_rows sorted_rows store_findings log_findings hash_findings sorted_findings rows_of fits_table added indexed placed path_for
+    put_along moved_along free_slot lib.Count.ones full all_named device sector small body row empty_slot old_header short_bytes
 full_is_good = refl
 
 -- the last row of a key decides
 newest_wins : newest_row (image_rows full) (1 ∷ replicate 19 0) ≡ Some (row 1 1 5)
-unfolding image_rows image_stores shape_found record_found record_behind stores_named log_rows rows_from row_at open_count hash_rows sorted_rows rows_of lib.Count.ones full all_named device sector small body row empty_slot old_header short_bytes
+unfolding image_rows image_stores shape_found record_found record_behind stores_named log_rows rows_from row_at open_count hash_rows
+    sorted_rows rows_of lib.Count.ones full all_named device sector small body row empty_slot old_header short_bytes
 newest_wins = refl
 
 -- ---- a frozen log
@@ -178,7 +192,8 @@ frozen_device kind first second =
 
 -- the rows of the frozen log are older
 frozen_rows : image_rows (frozen_device 2 (1 ∷ 2 ∷ []) (1 ∷ [])) ≡ row 1 1 1 ∷ row 1 2 2 ∷ row 2 1 1 ∷ []
-unfolding image_rows image_stores shape_found record_found record_behind stores_named log_rows rows_from row_at open_count hash_rows sorted_rows rows_of lib.Count.ones frozen_device one_frozen wide sector bodies body row old_header short_bytes
+unfolding image_rows image_stores shape_found record_found record_behind stores_named log_rows rows_from row_at open_count hash_rows
+    sorted_rows rows_of lib.Count.ones frozen_device one_frozen wide sector bodies body row old_header short_bytes
 frozen_rows = refl
 
 -- the numbers of an image
@@ -189,12 +204,15 @@ reported (Err finding) = None
 -- five keys of one bucket in two logs
 frozen_report : reported (image_stores (frozen_device 1 (1 ∷ 2 ∷ 3 ∷ 4 ∷ []) (5 ∷ [])))
     ≡ Some (record { generation = 1; active = 1; active_rows = 1; frozen = 1; frozen_rows = 4; hashes = 0; hash_rows = 0; entries = 0; charge = 5; layout = One })
-unfolding reported image_stores shape_found record_found record_behind stores_named log_rows rows_from row_at open_count hash_rows sorted_rows rows_of lib.Count.ones frozen_device one_frozen wide sector bodies body old_header short_bytes
+unfolding reported image_stores shape_found record_found record_behind stores_named log_rows rows_from row_at open_count hash_rows
+    sorted_rows rows_of lib.Count.ones frozen_device one_frozen wide sector bodies body old_header short_bytes
 frozen_report = refl
 
 -- five keys of one bucket in one log
 crowded_log : image_verdict (frozen_device 1 (1 ∷ 2 ∷ 3 ∷ 4 ∷ 5 ∷ []) []) ≡ Some Crowded
-unfolding image_verdict image_digests image_stores shape_found record_found record_behind stores_named log_rows rows_from row_at open_count hash_rows sorted_rows store_findings log_findings hash_findings sorted_findings rows_of fits_table added indexed placed path_for put_along moved_along free_slot shortest_walk turns victim lib.Count.ones frozen_device one_frozen wide sector bodies body old_header short_bytes
+unfolding image_verdict image_digests image_stores shape_found record_found record_behind stores_named log_rows rows_from row_at open_count
+    hash_rows sorted_rows store_findings log_findings hash_findings sorted_findings rows_of fits_table added indexed placed path_for
+    put_along moved_along free_slot shortest_walk turns victim lib.Count.ones frozen_device one_frozen wide sector bodies body old_header short_bytes
 crowded_log = refl
 
 -- ---- digests

@@ -1,5 +1,6 @@
 -- Steps of background work, one more at a time.
-use Rattle.std.proofs.Common.{◌≡◌, ◌≢◌, ◌+◌, ◌≤◌, ◌<◌, ◌&&◌, ◌||◌, not, ℕ, Bool, true, false, cond, IsTrue, List, [], ◌∷◌, ◌++◌, length, Option, Some, None, option_map, Result, Ok, Err, refl, sym, ap, ◌∙◌, subst, arith, inl, inr}
+use Rattle.std.proofs.Common.{◌≡◌, ◌≢◌, ◌+◌, ◌≤◌, ◌<◌, ◌&&◌, ◌||◌, not, ℕ, Bool, true, false, cond, IsTrue, List, [], ◌∷◌, ◌++◌, length, Option, Some, None}
+use Rattle.std.proofs.Common.{option_map, Result, Ok, Err, refl, sym, ap, ◌∙◌, subst, arith, inl, inr}
 use Rattle.std.specs.Prelude.{IsErrAnd, is_some}
 use Rattle.std.proofs.lemmas.List.{length-append}
 use Rattle.std.proofs.lemmas.List.Elements.{All-nil, All-push}
@@ -15,7 +16,8 @@ use Rattle.silt_event.specs.declared.refusal.Refusal.{Refusal}
 use Rattle.silt_event.specs.declared.refusal.Refusal.TheVariants.{NotFormatted, BadGeometry, Damaged, Crowded, Device, NoMemory, StoreFull, NoRoom, Failed, Spent, HistoryFull}
 use Rattle.silt_event.specs.declared.reply.Reply.TheVariants.{Accepted, Acknowledged, Found, Absent, Differs, Progress, Refused, Unsettled, NotServed}
 use Rattle.silt_store_set.specs.CoreState.{Cause, ConvertsTo, CoreState, Does, DoesPlain, awaits_region, convert_due, is_convert, is_merge, is_refused, wants_convert}
-use Rattle.silt_jobs.specs.BackgroundWork.{AreDone, PlainRefusal, RunsDue, StopsAt, TakesSteps, TendsAll, TendsDue, TendsPlain, TendsThenDoes, begins, count_of, due_at_once, due_between, error_of, is_idle, is_paused, merges, most_steps}
+use Rattle.silt_jobs.specs.BackgroundWork.{AreDone, PlainRefusal, RunsDue, StopsAt, TakesSteps, TendsAll, TendsDue, TendsPlain, TendsThenDoes, begins, count_of}
+use Rattle.silt_jobs.specs.BackgroundWork.{due_at_once, due_between, error_of, is_idle, is_paused, merges, most_steps}
 use Rattle.silt_jobs.specs.declared.background_work.Steps.{Steps}
 
 -- one event more is one more of its kind

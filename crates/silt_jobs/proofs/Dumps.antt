@@ -28,7 +28,8 @@ pub record HasGathered (content : Content) (stream : EntryStream) (len : ℕ) (b
   pub joined : written ++ lines ≡ entry_lines entries
 
 -- at first it has given none
-pub gathers_none : (content : Content) (stream : EntryStream) (len : ℕ) (before : Option (List ℕ)) (lines : List ℕ) → Streams content stream → stream.last ≡ None → len ≡ value_len_of stream → lines ≡ []
+pub gathers_none : (content : Content) (stream : EntryStream) (len : ℕ) (before : Option (List ℕ)) (lines : List ℕ) → Streams content stream
+    → stream.last ≡ None → len ≡ value_len_of stream → lines ≡ []
     → HasGathered content stream len before before lines
 gathers_none content stream len before lines streams last long none = record {
   entries = [];
@@ -58,7 +59,8 @@ PassesOn before after old new = (passed : List ℕ) × (old ≡ passed ++ new) �
 module _ (content : Content) (old : EntryStream) (len : ℕ) (before mid : Option (List ℕ)) (lines : List ℕ) (gathered : HasGathered content old len before mid lines) where
   -- it has given one more
   pub gathers_more : (new : EntryStream) (key : Key) (value : List ℕ) (long : ℕ) (after : Option (List ℕ)) (kept : List ℕ) → PassesTo content old new key
-      → (IsTrue content.honest → IsNextEntry (image_map content.shown) old.last (Some key) value) → long ≡ len → PassesOn mid after (lines ++ put_line key value) kept → HasGathered content new long before after kept
+      → (IsTrue content.honest → IsNextEntry (image_map content.shown) old.last (Some key) value) → long ≡ len
+      → PassesOn mid after (lines ++ put_line key value) kept → HasGathered content new long before after kept
   gathers_more new key value long after kept passes next same on = record {
     entries = with_entry gathered.entries key value;
     written = gathered.written ++ on.0;
@@ -72,9 +74,11 @@ module _ (content : Content) (old : EntryStream) (len : ℕ) (before mid : Optio
     joined = lines_joined gathered.written lines (put_line key value) on.0 kept (entry_lines gathered.entries) on.1 gathered.joined ∙ sym (lines_more gathered.entries key value);
   }
 
-module _ {D F : Type 0} (facts : Ghosts D F) (disk : D) (stream : EntryStream) (len : ℕ) (before after : Option (List ℕ)) (lines : List ℕ) (gathered : HasGathered (facts.content disk) stream len before after lines) where
+module _ {D F : Type 0} (facts : Ghosts D F) (disk : D) (stream : EntryStream) (len : ℕ) (before after : Option (List ℕ)) (lines : List ℕ)
+    (gathered : HasGathered (facts.content disk) stream len before after lines) where
   -- it has given all
-  pub gathers_all : (value : List ℕ) → (IsTrue (facts.content disk).honest → IsNextEntry (image_map (facts.content disk).shown) stream.last None value) → GathersLines facts disk None before after lines
+  pub gathers_all : (value : List ℕ) → (IsTrue (facts.content disk).honest → IsNextEntry (image_map (facts.content disk).shown) stream.last None value)
+      → GathersLines facts disk None before after lines
   gathers_all value none = (
     gathered.entries,
     gathered.written,
@@ -103,7 +107,8 @@ module _ {D F : Type 0} (facts : Ghosts D F) (disk : D) (early : Option (OpenErr
   )
 
 -- a job that ended with the status 0 behind these lines
-done_behind : {X : Type 0} (status : Result ℕ X) (before mid after : Option (List ℕ)) (lines : List ℕ) → status ≡ Ok 0 → after ≡ mid → Appends before mid lines → IfOk status (λ s. (s ≡ 0) × Appends before after lines)
+done_behind : {X : Type 0} (status : Result ℕ X) (before mid after : Option (List ℕ)) (lines : List ℕ) → status ≡ Ok 0 → after ≡ mid
+    → Appends before mid lines → IfOk status (λ s. (s ≡ 0) × Appends before after lines)
 done_behind {X} status before mid after lines is same appends =
     subst (λ (r : Result ℕ X). IfOk r (λ s. (s ≡ 0) × Appends before after lines)) (sym is) (refl, subst (λ (o : Option (List ℕ)). Appends before o lines) (sym same) appends)
 

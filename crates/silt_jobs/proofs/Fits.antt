@@ -40,4 +40,5 @@ first_fits value_len first none = record {
 -- all lives of the script fit
 pub ended_fits : (value_len : ℕ) (reading : Reading) (script : Script) → EndsReading reading script → Fits value_len reading → All (λ life. All (HasValueOf value_len) life.items) script.lives.items
 ended_fits value_len reading script ends fits =
-    subst (λ lives. All (λ life. All (HasValueOf value_len) life.items) lives) (sym ends.lives) (All-push (λ life. All (HasValueOf value_len) life.items) reading.lives.items reading.life fits.lives fits.life)
+    subst (λ lives. All (λ life. All (HasValueOf value_len) life.items) lives) (sym ends.lives)
+    (All-push (λ life. All (HasValueOf value_len) life.items) reading.lives.items reading.life fits.lives fits.life)

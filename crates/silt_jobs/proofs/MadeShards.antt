@@ -65,7 +65,8 @@ module _ {S D E F N : Type 0} (facts : Ghosts D F) (disks : SourceOf S D E F) (s
       → mark_at + mark_len ≤ size (facts.content disk)
   room_shard shard old new disk before after (ended, done, formats) =
       room_file facts (disks.found source (shard_file file shard)) (disks.not_found source (shard_file file shard)) (sized_by options.sparse disks.resized disks.filled)
-      (sized_by options.sparse disks.not_resized disks.not_filled) (told old new (shard_file file shard)) (new ≡ old) numbers options.force disk ended before after (not_refused ended.why ended.status done) formats
+      (sized_by options.sparse disks.not_resized disks.not_filled) (told old new (shard_file file shard)) (new ≡ old) numbers
+      options.force disk ended before after (not_refused ended.why ended.status done) formats
 
 module _ {S D E F N : Type 0} (facts : Ghosts D F) (disks : SourceOf S D E F) (source : S) (told : N → N → List ℕ → Urgent → Type 0) (file : List ℕ) (numbers : Numbers) (options : FormatOptions)
     (count : ℕ) (set : List ℕ) where

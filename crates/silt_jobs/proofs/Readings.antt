@@ -44,7 +44,8 @@ TakesLines-append : (value_len : ℕ) (a b c : Reading) (xs ys : List (List ℕ)
 TakesLines-append value_len a b c [] ys h k = subst (λ s. TakesLines value_len ys s c) h k
 TakesLines-append value_len a b c (x ∷ xs) ys h k = (h.0, h.1, TakesLines-append value_len h.0 b c xs ys h.2 k)
 
-pub TakesBytes-append : (value_len : ℕ) (p : List ℕ) (a b c : Reading) (xs ys : List ℕ) → TakesBytes value_len p a xs b → TakesBytes value_len (rest_after p xs) b ys c → TakesBytes value_len p a (xs ++ ys) c
+pub TakesBytes-append : (value_len : ℕ) (p : List ℕ) (a b c : Reading) (xs ys : List ℕ) → TakesBytes value_len p a xs b
+    → TakesBytes value_len (rest_after p xs) b ys c → TakesBytes value_len p a (xs ++ ys) c
 TakesBytes-append value_len p a b c xs ys h k =
     subst (λ lines. TakesLines value_len lines a c) (sym (lines_after-append p xs ys)) (TakesLines-append value_len a b c (lines_after p xs) (lines_after (rest_after p xs) ys) h k)
 

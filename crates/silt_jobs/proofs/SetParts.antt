@@ -52,7 +52,8 @@ module _ {D E F : Type 0} (facts : Ghosts D F) (Failed : D → Failures → Type
       → DoesShard facts Failed job shard disk part between after → ends.whole ≡ at_shard shard part → DoesEach facts Failed job count disks ends before after
   broken_off items disks number shard count disk rest part ends before between after all same there so_far failed one whole =
       let first : DoesFirst facts Failed job disks shard ends.parts.items before between =
-      subst (λ (l : List D). DoesFirst facts Failed job l shard ends.parts.items before between) all (subst (λ (n : ℕ). DoesFirst facts Failed job items n ends.parts.items before between) same so_far) in
+      subst (λ (l : List D). DoesFirst facts Failed job l shard ends.parts.items before between) all
+      (subst (λ (n : ℕ). DoesFirst facts Failed job items n ends.parts.items before between) same so_far) in
       let item : slice_get disks shard ≡ Some disk =
       subst (λ (l : List D). slice_get l shard ≡ Some disk) all (subst (λ (n : ℕ). slice_get items n ≡ Some disk) same (at_place items number disk rest there)) in
       inr (inl (shard, disk, part, between, first, item, failed, one, whole))

@@ -15,7 +15,8 @@ unfolding stop_of_words
 stop-two text word rest words last = ap stop_of_words (words ∙ ap (λ more. word ∷ more) last)
 
 -- three may be one
-pub stop-three : (text word rest k fill : List ℕ) → words_of text ≡ word ∷ words_of rest → words_of rest ≡ k ∷ words_of fill → words_of fill ≡ fill ∷ [] → stop_of_words (words_of text) ≡ reported_stop word k fill
+pub stop-three : (text word rest k fill : List ℕ) → words_of text ≡ word ∷ words_of rest → words_of rest ≡ k ∷ words_of fill
+    → words_of fill ≡ fill ∷ [] → stop_of_words (words_of text) ≡ reported_stop word k fill
 unfolding stop_of_words
 stop-three text word rest k fill words more last = ap stop_of_words (words ∙ ap (λ parts. word ∷ parts) (more ∙ ap (λ parts. k ∷ parts) last))
 
@@ -25,7 +26,8 @@ unfolding stop_of_words
 stop_of_words-many word k fill [] some = absurd (some refl)
 stop_of_words-many word k fill (next ∷ more) some = refl
 
-pub stop-many : (text word rest k fill last next : List ℕ) → words_of text ≡ word ∷ words_of rest → words_of rest ≡ k ∷ words_of fill → words_of fill ≡ last ∷ words_of next → stop_of_words (words_of text) ≡ None
+pub stop-many : (text word rest k fill last next : List ℕ) → words_of text ≡ word ∷ words_of rest → words_of rest ≡ k ∷ words_of fill
+    → words_of fill ≡ last ∷ words_of next → stop_of_words (words_of text) ≡ None
 stop-many text word rest k fill last next words more most =
     ap stop_of_words (words ∙ ap (λ parts. word ∷ parts) (more ∙ ap (λ parts. k ∷ parts) most)) ∙ stop_of_words-many word k last (words_of next) (words_of-some next)
 

@@ -29,9 +29,11 @@ module _ {D : Type 0} (least : Option ℕ) where
       All-map (λ store. store.core.shape.value_len ≡ value_len_of (λ store. store.core.shape.value_len) (tending_each least cores))
       (λ core. record { core = core; least = least; refusal = None }) cores (λ k d within. alike k d within ∙ sym (tending_len cores))
 
-module _ {D F W : Type 0} (facts : Ghosts D F) (contents : W → Option (List ℕ)) (kept_error : W → Option StreamError) (kept_tally : W → Tally) (options : RunOptions) (reading : Option StreamError) where
+module _ {D F W : Type 0} (facts : Ghosts D F) (contents : W → Option (List ℕ)) (kept_error : W → Option StreamError) (kept_tally : W → Tally)
+    (options : RunOptions) (reading : Option StreamError) where
   -- a session's end and what it left, if the status was written
-  ends_so : {S X Y : Type 0} (Opened : SessionEnd → List S → W → Type 0) (refusal : List S → Option PlainRefusal) (value_len : ℕ) (last : List S) (answered after : W) (end : Result SessionEnd X) (status : Result ℕ Y) (found : Option Found)
+  ends_so : {S X Y : Type 0} (Opened : SessionEnd → List S → W → Type 0) (refusal : List S → Option PlainRefusal) (value_len : ℕ)
+      (last : List S) (answered after : W) (end : Result SessionEnd X) (status : Result ℕ Y) (found : Option Found)
       → IfOk end (λ it. Opened it last answered)
       → IfOk status (λ number. (it : SessionEnd) × (end ≡ Ok it) × EndsSo contents kept_error kept_tally options reading it (refusal last) value_len number found answered after)
       → IfOk status (λ number. (it : SessionEnd) × (to : List S) × (mid : W)
@@ -47,9 +49,12 @@ module _ {D F W : Type 0} (facts : Ghosts D F) (contents : W → Option (List �
       → AnswersTended facts contents kept_error kept_tally options reading value_len stores ended remaining left before after
   tended_stores stores last value_len remaining left before answered after session ended refused same opens ends = (
     ends.0,
-    ends_so (λ it to mid. OpensSession (TendsThenDoes facts) AdministersTended contents it value_len stores to remaining left before mid) first_refusal value_len last answered after session.end ended.status ended.found opens
-        (subst (λ n. IfOk ended.status (λ number. (it : SessionEnd) × (session.end ≡ Ok it) × EndsSo contents kept_error kept_tally options reading it (first_refusal last) n number ended.found answered after)) same
-        (subst (λ r. IfOk ended.status (λ number. (it : SessionEnd) × (session.end ≡ Ok it) × EndsSo contents kept_error kept_tally options reading it r session.value_len number ended.found answered after)) refused ends.2)),
+    ends_so (λ it to mid. OpensSession (TendsThenDoes facts) AdministersTended contents it value_len stores to remaining left before mid)
+        first_refusal value_len last answered after session.end ended.status ended.found opens
+        (subst (λ n. IfOk ended.status (λ number. (it : SessionEnd) × (session.end ≡ Ok it)
+        × EndsSo contents kept_error kept_tally options reading it (first_refusal last) n number ended.found answered after)) same
+        (subst (λ r. IfOk ended.status (λ number. (it : SessionEnd) × (session.end ≡ Ok it)
+        × EndsSo contents kept_error kept_tally options reading it r session.value_len number ended.found answered after)) refused ends.2)),
   )
 
   -- stores that do no background work replied to the lines as a set
@@ -63,7 +68,10 @@ module _ {D F W : Type 0} (facts : Ghosts D F) (contents : W → Option (List �
       (AnswersPlain facts contents kept_error kept_tally options reading (set_value_len cores) cores ended remaining left before after)) (sym plain)
       (subst (λ n. AnswersPlain facts contents kept_error kept_tally options reading n cores ended remaining left before after) len (
         ends.0,
-        ends_so (λ it to mid. OpensSession (DoesPlain facts) AdministersCore contents it value_len cores to remaining left before mid) (λ _. None) value_len last answered after session.end ended.status ended.found opens
-            (subst (λ n. IfOk ended.status (λ number. (it : SessionEnd) × (session.end ≡ Ok it) × EndsSo contents kept_error kept_tally options reading it None n number ended.found answered after)) same
-            (subst (λ r. IfOk ended.status (λ number. (it : SessionEnd) × (session.end ≡ Ok it) × EndsSo contents kept_error kept_tally options reading it r session.value_len number ended.found answered after)) none ends.2)),
+        ends_so (λ it to mid. OpensSession (DoesPlain facts) AdministersCore contents it value_len cores to remaining left before mid)
+            (λ _. None) value_len last answered after session.end ended.status ended.found opens
+            (subst (λ n. IfOk ended.status (λ number. (it : SessionEnd) × (session.end ≡ Ok it)
+            × EndsSo contents kept_error kept_tally options reading it None n number ended.found answered after)) same
+            (subst (λ r. IfOk ended.status (λ number. (it : SessionEnd) × (session.end ≡ Ok it)
+            × EndsSo contents kept_error kept_tally options reading it r session.value_len number ended.found answered after)) none ends.2)),
       )))

@@ -13,14 +13,16 @@ place_past-append : (place : LinePlace) (xs ys : List Mark) → place_past place
 place_past-append place [] ys = refl
 place_past-append place (x ∷ xs) ys = place_past-append (place_after place x) xs ys
 
-marks_text-append : {F : Type 0} (lives : List (LifeReply F)) (place : LinePlace) (xs ys : List Mark) → marks_text lives place (xs ++ ys) ≡ marks_text lives place xs ++ marks_text lives (place_past place xs) ys
+marks_text-append : {F : Type 0} (lives : List (LifeReply F)) (place : LinePlace) (xs ys : List Mark)
+    → marks_text lives place (xs ++ ys) ≡ marks_text lives place xs ++ marks_text lives (place_past place xs) ys
 marks_text-append lives place [] ys = refl
 marks_text-append lives place (x ∷ xs) ys =
     ap (λ text. mark_text lives place x ++ text) (marks_text-append lives (place_after place x) xs ys)
     ∙ sym (append_assoc (mark_text lives place x) (marks_text lives (place_after place x) xs) (marks_text lives (place_past (place_after place x) xs) ys))
 
 -- one line more
-pub place_past-more : (place : LinePlace) (marks : List Mark) (i : ℕ) (mark : Mark) → i < length marks → place_past place (take (i + 1) marks) ≡ place_after (place_past place (take i marks)) (get_or marks i mark)
+pub place_past-more : (place : LinePlace) (marks : List Mark) (i : ℕ) (mark : Mark) → i < length marks
+    → place_past place (take (i + 1) marks) ≡ place_after (place_past place (take i marks)) (get_or marks i mark)
 place_past-more place marks i mark lt = ap (place_past place) (take_more marks i mark lt) ∙ place_past-append place (take i marks) (get_or marks i mark ∷ [])
 
 pub marks_text-more : {F : Type 0} (lives : List (LifeReply F)) (place : LinePlace) (marks : List Mark) (i : ℕ) (mark : Mark) → i < length marks
@@ -31,7 +33,8 @@ marks_text-more lives place marks i mark lt =
     ∙ ap (λ text. marks_text lives place (take i marks) ++ text) (append-nil (mark_text lives (place_past place (take i marks)) (get_or marks i mark)))
 
 -- what was written of a script, and one line more
-pub written-more : {F : Type 0} (lives : List (LifeReply F)) (marks : List Mark) (i : ℕ) (mark : Mark) (place : LinePlace) (opening : List ℕ) (w v u : Option (List ℕ)) → i < length marks → place ≡ place_past start (take i marks)
+pub written-more : {F : Type 0} (lives : List (LifeReply F)) (marks : List Mark) (i : ℕ) (mark : Mark) (place : LinePlace) (opening : List ℕ) (w v u : Option (List ℕ))
+    → i < length marks → place ≡ place_past start (take i marks)
     → Appends w v (opening ++ marks_text lives start (take i marks)) → Appends v u (mark_text lives place (get_or marks i mark)) → Appends w u (opening ++ marks_text lives start (take (i + 1) marks))
 written-more lives marks i mark place opening w v u lt at h k =
     let before = marks_text lives start (take i marks) in
@@ -51,5 +54,6 @@ place_after-reply place (Refused fault) n h = omega arith
 place_after-reply place Stop n h = omega arith
 
 -- the place after one line more
-pub place-next : (marks : List Mark) (i : ℕ) (mark : Mark) (place next : LinePlace) → i < length marks → next ≡ place_after place (get_or marks i mark) → place ≡ place_past start (take i marks) → next ≡ place_past start (take (i + 1) marks)
+pub place-next : (marks : List Mark) (i : ℕ) (mark : Mark) (place next : LinePlace) → i < length marks → next ≡ place_after place (get_or marks i mark)
+    → place ≡ place_past start (take i marks) → next ≡ place_past start (take (i + 1) marks)
 place-next marks i mark place next lt is at = is ∙ ap (λ (p : LinePlace). place_after p (get_or marks i mark)) at ∙ sym (place_past-more start marks i mark lt)

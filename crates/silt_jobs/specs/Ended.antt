@@ -8,7 +8,8 @@ use Rattle.silt_jobs.specs.Scripts.{reply_line}
 use Rattle.silt_jobs.specs.declared.ended.Ended.{Ended}
 use Rattle.silt_jobs.specs.declared.ended.Ends.{Ends}
 use Rattle.silt_jobs.specs.declared.ended.Why.{Why}
-use Rattle.silt_jobs.specs.declared.ended.Why.TheVariants.{NoDisk, Refused, Holds, IsStream, FewRegions, ShortValues, OutOfLimits, NoPlan, NoSetPlan, NotListening, NoReply, NotAsked, NoRandom, NotDue, NoJob}
+use Rattle.silt_jobs.specs.declared.ended.Why.TheVariants.{NoDisk, Refused, Holds, IsStream, FewRegions, ShortValues, OutOfLimits, NoPlan, NoSetPlan}
+use Rattle.silt_jobs.specs.declared.ended.Why.TheVariants.{NotListening, NoReply, NotAsked, NoRandom, NotDue, NoJob}
 use Rattle.silt_jobs.specs.declared.failure.Failure.{Failure}
 use Rattle.silt_jobs.specs.declared.failures.Failures.{Failures}
 

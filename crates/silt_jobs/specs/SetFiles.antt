@@ -161,7 +161,8 @@ abbrev pub set_value_len : {D : Type 0} → List (CoreState D) → ℕ
 set_value_len cores = value_len_of (λ core. core.shape.value_len) cores
 
 -- `opened` was written, and the session of these answerers as a set with the reader and the writer had this end
-abbrev pub OpensSession : {A W : Type 0} → (A → A → Event → PlainReply → Type 0) → (A → Admin → AdminReply → Type 0) → (W → Option (List ℕ)) → SessionEnd → ℕ → List A → List A → Option (List ℕ) → Option (List ℕ) → W → W → Type 0
+abbrev pub OpensSession : {A W : Type 0} → (A → A → Event → PlainReply → Type 0) → (A → Admin → AdminReply → Type 0) → (W → Option (List ℕ))
+    → SessionEnd → ℕ → List A → List A → Option (List ℕ) → Option (List ℕ) → W → W → Type 0
 OpensSession answers administers contents end value_len old new remaining left before after =
     (opened : Option (List ℕ)) × Appends (contents before) opened (codes "opened\n") × Ends (AnswersQuery (SetDoes answers) (AdministersSet administers)) end value_len
     (record { answerer = old; remaining = remaining; contents = opened }) (record { answerer = new; remaining = left; contents = contents after })
@@ -190,7 +191,8 @@ module _ {W : Type 0} (contents : W → Option (List ℕ)) (kept_error : W → O
       (ended.why ≡ None) × (ended.failures ≡ session.failures)
       × IfOk ended.status (λ status. (end : SessionEnd) × (session.end ≡ Ok end) × EndsSo end session.refusal session.value_len status ended.found answered after)
 
-module _ {D E F W : Type 0} (facts : Ghosts D F) (contents : W → Option (List ℕ)) (kept_error : W → Option StreamError) (kept_tally : W → Tally) (options : RunOptions) (reading : Option StreamError) where
+module _ {D E F W : Type 0} (facts : Ghosts D F) (contents : W → Option (List ℕ)) (kept_error : W → Option StreamError)
+    (kept_tally : W → Tally) (options : RunOptions) (reading : Option StreamError) where
   -- stores that do background work replied as a set to the lines, and the job ended so
   abbrev pub AnswersTended : ℕ → List (TendedState D) → Ended E F → Option (List ℕ) → Option (List ℕ) → W → W → Type 0
   AnswersTended value_len stores ended remaining left before after =
@@ -233,4 +235,5 @@ module _ {S D E F W : Type 0} (facts : Ghosts D F) (disks : SourceOf S D E F) (s
   RunsSet count ended remaining left before after =
       ((¬ IsShardCount count) × Refuses NoJob ended (contents before) (contents after))
       ⊎ (((shard : ℕ) × (why : Why E F) × OpensNot disks source false file shard why × RefusesAt shard why ended (contents before) (contents after))
-      ⊎ ((given : List D) × IsShardCount count × OpensFiles disks source false file count given × RunsDisks facts contents kept_error kept_tally options reading given ended remaining left before after))
+      ⊎ ((given : List D) × IsShardCount count × OpensFiles disks source false file count given
+      × RunsDisks facts contents kept_error kept_tally options reading given ended remaining left before after))

@@ -1,5 +1,6 @@
 -- Which lines of an output are refusals.
-use Rattle.std.specs.Prelude.{ℕ, ◌+◌, ◌-◌, ◌*◌, ◌%◌, ◌^◌, ◌==◌, nat_lt, Bool, if◌then◌else◌, cond, List, [], ◌∷◌, ◌++◌, codes, get_or, length, min, replicate, slice_index, slice_range, slice_set, take}
+use Rattle.std.specs.Prelude.{ℕ, ◌+◌, ◌-◌, ◌*◌, ◌%◌, ◌^◌, ◌==◌, nat_lt, Bool, if◌then◌else◌, cond, List, [], ◌∷◌, ◌++◌, codes, get_or, length, min, replicate}
+use Rattle.std.specs.Prelude.{slice_index, slice_range, slice_set, take}
 use Rattle.std.specs.List.{list_any}
 use Rattle.std.specs.Str.{bytes_eq}
 use Rattle.silt_jobs.specs.declared.tally.Refusals.{Refusals}

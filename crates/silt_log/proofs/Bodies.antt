@@ -33,7 +33,8 @@ module _ (bodies len : ℕ) where
   body_before place later before = let apart = next_region place later len before in omega (arith, apart)
 
   -- the body of a write comes after the rows before it
-  pub rows_below : (old new : List ℕ) (used count n : ℕ) → used < count → bodies + count * len ≤ length old → Torn (bodies + used * len) len old new → n ≤ used → map (body_row bodies len new) (range_with_len 0 n) ≡ map (body_row bodies len old) (range_with_len 0 n)
+  pub rows_below : (old new : List ℕ) (used count n : ℕ) → used < count → bodies + count * len ≤ length old → Torn (bodies + used * len) len old new
+      → n ≤ used → map (body_row bodies len new) (range_with_len 0 n) ≡ map (body_row bodies len old) (range_with_len 0 n)
   rows_below old new used count n room fits torn below = map_range_same (body_row bodies len new) (body_row bodies len old) 0 n
       (λ place low high.
       let before : bodies + place * len + len ≤ bodies + used * len = body_before place used (omega (arith, below, high)) in
@@ -41,14 +42,16 @@ module _ (bodies len : ℕ) where
       ap row_of (torn_slice_before (bodies + used * len) len old new torn (bodies + place * len) (bodies + place * len + len) before (omega (arith, before, inside, fits))))
 
   -- a write before the bodies leaves the rows
-  pub rows_behind : (old new : List ℕ) (at long count from n : ℕ) → at + long ≤ bodies → from + n ≤ count → bodies + count * len ≤ length old → Torn at long old new → map (body_row bodies len new) (range_with_len from n) ≡ map (body_row bodies len old) (range_with_len from n)
+  pub rows_behind : (old new : List ℕ) (at long count from n : ℕ) → at + long ≤ bodies → from + n ≤ count → bodies + count * len ≤ length old
+      → Torn at long old new → map (body_row bodies len new) (range_with_len from n) ≡ map (body_row bodies len old) (range_with_len from n)
   rows_behind old new at long count from n ends most fits torn = map_range_same (body_row bodies len new) (body_row bodies len old) from n
       (λ place low high.
       let inside : bodies + place * len + len ≤ bodies + count * len = body_before place count (omega (arith, most, high)) in
       ap row_of (torn_slice_after at long old new torn (bodies + place * len) (bodies + place * len + len) (omega (arith, ends)) (omega (arith, inside, fits))))
 
   -- a row that was written
-  pub row_written : (old bytes : List ℕ) (used count : ℕ) → used < count → length bytes ≡ len → bodies + count * len ≤ length old → body_row bodies len (splice (bodies + used * len) bytes old) used ≡ row_of bytes
+  pub row_written : (old bytes : List ℕ) (used count : ℕ) → used < count → length bytes ≡ len → bodies + count * len ≤ length old
+      → body_row bodies len (splice (bodies + used * len) bytes old) used ≡ row_of bytes
   row_written old bytes used count room long fits =
       let inside : bodies + used * len + len ≤ bodies + count * len = body_before used count room in
       ap (λ n. row_of (slice_range (splice (bodies + used * len) bytes old) (bodies + used * len) (bodies + used * len + n))) (sym long)

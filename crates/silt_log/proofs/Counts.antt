@@ -63,16 +63,19 @@ module _ (gates count : ℕ) (image : List ℕ) (fits : gates + count ≤ length
       )
 
   -- if no gate past the counted ones is open, exactly the counted ones are
-  pub gates_counted : list_any is_open (drop (prefix_len is_open (gate_bytes gates count image)) (gate_bytes gates count image)) ≡ false → GatesAre gates count (prefix_len is_open (gate_bytes gates count image)) image
+  pub gates_counted : list_any is_open (drop (prefix_len is_open (gate_bytes gates count image)) (gate_bytes gates count image)) ≡ false
+      → GatesAre gates count (prefix_len is_open (gate_bytes gates count image)) image
   gates_counted none =
       let bytes : List ℕ = gate_bytes gates count image in
       let counted : ℕ = prefix_len is_open bytes in
       record {
         opened = counted_open;
         closed = λ place past below.
-            let here : get_or (drop counted bytes) (place - counted) 0 ≡ get_or image (gates + place) 0 = get_or-drop counted bytes (place - counted) 0 ∙ same_byte bytes (counted + (place - counted)) place (omega arith) ∙ gate_byte place below in
+            let here : get_or (drop counted bytes) (place - counted) 0 ≡ get_or image (gates + place) 0 =
+            get_or-drop counted bytes (place - counted) 0 ∙ same_byte bytes (counted + (place - counted)) place (omega arith) ∙ gate_byte place below in
             elim (cases_Bool (is_open (get_or image (gates + place) 0))) [
-              | inl open_here ↦ absurd (false≢true (sym none ∙ list_any_at is_open (drop counted bytes) (place - counted) 0 (omega (arith, length-drop counted bytes, gates_length)) (ap is_open here ∙ open_here)))
+              | inl open_here ↦ absurd
+                  (false≢true (sym none ∙ list_any_at is_open (drop counted bytes) (place - counted) 0 (omega (arith, length-drop counted bytes, gates_length)) (ap is_open here ∙ open_here)))
               | inr shut ↦ shut
             ];
       }

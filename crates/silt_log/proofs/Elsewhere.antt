@@ -17,7 +17,8 @@ use Rattle.silt_log.proofs.Standing.{gates_within}
 use Rattle.silt_log.proofs.Exits.{fits_resized, StandsIn, region_lies, log_from, log_standing, stands_resized}
 
 -- a range outside a log's gates and bodies lies before its gates or after its bodies
-pub outside_bodies : (s : Shape) (region at count : ℕ) → LiesOutside (gates_at s region) (log_len s) at count → (at + count ≤ gates_at s region) ⊎ (bodies_at s region + s.log_capacity * row_len s ≤ at)
+pub outside_bodies : (s : Shape) (region at count : ℕ) → LiesOutside (gates_at s region) (log_len s) at count → (at + count ≤ gates_at s region)
+    ⊎ (bodies_at s region + s.log_capacity * row_len s ≤ at)
 outside_bodies s region at count outside = elim outside [
   | inl before ↦ inl before
   | inr behind ↦ inr (omega (arith, behind))
@@ -40,7 +41,8 @@ unfolding rows_from
 all_count content log = length-map-range_with_len (row_at log.shape log.region content.shown) 0 log.used
 
 -- and each is the row in its body
-pub row_of_all : (content : Content) (log : LogState) (place : ℕ) (default : StoredRow) → place < log.used → get_or (all_rows content log) place default ≡ row_at log.shape log.region content.shown place
+pub row_of_all : (content : Content) (log : LogState) (place : ℕ) (default : StoredRow) → place < log.used
+    → get_or (all_rows content log) place default ≡ row_at log.shape log.region content.shown place
 unfolding rows_from
 row_of_all content log place default below = get_or-map-range_with_len (row_at log.shape log.region content.shown) 0 log.used place place default below (omega arith)
 
@@ -77,7 +79,8 @@ module _ (gates count bodies len : ℕ) (lies : gates + count ≤ bodies) (at lo
   ]
 
 -- a change outside a log region leaves its rows in an image
-pub log_rows_elsewhere : (s : Shape) (region at count : ℕ) (old new : List ℕ) → region < s.logs → device_size s ≤ length old → LiesOutside (gates_at s region) (log_len s) at count → Torn at count old new → log_rows s region new ≡ log_rows s region old
+pub log_rows_elsewhere : (s : Shape) (region at count : ℕ) (old new : List ℕ) → region < s.logs → device_size s ≤ length old
+    → LiesOutside (gates_at s region) (log_len s) at count → Torn at count old new → log_rows s region new ≡ log_rows s region old
 unfolding log_rows rows_from row_at open_count
 log_rows_elsewhere s region at count old new before fits outside torn =
     let place = region_lies s region (length old) before fits in
@@ -93,7 +96,8 @@ log_rows_elsewhere s region at count old new before fits outside torn =
     ∙ rows_elsewhere _ _ _ _ place.apart at count (outside_bodies s region at count outside) old new torn counted (count_most _ _ old gates_fit) inside
 
 -- a change outside the region of a log leaves the log and its rows
-pub log_elsewhere : (old new : Content) (log : LogState) (at count : ℕ) → IsLog old log → device_size log.shape ≤ size old → size new ≡ size old → LiesOutside (gates_at log.shape log.region) (log_len log.shape) at count → ChangesWithin at count old new → KeepsRows old new log log
+pub log_elsewhere : (old new : Content) (log : LogState) (at count : ℕ) → IsLog old log → device_size log.shape ≤ size old → size new ≡ size old
+    → LiesOutside (gates_at log.shape log.region) (log_len log.shape) at count → ChangesWithin at count old new → KeepsRows old new log log
 unfolding rows_from row_at
 log_elsewhere old new log at count is fits same outside changes =
     let place = region_lies log.shape log.region (size old) is.bounds.region fits in
@@ -103,10 +107,12 @@ log_elsewhere old new log at count is fits same outside changes =
     (λ before after stands torn. stands_resized old new log (settled_rows old log) after same (record {
       long = torn.size ∙ stands.long;
       are = gates_elsewhere _ _ _ _ place.apart at count (outside_bodies log.shape log.region at count outside) before after torn log.settled settled_most stands.are;
-      hold = rows_elsewhere _ _ _ _ place.apart at count (outside_bodies log.shape log.region at count outside) before after torn log.settled settled_most (subst (λ n. bodies_at log.shape log.region + log.shape.log_capacity * row_len log.shape ≤ n) (sym stands.long) place.inside) ∙ stands.hold;
+      hold = rows_elsewhere _ _ _ _ place.apart at count (outside_bodies log.shape log.region at count outside) before after torn log.settled
+          settled_most (subst (λ n. bodies_at log.shape log.region + log.shape.log_capacity * row_len log.shape ≤ n) (sym stands.long) place.inside) ∙ stands.hold;
     })) in
     let stands = log_from new log (settled_rows old log) is.bounds is.sealed fits_new leaves in
-    let all : IsTrue old.honest → all_rows new log ≡ all_rows old log = λ honest. rows_elsewhere _ _ _ _ place.apart at count (outside_bodies log.shape log.region at count outside) old.shown new.shown (changes.shown honest) log.used is.bounds.room place.inside in
+    let all : IsTrue old.honest → all_rows new log ≡ all_rows old log =
+    λ honest. rows_elsewhere _ _ _ _ place.apart at count (outside_bodies log.shape log.region at count outside) old.shown new.shown (changes.shown honest) log.used is.bounds.room place.inside in
     record {
       log = refl;
       stands = stands;
@@ -126,12 +132,14 @@ log_unsynced old new log is fits same stays = log_elsewhere old new log 0 0 is f
 -- ---- the changes of a call lie in the log's region
 
 -- a body
-pub body_in_region : (s : Shape) (region place : ℕ) (old new : Content) → place < s.log_capacity → ChangesWithin (body_at s region place) (row_len s) old new → ChangesWithin (gates_at s region) (log_size s) old new
+pub body_in_region : (s : Shape) (region place : ℕ) (old new : Content) → place < s.log_capacity → ChangesWithin (body_at s region place) (row_len s) old new
+    → ChangesWithin (gates_at s region) (log_size s) old new
 body_in_region s region place old new before changes =
     let inside : bodies_at s region + place * row_len s + row_len s ≤ bodies_at s region + s.log_capacity * row_len s = body_before (bodies_at s region) (row_len s) place s.log_capacity before in
     within_wider (gates_at s region) (log_size s) (omega arith) (omega (arith, inside, up_least (s.log_capacity * row_len s))) changes
 
 -- some gates
-pub gates_in_region : (s : Shape) (region from count : ℕ) (old new : Content) → from + count ≤ s.log_capacity → ChangesWithin (gates_at s region + from) count old new → ChangesWithin (gates_at s region) (log_size s) old new
+pub gates_in_region : (s : Shape) (region from count : ℕ) (old new : Content) → from + count ≤ s.log_capacity
+    → ChangesWithin (gates_at s region + from) count old new → ChangesWithin (gates_at s region) (log_size s) old new
 gates_in_region s region from count old new most changes =
     within_wider (gates_at s region) (log_size s) (omega arith) (omega (arith, most, up_least s.log_capacity)) changes

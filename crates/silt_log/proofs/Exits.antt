@@ -28,14 +28,16 @@ region_lies s region len before fits =
 
 -- so does each of its bodies
 pub body_inside : (s : Shape) (bodies place : ℕ) → bodies + s.log_capacity * row_len s ≤ device_size s → place < s.log_capacity → bodies + place * row_len s + row_len s ≤ device_size s
-body_inside s bodies place inside before = let ends : bodies + place * row_len s + row_len s ≤ bodies + s.log_capacity * row_len s = body_before bodies (row_len s) place s.log_capacity before in omega (arith, inside, ends)
+body_inside s bodies place inside before = let ends : bodies + place * row_len s + row_len s ≤ bodies + s.log_capacity * row_len s =
+    body_before bodies (row_len s) place s.log_capacity before in omega (arith, inside, ends)
 
 -- an image of this disk has the settled rows
 abbrev pub StandsIn : Content → LogState → List StoredRow → List ℕ → Type 0
 StandsIn content log rows = Stands (gates_at log.shape log.region) log.shape.log_capacity (bodies_at log.shape log.region) (row_len log.shape) (size content) log.settled rows
 
 -- a log matches the disk if each image has its settled rows
-pub log_from : (content : Content) (log : LogState) (rows : List StoredRow) → InBounds log → log.stale ≡ false → device_size log.shape ≤ size content → LeavesOnly content (StandsIn content log rows) → IsLog content log
+pub log_from : (content : Content) (log : LogState) (rows : List StoredRow) → InBounds log → log.stale ≡ false → device_size log.shape ≤ size content
+    → LeavesOnly content (StandsIn content log rows) → IsLog content log
 unfolding log_rows rows_from row_at open_count
 log_from content log rows bounds sealed fits leaves =
     let place = region_lies log.shape log.region (size content) bounds.region fits in
@@ -66,12 +68,14 @@ log_standing content log is fits =
           record {
             long = long;
             are = gates;
-            hold = ap (λ n. map (body_row (bodies_at log.shape log.region) (row_len log.shape) image) (range_with_len 0 n)) (sym (count_is _ _ image (gates_within _ _ _ _ _ place image long) log.settled most gates)) ∙ is.images.each honest image left;
+            hold = ap (λ n. map (body_row (bodies_at log.shape log.region) (row_len log.shape) image) (range_with_len 0 n))
+                (sym (count_is _ _ image (gates_within _ _ _ _ _ place image long) log.settled most gates)) ∙ is.images.each honest image left;
           };
     }
 
 -- the rows of a log in its images
-pub stands_images : (content : Content) (log : LogState) (rows : List StoredRow) → InBounds log → device_size log.shape ≤ size content → LeavesOnly content (StandsIn content log rows) → LeavesOnly content (λ image. log_rows log.shape log.region image ≡ rows)
+pub stands_images : (content : Content) (log : LogState) (rows : List StoredRow) → InBounds log → device_size log.shape ≤ size content
+    → LeavesOnly content (StandsIn content log rows) → LeavesOnly content (λ image. log_rows log.shape log.region image ≡ rows)
 unfolding log_rows rows_from row_at open_count
 stands_images content log rows bounds fits leaves =
     let place = region_lies log.shape log.region (size content) bounds.region fits in
@@ -87,7 +91,8 @@ stands_resized old new log rows image same stands = record { long = stands.long 
 
 -- ---- append: a write over a body after the rows
 
-module _ (old new : Content) (log : LogState) (is : IsLog old log) (fits : device_size log.shape ≤ size old) (same : size new ≡ size old) (room : log.used < log.shape.log_capacity) (changes : ChangesWithin (body_at log.shape log.region log.used) (row_len log.shape) old new) where
+module _ (old new : Content) (log : LogState) (is : IsLog old log) (fits : device_size log.shape ≤ size old) (same : size new ≡ size old)
+    (room : log.used < log.shape.log_capacity) (changes : ChangesWithin (body_at log.shape log.region log.used) (row_len log.shape) old new) where
   append_stands : LeavesOnly new (StandsIn new log (settled_rows old log))
   append_stands =
       let place = region_lies log.shape log.region (size old) is.bounds.region fits in
@@ -118,11 +123,13 @@ module _ (old new : Content) (log : LogState) (is : IsLog old log) (fits : devic
       record { log = refl; stands = stands; settled = append_settled; all = append_all; full = λ honest. stands.full (changes.honest ∙ honest) ∙ append_all honest }
 
   -- at the exit with Ok
-  pub append_done : (bytes : List ℕ) → length bytes ≡ row_len log.shape → Writes (body_at log.shape log.region log.used) bytes old new → Appends (row_of bytes) old new log (record log { used = log.used + 1 })
+  pub append_done : (bytes : List ℕ) → length bytes ≡ row_len log.shape → Writes (body_at log.shape log.region log.used) bytes old new
+      → Appends (row_of bytes) old new log (record log { used = log.used + 1 })
   unfolding rows_from row_at
   append_done bytes long writes =
       let place = region_lies log.shape log.region (size old) is.bounds.region fits in
-      let bounds : InBounds (record log { used = log.used + 1 }) = record { region = is.bounds.region; order = omega (arith, is.bounds.order); room = omega arith; gap = λ stale. absurd (false≢true (sym is.sealed ∙ stale)) } in
+      let bounds : InBounds (record log { used = log.used + 1 }) =
+      record { region = is.bounds.region; order = omega (arith, is.bounds.order); room = omega arith; gap = λ stale. absurd (false≢true (sym is.sealed ∙ stale)) } in
       let row : ℕ → StoredRow = body_row (bodies_at log.shape log.region) (row_len log.shape) new.shown in
       record {
         log = refl;
@@ -137,6 +144,7 @@ module _ (old new : Content) (log : LogState) (is : IsLog old log) (fits : devic
       }
 
 -- the same for a row and a log under other names
-pub appends_as : (row row_other : StoredRow) (old new : Content) (before after after_other : LogState) → row ≡ row_other → after_other ≡ after → Appends row old new before after → Appends row_other old new before after_other
+pub appends_as : (row row_other : StoredRow) (old new : Content) (before after after_other : LogState) → row ≡ row_other
+    → after_other ≡ after → Appends row old new before after → Appends row_other old new before after_other
 appends_as row row_other old new before after after_other same_row same_after appends =
     subst (λ r. Appends r old new before after_other) same_row (subst (λ l. Appends row old new before l) (sym same_after) appends)

@@ -39,7 +39,8 @@ prepare_done old new log bytes region fits same all writes rests =
               opened = λ place below. absurd (omega arith);
               closed = λ place past below.
                   ap is_open (ap (λ (image : List ℕ). get_or image (gates_at log.shape log.region + place) 0) (writes.shown was)
-                  ∙ splice_byte (gates_at log.shape log.region) zeros old.shown place (subst (λ n. gates_at log.shape log.region + n ≤ size old) (sym (long ∙ all)) within) (omega (arith, long, all, below))
+                  ∙ splice_byte (gates_at log.shape log.region) zeros old.shown place
+                  (subst (λ n. gates_at log.shape log.region + n ≤ size old) (sym (long ∙ all)) within) (omega (arith, long, all, below))
                   ∙ get_or-replicate bytes place 0 0 (omega (arith, all, below)));
             };
             hold = refl;
@@ -76,7 +77,8 @@ module _ (old : Content) (log : LogState) (is : IsLog old log) (fits : device_si
       (subst (λ n. Torn (gates_at log.shape log.region + log.settled) n old.shown new) (sym long) torn)
 
   -- an image with some of these gates open
-  pub open_beginning : (before image : List ℕ) → StandsIn old log (settled_rows old log) before → before ≡ old.shown → Torn (gates_at log.shape log.region + log.settled) (log.used - log.settled) before image → HasBeginning old log image
+  pub open_beginning : (before image : List ℕ) → StandsIn old log (settled_rows old log) before → before ≡ old.shown
+      → Torn (gates_at log.shape log.region + log.settled) (log.used - log.settled) before image → HasBeginning old log image
   unfolding log_rows rows_from row_at open_count
   open_beginning before image stands shown torn =
       let place = region_lies log.shape log.region (size old) is.bounds.region fits in
@@ -128,7 +130,8 @@ module _ (old : Content) (log : LogState) (is : IsLog old log) (fits : device_si
       writes.shown honest ∙ ap (λ n. splice (gates_at log.shape log.region + log.settled) (replicate n 167) old.shown) count in
       let stands : IsTrue old.honest → StandsIn new after (all_rows old log) new.shown = λ honest.
       let opened = gates_spliced _ _ _ _ _ place log.settled more (settled_rows old log) old.shown open_most (open_shown honest) in
-      let as_used = subst (λ n. Stands (gates_at log.shape log.region) log.shape.log_capacity (bodies_at log.shape log.region) (row_len log.shape) (size old) n (first_rows log.shape log.region old.shown n) (opened_image old log)) both opened in
+      let as_used = subst (λ n. Stands (gates_at log.shape log.region) log.shape.log_capacity (bodies_at log.shape log.region)
+      (row_len log.shape) (size old) n (first_rows log.shape log.region old.shown n) (opened_image old log)) both opened in
       subst (StandsIn new after (all_rows old log)) (sym (shown honest)) (record { long = as_used.long ∙ sym same; are = as_used.are; hold = as_used.hold }) in
       let leaves : LeavesOnly new (StandsIn new after (all_rows old log)) = rests_leaves rests (record { holds = λ honest. stands (sym writes.honest ∙ honest) }) in
       record {

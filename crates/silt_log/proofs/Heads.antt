@@ -10,7 +10,8 @@ use Rattle.silt_frame.specs.Rows.{row_of}
 use Rattle.silt_log.proofs.Parts.{slice_of_slice, drop_front}
 
 -- a head that was read is that of the row
-pub head_read : (s : Shape) (region place at : ℕ) (image head : List ℕ) → at ≡ body_at s region place → at + row_len s ≤ length image → head ≡ slice_range image at (at + 21) → head_of head ≡ row_head (row_at s region image place)
+pub head_read : (s : Shape) (region place at : ℕ) (image head : List ℕ) → at ≡ body_at s region place → at + row_len s ≤ length image
+    → head ≡ slice_range image at (at + 21) → head_of head ≡ row_head (row_at s region image place)
 unfolding row_at row_head
 head_read s region place at image head same fits read =
     let len : ℕ = row_len s in
@@ -24,18 +25,22 @@ head_read s region place at image head same fits read =
     ∙ ap (λ n. row_head (row_of (slice_range image n (n + len)))) same
 
 -- a body that was read holds the row
-pub body_read : (s : Shape) (region place at count : ℕ) (image bytes : List ℕ) → at ≡ body_at s region place → count ≡ row_len s → bytes ≡ slice_range image at (at + count) → row_of bytes ≡ row_at s region image place
+pub body_read : (s : Shape) (region place at count : ℕ) (image bytes : List ℕ) → at ≡ body_at s region place → count ≡ row_len s
+    → bytes ≡ slice_range image at (at + count) → row_of bytes ≡ row_at s region image place
 unfolding row_at
 body_read s region place at count image bytes same counted read =
     ap row_of read ∙ ap (λ n. row_of (slice_range image at (at + n))) counted ∙ ap (λ n. row_of (slice_range image n (n + row_len s))) same
 
 -- the head of a front that was read is that of the row
-pub front_read : (s : Shape) (region place at count : ℕ) (image bytes head : List ℕ) → at ≡ body_at s region place → at + row_len s ≤ length image → 21 ≤ count → count ≤ row_len s → bytes ≡ slice_range image at (at + count)
+pub front_read : (s : Shape) (region place at count : ℕ) (image bytes head : List ℕ) → at ≡ body_at s region place
+    → at + row_len s ≤ length image → 21 ≤ count → count ≤ row_len s → bytes ≡ slice_range image at (at + count)
     → head ≡ take 21 bytes → head_of head ≡ row_head (row_at s region image place)
 front_read s region place at count image bytes head same fits least most read front =
-    let part : slice_range image at (at + 21) ≡ take 21 (slice_range image at (at + count)) = ap (λ n. slice_range image n (n + 21)) (omega arith) ∙ slice_of_slice image at count 0 21 least (omega (arith, most, fits)) in
+    let part : slice_range image at (at + 21) ≡ take 21 (slice_range image at (at + count)) =
+    ap (λ n. slice_range image n (n + 21)) (omega arith) ∙ slice_of_slice image at count 0 21 least (omega (arith, most, fits)) in
     head_read s region place at image head same fits (front ∙ ap (take 21) read ∙ sym part)
 
 -- and the value follows the head of a whole body
-pub front_value : (s : Shape) (region place at count : ℕ) (image bytes : List ℕ) → at ≡ body_at s region place → count ≡ row_len s → bytes ≡ slice_range image at (at + count) → drop 21 bytes ≡ (row_at s region image place).value
+pub front_value : (s : Shape) (region place at count : ℕ) (image bytes : List ℕ) → at ≡ body_at s region place → count ≡ row_len s
+    → bytes ≡ slice_range image at (at + count) → drop 21 bytes ≡ (row_at s region image place).value
 front_value s region place at count image bytes same whole read = ap (λ r. r.value) (body_read s region place at count image bytes same whole read)

@@ -9,7 +9,8 @@ pub body_place : (fields log : LogState) (at : ℕ) → fields ≡ log → at �
 body_place fields log at same is = is ∙ ap (λ (l : LogState). body_at log.shape log.region l.used) same
 
 -- the first gate of a waiting row
-pub waiting_place : (fields log : LogState) (gates from : ℕ) → fields ≡ log → gates ≡ gates_at fields.shape fields.region → from ≡ fields.settled → gates + from ≡ gates_at log.shape log.region + log.settled
+pub waiting_place : (fields log : LogState) (gates from : ℕ) → fields ≡ log → gates ≡ gates_at fields.shape fields.region
+    → from ≡ fields.settled → gates + from ≡ gates_at log.shape log.region + log.settled
 waiting_place fields log gates from same is first =
     ap (λ n. n + from) is ∙ ap (λ n. gates_at fields.shape fields.region + n) first ∙ ap (λ (l : LogState). gates_at l.shape l.region + l.settled) same
 
@@ -20,13 +21,16 @@ waiting_count fields log buffer same held =
     length-take-le _ buffer enough ∙ ap (λ (l : LogState). l.used - l.settled) same
 
 -- the gate past the first closed one
-pub past_place : (fields log : LogState) (gates from : ℕ) → fields ≡ log → gates ≡ gates_at fields.shape fields.region → from ≡ fields.used + 1 → gates + from ≡ gates_at log.shape log.region + log.used + 1
+pub past_place : (fields log : LogState) (gates from : ℕ) → fields ≡ log → gates ≡ gates_at fields.shape fields.region
+    → from ≡ fields.used + 1 → gates + from ≡ gates_at log.shape log.region + log.used + 1
 past_place fields log gates from same is first =
     let one_further : (n : ℕ) → n + (fields.used + 1) ≡ n + fields.used + 1 = λ n. omega arith in
-    ap (λ n. n + from) is ∙ ap (λ n. gates_at fields.shape fields.region + n) first ∙ one_further (gates_at fields.shape fields.region) ∙ ap (λ (l : LogState). gates_at l.shape l.region + l.used + 1) same
+    ap (λ n. n + from) is ∙ ap (λ n. gates_at fields.shape fields.region + n) first ∙ one_further (gates_at fields.shape fields.region)
+    ∙ ap (λ (l : LogState). gates_at l.shape l.region + l.used + 1) same
 
 -- the buffer has a byte for each gate past the first closed one
-pub past_count : (fields log : LogState) (capacity : ℕ) (buffer : List ℕ) → fields ≡ log → capacity ≡ fields.shape.log_capacity → IsHeld fields (length buffer) → length (take (capacity - (fields.used + 1)) buffer) ≡ log.shape.log_capacity - (log.used + 1)
+pub past_count : (fields log : LogState) (capacity : ℕ) (buffer : List ℕ) → fields ≡ log → capacity ≡ fields.shape.log_capacity
+    → IsHeld fields (length buffer) → length (take (capacity - (fields.used + 1)) buffer) ≡ log.shape.log_capacity - (log.used + 1)
 past_count fields log capacity buffer same is held =
     let enough : capacity - (fields.used + 1) ≤ length buffer = omega (arith, held.buffer) in
     length-take-le _ buffer enough ∙ ap (λ n. n - (fields.used + 1)) is ∙ ap (λ (l : LogState). l.shape.log_capacity - (l.used + 1)) same

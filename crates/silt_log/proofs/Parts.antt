@@ -7,7 +7,8 @@ use Rattle.silt_log.specs.Rows.{body_at, row_at}
 use Rattle.silt_log.proofs.Counts.{same_byte}
 
 -- a part of a part
-pub slice_of_slice : (image : List ℕ) (at len from count : ℕ) → from + count ≤ len → at + len ≤ length image → slice_range image (at + from) (at + from + count) ≡ slice_range (slice_range image at (at + len)) from (from + count)
+pub slice_of_slice : (image : List ℕ) (at len from count : ℕ) → from + count ≤ len → at + len ≤ length image
+    → slice_range image (at + from) (at + from + count) ≡ slice_range (slice_range image at (at + len)) from (from + count)
 slice_of_slice image at len from count inside fits =
     let part : List ℕ = slice_range image at (at + len) in
     let part_long : length part ≡ at + len - at = length-between image at (at + len) fits in
@@ -21,7 +22,8 @@ slice_of_slice image at len from count inside fits =
     ∙ sym (get_or-between part from (from + count) place 0 (omega arith)))
 
 -- the end of a part
-pub slice_to_end : (image : List ℕ) (at len from count : ℕ) → from + count ≡ len → at + len ≤ length image → slice_range image (at + from) (at + from + count) ≡ drop from (slice_range image at (at + len))
+pub slice_to_end : (image : List ℕ) (at len from count : ℕ) → from + count ≡ len → at + len ≤ length image
+    → slice_range image (at + from) (at + from + count) ≡ drop from (slice_range image at (at + len))
 slice_to_end image at len from count inside fits =
     let part : List ℕ = slice_range image at (at + len) in
     let part_long : length part ≡ at + len - at = length-between image at (at + len) fits in
@@ -34,13 +36,15 @@ slice_to_end image at len from count inside fits =
     ∙ sym (get_or-drop from part place 0))
 
 -- the key of a row
-pub key_read : (s : Shape) (region place at : ℕ) (image bytes : List ℕ) → at ≡ body_at s region place → at + row_len s ≤ length image → bytes ≡ slice_range image (at + 1) (at + 1 + 20) → bytes ≡ (row_at s region image place).key
+pub key_read : (s : Shape) (region place at : ℕ) (image bytes : List ℕ) → at ≡ body_at s region place → at + row_len s ≤ length image
+    → bytes ≡ slice_range image (at + 1) (at + 1 + 20) → bytes ≡ (row_at s region image place).key
 unfolding row_at
 key_read s region place at image bytes here fits read =
     read ∙ slice_of_slice image at (row_len s) 1 20 (omega arith) fits ∙ ap (λ n. slice_range (slice_range image n (n + row_len s)) 1 21) here
 
 -- the value of a row
-pub value_read : (s : Shape) (region place at count : ℕ) (image bytes : List ℕ) → at ≡ body_at s region place → at + row_len s ≤ length image → count ≡ s.value_len → bytes ≡ slice_range image (at + 21) (at + 21 + count) → bytes ≡ (row_at s region image place).value
+pub value_read : (s : Shape) (region place at count : ℕ) (image bytes : List ℕ) → at ≡ body_at s region place → at + row_len s ≤ length image
+    → count ≡ s.value_len → bytes ≡ slice_range image (at + 21) (at + 21 + count) → bytes ≡ (row_at s region image place).value
 unfolding row_at
 value_read s region place at count image bytes here fits long read =
     read ∙ slice_to_end image at (row_len s) 21 count (omega arith) fits ∙ ap (λ n. drop 21 (slice_range image n (n + row_len s))) here

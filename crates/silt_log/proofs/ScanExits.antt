@@ -11,11 +11,13 @@ use Rattle.silt_log.specs.Scans.{IsScanRefused}
 use Rattle.silt_log.proofs.Scanned.{refused_weaker}
 
 -- a mapped result is Ok only if the result was
-pub mapped_ok : {T E F : Type 0} (Q : E → Type 0) (before : Result T E) (after : Result T F) (x : T) → is_ok after ≡ is_ok before → MatchResult before (λ y. after ≡ Ok y) Q → after ≡ Ok x → before ≡ Ok x
+pub mapped_ok : {T E F : Type 0} (Q : E → Type 0) (before : Result T E) (after : Result T F) (x : T) → is_ok after ≡ is_ok before
+    → MatchResult before (λ y. after ≡ Ok y) Q → after ≡ Ok x → before ≡ Ok x
 mapped_ok Q (Ok y) after x same mapped is = let value : y ≡ x = cc in ap Ok value
 mapped_ok Q (Err e) after x same mapped is = absurd (false≢true (sym same ∙ ap is_ok is))
 
-module _ (shape : Shape) (region : ℕ) (shown : List ℕ) (at gates bodies len count : ℕ) (at_is : at ≡ gates_at shape region) (gates_are : gates ≡ shape.log_capacity) (bodies_is : bodies ≡ bodies_at shape region) (len_is : len ≡ row_len shape) (counted : count ≡ prefix_len is_open (gate_bytes at gates shown)) where
+module _ (shape : Shape) (region : ℕ) (shown : List ℕ) (at gates bodies len count : ℕ) (at_is : at ≡ gates_at shape region)
+    (gates_are : gates ≡ shape.log_capacity) (bodies_is : bodies ≡ bodies_at shape region) (len_is : len ≡ row_len shape) (counted : count ≡ prefix_len is_open (gate_bytes at gates shown)) where
   gates_same : gate_bytes at gates shown ≡ gate_bytes (gates_at shape region) shape.log_capacity shown
   gates_same = ap (λ n. gate_bytes n gates shown) at_is ∙ ap (λ n. gate_bytes (gates_at shape region) n shown) gates_are
 
@@ -27,7 +29,8 @@ module _ (shape : Shape) (region : ℕ) (shown : List ℕ) (at gates bodies len 
   -- a gate past them was looked for
   pub scan_stale : (stale : Bool) → stale ≡ list_any is_open (drop count (gate_bytes at gates shown)) → stale ≡ has_stale_gate shape region shown
   unfolding has_stale_gate
-  scan_stale stale found = found ∙ ap (λ n. list_any is_open (drop n (gate_bytes at gates shown))) scan_count ∙ ap (λ (l : List ℕ). list_any is_open (drop (open_count shape region shown) l)) gates_same
+  scan_stale stale found = found ∙ ap (λ n. list_any is_open (drop n (gate_bytes at gates shown))) scan_count
+      ∙ ap (λ (l : List ℕ). list_any is_open (drop (open_count shape region shown) l)) gates_same
 
   -- and their rows were read
   pub scan_rows : (rows : List Row) → AreRows rows (map (body_row bodies len shown) (range_with_len 0 count)) → AreRows rows (log_rows shape region shown)
@@ -46,9 +49,12 @@ module _ (shape : Shape) (region : ℕ) (shown : List ℕ) (at gates bodies len 
       (subst (λ n. FirstUnknown (body_row n len shown) count place) bodies_is first))
 
 -- so a refused scan names that row
-pub scan_refused : {F : Type 0} (honest : Type 0) (shape : Shape) (region : ℕ) (shown : List ℕ) (at gates bodies len count : ℕ) (was_given : F → Type 0) (error : ScanError F) → at ≡ gates_at shape region → gates ≡ shape.log_capacity → bodies ≡ bodies_at shape region → len ≡ row_len shape
+pub scan_refused : {F : Type 0} (honest : Type 0) (shape : Shape) (region : ℕ) (shown : List ℕ) (at gates bodies len count : ℕ)
+    (was_given : F → Type 0) (error : ScanError F) → at ≡ gates_at shape region → gates ≡ shape.log_capacity → bodies ≡ bodies_at shape region → len ≡ row_len shape
     → (honest → count ≡ prefix_len is_open (gate_bytes at gates shown))
-    → IsScanRefused (λ place. honest → FirstUnknown (body_row bodies len shown) count place) was_given error → IsScanRefused (λ place. honest → FirstUnknown (row_at shape region shown) (open_count shape region shown) place) was_given error
+    → IsScanRefused (λ place. honest → FirstUnknown (body_row bodies len shown) count place) was_given error
+    → IsScanRefused (λ place. honest → FirstUnknown (row_at shape region shown) (open_count shape region shown) place) was_given error
 scan_refused honest shape region shown at gates bodies len count was_given error at_is gates_are bodies_is len_is counted refused =
-    refused_weaker (λ place. honest → FirstUnknown (body_row bodies len shown) count place) (λ place. honest → FirstUnknown (row_at shape region shown) (open_count shape region shown) place) was_given error
+    refused_weaker (λ place. honest → FirstUnknown (body_row bodies len shown) count place)
+    (λ place. honest → FirstUnknown (row_at shape region shown) (open_count shape region shown) place) was_given error
     (λ place first is. scan_unknown shape region shown at gates bodies len count at_is gates_are bodies_is len_is (counted is) place (first is)) refused

@@ -1,5 +1,6 @@
 -- The rows that a scan reads.
-use Rattle.std.proofs.Common.{cond, ◌≡◌, ℕ, ◌+◌, ◌-◌, ◌*◌, ◌≤◌, ◌<◌, true, false, List, [], ◌∷◌, ◌++◌, length, map, drop, get_or, slice_range, Some, None, Result, Ok, Err, eqb, inl, inr, refl, sym, ap, ◌∙◌, subst, arith, below_more, is_some, option_map, is_ok, OnOk}
+use Rattle.std.proofs.Common.{cond, ◌≡◌, ℕ, ◌+◌, ◌-◌, ◌*◌, ◌≤◌, ◌<◌, true, false, List, [], ◌∷◌, ◌++◌, length, map, drop, get_or, slice_range, Some, None}
+use Rattle.std.proofs.Common.{Result, Ok, Err, eqb, inl, inr, refl, sym, ap, ◌∙◌, subst, arith, below_more, is_some, option_map, is_ok, OnOk}
 use Rattle.std.specs.List.{range_with_len}
 use Rattle.std.proofs.lemmas.Bool.{cases_Bool, cond-true, cond-false, eqb-true, false≢true}
 use Rattle.std.proofs.lemmas.List.{map_push, map-id, length_push}
@@ -28,20 +29,24 @@ rows_none = record { kinds = refl; keys = refl; places = refl }
 -- one more row
 pub rows_push : (rows : List Row) (stored : List StoredRow) (row : Row) (next : StoredRow) → AreRows rows stored → IsRow (length stored) next row → AreRows (rows ++ row ∷ []) (stored ++ next ∷ [])
 rows_push rows stored row next are is = record {
-  kinds = map_push (λ (r : Row). kind_byte r.kind) rows row ∙ ap (λ (l : List ℕ). l ++ kind_byte row.kind ∷ []) are.kinds ∙ ap (λ k. map (λ (r : StoredRow). r.kind) stored ++ k ∷ []) is.kind ∙ sym (map_push (λ (r : StoredRow). r.kind) stored next);
-  keys = map_push (λ (r : Row). r.key.0) rows row ∙ ap (λ (l : List (List ℕ)). l ++ row.key.0 ∷ []) are.keys ∙ ap (λ (k : List ℕ). map (λ (r : StoredRow). r.key) stored ++ k ∷ []) is.key ∙ sym (map_push (λ (r : StoredRow). r.key) stored next);
+  kinds = map_push (λ (r : Row). kind_byte r.kind) rows row ∙ ap (λ (l : List ℕ). l ++ kind_byte row.kind ∷ []) are.kinds
+      ∙ ap (λ k. map (λ (r : StoredRow). r.kind) stored ++ k ∷ []) is.kind ∙ sym (map_push (λ (r : StoredRow). r.kind) stored next);
+  keys = map_push (λ (r : Row). r.key.0) rows row ∙ ap (λ (l : List (List ℕ)). l ++ row.key.0 ∷ []) are.keys
+      ∙ ap (λ (k : List ℕ). map (λ (r : StoredRow). r.key) stored ++ k ∷ []) is.key ∙ sym (map_push (λ (r : StoredRow). r.key) stored next);
   places = map_push (λ (r : Row). r.place) rows row ∙ ap (λ (l : List ℕ). l ++ row.place ∷ []) are.places ∙ ap (λ k. range_with_len 0 (length stored) ++ k ∷ []) is.place
       ∙ sym (range_more (length stored)) ∙ ap (range_with_len 0) (sym (length_push stored next));
 }
 
 -- one more of the rows in the bodies
-pub rows_more : (rows : List Row) (stored : ℕ → StoredRow) (row : Row) (n : ℕ) → AreRows rows (map stored (range_with_len 0 n)) → IsRow n (stored n) row → AreRows (rows ++ row ∷ []) (map stored (range_with_len 0 (n + 1)))
+pub rows_more : (rows : List Row) (stored : ℕ → StoredRow) (row : Row) (n : ℕ) → AreRows rows (map stored (range_with_len 0 n))
+    → IsRow n (stored n) row → AreRows (rows ++ row ∷ []) (map stored (range_with_len 0 (n + 1)))
 rows_more rows stored row n are is =
     let numbered : IsRow (length (map stored (range_with_len 0 n))) (stored n) row = subst (λ k. IsRow k (stored n) row) (sym (length-map-range_with_len stored 0 n)) is in
     subst (AreRows (rows ++ row ∷ [])) (sym (map-range_with_len_more stored 0 n n (omega arith))) (rows_push rows (map stored (range_with_len 0 n)) row (stored n) are numbered)
 
 -- so far all kinds were known
-pub known_more : (stored : ℕ → StoredRow) (n : ℕ) → ((earlier : ℕ) → earlier < n → has_known_kind (stored earlier) ≡ true) → has_known_kind (stored n) ≡ true → (earlier : ℕ) → earlier < n + 1 → has_known_kind (stored earlier) ≡ true
+pub known_more : (stored : ℕ → StoredRow) (n : ℕ) → ((earlier : ℕ) → earlier < n → has_known_kind (stored earlier) ≡ true)
+    → has_known_kind (stored n) ≡ true → (earlier : ℕ) → earlier < n + 1 → has_known_kind (stored earlier) ≡ true
 known_more stored n known here = below_more _ _ known here
 
 -- what a result promises if it is Ok
@@ -50,7 +55,8 @@ on_ok_at (Ok x) is holds = holds
 on_ok_at (Err e) is holds = absurd (false≢true is)
 
 -- a kind that was read, by the two tests
-kind_by_tests : (byte : ℕ) (kind : Kind) (key rest : Key) → option_map {U = Kind × Key} (λ (k : Kind). (k, rest)) (kind_of byte) ≡ Some (kind, key) → (is_some (kind_of byte) ≡ true) × (kind_byte kind ≡ byte) × (rest ≡ key)
+kind_by_tests : (byte : ℕ) (kind : Kind) (key rest : Key) → option_map {U = Kind × Key} (λ (k : Kind). (k, rest)) (kind_of byte) ≡ Some (kind, key)
+    → (is_some (kind_of byte) ≡ true) × (kind_byte kind ≡ byte) × (rest ≡ key)
 kind_by_tests byte kind key rest read = elim (cases_Bool (eqb byte 1)) [
   | inl one ↦
       let is : byte ≡ 1 = eqb-true byte 1 one in
@@ -70,7 +76,8 @@ kind_by_tests byte kind key rest read = elim (cases_Bool (eqb byte 1)) [
 ]
 
 -- a row whose head was read
-pub row_read : (bodies len place : ℕ) (shown head : List ℕ) (kind : Kind) (key : Key) → bodies + place * len + len ≤ length shown → 21 ≤ len → head ≡ slice_range shown (bodies + place * len) (bodies + place * len + 21) → head_of head ≡ Some (kind, key)
+pub row_read : (bodies len place : ℕ) (shown head : List ℕ) (kind : Kind) (key : Key) → bodies + place * len + len ≤ length shown
+    → 21 ≤ len → head ≡ slice_range shown (bodies + place * len) (bodies + place * len + 21) → head_of head ≡ Some (kind, key)
     → IsRow place (body_row bodies len shown place) (record { kind = kind; key = key; place = place })
 row_read bodies len place shown head kind key fits long read says =
     let at : ℕ = bodies + place * len in
@@ -89,19 +96,23 @@ row_read bodies len place shown head kind key fits long read says =
     }
 
 -- a weaker refusal for a damaged row
-pub refused_weaker : {F : Type 0} (strong weak : ℕ → Type 0) (was_given : F → Type 0) (error : ScanError F) → ((place : ℕ) → strong place → weak place) → IsScanRefused strong was_given error → IsScanRefused weak was_given error
+pub refused_weaker : {F : Type 0} (strong weak : ℕ → Type 0) (was_given : F → Type 0) (error : ScanError F) → ((place : ℕ) → strong place → weak place)
+    → IsScanRefused strong was_given error → IsScanRefused weak was_given error
 refused_weaker strong weak was_given (Damaged place) step refused = step place refused
 refused_weaker strong weak was_given (Device fault) step refused = refused
 refused_weaker strong weak was_given NoMemory step refused = refused
 
 -- the first row of an unknown kind, if all before it are of known kinds
-pub unknown_here : (stored : ℕ → StoredRow) (count place here : ℕ) → place < count → here ≡ place → has_known_kind (stored place) ≡ false → ((earlier : ℕ) → earlier < place → has_known_kind (stored earlier) ≡ true) → FirstUnknown stored count here
+pub unknown_here : (stored : ℕ → StoredRow) (count place here : ℕ) → place < count → here ≡ place → has_known_kind (stored place) ≡ false
+    → ((earlier : ℕ) → earlier < place → has_known_kind (stored earlier) ≡ true) → FirstUnknown stored count here
 unknown_here stored count place here below same unknown known =
     subst (FirstUnknown stored count) (sym same) (record { counts = below; unknown = unknown; known = known })
 
 -- a refusal at this row, if all before it are of known kinds
-pub refused_here : {F : Type 0} (honest : Type 0) (stored : ℕ → StoredRow) (count place : ℕ) (was_given : F → Type 0) (error : ScanError F) → place < count → (honest → (earlier : ℕ) → earlier < place → has_known_kind (stored earlier) ≡ true)
-    → IsScanRefused (λ damaged. (damaged ≡ place) × (honest → has_known_kind (stored place) ≡ false)) was_given error → IsScanRefused (λ damaged. honest → FirstUnknown stored count damaged) was_given error
+pub refused_here : {F : Type 0} (honest : Type 0) (stored : ℕ → StoredRow) (count place : ℕ) (was_given : F → Type 0) (error : ScanError F)
+    → place < count → (honest → (earlier : ℕ) → earlier < place → has_known_kind (stored earlier) ≡ true)
+    → IsScanRefused (λ damaged. (damaged ≡ place) × (honest → has_known_kind (stored place) ≡ false)) was_given error
+    → IsScanRefused (λ damaged. honest → FirstUnknown stored count damaged) was_given error
 refused_here honest stored count place was_given error below known refused =
     refused_weaker (λ damaged. (damaged ≡ place) × (honest → has_known_kind (stored place) ≡ false)) (λ damaged. honest → FirstUnknown stored count damaged) was_given error
     (λ here damaged is. unknown_here stored count place here below damaged.0 (damaged.1 is) (known is)) refused

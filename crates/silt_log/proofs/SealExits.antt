@@ -16,7 +16,8 @@ use Rattle.silt_log.proofs.Exits.{fits_resized, StandsIn, region_lies, log_from}
 
 module _ (gates count : ℕ) (old : List ℕ) (fits : gates + count ≤ length old) where
   -- a write past the first closed gate leaves the count
-  pub counted_same : (image : List ℕ) (n long : ℕ) → n ≡ prefix_len is_open (gate_bytes gates count old) → n < count → Torn (gates + n + 1) long old image → prefix_len is_open (gate_bytes gates count image) ≡ n
+  pub counted_same : (image : List ℕ) (n long : ℕ) → n ≡ prefix_len is_open (gate_bytes gates count old) → n < count
+      → Torn (gates + n + 1) long old image → prefix_len is_open (gate_bytes gates count image) ≡ n
   counted_same image n long counted room torn =
       let between = count_between gates count image (omega (arith, torn.size)) n n (omega arith) (omega arith)
       (λ place below. ap is_open (torn.before (gates + place) (omega arith)) ∙ counted_open gates count old fits place (omega arith))
@@ -50,14 +51,16 @@ module _ (old new : Content) (log : LogState) (bounds : InBounds log) (fits : de
   seal_within = gates_within _ _ _ _ _ (region_lies log.shape log.region (size old) bounds.region fits) old.shown refl
 
   -- an image that differs past the first closed gate alone
-  seal_torn : (image : List ℕ) (long : ℕ) → IsTrue old.honest → log.used < log.shape.log_capacity → long ≡ log.shape.log_capacity - (log.used + 1) → Torn (gates_at log.shape log.region + log.used + 1) long old.shown image
+  seal_torn : (image : List ℕ) (long : ℕ) → IsTrue old.honest → log.used < log.shape.log_capacity → long ≡ log.shape.log_capacity - (log.used + 1)
+      → Torn (gates_at log.shape log.region + log.used + 1) long old.shown image
       → log_rows log.shape log.region image ≡ log_rows log.shape log.region old.shown
   unfolding log_rows rows_from row_at open_count
   seal_torn image long honest room rest torn =
       let place = region_lies log.shape log.region (size old) bounds.region fits in
       let low : gates_at log.shape log.region ≤ gates_at log.shape log.region + log.used + 1 = omega arith in
       let high : gates_at log.shape log.region + log.used + 1 + long ≤ gates_at log.shape log.region + log.shape.log_capacity = omega (arith, room, rest) in
-      ap (λ n. map (body_row (bodies_at log.shape log.region) (row_len log.shape) image) (range_with_len 0 n)) (counted_same _ _ old.shown seal_within image log.used long (scanned honest).used room torn)
+      ap (λ n. map (body_row (bodies_at log.shape log.region) (row_len log.shape) image) (range_with_len 0 n))
+      (counted_same _ _ old.shown seal_within image log.used long (scanned honest).used room torn)
       ∙ gates_torn_rows _ _ _ _ _ place (gates_at log.shape log.region + log.used + 1) long 0 log.used old.shown image refl low high (omega (arith, room)) torn
       ∙ ap (λ n. map (body_row (bodies_at log.shape log.region) (row_len log.shape) old.shown) (range_with_len 0 n)) (scanned honest).used
 
@@ -72,7 +75,8 @@ module _ (old new : Content) (log : LogState) (bounds : InBounds log) (fits : de
   }
 
   -- at the exit with Ok, if a gate past the first closed one was open
-  pub seal_done : (more : ℕ) → log.used < log.shape.log_capacity → more ≡ log.shape.log_capacity - (log.used + 1) → size new ≡ size old → Writes (gates_at log.shape log.region + log.used + 1) (replicate more 0) old new → Rests new
+  pub seal_done : (more : ℕ) → log.used < log.shape.log_capacity → more ≡ log.shape.log_capacity - (log.used + 1) → size new ≡ size old
+      → Writes (gates_at log.shape log.region + log.used + 1) (replicate more 0) old new → Rests new
       → Seals old new log (record log { stale = false })
   unfolding rows_from row_at open_count
   seal_done more room rest same writes settled =
@@ -89,7 +93,8 @@ module _ (old new : Content) (log : LogState) (bounds : InBounds log) (fits : de
       let counted : log.settled ≡ log.used = (scanned honest).settled ∙ sym (scanned honest).used in
       let torn = torn_splice (gates_at log.shape log.region + log.used + 1) zeros old.shown within in
       let are : GatesAre (gates_at log.shape log.region) log.shape.log_capacity log.settled (splice (gates_at log.shape log.region + log.used + 1) zeros old.shown) =
-      subst (λ n. GatesAre (gates_at log.shape log.region) log.shape.log_capacity n (splice (gates_at log.shape log.region + log.used + 1) zeros old.shown)) (sym counted) (sealed_gates _ _ old.shown seal_within log.used more (scanned honest).used room rest) in
+      subst (λ n. GatesAre (gates_at log.shape log.region) log.shape.log_capacity n (splice (gates_at log.shape log.region + log.used + 1) zeros old.shown))
+      (sym counted) (sealed_gates _ _ old.shown seal_within log.used more (scanned honest).used room rest) in
       subst (StandsIn new after (settled_rows old log)) (sym (writes.shown honest)) (record {
         long = torn.size ∙ sym same;
         are = are;
@@ -112,7 +117,8 @@ module _ (old : Content) (log : LogState) (bounds : InBounds log) (fits : device
       let within : gates_at log.shape log.region + log.shape.log_capacity ≤ length old.shown = gates_within _ _ _ _ _ (region_lies log.shape log.region (size old) bounds.region fits) old.shown refl in
       let stands : IsTrue old.honest → StandsIn old log (settled_rows old log) old.shown = λ honest. record {
         long = refl;
-        are = subst (λ n. GatesAre (gates_at log.shape log.region) log.shape.log_capacity n old.shown) (sym (scanned honest).settled) (gates_counted _ _ old.shown within (sym (scanned honest).stale ∙ tight));
+        are = subst (λ n. GatesAre (gates_at log.shape log.region) log.shape.log_capacity n old.shown) (sym (scanned honest).settled)
+            (gates_counted _ _ old.shown within (sym (scanned honest).stale ∙ tight));
         hold = refl;
       } in
       record {

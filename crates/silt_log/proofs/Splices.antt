@@ -1,5 +1,6 @@
 -- One write after another.
-use Rattle.std.proofs.Common.{◌≡◌, ℕ, ◌+◌, ◌-◌, ◌≤◌, List, ◌++◌, length, take, drop, replicate, sym, ap, ◌∙◌, subst, inl, inr, arith, ext_get_or, append_assoc, length-append, length-take-le, take_at, drop_at, drop-drop}
+use Rattle.std.proofs.Common.{◌≡◌, ℕ, ◌+◌, ◌-◌, ◌≤◌, List, ◌++◌, length, take, drop, replicate, sym, ap, ◌∙◌, subst, inl, inr, arith, ext_get_or, append_assoc}
+use Rattle.std.proofs.Common.{length-append, length-take-le, take_at, drop_at, drop-drop}
 use Rattle.std.proofs.lemmas.Bool.{cases_lt}
 use Rattle.silt_disk.specs.Disk.{Content, Torn, ChangesWithin, Writes, size, splice}
 use Rattle.silt_disk.proofs.Images.{torn_splice, splice_byte}
@@ -42,7 +43,8 @@ spliced_twice at first second image fits =
     ∙ ap (λ (l : List ℕ). l ++ drop (at + length (first ++ second)) image) (append_assoc (take at image) first second)
 
 -- two writes that follow each other, each with Ok
-pub both_written : (at : ℕ) (first second : List ℕ) (old between new : Content) → at + (length first + length second) ≤ size old → Writes at first old between → Writes (at + length first) second between new → Writes at (first ++ second) old new
+pub both_written : (at : ℕ) (first second : List ℕ) (old between new : Content) → at + (length first + length second) ≤ size old
+    → Writes at first old between → Writes (at + length first) second between new → Writes at (first ++ second) old new
 both_written at first second old between new fits writes later = record {
   honest = later.honest ∙ writes.honest;
   shown = λ honest.
@@ -60,7 +62,8 @@ pub writes_at : (at at_other : ℕ) (bytes : List ℕ) (old new : Content) → a
 writes_at at at_other bytes old new same writes = subst (λ n. Writes n bytes old new) same writes
 
 -- a write of one byte to some places under another name
-pub fills_at : (at at_other count count_other byte : ℕ) (old new : Content) → at ≡ at_other → count ≡ count_other → Writes at (replicate count byte) old new → Writes at_other (replicate count_other byte) old new
+pub fills_at : (at at_other count count_other byte : ℕ) (old new : Content) → at ≡ at_other → count ≡ count_other
+    → Writes at (replicate count byte) old new → Writes at_other (replicate count_other byte) old new
 fills_at at at_other count count_other byte old new same_at same_count writes =
     writes_at at at_other (replicate count_other byte) old new same_at (subst (λ n. Writes at (replicate n byte) old new) same_count writes)
 

@@ -28,12 +28,14 @@ module _ (gates count bodies len whole : ℕ) (lies : Lies gates count bodies le
   gates_within image long = omega (arith, lies.apart, lies.inside)
 
   -- an image's rows are the rows that it has
-  pub rows_standing : (n : ℕ) (rows : List StoredRow) (image : List ℕ) → n ≤ count → Stands gates count bodies len whole n rows image → map (body_row bodies len image) (range_with_len 0 (prefix_len is_open (gate_bytes gates count image))) ≡ rows
+  pub rows_standing : (n : ℕ) (rows : List StoredRow) (image : List ℕ) → n ≤ count → Stands gates count bodies len whole n rows image
+      → map (body_row bodies len image) (range_with_len 0 (prefix_len is_open (gate_bytes gates count image))) ≡ rows
   rows_standing n rows image most stands =
       ap (λ k. map (body_row bodies len image) (range_with_len 0 k)) (count_is gates count image (gates_within image stands.long) n most stands.are) ∙ stands.hold
 
   -- a write over a body after the rows
-  pub body_torn : (used n : ℕ) (rows : List StoredRow) (before after : List ℕ) → used < count → n ≤ used → Stands gates count bodies len whole n rows before → Torn (bodies + used * len) len before after → Stands gates count bodies len whole n rows after
+  pub body_torn : (used n : ℕ) (rows : List StoredRow) (before after : List ℕ) → used < count → n ≤ used
+      → Stands gates count bodies len whole n rows before → Torn (bodies + used * len) len before after → Stands gates count bodies len whole n rows after
   body_torn used n rows before after room most stands torn = record {
     long = torn.size ∙ stands.long;
     are = torn_gates gates count n (bodies + used * len) len before after (omega (arith, room, most)) (omega (arith, lies.apart)) torn stands.are;
@@ -41,7 +43,8 @@ module _ (gates count bodies len whole : ℕ) (lies : Lies gates count bodies le
   }
 
   -- a write over some of the gates
-  pub gates_torn_rows : (at long from n : ℕ) (before after : List ℕ) → length before ≡ whole → gates ≤ at → at + long ≤ gates + count → from + n ≤ count → Torn at long before after → map (body_row bodies len after) (range_with_len from n) ≡ map (body_row bodies len before) (range_with_len from n)
+  pub gates_torn_rows : (at long from n : ℕ) (before after : List ℕ) → length before ≡ whole → gates ≤ at → at + long ≤ gates + count
+      → from + n ≤ count → Torn at long before after → map (body_row bodies len after) (range_with_len from n) ≡ map (body_row bodies len before) (range_with_len from n)
   gates_torn_rows at long from n before after size_is low high most torn =
       rows_behind bodies len before after at long count from n (omega (arith, lies.apart, high)) most (omega (arith, lies.inside, size_is)) torn
 
@@ -58,7 +61,8 @@ module _ (gates count bodies len whole : ℕ) (lies : Lies gates count bodies le
         are = record {
           opened = λ place below. elim (cases_lt place n) [
             | inl low ↦ ap is_open (torn.before (gates + place) (omega arith)) ∙ stands.are.opened place low
-            | inr high ↦ ap is_open (same_byte (splice (gates + n) ones before) (gates + place) (gates + n + (place - n)) (omega arith) ∙ splice_byte (gates + n) ones before (place - n) fits (omega (arith, long)) ∙ get_or-replicate more (place - n) 167 0 (omega arith))
+            | inr high ↦ ap is_open (same_byte (splice (gates + n) ones before) (gates + place) (gates + n + (place - n)) (omega arith)
+                ∙ splice_byte (gates + n) ones before (place - n) fits (omega (arith, long)) ∙ get_or-replicate more (place - n) 167 0 (omega arith))
           ];
           closed = λ place past below. ap is_open (torn.after (gates + place) (omega (arith, long))) ∙ stands.are.closed place (omega arith) below;
         };

@@ -9,7 +9,8 @@ use Rattle.silt_log.specs.Calls.{HasBeginning, Appends, KeepsRows}
 use Rattle.silt_log.proofs.Elsewhere.{all_are_settled_and_waiting}
 
 -- all rows and the settled ones determine the waiting rows
-waiting_from : (old new : Content) (before after : LogState) (more : List StoredRow) → before.settled ≤ before.used → after.settled ≤ after.used → settled_rows new after ≡ settled_rows old before → all_rows new after ≡ all_rows old before ++ more
+waiting_from : (old new : Content) (before after : LogState) (more : List StoredRow) → before.settled ≤ before.used → after.settled ≤ after.used
+    → settled_rows new after ≡ settled_rows old before → all_rows new after ≡ all_rows old before ++ more
     → waiting_rows new after ≡ waiting_rows old before ++ more
 waiting_from old new before after more order order_after settled all = append_cancel_left (settled_rows old before) (waiting_rows new after) (waiting_rows old before ++ more)
     (ap (λ (l : List StoredRow). l ++ waiting_rows new after) (sym settled)
@@ -19,13 +20,15 @@ waiting_from old new before after more order order_after settled all = append_ca
     ∙ append_assoc (settled_rows old before) (waiting_rows old before) more)
 
 -- after an append one more row waits
-pub waiting_appended : (row : StoredRow) (old new : Content) (before after : LogState) → IsLog old before → IsTrue old.honest → Appends row old new before after → waiting_rows new after ≡ waiting_rows old before ++ row ∷ []
+pub waiting_appended : (row : StoredRow) (old new : Content) (before after : LogState) → IsLog old before → IsTrue old.honest
+    → Appends row old new before after → waiting_rows new after ≡ waiting_rows old before ++ row ∷ []
 waiting_appended row old new before after is honest appends = waiting_from old new before after (row ∷ []) is.bounds.order appends.stands.bounds.order (appends.settled honest) (appends.all honest)
 
 -- if the log is unchanged, the same rows wait
 pub waiting_kept : (old new : Content) (before after : LogState) → IsLog old before → IsTrue old.honest → KeepsRows old new before after → waiting_rows new after ≡ waiting_rows old before
 waiting_kept old new before after is honest keeps =
-    waiting_from old new before after [] is.bounds.order keeps.stands.bounds.order (keeps.settled honest) (keeps.all honest ∙ sym (append-nil (all_rows old before))) ∙ append-nil (waiting_rows old before)
+    waiting_from old new before after [] is.bounds.order keeps.stands.bounds.order (keeps.settled honest) (keeps.all honest ∙ sym (append-nil (all_rows old before)))
+    ∙ append-nil (waiting_rows old before)
 
 -- once the gates are open no row waits
 pub none_waiting : (content : Content) (log : LogState) → log.settled ≡ log.used → waiting_rows content log ≡ []

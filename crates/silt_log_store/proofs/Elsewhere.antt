@@ -11,26 +11,30 @@ use Rattle.silt_log_store.specs.State.{LogStoreState, IsIndexed, IsLogStore, IsF
 use Rattle.silt_log_store.proofs.Exits.{index_kept}
 
 -- a change outside the region of a log leaves the rows that are shown
-pub rows_outside : (old new : Content) (log : LogState) (at count : ℕ) → InBounds log → device_size log.shape ≤ size old → LiesOutside (gates_at log.shape log.region) (log_len log.shape) at count → ChangesWithin at count old new → IsTrue old.honest → all_rows new log ≡ all_rows old log
+pub rows_outside : (old new : Content) (log : LogState) (at count : ℕ) → InBounds log → device_size log.shape ≤ size old
+    → LiesOutside (gates_at log.shape log.region) (log_len log.shape) at count → ChangesWithin at count old new → IsTrue old.honest → all_rows new log ≡ all_rows old log
 unfolding rows_from row_at
 rows_outside old new log at count bounds fits outside changes honest =
     let place = region_lies log.shape log.region (size old) bounds.region fits in
     rows_elsewhere _ _ _ _ place.apart at count (outside_bodies log.shape log.region at count outside) old.shown new.shown (changes.shown honest) log.used bounds.room place.inside
 
 -- so its store stays indexed
-pub index_elsewhere : (old new : Content) (store : LogStoreState) (at count : ℕ) → IsIndexed old store → InBounds store.log → device_size store.log.shape ≤ size old → LiesOutside (gates_at store.log.shape store.log.region) (log_len store.log.shape) at count → ChangesWithin at count old new → IsIndexed new store
+pub index_elsewhere : (old new : Content) (store : LogStoreState) (at count : ℕ) → IsIndexed old store → InBounds store.log
+    → device_size store.log.shape ≤ size old → LiesOutside (gates_at store.log.shape store.log.region) (log_len store.log.shape) at count → ChangesWithin at count old new → IsIndexed new store
 index_elsewhere old new store at count index bounds fits outside changes =
     index_kept old new store store changes.honest index refl refl refl (rows_outside old new store.log at count bounds fits outside changes)
 
 -- a store that takes rows still matches the disk
-pub store_elsewhere : (old new : Content) (store : LogStoreState) (at count : ℕ) → IsLogStore old store → device_size store.log.shape ≤ size old → size new ≡ size old → LiesOutside (gates_at store.log.shape store.log.region) (log_len store.log.shape) at count → ChangesWithin at count old new → IsLogStore new store
+pub store_elsewhere : (old new : Content) (store : LogStoreState) (at count : ℕ) → IsLogStore old store → device_size store.log.shape ≤ size old
+    → size new ≡ size old → LiesOutside (gates_at store.log.shape store.log.region) (log_len store.log.shape) at count → ChangesWithin at count old new → IsLogStore new store
 store_elsewhere old new store at count is fits same outside changes = record {
   log = (log_elsewhere old new store.log at count is.log fits same outside changes).stands;
   index = index_elsewhere old new store at count is.index is.log.bounds fits outside changes;
 }
 
 -- so does a store that is only read
-pub frozen_elsewhere : (old new : Content) (store : LogStoreState) (at count : ℕ) → IsFrozenStore old store → InBounds store.log → device_size store.log.shape ≤ size old → LiesOutside (gates_at store.log.shape store.log.region) (log_len store.log.shape) at count → ChangesWithin at count old new → IsFrozenStore new store
+pub frozen_elsewhere : (old new : Content) (store : LogStoreState) (at count : ℕ) → IsFrozenStore old store → InBounds store.log
+    → device_size store.log.shape ≤ size old → LiesOutside (gates_at store.log.shape store.log.region) (log_len store.log.shape) at count → ChangesWithin at count old new → IsFrozenStore new store
 frozen_elsewhere old new store at count is bounds fits outside changes = record {
   images = record {
     each = λ honest image left.

@@ -73,25 +73,30 @@ module _ (content : Content) (store : LogStoreState) (key : List ℕ) (held : Is
       ≡ placed_or_replaced (bucket_count store.table) store.table key store.log.used (option_map (λ (m : Match). m.slot) found)
   table_with_key found first =
       next_table store.log.shape.buckets (keys_of (all_rows content store.log)) store.table key (index.indexed honest)
-      ∙ ap (λ n. placed_or_replaced store.log.shape.buckets store.table key n (slot_of_key (keys_of (all_rows content store.log)) store.table key)) (keys_count (all_rows content store.log) ∙ all_count content store.log)
-      ∙ ap (placed_or_replaced store.log.shape.buckets store.table key store.log.used) (sym (standing_is (all_rows content store.log) store.table store.log.shape.buckets key store_indexes found (match_by_shape found first)))
+      ∙ ap (λ n. placed_or_replaced store.log.shape.buckets store.table key n (slot_of_key (keys_of (all_rows content store.log)) store.table key))
+      (keys_count (all_rows content store.log) ∙ all_count content store.log)
+      ∙ ap (placed_or_replaced store.log.shape.buckets store.table key store.log.used)
+      (sym (standing_is (all_rows content store.log) store.table store.log.shape.buckets key store_indexes found (match_by_shape found first)))
       ∙ ap (λ n. placed_or_replaced n store.table key store.log.used (option_map (λ (m : Match). m.slot) found)) (sym held.count)
 
 -- ---- the table after each call
 
 -- the same rows have the same table and the same number of puts
-pub index_kept : (old new : Content) (before after : LogStoreState) → new.honest ≡ old.honest → IsIndexed old before → after.table ≡ before.table → after.puts ≡ before.puts → after.log.shape ≡ before.log.shape
+pub index_kept : (old new : Content) (before after : LogStoreState) → new.honest ≡ old.honest → IsIndexed old before
+    → after.table ≡ before.table → after.puts ≡ before.puts → after.log.shape ≡ before.log.shape
     → (IsTrue old.honest → all_rows new after.log ≡ all_rows old before.log) → IsIndexed new after
 index_kept old new before after same index table puts shape all = record {
   known = λ honest. let was = sym same ∙ honest in ap (list_all has_known_kind) (all was) ∙ index.known was;
   indexed = λ honest.
       let was = sym same ∙ honest in
-      ap (λ s. index_of_keys s.buckets (keys_of (all_rows new after.log))) shape ∙ ap (λ rows. index_of_keys before.log.shape.buckets (keys_of rows)) (all was) ∙ index.indexed was ∙ ap Some (sym table);
+      ap (λ s. index_of_keys s.buckets (keys_of (all_rows new after.log))) shape ∙ ap (λ rows. index_of_keys before.log.shape.buckets (keys_of rows)) (all was)
+      ∙ index.indexed was ∙ ap Some (sym table);
   counted = λ honest. let was = sym same ∙ honest in puts ∙ index.counted was ∙ ap put_count (sym (all was));
 }
 
 -- a store whose log was prepared, whose table is empty, and which counts no puts
-pub empties_store : (new : Content) (store : LogStoreState) (log : LogState) → Empties new store.log log → store.table ≡ empty_slots store.log.shape.buckets → store.puts ≡ 0 → EmptiesStore new store (record { log = log; table = store.table; puts = store.puts })
+pub empties_store : (new : Content) (store : LogStoreState) (log : LogState) → Empties new store.log log
+    → store.table ≡ empty_slots store.log.shape.buckets → store.puts ≡ 0 → EmptiesStore new store (record { log = log; table = store.table; puts = store.puts })
 unfolding rows_from
 empties_store new store log empties empty no_puts =
     let none : all_rows new log ≡ [] = ap (λ (l : LogState). all_rows new l) empties.log in
@@ -111,7 +116,8 @@ empties_store new store log empties empty no_puts =
     }
 
 -- a store whose log took a row, with the key in the table, and one put more if the row is one
-pub takes_row : (old new : Content) (store : LogStoreState) (log : LogState) (table : Slots) (puts : ℕ) (kind : Kind) (key : Key) (value : List ℕ) (placing : Placing) → new.honest ≡ old.honest → IsIndexed old store
+pub takes_row : (old new : Content) (store : LogStoreState) (log : LogState) (table : Slots) (puts : ℕ) (kind : Kind) (key : Key) (value : List ℕ) (placing : Placing)
+    → new.honest ≡ old.honest → IsIndexed old store
     → IsPlacingFor old store key.0 placing → puts ≡ store.puts + puts_of kind
     → entered store.table placing store.log.used ≡ Some table
     → Appends (stored_row kind key value) old new store.log log → TakesRow kind key value old new store (record { log = log; table = table; puts = puts })
@@ -143,7 +149,8 @@ takes_row old new store log table puts kind key value placing same index at more
     }
 
 -- the slot of a match has an entry
-pub standing_stands : (slots : Slots) (found : Option Match) → IfSome found (λ (m : Match). place_at slots m.slot ≡ Some m.found.place) → IfSome (option_map (λ (m : Match). m.slot) found) (λ slot. IsSome (entry_at slots slot))
+pub standing_stands : (slots : Slots) (found : Option Match) → IfSome found (λ (m : Match). place_at slots m.slot ≡ Some m.found.place)
+    → IfSome (option_map (λ (m : Match). m.slot) found) (λ slot. IsSome (entry_at slots slot))
 standing_stands slots None there = tt
 standing_stands slots (Some m) there = go (entry_at slots m.slot) there
   where
@@ -158,7 +165,8 @@ holds_enters table (Standing slot) place holds = refl
 holds_enters table (New path) place holds = ap (λ (o : Option (List ℕ)). is_some (option_map (put_along table path.first path.second place) o)) holds.path
 
 -- what the placing rule makes of a key is what it makes of its two buckets
-pub under_buckets : (buckets first second place : ℕ) (table : Slots) (key : List ℕ) (standing older : Option ℕ) → first ≡ first_bucket buckets key → second ≡ second_bucket buckets key → standing ≡ older
+pub under_buckets : (buckets first second place : ℕ) (table : Slots) (key : List ℕ) (standing older : Option ℕ) → first ≡ first_bucket buckets key
+    → second ≡ second_bucket buckets key → standing ≡ older
     → entered_under table first second place standing ≡ placed_or_replaced buckets table key place older
 under_buckets buckets first second place table key None older first_is second_is same = rw (first_is, second_is, ← same) refl
 under_buckets buckets first second place table key (Some slot) older first_is second_is same = rw (← same) refl
@@ -201,7 +209,8 @@ placing_none content store key found (Some placing) held room honest index first
 )
 
 -- a placing is returned exactly if a row of the key can be taken
-pub placing_exactly : (content : Content) (store : LogStoreState) (key : List ℕ) → IsTrue content.honest → IsIndexed content store → (placing : Option Placing) → IfSome placing (IsPlacingFor content store key)
+pub placing_exactly : (content : Content) (store : LogStoreState) (key : List ℕ) → IsTrue content.honest → IsIndexed content store
+    → (placing : Option Placing) → IfSome placing (IsPlacingFor content store key)
     → ((placing ≡ None) ↔ IsFullFor content store key)
     → IsTrue (is_some placing) ↔ ((store.log.used < store.log.shape.log_capacity) × IsSome (index_of_keys store.log.shape.buckets (keys_of (all_rows content store.log) ++ key ∷ [])))
 placing_exactly content store key honest index None some none = (
@@ -214,18 +223,21 @@ placing_exactly content store key honest index None some none = (
 placing_exactly content store key honest index (Some placing) some none = (λ _. (some.room, some.takes honest index), λ _. refl)
 
 -- and then the log has room
-pub placing_room : (content : Content) (store : LogStoreState) (key : List ℕ) (placing : Option Placing) → IfSome placing (IsPlacingFor content store key) → IsTrue (is_some placing) → store.log.used < store.log.shape.log_capacity
+pub placing_room : (content : Content) (store : LogStoreState) (key : List ℕ) (placing : Option Placing) → IfSome placing (IsPlacingFor content store key)
+    → IsTrue (is_some placing) → store.log.used < store.log.shape.log_capacity
 placing_room content store key None some answered = absurd (cc)
 placing_room content store key (Some placing) some answered = some.room
 
 -- a row can be taken if its key has a placing
-pub placing_can : (content : Content) (store : LogStoreState) (key : List ℕ) (answer : Option Placing) (placing : Placing) → answer ≡ Some placing → IsLogStore content store → IfSome answer (IsPlacingFor content store key) → CanTake content store key
+pub placing_can : (content : Content) (store : LogStoreState) (key : List ℕ) (answer : Option Placing) (placing : Placing)
+    → answer ≡ Some placing → IsLogStore content store → IfSome answer (IsPlacingFor content store key) → CanTake content store key
 placing_can content store key answer placing some is found =
     let at = subst (λ (o : Option Placing). IfSome o (IsPlacingFor content store key)) some found in
     record { room = at.room; placed = λ honest. at.takes honest is.index }
 
 -- a change of gates alone leaves the rows that are shown
-pub gates_leave_rows : (old new : Content) (log : LogState) (from count : ℕ) → InBounds log → device_size log.shape ≤ size old → from + count ≤ log.shape.log_capacity → ChangesWithin (gates_at log.shape log.region + from) count old new
+pub gates_leave_rows : (old new : Content) (log : LogState) (from count : ℕ) → InBounds log → device_size log.shape ≤ size old
+    → from + count ≤ log.shape.log_capacity → ChangesWithin (gates_at log.shape log.region + from) count old new
     → IsTrue old.honest → all_rows new log ≡ all_rows old log
 unfolding rows_from row_at
 gates_leave_rows old new log from count bounds fits most changes honest =
@@ -244,11 +256,13 @@ opens_some old new store log fits is changes opens =
       store = ap (λ (l : LogState). let made : LogStoreState = record { log = l; table = store.table; puts = store.puts } in made) opens.log;
       log = opens;
       index = index_kept old new store (record { log = log; table = store.table; puts = store.puts }) changes.honest is.index refl refl (ap (λ (l : LogState). l.shape) opens.log)
-          (λ honest. ap (all_rows new) opens.log ∙ gates_leave_rows old new store.log store.log.settled (store.log.used - store.log.settled) bounds fits (omega (arith, bounds.order, bounds.room)) changes honest);
+          (λ honest. ap (all_rows new) opens.log ∙ gates_leave_rows old new store.log store.log.settled (store.log.used - store.log.settled)
+          bounds fits (omega (arith, bounds.order, bounds.room)) changes honest);
     }
 
 -- the invariant of every store holds after it took a row
-pub held_after : (store : LogStoreState) (log : LogState) (table : Slots) (puts place : ℕ) → IsHeldStore store → InBounds log → log ≡ record store.log { used = store.log.used + 1 } → IsTable table → bucket_count table ≡ bucket_count store.table
+pub held_after : (store : LogStoreState) (log : LogState) (table : Slots) (puts place : ℕ) → IsHeldStore store → InBounds log
+    → log ≡ record store.log { used = store.log.used + 1 } → IsTable table → bucket_count table ≡ bucket_count store.table
     → place ≡ store.log.used → PlacesBelow table (place + 1) → puts ≤ store.puts + 1 → IsHeldStore (record { log = log; table = table; puts = puts })
 held_after store log table puts place held bounds taken is_table count at below few = record {
   bounds = bounds;

@@ -1,5 +1,6 @@
 -- When there is no finding in a log.
-use Rattle.std.proofs.Common.{◌≡◌, ℕ, ◌+◌, ◌<◌, true, false, not, List, [], ◌∷◌, ◌++◌, length, take, drop, fold, flat_map, Option, Some, None, is_some, option_map, refl, sym, ap, ◌∙◌, arith, take-append-drop}
+use Rattle.std.proofs.Common.{◌≡◌, ℕ, ◌+◌, ◌<◌, true, false, not, List, [], ◌∷◌, ◌++◌, length, take, drop, fold, flat_map, Option, Some, None, is_some}
+use Rattle.std.proofs.Common.{option_map, refl, sym, ap, ◌∙◌, arith, take-append-drop}
 use Rattle.std.specs.List.{list_all, enumerate_from}
 use Rattle.std.proofs.lemmas.Bool.{and_parts, and_from}
 use Rattle.std.proofs.lemmas.List.{map-append, take_all}
@@ -45,7 +46,8 @@ fits_none shape = refl
 -- ---- one log
 
 -- rows of known kinds from a place on, with places in the table, give no finding
-nothing_from : (shape : Shape) (part : Part) (k : ℕ) (rows : List StoredRow) → list_all has_known_kind rows ≡ true → fits_table shape part.rows ≡ true → flat_map (row_findings shape part) (enumerate_from k rows) ≡ []
+nothing_from : (shape : Shape) (part : Part) (k : ℕ) (rows : List StoredRow) → list_all has_known_kind rows ≡ true
+    → fits_table shape part.rows ≡ true → flat_map (row_findings shape part) (enumerate_from k rows) ≡ []
 nothing_from shape part k [] known fits = refl
 nothing_from shape part k (row ∷ rows) known fits =
     let parts = and_parts (has_known_kind row) (list_all has_known_kind rows) known in
@@ -66,11 +68,13 @@ known_from shape part k (row ∷ rows) none =
     (known_from shape part (k + 1) rows rest)
 
 -- and the last of them has a place
-last_fits : (shape : Shape) (part : Part) (k n : ℕ) (rows : List StoredRow) → flat_map (row_findings shape part) (enumerate_from k rows) ≡ [] → n ≡ k + length rows → 0 < length rows → fits_table shape (take n part.rows) ≡ true
+last_fits : (shape : Shape) (part : Part) (k n : ℕ) (rows : List StoredRow) → flat_map (row_findings shape part) (enumerate_from k rows) ≡ []
+    → n ≡ k + length rows → 0 < length rows → fits_table shape (take n part.rows) ≡ true
 last_fits shape part k n [] none end some = absurd (omega arith)
 last_fits shape part k n (row ∷ []) none end some =
     let first = nothing_first (row_findings shape part (k, row)) [] none in
-    let here : fits_table shape (take (k + 1) part.rows) ≡ true = passes_where_nothing (fits_table shape (take (k + 1) part.rows)) Crowded (nothing_second (finding_if (not (has_known_kind row)) (Damaged (Log part.region k))) _ first) in
+    let here : fits_table shape (take (k + 1) part.rows) ≡ true =
+    passes_where_nothing (fits_table shape (take (k + 1) part.rows)) Crowded (nothing_second (finding_if (not (has_known_kind row)) (Damaged (Log part.region k))) _ first) in
     let same : n ≡ k + 1 = omega arith in
     ap (λ (m : ℕ). fits_table shape (take m part.rows)) same ∙ here
 last_fits shape part k n (row ∷ next ∷ rows) none end some =

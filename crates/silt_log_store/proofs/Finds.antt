@@ -51,7 +51,8 @@ last_below keys key (suc n) = elim (cases_Bool (bytes_eq (get_or keys n []) key)
 ]
 
 -- a key without a slot has no place
-none_of_key : (keys : List (List ℕ)) (slots : Slots) (buckets : ℕ) (key : List ℕ) → Indexes slots buckets keys → slot_of_key keys slots key ≡ None → (place : ℕ) → place < length keys → get_or keys place [] ≢ key
+none_of_key : (keys : List (List ℕ)) (slots : Slots) (buckets : ℕ) (key : List ℕ) → Indexes slots buckets keys → slot_of_key keys slots key ≡ None
+    → (place : ℕ) → place < length keys → get_or keys place [] ≢ key
 none_of_key keys slots buckets key index none place below = elim (last_below keys key (length keys)) [
   | inl (p, (low, is, last)) ↦
       let newest : IsNewest keys p = (low, λ later above under same. last later above under (same ∙ is)) in
@@ -64,7 +65,8 @@ module _ (rows : List StoredRow) (slots : Slots) (buckets : ℕ) (key : List ℕ
   candidates = candidates_of slots (first_bucket buckets key) (second_bucket buckets key)
 
   -- the slot of a match is that of the key
-  pub standing_is : (found : Option Match) → IsFirstMatch rows (candidates_of slots (first_bucket buckets key) (second_bucket buckets key)) key found → option_map (λ (m : Match). m.slot) found ≡ slot_of_key (keys_of rows) slots key
+  pub standing_is : (found : Option Match) → IsFirstMatch rows (candidates_of slots (first_bucket buckets key) (second_bucket buckets key)) key found
+      → option_map (λ (m : Match). m.slot) found ≡ slot_of_key (keys_of rows) slots key
   standing_is found first = slots_of found ∙ ap (option_map (λ (c : Candidate). c.slot)) first.first ∙ sym (find_law buckets (keys_of rows) slots key index)
     where
       slots_of : (o : Option Match) → option_map (λ (m : Match). m.slot) o ≡ option_map (λ (c : Candidate). c.slot) (option_map candidate_of o)
@@ -74,7 +76,8 @@ module _ (rows : List StoredRow) (slots : Slots) (buckets : ℕ) (key : List ℕ
   -- a match is the key's last row
   pub match_is_last : (m : Match) → IsFirstMatch rows (candidates_of slots (first_bucket buckets key) (second_bucket buckets key)) key (Some m) → FindsLast rows key (Some m.found)
   match_is_last m first =
-      let it = found_passes (λ (c : Candidate). bytes_eq (get_or (keys_of rows) c.place []) key) (candidates_of slots (first_bucket buckets key) (second_bucket buckets key)) (candidate_of m) (sym first.first) in
+      let it = found_passes (λ (c : Candidate). bytes_eq (get_or (keys_of rows) c.place []) key)
+      (candidates_of slots (first_bucket buckets key) (second_bucket buckets key)) (candidate_of m) (sym first.first) in
       let stands : Stands slots (candidate_of m) = all_contained (Stands slots) _ (candidate_of m) (candidates_standing slots (first_bucket buckets key) (second_bucket buckets key)) it.1 in
       let newest = index.no_other m.found.place (m.slot, stands) in
       let same : get_or (keys_of rows) m.found.place [] ≡ key = (bytes_eq-Decides (get_or (keys_of rows) m.found.place []) key).0 it.0 in

@@ -1,5 +1,6 @@
 -- A rebuild, row by row.
-use Rattle.std.proofs.Common.{◌≡◌, ℕ, ◌+◌, ◌<◌, ◌≤◌, false, List, [], ◌∷◌, ◌++◌, length, take, get_or, find, slice_get, Option, Some, None, IsTrue, IsSome, IfSome, option_map, refl, sym, subst, ap, ◌∙◌, arith, length-append}
+use Rattle.std.proofs.Common.{◌≡◌, ℕ, ◌+◌, ◌<◌, ◌≤◌, false, List, [], ◌∷◌, ◌++◌, length, take, get_or, find, slice_get, Option, Some, None, IsTrue, IsSome}
+use Rattle.std.proofs.Common.{IfSome, option_map, refl, sym, subst, ap, ◌∙◌, arith, length-append}
 use Rattle.std.specs.List.{list_all}
 use Rattle.std.specs.Option.{is_some}
 use Rattle.std.specs.Str.{bytes_eq}
@@ -63,7 +64,8 @@ pub slot_is : (index : KeyIndex) (key : List ℕ) (first second : ℕ) (candidat
 slot_is index key first second candidates keys slot table is first_is second_is candidates_are keys_are slot_found =
     slot_found
     ∙ ap (λ ks. option_map (λ (c : Candidate). c.slot) (find (λ (c : Candidate). bytes_eq (get_or ks c.place []) key) candidates)) keys_are
-    ∙ ap (λ cs. option_map (λ (c : Candidate). c.slot) (find (λ (c : Candidate). bytes_eq (get_or index.keys.items c.place []) key) cs)) (candidates_are ∙ ap (λ n. candidates_of index.table n second) first_is ∙ ap (candidates_of index.table (first_bucket (bucket_count index.table) key)) second_is)
+    ∙ ap (λ cs. option_map (λ (c : Candidate). c.slot) (find (λ (c : Candidate). bytes_eq (get_or index.keys.items c.place []) key) cs))
+    (candidates_are ∙ ap (λ n. candidates_of index.table n second) first_is ∙ ap (candidates_of index.table (first_bucket (bucket_count index.table) key)) second_is)
     ∙ sym (find_law (bucket_count index.table) index.keys.items index.table key (index_holds index table is))
 
 -- a slot that is that of a key has an entry
@@ -123,7 +125,8 @@ head_says_none row is = go (kind_of row.kind) is
     go (Some k) h = absurd (cc)
 
 -- the index of one row more
-pub rows_grow : (rows : List StoredRow) (row : StoredRow) (kind : Kind) (key : Key) (old new : KeyIndex) → row_head row ≡ Some (kind, key) → IsOfRows rows old → AddsKey kind key.0 old new → IsOfRows (rows ++ row ∷ []) new
+pub rows_grow : (rows : List StoredRow) (row : StoredRow) (kind : Kind) (key : Key) (old new : KeyIndex) → row_head row ≡ Some (kind, key)
+    → IsOfRows rows old → AddsKey kind key.0 old new → IsOfRows (rows ++ row ∷ []) new
 rows_grow rows row kind key old new head are adds =
     let says = head_says row kind key head in
     record {
@@ -136,7 +139,8 @@ rows_grow rows row kind key old new head are adds =
 known_at : (rows : List StoredRow) (place : ℕ) (row : StoredRow) → slice_get rows place ≡ Some row → has_known_kind_at rows place ≡ has_known_kind row
 known_at rows place row is = get_or-map has_known_kind rows place row false (slice_get_within rows place row is) ∙ ap has_known_kind (get_or_from_slice_get rows place row row is)
 
-module _ (shape : Shape) (region : ℕ) (image : List ℕ) (count place : ℕ) (below : place < count) (index : KeyIndex) (is : IsKeyIndex index) (buckets : bucket_count index.table ≡ shape.buckets) (are : IsOfRows (first_rows shape region image place) index) where
+module _ (shape : Shape) (region : ℕ) (image : List ℕ) (count place : ℕ) (below : place < count) (index : KeyIndex) (is : IsKeyIndex index)
+    (buckets : bucket_count index.table ≡ shape.buckets) (are : IsOfRows (first_rows shape region image place) index) where
   -- the rows before this one were all good
   sound : IsSoundBefore shape.buckets (first_rows shape region image count) place
   sound =
@@ -153,7 +157,8 @@ module _ (shape : Shape) (region : ℕ) (image : List ℕ) (count place : ℕ) (
   row_damaged head = record {
     there = subst (λ n. place < n) (sym (rows_count shape region image count)) below;
     before = sound;
-    unknown = known_at (first_rows shape region image count) place (row_at shape region image place) (rows_at shape region image count place below) ∙ head_says_none (row_at shape region image place) head;
+    unknown = known_at (first_rows shape region image count) place (row_at shape region image place) (rows_at shape region image count place below)
+        ∙ head_says_none (row_at shape region image place) head;
   }
 
   -- this row's key finds no place
@@ -162,24 +167,29 @@ module _ (shape : Shape) (region : ℕ) (image : List ℕ) (count place : ℕ) (
   row_crowded kind key head none =
       let row : StoredRow = row_at shape region image place in
       let says = head_says row kind key head in
-      let more : take (place + 1) (first_rows shape region image count) ≡ first_rows shape region image place ++ row ∷ [] = rows_taken shape region image count (place + 1) (omega arith) ∙ rows_more shape region image place in
+      let more : take (place + 1) (first_rows shape region image count) ≡ first_rows shape region image place ++ row ∷ [] =
+      rows_taken shape region image count (place + 1) (omega arith) ∙ rows_more shape region image place in
       record {
         there = subst (λ n. place < n) (sym (rows_count shape region image count)) below;
         before = sound;
         known = known_at (first_rows shape region image count) place row (rows_at shape region image count place below) ∙ ap is_some says.0;
         crowded = ap (λ rows. index_of_keys shape.buckets (keys_of rows)) more
-            ∙ ap (index_of_keys shape.buckets) (keys_push (first_rows shape region image place) row ∙ ap (λ (k : List ℕ). keys_of (first_rows shape region image place) ++ k ∷ []) says.1 ∙ ap (λ ks. ks ++ key.0 ∷ []) (sym are.keys_are))
+            ∙ ap (index_of_keys shape.buckets) (keys_push (first_rows shape region image place) row
+            ∙ ap (λ (k : List ℕ). keys_of (first_rows shape region image place) ++ k ∷ []) says.1 ∙ ap (λ ks. ks ++ key.0 ∷ []) (sym are.keys_are))
             ∙ ap (λ n. index_of_keys n (index.keys.items ++ key.0 ∷ [])) (sym buckets) ∙ none;
       }
 
   -- this row's key was added
-  pub row_added : (kind : Kind) (key : Key) (new : KeyIndex) → row_head (row_at shape region image place) ≡ Some (kind, key) → AddsKey kind key.0 index new → IsOfRows (first_rows shape region image (place + 1)) new
-  row_added kind key new head adds = subst (λ rows. IsOfRows rows new) (sym (rows_more shape region image place)) (rows_grow (first_rows shape region image place) (row_at shape region image place) kind key index new head are adds)
+  pub row_added : (kind : Kind) (key : Key) (new : KeyIndex) → row_head (row_at shape region image place) ≡ Some (kind, key)
+      → AddsKey kind key.0 index new → IsOfRows (first_rows shape region image (place + 1)) new
+  row_added kind key new head adds = subst (λ rows. IsOfRows rows new) (sym (rows_more shape region image place))
+      (rows_grow (first_rows shape region image place) (row_at shape region image place) kind key index new head are adds)
 
 -- ---- the store
 
 -- the store has a log with the table of all its keys and the number of its puts
-pub rebuilt_held : (log : LogState) (index : KeyIndex) → InBounds log → IsBucketCount log.shape.buckets → IsKeyIndex index → bucket_count index.table ≡ log.shape.buckets → length index.keys.items ≡ log.used → IsHeldStore (record { log = log; table = index.table; puts = index.puts })
+pub rebuilt_held : (log : LogState) (index : KeyIndex) → InBounds log → IsBucketCount log.shape.buckets → IsKeyIndex index
+    → bucket_count index.table ≡ log.shape.buckets → length index.keys.items ≡ log.used → IsHeldStore (record { log = log; table = index.table; puts = index.puts })
 rebuilt_held log index bounds count is buckets keys =
     let holds = index_law (bucket_count index.table) index.keys.items index.table (subst IsBucketCount (sym buckets) count) is.indexed in
     record {
@@ -190,7 +200,8 @@ rebuilt_held log index bounds count is buckets keys =
       most = subst (λ n. index.puts ≤ n) keys is.most;
     }
 
-module _ (content : Content) (log : LogState) (index : KeyIndex) (scanned : IsTrue content.honest → IsScanned content log) (is : IsKeyIndex index) (buckets : bucket_count index.table ≡ log.shape.buckets)
+module _ (content : Content) (log : LogState) (index : KeyIndex) (scanned : IsTrue content.honest → IsScanned content log)
+    (is : IsKeyIndex index) (buckets : bucket_count index.table ≡ log.shape.buckets)
     (are : IsTrue content.honest → IsOfRows (first_rows log.shape log.region content.shown log.used) index) where
   -- the rows before the first closed gate are all rows
   pub rows_are : IsTrue content.honest → first_rows log.shape log.region content.shown log.used ≡ log_rows log.shape log.region content.shown
@@ -222,7 +233,8 @@ module _ (content : Content) (log : LogState) (index : KeyIndex) (scanned : IsTr
   }
 
 -- a refusal with another reason for its row
-pub refusal_as : {F : Type 0} (damaged other : ℕ → Type 0) (crowded further : Type 0) (was_given : F → Type 0) (error : RebuildError F) → ((place : ℕ) → damaged place → other place) → (crowded → further)
+pub refusal_as : {F : Type 0} (damaged other : ℕ → Type 0) (crowded further : Type 0) (was_given : F → Type 0) (error : RebuildError F)
+    → ((place : ℕ) → damaged place → other place) → (crowded → further)
     → IsRefusedRebuild damaged crowded was_given error → IsRefusedRebuild other further was_given error
 refusal_as damaged other crowded further was_given (Damaged place) step step_crowded refused = step place refused
 refusal_as damaged other crowded further was_given Crowded step step_crowded refused = step_crowded refused
@@ -230,7 +242,8 @@ refusal_as damaged other crowded further was_given (Device fault) step step_crow
 refusal_as damaged other crowded further was_given NoMemory step step_crowded refused = refused
 
 -- why a rebuild of a scanned log is refused
-pub rebuild_refused : {F : Type 0} (content : Content) (log : LogState) (shape : Shape) (region : ℕ) (was_given : F → Type 0) (error : RebuildError F) → log.shape ≡ shape → log.region ≡ region → (IsTrue content.honest → IsScanned content log)
+pub rebuild_refused : {F : Type 0} (content : Content) (log : LogState) (shape : Shape) (region : ℕ) (was_given : F → Type 0) (error : RebuildError F)
+    → log.shape ≡ shape → log.region ≡ region → (IsTrue content.honest → IsScanned content log)
     → IsRefusedRebuild (λ row. IsTrue content.honest → IsFirstDamaged log.shape.buckets (first_rows log.shape log.region content.shown log.used) row)
     (IsTrue content.honest → (row : ℕ) × IsFirstCrowded log.shape.buckets (first_rows log.shape log.region content.shown log.used) row) was_given error
     → IsRefusedRebuild (λ row. IsTrue content.honest → IsFirstDamaged shape.buckets (log_rows shape region content.shown) row)
@@ -241,6 +254,8 @@ rebuild_refused content log shape region was_given error shape_is region_is scan
     ap (first_rows log.shape log.region content.shown) (scanned honest).used ∙ ap (λ s. log_rows s log.region content.shown) shape_is ∙ ap (λ r. log_rows shape r content.shown) region_is in
     let count : log.shape.buckets ≡ shape.buckets = ap (λ (s : Shape). s.buckets) shape_is in
     refusal_as _ _ _ _ was_given error
-    (λ row damaged honest. subst (λ rows. IsFirstDamaged shape.buckets rows row) (rows_to honest) (subst (λ n. IsFirstDamaged n (first_rows log.shape log.region content.shown log.used) row) count (damaged honest)))
-    (λ crowded honest. let it = crowded honest in (it.0, subst (λ rows. IsFirstCrowded shape.buckets rows it.0) (rows_to honest) (subst (λ n. IsFirstCrowded n (first_rows log.shape log.region content.shown log.used) it.0) count it.1)))
+    (λ row damaged honest. subst (λ rows. IsFirstDamaged shape.buckets rows row) (rows_to honest)
+    (subst (λ n. IsFirstDamaged n (first_rows log.shape log.region content.shown log.used) row) count (damaged honest)))
+    (λ crowded honest. let it = crowded honest in
+    (it.0, subst (λ rows. IsFirstCrowded shape.buckets rows it.0) (rows_to honest) (subst (λ n. IsFirstCrowded n (first_rows log.shape log.region content.shown log.used) it.0) count it.1)))
     refused

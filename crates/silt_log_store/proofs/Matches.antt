@@ -23,7 +23,8 @@ pub kind_of_head : (row : StoredRow) (key : List ℕ) → kind_with_key (row_hea
 unfolding row_head
 kind_of_head row key = go (kind_of row.kind)
   where
-    go : (o : Option Kind) → kind_with_key (option_map {U = Kind × Key} (λ (kind : Kind). (kind, record { 0 = row.key })) o) key ≡ option_and_then (λ (kind : Kind). cond (bytes_eq row.key key) (Some kind) None) o
+    go : (o : Option Kind) → kind_with_key (option_map {U = Kind × Key} (λ (kind : Kind). (kind, record { 0 = row.key })) o)
+        key ≡ option_and_then (λ (kind : Kind). cond (bytes_eq row.key key) (Some kind) None) o
     go None = refl
     go (Some kind) = refl
 
@@ -35,7 +36,8 @@ kind_found row key kind e = go (kind_of row.kind) refl e
     test true it is h = let same : it ≡ kind = cc in (refl, ap kind_byte (sym same) ∙ kind_of_byte row.kind it is)
     test false it is h = absurd (cc)
 
-    go : (o : Option Kind) → kind_of row.kind ≡ o → option_and_then (λ (it : Kind). cond (bytes_eq row.key key) (Some it) None) o ≡ Some kind → (bytes_eq row.key key ≡ true) × (kind_byte kind ≡ row.kind)
+    go : (o : Option Kind) → kind_of row.kind ≡ o → option_and_then (λ (it : Kind). cond (bytes_eq row.key key) (Some it) None) o ≡ Some kind
+        → (bytes_eq row.key key ≡ true) × (kind_byte kind ≡ row.kind)
     go None is h = absurd (cc)
     go (Some it) is h = test (bytes_eq row.key key) it is h
 

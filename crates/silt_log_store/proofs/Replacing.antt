@@ -28,7 +28,8 @@ replaced_below old new slot place table below takes x p is = elim (cases_eq p pl
 pub plan_entered : (table : Slots) (first second place : ℕ) (path : PathPlan) → plan_for table first second ≡ Some path → placed table path.first path.second place ≡ placed table first second place
 plan_entered table first second place path is = go (path_for table first second) is
   where
-    go : (o : Option (List ℕ)) → option_map {U = PathPlan} (λ slots. record { first = first; second = second; slots = slots }) o ≡ Some path → placed table path.first path.second place ≡ placed table first second place
+    go : (o : Option (List ℕ)) → option_map {U = PathPlan} (λ slots. record { first = first; second = second; slots = slots }) o ≡ Some path
+        → placed table path.first path.second place ≡ placed table first second place
     go None h = absurd (cc)
     go (Some slots) h =
         let made : PathPlan = record { first = first; second = second; slots = slots } in

@@ -46,7 +46,8 @@ passes_at p xs place x all is =
     ]
 
 -- the row of this number is of a known kind
-pub known_there : (content : Content) (log : LogState) (place : ℕ) → list_all has_known_kind (all_rows content log) ≡ true → place < log.used → has_known_kind (row_at log.shape log.region content.shown place) ≡ true
+pub known_there : (content : Content) (log : LogState) (place : ℕ) → list_all has_known_kind (all_rows content log) ≡ true
+    → place < log.used → has_known_kind (row_at log.shape log.region content.shown place) ≡ true
 known_there content log place known below = passes_at has_known_kind (all_rows content log) place (row_at log.shape log.region content.shown place) known (row_there content log place below)
 
 -- one row more is of a known kind

@@ -21,7 +21,8 @@ id_bytes-append [] ys = refl
 id_bytes-append (x ∷ xs) ys = ap (λ rest. big_bytes 4 x ++ rest) (id_bytes-append xs ys) ∙ sym (append_assoc (big_bytes 4 x) (id_bytes xs) (id_bytes ys))
 
 -- one more id is in its place
-pub more_ids : (bytes new front ids : List ℕ) (at k x : ℕ) → take (at + 4 + 4 * k) bytes ≡ front ++ id_bytes (take k ids) → take (at + 4 + 4 * k + 4) new ≡ take (at + 4 + 4 * k) bytes ++ big_bytes 4 x → x ≡ get_or ids k 0 → k < length ids → take (at + 4 + 4 * (k + 1)) new ≡ front ++ id_bytes (take (k + 1) ids)
+pub more_ids : (bytes new front ids : List ℕ) (at k x : ℕ) → take (at + 4 + 4 * k) bytes ≡ front ++ id_bytes (take k ids)
+    → take (at + 4 + 4 * k + 4) new ≡ take (at + 4 + 4 * k) bytes ++ big_bytes 4 x → x ≡ get_or ids k 0 → k < length ids → take (at + 4 + 4 * (k + 1)) new ≡ front ++ id_bytes (take (k + 1) ids)
 more_ids bytes new front ids at k x so_far put is inside =
     let place : at + 4 + 4 * (k + 1) ≡ at + 4 + 4 * k + 4 = omega arith in
     let last : id_bytes (get_or ids k 0 ∷ []) ≡ big_bytes 4 x = append-nil (big_bytes 4 (get_or ids k 0)) ∙ ap (big_bytes 4) (sym is) in
@@ -31,7 +32,9 @@ more_ids bytes new front ids at k x so_far put is inside =
     ∙ append_assoc front (id_bytes (take k ids)) (big_bytes 4 x) ∙ ap (λ rest. front ++ rest) (sym more)
 
 -- the zeros follow the ids
-pub all_ids : (bytes new front ids : List ℕ) (at room : ℕ) → length ids ≤ room → take (at + 4 + 4 * length ids) bytes ≡ (front ++ big_bytes 4 (length ids)) ++ id_bytes (take (length ids) ids) → take (at + 4 + 4 * length ids + 4 * (room - length ids)) new ≡ take (at + 4 + 4 * length ids) bytes ++ replicate (4 * (room - length ids)) 0 → take (at + (4 + 4 * room)) new ≡ front ++ ids_bytes room ids
+pub all_ids : (bytes new front ids : List ℕ) (at room : ℕ) → length ids ≤ room → take (at + 4 + 4 * length ids) bytes ≡ (front ++ big_bytes 4 (length ids))
+    ++ id_bytes (take (length ids) ids) → take (at + 4 + 4 * length ids + 4 * (room - length ids)) new ≡ take (at + 4 + 4 * length ids) bytes
+    ++ replicate (4 * (room - length ids)) 0 → take (at + (4 + 4 * room)) new ≡ front ++ ids_bytes room ids
 all_ids bytes new front ids at room fits so_far put =
     let place : at + (4 + 4 * room) ≡ at + 4 + 4 * length ids + 4 * (room - length ids) = omega arith in
     let pad : List ℕ = replicate (4 * (room - length ids)) 0 in
@@ -41,7 +44,8 @@ all_ids bytes new front ids at room fits so_far put =
     ∙ append_assoc front (big_bytes 4 (length ids) ++ id_bytes ids) pad
 
 -- six parts, each put behind those before it
-pub six_parts : (b1 b2 b3 b4 b5 b6 G A F H S C : List ℕ) → length b6 ≡ 120 → take 8 b1 ≡ G → take 12 b2 ≡ take 8 b1 ++ A → take 44 b3 ≡ take 12 b2 ++ F → take 112 b4 ≡ take 44 b3 ++ H → take 116 b5 ≡ take 112 b4 ++ S → take 120 b6 ≡ take 116 b5 ++ C → b6 ≡ G ++ A ++ F ++ H ++ S ++ C
+pub six_parts : (b1 b2 b3 b4 b5 b6 G A F H S C : List ℕ) → length b6 ≡ 120 → take 8 b1 ≡ G → take 12 b2 ≡ take 8 b1 ++ A → take 44 b3 ≡ take 12 b2
+    ++ F → take 112 b4 ≡ take 44 b3 ++ H → take 116 b5 ≡ take 112 b4 ++ S → take 120 b6 ≡ take 116 b5 ++ C → b6 ≡ G ++ A ++ F ++ H ++ S ++ C
 six_parts b1 b2 b3 b4 b5 b6 G A F H S C long g a f h s c =
     let all : take 120 b6 ≡ b6 = take_all 120 b6 (omega arith) in
     sym all ∙ c ∙ ap (λ t. t ++ C) (s ∙ ap (λ t. t ++ S) (h ∙ ap (λ t. t ++ H) (f ∙ ap (λ t. t ++ F) (a ∙ ap (λ t. t ++ A) g))))

@@ -20,7 +20,8 @@ use Rattle.silt_manifest.proofs.CurrentLemmas.{newer_is_current, current_is_soun
 use Rattle.silt_manifest.proofs.PrepareExits.{two_slots}
 
 -- an open slot with these bytes holds the record
-pub holds_record : (image : List ℕ) (slot : ℕ) (b : Body) (d : Digests) → slot_at slot + 461 ≤ length image → FitsSlot b → FitsDigests d → is_slot_open image slot ≡ true → slice_range image (slot_at slot + 1) (slot_at slot + 461) ≡ record_bytes b d → open_record image slot ≡ Some (long_record b d)
+pub holds_record : (image : List ℕ) (slot : ℕ) (b : Body) (d : Digests) → slot_at slot + 461 ≤ length image → FitsSlot b → FitsDigests d
+    → is_slot_open image slot ≡ true → slice_range image (slot_at slot + 1) (slot_at slot + 461) ≡ record_bytes b d → open_record image slot ≡ Some (long_record b d)
 holds_record image slot b d room fits fits_digests opened bytes =
     let gate = get_or image (slot_at slot) 0 in
     let whole : slot_of image slot ≡ gate ∷ record_bytes b d = slot_parts image slot room ∙ ap (λ (rest : List ℕ). gate ∷ rest) bytes in
@@ -36,17 +37,20 @@ holds_open bytes b holds =
 
 module _ (m : ManifestState) (next : Body) (digests : Digests) (n : ℕ) (fits : slot_at 1 + 4096 ≤ n) (follows : IsNext m next) (held : FitsSlot next) (held_digests : FitsDigests digests) where
   -- the current slot stays when the gate is written
-  current_stays : (before after : List ℕ) → (length before ≡ n) × IsReady m next digests before → Torn (slot_at (spare_slot m)) 1 before after → open_record after (current_slot m) ≡ open_record before (current_slot m)
+  current_stays : (before after : List ℕ) → (length before ≡ n) × IsReady m next digests before → Torn (slot_at (spare_slot m)) 1 before after
+      → open_record after (current_slot m) ≡ open_record before (current_slot m)
   current_stays before after (size, ready) torn =
       let slots = two_slots m in
       ap record_behind (other_same (current_slot m) (spare_slot m) (slot_at (spare_slot m)) 1 before after slots (omega arith) (omega arith) (omega arith) torn)
 
   -- so does the version
-  same_version : (before after : List ℕ) → (length before ≡ n) × IsReady m next digests before → Torn (slot_at (spare_slot m)) 1 before after → version_of (header_of after) ≡ version_of (header_of before)
+  same_version : (before after : List ℕ) → (length before ≡ n) × IsReady m next digests before → Torn (slot_at (spare_slot m)) 1 before after
+      → version_of (header_of after) ≡ version_of (header_of before)
   same_version before after (size, ready) torn = version_stays (slot_at (spare_slot m)) 1 before after (omega arith) (omega arith) torn
 
   -- with an open gate the next record is current
-  new_record_is_current : (before after : List ℕ) → (length before ≡ n) × IsReady m next digests before → Torn (slot_at (spare_slot m)) 1 before after → is_slot_open after (spare_slot m) ≡ true → (open_record after (spare_slot m) ≡ Some (long_record next digests)) × (current_manifest m.shape after ≡ Some (long_record next digests))
+  new_record_is_current : (before after : List ℕ) → (length before ≡ n) × IsReady m next digests before → Torn (slot_at (spare_slot m)) 1 before after
+      → is_slot_open after (spare_slot m) ≡ true → (open_record after (spare_slot m) ≡ Some (long_record next digests)) × (current_manifest m.shape after ≡ Some (long_record next digests))
   new_record_is_current before after was torn opened =
       let slots = two_slots m in
       let size = was.0 in
@@ -63,18 +67,21 @@ module _ (m : ManifestState) (next : Body) (digests : Digests) (n : ℕ) (fits :
       )
 
   -- the gate may be written or not
-  old_or_new : m.prepared ≡ Some (long_record next digests) → (before after : List ℕ) → (length before ≡ n) × IsReady m next digests before → Torn (slot_at (spare_slot m)) 1 before after → OldOrNewIsCurrent m after
+  old_or_new : m.prepared ≡ Some (long_record next digests) → (before after : List ℕ) → (length before ≡ n) × IsReady m next digests before
+      → Torn (slot_at (spare_slot m)) 1 before after → OldOrNewIsCurrent m after
   old_or_new prepared before after was torn =
       let slots = two_slots m in
       elim (cases_Bool (is_slot_open after (spare_slot m))) [
         | inl opened ↦ inr ((new_record_is_current before after was torn opened).1 ∙ sym prepared)
         | inr closed ↦
-            inl (stays_current m.shape (current_slot m) (spare_slot m) (current_record m) before after (same_version before after was torn) slots was.1.stands was.1.current (current_stays before after was torn)
+            inl (stays_current m.shape (current_slot m) (spare_slot m) (current_record m) before after (same_version before after was torn)
+            slots was.1.stands was.1.current (current_stays before after was torn)
             (inl (closed_record (slot_of after (spare_slot m)) closed)))
       ]
 
   -- the gate is written
-  new_is_current_in : (before : List ℕ) → (length before ≡ n) × IsReady m next digests before → IsCurrentIn (with_current m.shape (long_record next digests) false) (splice (slot_at (spare_slot m)) (167 ∷ []) before)
+  new_is_current_in : (before : List ℕ) → (length before ≡ n) × IsReady m next digests before
+      → IsCurrentIn (with_current m.shape (long_record next digests) false) (splice (slot_at (spare_slot m)) (167 ∷ []) before)
   new_is_current_in before was =
       let slots = two_slots m in
       let size = was.0 in
@@ -91,13 +98,15 @@ module _ (m : ManifestState) (next : Body) (digests : Digests) (n : ℕ) (fits :
       }
 
 -- the write or the sync fails
-pub gate_fails : (m : ManifestState) (next : Body) (digests : Digests) (old new : Content) (at : ℕ) → slot_at 1 + 4096 ≤ size old → IsPrepared m next digests old → at ≡ slot_at (spare_slot m) → ChangesWithin at 1 old new → LeavesOnly new (OldOrNewIsCurrent m)
+pub gate_fails : (m : ManifestState) (next : Body) (digests : Digests) (old new : Content) (at : ℕ) → slot_at 1 + 4096 ≤ size old
+    → IsPrepared m next digests old → at ≡ slot_at (spare_slot m) → ChangesWithin at 1 old new → LeavesOnly new (OldOrNewIsCurrent m)
 gate_fails m next digests old new at fits prepared is changes =
     let here : ChangesWithin (slot_at (spare_slot m)) 1 old new = rw is at changes in
     within_leaves here (sized_leaves prepared.leaves) (old_or_new m next digests (size old) fits prepared.follows prepared.fits prepared.fits_digests prepared.is)
 
 -- the gate is open
-pub all_committed : (m : ManifestState) (next : Body) (digests : Digests) (old new : Content) (at : ℕ) → slot_at 1 + 4096 ≤ size old → IsPrepared m next digests old → at ≡ slot_at (spare_slot m) → Writes at (167 ∷ []) old new → Rests new → IsCurrent (with_current m.shape (long_record next digests) false) new
+pub all_committed : (m : ManifestState) (next : Body) (digests : Digests) (old new : Content) (at : ℕ) → slot_at 1 + 4096 ≤ size old
+    → IsPrepared m next digests old → at ≡ slot_at (spare_slot m) → Writes at (167 ∷ []) old new → Rests new → IsCurrent (with_current m.shape (long_record next digests) false) new
 all_committed m next digests old new at fits prepared is writes rests =
     let here : Writes (slot_at (spare_slot m)) (167 ∷ []) old new = rw is at writes in
     rests_leaves rests (write_shows here (sized_shows (leaves_shows prepared.leaves)) (new_is_current_in m next digests (size old) fits prepared.follows prepared.fits prepared.fits_digests))

@@ -20,23 +20,27 @@ unfolding record_found
 alone_second s v b sound = rw sound refl
 
 -- of two, the second is newer
-pub newer_second : (s : Shape) (v : Version) (a b : SlotRecord) → is_sound_record s v 0 (Some a) ≡ true → is_sound_record s v 1 (Some b) ≡ true → nat_lt a.body.generation b.body.generation ≡ true → record_found s v (Some a) (Some b) ≡ Ok b
+pub newer_second : (s : Shape) (v : Version) (a b : SlotRecord) → is_sound_record s v 0 (Some a) ≡ true → is_sound_record s v 1 (Some b) ≡ true
+    → nat_lt a.body.generation b.body.generation ≡ true → record_found s v (Some a) (Some b) ≡ Ok b
 unfolding record_found
 newer_second s v a b sound_a sound_b newer = rw (sound_a, sound_b, newer) refl
 
 -- of two, the first is newer
-pub newer_first : (s : Shape) (v : Version) (a b : SlotRecord) → is_sound_record s v 0 (Some a) ≡ true → is_sound_record s v 1 (Some b) ≡ true → nat_lt a.body.generation b.body.generation ≡ false → record_found s v (Some a) (Some b) ≡ Ok a
+pub newer_first : (s : Shape) (v : Version) (a b : SlotRecord) → is_sound_record s v 0 (Some a) ≡ true → is_sound_record s v 1 (Some b) ≡ true
+    → nat_lt a.body.generation b.body.generation ≡ false → record_found s v (Some a) (Some b) ≡ Ok a
 unfolding record_found
 newer_first s v a b sound_a sound_b newer = rw (sound_a, sound_b, newer) refl
 
 -- what the slots hold, and the version
-pub found_at : (s : Shape) (v : Version) (image : List ℕ) (first second : Option SlotRecord) → version_of (header_of image) ≡ v → open_record image 0 ≡ first → open_record image 1 ≡ second → manifest_found s image ≡ record_found s v first second
+pub found_at : (s : Shape) (v : Version) (image : List ℕ) (first second : Option SlotRecord) → version_of (header_of image) ≡ v
+    → open_record image 0 ≡ first → open_record image 1 ≡ second → manifest_found s image ≡ record_found s v first second
 found_at s v image first second is is_first is_second =
     ap (λ (version : Version). record_found s version (open_record image 0) (open_record image 1)) is
     ∙ ap (λ held. record_found s v held (open_record image 1)) is_first ∙ ap (λ held. record_found s v first held) is_second
 
 -- no record is current if a slot is damaged
-none_is_current : (s : Shape) (v : Version) (first second : Option SlotRecord) (slot : ℕ) (b : SlotRecord) → record_found s v first second ≡ Err (Slot slot) → where_found (record_found s v first second) ≡ Some b → ⊥
+none_is_current : (s : Shape) (v : Version) (first second : Option SlotRecord) (slot : ℕ) (b : SlotRecord)
+    → record_found s v first second ≡ Err (Slot slot) → where_found (record_found s v first second) ≡ Some b → ⊥
 none_is_current s v first second slot b refused is_current = let none : where_found (record_found s v first second) ≡ None = ap where_found refused in absurd (cc)
 
 -- if there is a current record, the first slot is sound
@@ -108,7 +112,9 @@ same_is_current s r o before after is =
     → current_manifest s after ≡ current_manifest s before) same (λ first zeroth. same zeroth first) r o
 
 -- a record stays current if its slot stays, and the other one is closed or stays too
-pub stays_current : (s : Shape) (r o : ℕ) (b : SlotRecord) (before after : List ℕ) → version_of (header_of after) ≡ version_of (header_of before) → r + o ≡ 1 → open_record before r ≡ Some b → current_manifest s before ≡ Some b → open_record after r ≡ open_record before r → (open_record after o ≡ None) ⊎ (open_record after o ≡ open_record before o) → current_manifest s after ≡ Some b
+pub stays_current : (s : Shape) (r o : ℕ) (b : SlotRecord) (before after : List ℕ) → version_of (header_of after) ≡ version_of (header_of before)
+    → r + o ≡ 1 → open_record before r ≡ Some b → current_manifest s before ≡ Some b → open_record after r ≡ open_record before r
+    → (open_record after o ≡ None) ⊎ (open_record after o ≡ open_record before o) → current_manifest s after ≡ Some b
 stays_current s r o b before after is slots stands is_current same_r other =
     elim other [
       | inl closed ↦ ap where_found (alone_found s (version_of (header_of before)) r o b after is slots (current_is_sound s r o b before slots stands is_current) (same_r ∙ stands) closed)

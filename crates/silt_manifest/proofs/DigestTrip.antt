@@ -1,5 +1,6 @@
 -- What is written of digests is what is read.
-use Rattle.std.proofs.Common.{◌≡◌, ℕ, suc, ◌+◌, ◌-◌, ◌*◌, ◌<◌, true, nat_le, List, [], ◌∷◌, ◌++◌, length, map, take, drop, get_or, slice_range, refl, sym, ap, ◌∙◌, arith, append_assoc, append-nil, length-append, drop_at, take_at}
+use Rattle.std.proofs.Common.{◌≡◌, ℕ, suc, ◌+◌, ◌-◌, ◌*◌, ◌<◌, true, nat_le, List, [], ◌∷◌, ◌++◌, length, map, take, drop, get_or, slice_range, refl, sym, ap}
+use Rattle.std.proofs.Common.{◌∙◌, arith, append_assoc, append-nil, length-append, drop_at, take_at}
 use Rattle.std.specs.List.{range_with_len}
 use Rattle.std.proofs.lemmas.Bool.Decides.{nat_tests}
 use Rattle.silt_disk.specs.Numbers.{number_at}
@@ -27,7 +28,8 @@ long_rest : (d : Digest) (ds : List Digest) (none : Digest) → AllLong (d ∷ d
 long_rest d ds none long k inside = let next = long (suc k) in next (omega arith)
 
 -- digests one after the other
-digests_behind : (ds : List Digest) (none : Digest) (i : ℕ) (pre post : List ℕ) → length pre ≡ i → AllLong ds none → map (λ k. digest_at (i + 20 * k) (pre ++ (digest_bytes ds ++ post))) (range_with_len 0 (length ds)) ≡ ds
+digests_behind : (ds : List Digest) (none : Digest) (i : ℕ) (pre post : List ℕ) → length pre ≡ i → AllLong ds none
+    → map (λ k. digest_at (i + 20 * k) (pre ++ (digest_bytes ds ++ post))) (range_with_len 0 (length ds)) ≡ ds
 digests_behind [] none i pre post e long = refl
 digests_behind (d ∷ ds) none i pre post e long =
     let bytes = pre ++ ((d.0 ++ digest_bytes ds) ++ post) in
@@ -39,7 +41,8 @@ digests_behind (d ∷ ds) none i pre post e long =
     let moved : (k : ℕ) → digest_at (i + 20 * (k + 1)) bytes ≡ digest_at (i + 20 + 20 * k) ((pre ++ d.0) ++ (digest_bytes ds ++ post)) =
     λ k. let same : i + 20 * (k + 1) ≡ i + 20 + 20 * k = omega arith in ap (λ (j : ℕ). digest_at j bytes) same ∙ ap (digest_at (i + 20 + 20 * k)) two in
     let rest = digests_behind ds none (i + 20) (pre ++ d.0) post (omega (arith, length-append pre d.0, e, first)) (long_rest d ds none long) in
-    let tail : map (λ k. digest_at (i + 20 * k) bytes) (range_with_len 1 (length ds)) ≡ ds = range_on (λ k. digest_at (i + 20 * k) bytes) 0 (length ds) ∙ map_same _ _ (range_with_len 0 (length ds)) moved ∙ rest in
+    let tail : map (λ k. digest_at (i + 20 * k) bytes) (range_with_len 1 (length ds)) ≡ ds =
+    range_on (λ k. digest_at (i + 20 * k) bytes) 0 (length ds) ∙ map_same _ _ (range_with_len 0 (length ds)) moved ∙ rest in
     cc
 
 -- twenty bytes for each digest
@@ -52,7 +55,13 @@ length_digest_bytes (d ∷ ds) none long =
 
 -- 340 bytes
 pub length_digests_bytes : (d : Digests) → FitsDigests d → length (digests_bytes d) ≡ 340
-length_digests_bytes d fits = omega (arith, length-append (digest_bytes d.hashed) d.sorted.0, fits.sorted, fits.count, length_digest_bytes d.hashed d.sorted (λ k inside. fits.hashed k (omega (arith, fits.count))))
+length_digests_bytes d fits = omega (
+  arith,
+  length-append (digest_bytes d.hashed) d.sorted.0,
+  fits.sorted,
+  fits.count,
+  length_digest_bytes d.hashed d.sorted (λ k inside. fits.hashed k (omega (arith, fits.count))),
+)
 
 -- 460 bytes
 pub length_record_bytes : (b : Body) (d : Digests) → FitsSlot b → FitsDigests d → length (record_bytes b d) ≡ 460
@@ -65,7 +74,8 @@ digests_back front d long fits =
     let all_long : AllLong d.hashed d.sorted = λ k inside. fits.hashed k (omega (arith, fits.count)) in
     let hashed : map (λ k. digest_at (121 + 20 * k) slot) (range_with_len 0 16) ≡ d.hashed =
     ap (λ (n : ℕ). map (λ k. digest_at (121 + 20 * k) slot) (range_with_len 0 n)) (sym fits.count) ∙ digests_behind d.hashed d.sorted 121 front d.sorted.0 long all_long in
-    let whole : slot ≡ (front ++ digest_bytes d.hashed) ++ (d.sorted.0 ++ []) = sym (append_assoc front (digest_bytes d.hashed) d.sorted.0) ∙ ap (λ rest. (front ++ digest_bytes d.hashed) ++ rest) (sym (append-nil d.sorted.0)) in
+    let whole : slot ≡ (front ++ digest_bytes d.hashed) ++ (d.sorted.0 ++ []) =
+    sym (append_assoc front (digest_bytes d.hashed) d.sorted.0) ∙ ap (λ rest. (front ++ digest_bytes d.hashed) ++ rest) (sym (append-nil d.sorted.0)) in
     let before : length (front ++ digest_bytes d.hashed) ≡ 441 = omega (arith, length-append front (digest_bytes d.hashed), long, fits.count, length_digest_bytes d.hashed d.sorted all_long) in
     let sorted : digest_at 441 slot ≡ d.sorted = ap (digest_at 441) whole ∙ digest_behind d.sorted 441 (front ++ digest_bytes d.hashed) [] before fits.sorted in
     both hashed sorted

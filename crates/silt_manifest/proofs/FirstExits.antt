@@ -88,7 +88,9 @@ module _ (digests : Digests) (held : FitsDigests digests) (n : ℕ) (fits : slot
       }
 
 -- all is written
-pub all_first : (digests : Digests) (bytes : List ℕ) (a b c d : Content) → FitsDigests digests → slot_at 1 + 4096 ≤ size a → LeavesOnly a (λ image. is_slot_open image 1 ≡ false) → bytes ≡ record_bytes first_body digests → Writes 4096 (0 ∷ []) a b → Writes 4097 bytes b c → Writes 4096 (167 ∷ []) c d → Rests d → LeavesOnly d (IsFirst digests)
+pub all_first : (digests : Digests) (bytes : List ℕ) (a b c d : Content) → FitsDigests digests → slot_at 1 + 4096 ≤ size a
+    → LeavesOnly a (λ image. is_slot_open image 1 ≡ false) → bytes ≡ record_bytes first_body digests → Writes 4096 (0 ∷ []) a b
+    → Writes 4097 bytes b c → Writes 4096 (167 ∷ []) c d → Rests d → LeavesOnly d (IsFirst digests)
 all_first digests bytes a b c d held fits closed are first second third rests =
     let alone = sized_shows (leaves_shows closed) in
     let long : length bytes ≡ 460 = ap length are ∙ length_record_bytes first_body digests first_fits held in

@@ -14,7 +14,8 @@ use Rattle.silt_manifest.proofs.CurrentLemmas.{found_at}
 use Rattle.silt_frame.specs.Gate.{is_open}
 
 -- two slots that hold the same, and the same version
-pub same_found : (s : Shape) (before after : List ℕ) → version_of (header_of after) ≡ version_of (header_of before) → open_record after 0 ≡ open_record before 0 → open_record after 1 ≡ open_record before 1 → manifest_found s after ≡ manifest_found s before
+pub same_found : (s : Shape) (before after : List ℕ) → version_of (header_of after) ≡ version_of (header_of before)
+    → open_record after 0 ≡ open_record before 0 → open_record after 1 ≡ open_record before 1 → manifest_found s after ≡ manifest_found s before
 same_found s before after version first second = found_at s (version_of (header_of before)) after (open_record before 0) (open_record before 1) version first second
 
 -- a change in a closed slot
@@ -32,7 +33,8 @@ closed_slots s slot before after below fits torn closed still =
     ]
 
 -- a change outside the slots leaves each as it is
-slot_elsewhere : (at count slot : ℕ) (before after : List ℕ) → slot < 2 → slot_at 1 + 4096 ≤ length before → LiesOutside (slot_at 0) 8192 at count → Torn at count before after → slot_of after slot ≡ slot_of before slot
+slot_elsewhere : (at count slot : ℕ) (before after : List ℕ) → slot < 2 → slot_at 1 + 4096 ≤ length before → LiesOutside (slot_at 0) 8192 at count
+    → Torn at count before after → slot_of after slot ≡ slot_of before slot
 slot_elsewhere at count slot before after below fits apart torn =
     elim apart [
       | inl low ↦ slot_same at count slot before after torn (omega arith) (inl (omega arith))
@@ -53,7 +55,8 @@ outside_slots : (at count : ℕ) → LiesOutside 0 12288 at count → LiesOutsid
 outside_slots at count apart = elim apart [ inl low ↦ inl (omega arith) | inr high ↦ inr (omega arith) ]
 
 -- it leaves the header as it is
-header_elsewhere : (at count : ℕ) (before after : List ℕ) → 4096 ≤ length before → LiesOutside 0 12288 at count → Torn at count before after → version_of (header_of after) ≡ version_of (header_of before)
+header_elsewhere : (at count : ℕ) (before after : List ℕ) → 4096 ≤ length before → LiesOutside 0 12288 at count → Torn at count before after
+    → version_of (header_of after) ≡ version_of (header_of before)
 header_elsewhere at count before after fits apart torn =
     elim apart [
       | inl low ↦ ap version_of (torn_slice_after at count before after torn 0 37 low (omega arith))
@@ -61,11 +64,14 @@ header_elsewhere at count before after fits apart torn =
     ]
 
 -- and what is found
-found_elsewhere : (s : Shape) (at count : ℕ) (before after : List ℕ) → slot_at 1 + 4096 ≤ length before → LiesOutside 0 12288 at count → Torn at count before after → manifest_found s after ≡ manifest_found s before
-found_elsewhere s at count before after fits apart torn = other_regions s at count before after fits (outside_slots at count apart) torn (header_elsewhere at count before after (omega arith) apart torn)
+found_elsewhere : (s : Shape) (at count : ℕ) (before after : List ℕ) → slot_at 1 + 4096 ≤ length before → LiesOutside 0 12288 at count
+    → Torn at count before after → manifest_found s after ≡ manifest_found s before
+found_elsewhere s at count before after fits apart torn =
+    other_regions s at count before after fits (outside_slots at count apart) torn (header_elsewhere at count before after (omega arith) apart torn)
 
 -- the record of an image stays current under a change outside the header and the slots
-current_in_elsewhere : (m : ManifestState) (n at count : ℕ) → slot_at 1 + 4096 ≤ n → LiesOutside 0 12288 at count → (before after : List ℕ) → (length before ≡ n) × IsCurrentIn m before → Torn at count before after → IsCurrentIn m after
+current_in_elsewhere : (m : ManifestState) (n at count : ℕ) → slot_at 1 + 4096 ≤ n → LiesOutside 0 12288 at count → (before after : List ℕ)
+    → (length before ≡ n) × IsCurrentIn m before → Torn at count before after → IsCurrentIn m after
 current_in_elsewhere m n at count fits apart before after (size, was_current) torn =
     let room : slot_at 1 + 4096 ≤ length before = omega arith in
     let apart_too = outside_slots at count apart in
@@ -76,7 +82,8 @@ current_in_elsewhere m n at count fits apart before after (size, was_current) to
     }
 
 -- and in each possible crash image, under changes outside the header and the slots
-pub current_record_elsewhere : (m : ManifestState) (at count : ℕ) (old new : Content) → slot_at 1 + 4096 ≤ size old → LiesOutside 0 12288 at count → ChangesWithin at count old new → IsCurrent m old → IsCurrent m new
+pub current_record_elsewhere : (m : ManifestState) (at count : ℕ) (old new : Content) → slot_at 1 + 4096 ≤ size old
+    → LiesOutside 0 12288 at count → ChangesWithin at count old new → IsCurrent m old → IsCurrent m new
 current_record_elsewhere m at count old new fits apart changes is_current = within_leaves changes (sized_leaves is_current) (current_in_elsewhere m (size old) at count fits apart)
 
 -- and after a crash
@@ -96,19 +103,22 @@ pub closed_leaves : (slot : ℕ) (old new : Content) → slot_at slot + 461 ≤ 
 closed_leaves slot old new fits writes rests = rests_leaves rests (closed_shown slot old new fits writes)
 
 -- it stays closed in what is shown under changes outside the slots
-pub closed_elsewhere : (slot at count : ℕ) (old new : Content) → slot < 2 → slot_at 1 + 4096 ≤ size old → LiesOutside (slot_at 0) 8192 at count → ChangesWithin at count old new → Shows old (λ image. is_slot_open image slot ≡ false) → Shows new (λ image. is_slot_open image slot ≡ false)
+pub closed_elsewhere : (slot at count : ℕ) (old new : Content) → slot < 2 → slot_at 1 + 4096 ≤ size old → LiesOutside (slot_at 0) 8192 at count
+    → ChangesWithin at count old new → Shows old (λ image. is_slot_open image slot ≡ false) → Shows new (λ image. is_slot_open image slot ≡ false)
 closed_elsewhere slot at count old new below fits apart changes shown =
     within_shows changes (sized_shows shown) (λ before after (had : (length before ≡ size old) × (is_slot_open before slot ≡ false)) torn.
     ap (λ bytes. is_open (slice_index bytes 0)) (slot_elsewhere at count slot before after below (let long = had.0 in omega arith) apart torn) ∙ had.1)
 
 -- so is the current record of each possible crash image, under changes outside the header and the slots
-pub current_elsewhere : (s : Shape) (held : Option SlotRecord) (at count : ℕ) (old new : Content) → slot_at 1 + 4096 ≤ size old → LiesOutside 0 12288 at count → ChangesWithin at count old new → LeavesOnly old (λ image. current_manifest s image ≡ held) → LeavesOnly new (λ image. current_manifest s image ≡ held)
+pub current_elsewhere : (s : Shape) (held : Option SlotRecord) (at count : ℕ) (old new : Content) → slot_at 1 + 4096 ≤ size old
+    → LiesOutside 0 12288 at count → ChangesWithin at count old new → LeavesOnly old (λ image. current_manifest s image ≡ held) → LeavesOnly new (λ image. current_manifest s image ≡ held)
 current_elsewhere s held at count old new fits apart changes leaves =
     within_leaves changes (sized_leaves leaves) (λ before after (had : (length before ≡ size old) × (current_manifest s before ≡ held)) torn.
     ap where_found (found_elsewhere s at count before after (let long = had.0 in omega arith) apart torn) ∙ had.1)
 
 -- and the first record
-pub first_elsewhere : {digests : Digests} (at count : ℕ) (old new : Content) → slot_at 1 + 4096 ≤ size old → LiesOutside (slot_at 0) 8192 at count → ChangesWithin at count old new → LeavesOnly old (IsFirst digests) → LeavesOnly new (IsFirst digests)
+pub first_elsewhere : {digests : Digests} (at count : ℕ) (old new : Content) → slot_at 1 + 4096 ≤ size old → LiesOutside (slot_at 0) 8192 at count
+    → ChangesWithin at count old new → LeavesOnly old (IsFirst digests) → LeavesOnly new (IsFirst digests)
 first_elsewhere {digests} at count old new fits apart changes leaves =
     within_leaves changes (sized_leaves leaves) (λ before after (had : (length before ≡ size old) × IsFirst digests before) torn.
     let long = had.0 in

@@ -41,12 +41,14 @@ module _ (m : ManifestState) (n : ℕ) (fits : slot_at 1 + 4096 ≤ n) where
       elim (cases_Bool m.spare_closed) [
         | inl closed ↦
             let at : place ≡ slot_at (spare_slot m) + 4095 = is ∙ place_closed m closed in
-            stays_current m.shape (current_slot m) (spare_slot m) (current_record m) before after (version_stays place 1 before after (omega arith) (omega arith) torn) slots was_current.stands was_current.current
+            stays_current m.shape (current_slot m) (spare_slot m) (current_record m) before after
+            (version_stays place 1 before after (omega arith) (omega arith) torn) slots was_current.stands was_current.current
             (ap record_behind (other_same (current_slot m) (spare_slot m) place 1 before after slots (omega arith) (omega arith) (omega arith) torn))
             (inr (ap record_behind (slot_same place 1 (spare_slot m) before after torn (omega arith) (inr (omega arith)))))
         | inr opened ↦
             let at : place ≡ slot_at (spare_slot m) = is ∙ place_open m opened in
-            stays_current m.shape (current_slot m) (spare_slot m) (current_record m) before after (version_stays place 1 before after (omega arith) (omega arith) torn) slots was_current.stands was_current.current
+            stays_current m.shape (current_slot m) (spare_slot m) (current_record m) before after
+            (version_stays place 1 before after (omega arith) (omega arith) torn) slots was_current.stands was_current.current
             (ap record_behind (other_same (current_slot m) (spare_slot m) place 1 before after slots (omega arith) (omega arith) (omega arith) torn))
             (gate_torn (spare_slot m) before after (omega arith) (subst (λ (p : ℕ). Torn p 1 before after) at torn) (was_current.spare ∙ ap not opened))
       ]
@@ -82,19 +84,22 @@ module _ (m : ManifestState) (n : ℕ) (fits : slot_at 1 + 4096 ≤ n) where
   bytes_torn at count is long before after was torn =
       let slots = two_slots m in
       let size = was.size in
-      let same : open_record after (current_slot m) ≡ open_record before (current_slot m) = ap record_behind (other_same (current_slot m) (spare_slot m) at count before after slots (omega arith) (omega arith) (omega arith) torn) in
+      let same : open_record after (current_slot m) ≡ open_record before (current_slot m) =
+      ap record_behind (other_same (current_slot m) (spare_slot m) at count before after slots (omega arith) (omega arith) (omega arith) torn) in
       let shut : is_slot_open after (spare_slot m) ≡ false = gate_stays at count (spare_slot m) before after (omega arith) (omega arith) torn ∙ was.shut in
       record {
         size = torn.size ∙ was.size;
         current =
-            stays_current m.shape (current_slot m) (spare_slot m) (current_record m) before after (version_stays at count before after (omega arith) (omega arith) torn) slots was.stands was.current same
+            stays_current m.shape (current_slot m) (spare_slot m) (current_record m) before after
+            (version_stays at count before after (omega arith) (omega arith) torn) slots was.stands was.current same
             (inl (closed_record (slot_of after (spare_slot m)) shut));
         stands = same ∙ was.stands;
         shut = shut;
       }
 
   -- the bytes are written
-  bytes_written : (at : ℕ) (bytes : List ℕ) (next : Body) (digests : Digests) → at ≡ slot_at (spare_slot m) + 1 → length bytes ≡ 460 → bytes ≡ record_bytes next digests → (before : List ℕ) → IsShut m n before → IsReady m next digests (splice at bytes before)
+  bytes_written : (at : ℕ) (bytes : List ℕ) (next : Body) (digests : Digests) → at ≡ slot_at (spare_slot m) + 1 → length bytes ≡ 460
+      → bytes ≡ record_bytes next digests → (before : List ℕ) → IsShut m n before → IsReady m next digests (splice at bytes before)
   bytes_written at bytes next digests is long bytes_are before was =
       let slots = two_slots m in
       let size = was.size in
@@ -110,25 +115,34 @@ module _ (m : ManifestState) (n : ℕ) (fits : slot_at 1 + 4096 ≤ n) where
       }
 
 -- the first write or sync fails
-pub close_fails : (m : ManifestState) (place : ℕ) (old new : Content) → slot_at 1 + 4096 ≤ size old → IsCurrent m old → place ≡ closing_place m → ChangesWithin place 1 old new → LeavesOnly new (RecordIsCurrent m)
+pub close_fails : (m : ManifestState) (place : ℕ) (old new : Content) → slot_at 1 + 4096 ≤ size old → IsCurrent m old
+    → place ≡ closing_place m → ChangesWithin place 1 old new → LeavesOnly new (RecordIsCurrent m)
 close_fails m place old new fits is_current is changes = within_leaves changes (sized_leaves is_current) (close_torn m (size old) fits place is)
 
 -- the other slot is closed
-shut_leaves : (m : ManifestState) (place : ℕ) (old between : Content) → slot_at 1 + 4096 ≤ size old → IsCurrent m old → place ≡ closing_place m → Writes place (0 ∷ []) old between → Rests between → LeavesOnly between (IsShut m (size old))
+shut_leaves : (m : ManifestState) (place : ℕ) (old between : Content) → slot_at 1 + 4096 ≤ size old → IsCurrent m old
+    → place ≡ closing_place m → Writes place (0 ∷ []) old between → Rests between → LeavesOnly between (IsShut m (size old))
 shut_leaves m place old between fits is_current is writes rests = rests_leaves rests (write_shows writes (sized_shows (leaves_shows is_current)) (close_written m (size old) fits place is))
 
 -- the second write or sync fails
-pub bytes_fail : (m : ManifestState) (place at count : ℕ) (old between new : Content) → slot_at 1 + 4096 ≤ size old → IsCurrent m old → place ≡ closing_place m → at ≡ slot_at (spare_slot m) + 1 → count ≡ 460 → Writes place (0 ∷ []) old between → Rests between → ChangesWithin at count between new → LeavesOnly new (RecordIsCurrent m)
+pub bytes_fail : (m : ManifestState) (place at count : ℕ) (old between new : Content) → slot_at 1 + 4096 ≤ size old → IsCurrent m old
+    → place ≡ closing_place m → at ≡ slot_at (spare_slot m) + 1 → count ≡ 460 → Writes place (0 ∷ []) old between → Rests between
+    → ChangesWithin at count between new → LeavesOnly new (RecordIsCurrent m)
 bytes_fail m place at count old between new fits is_current is is_at long writes rests changes =
     weaker_leaves (within_leaves changes (shut_leaves m place old between fits is_current is writes rests) (bytes_torn m (size old) fits at count is_at long)) (λ image now. now.current)
 
 -- all is written
-pub all_prepared : (m : ManifestState) (place at : ℕ) (bytes : List ℕ) (next : Body) (digests : Digests) (old between new : Content) → slot_at 1 + 4096 ≤ size old → IsCurrent m old → place ≡ closing_place m → at ≡ slot_at (spare_slot m) + 1 → length bytes ≡ 460 → bytes ≡ record_bytes next digests → Writes place (0 ∷ []) old between → Rests between → Writes at bytes between new → Rests new → LeavesOnly new (IsReady m next digests)
+pub all_prepared : (m : ManifestState) (place at : ℕ) (bytes : List ℕ) (next : Body) (digests : Digests) (old between new : Content)
+    → slot_at 1 + 4096 ≤ size old → IsCurrent m old → place ≡ closing_place m → at ≡ slot_at (spare_slot m) + 1 → length bytes ≡ 460
+    → bytes ≡ record_bytes next digests → Writes place (0 ∷ []) old between → Rests between → Writes at bytes between new → Rests new → LeavesOnly new (IsReady m next digests)
 all_prepared m place at bytes next digests old between new fits is_current is is_at long bytes_are first rests second rests_too =
-    rests_leaves rests_too (write_shows second (leaves_shows (shut_leaves m place old between fits is_current is first rests)) (bytes_written m (size old) fits at bytes next digests is_at long bytes_are))
+    rests_leaves rests_too (write_shows second (leaves_shows (shut_leaves m place old between fits is_current is first rests))
+    (bytes_written m (size old) fits at bytes next digests is_at long bytes_are))
 
 -- what is then shown
-pub next_written : (m : ManifestState) (place at : ℕ) (bytes : List ℕ) (next : Body) (digests : Digests) (old between new : Content) → place ≡ closing_place m → at ≡ slot_at (spare_slot m) + 1 → bytes ≡ record_bytes next digests → Writes place (0 ∷ []) old between → Writes at bytes between new → WritesNext m next digests old new
+pub next_written : (m : ManifestState) (place at : ℕ) (bytes : List ℕ) (next : Body) (digests : Digests) (old between new : Content)
+    → place ≡ closing_place m → at ≡ slot_at (spare_slot m) + 1 → bytes ≡ record_bytes next digests → Writes place (0 ∷ []) old between
+    → Writes at bytes between new → WritesNext m next digests old new
 next_written m place at bytes next digests old between new is is_at are first second = record {
   honest = second.honest ∙ first.honest;
   shown = λ honest.
@@ -140,7 +154,8 @@ next_written m place at bytes next digests old between new is is_at are first se
 }
 
 -- the manifest with the next record, of this shape and with this current record, is prepared
-pub prepared_state : (m : ManifestState) (shape : Shape) (current next : Body) (held : Option Digests) (digests : Digests) (content : Content) → m.shape ≡ shape → m.current ≡ current → m.digests ≡ held → IsNext m next → FitsSlot next → FitsDigests digests → LeavesOnly content (IsReady m next digests)
+pub prepared_state : (m : ManifestState) (shape : Shape) (current next : Body) (held : Option Digests) (digests : Digests) (content : Content)
+    → m.shape ≡ shape → m.current ≡ current → m.digests ≡ held → IsNext m next → FitsSlot next → FitsDigests digests → LeavesOnly content (IsReady m next digests)
     → IsPrepared (record { shape = shape; current = current; digests = held; spare_closed = true; prepared = Some (long_record next digests) }) next digests content
 prepared_state m shape current next held digests content same_shape same_current same_digests follows fits fits_digests leaves =
     rw (← same_shape, ← same_current, ← same_digests) (record {

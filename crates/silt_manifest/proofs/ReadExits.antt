@@ -1,5 +1,6 @@
 -- What a read of the slots means for the shown bytes.
-use Rattle.std.proofs.Common.{◌≡◌, ℕ, ◌+◌, ◌%◌, Bool, true, false, not, nat_lt, if◌then◌else◌, List, slice_index, IsTrue, Option, Some, None, Err, refl, sym, ap, subst, ◌∙◌, inl, inr, arith, ok_or, IfOk, IfErr}
+use Rattle.std.proofs.Common.{◌≡◌, ℕ, ◌+◌, ◌%◌, Bool, true, false, not, nat_lt, if◌then◌else◌, List, slice_index, IsTrue, Option, Some, None, Err, refl, sym}
+use Rattle.std.proofs.Common.{ap, subst, ◌∙◌, inl, inr, arith, ok_or, IfOk, IfErr}
 use Rattle.std.proofs.lemmas.Bool.{cases_Bool}
 use Rattle.silt_disk.specs.Disk.{Content, Shows, LeavesOnly, Rests}
 use Rattle.silt_disk.specs.Header.{header_of, version_of}
@@ -26,13 +27,15 @@ abbrev pub ReadsSlot : Content → ℕ → List ℕ → Type 0
 ReadsSlot content slot bytes = IsTrue content.honest → bytes ≡ slot_of content.shown slot
 
 -- a slot that is closed, or whose record is sound
-pub reads_held : (content : Content) (s : Shape) (v : Version) (slot : ℕ) (bytes : List ℕ) (held : Option SlotRecord) → ReadsSlot content slot bytes → record_behind bytes ≡ held → is_sound_record s v slot held ≡ true → Shows content (HasSlot s v slot held)
+pub reads_held : (content : Content) (s : Shape) (v : Version) (slot : ℕ) (bytes : List ℕ) (held : Option SlotRecord)
+    → ReadsSlot content slot bytes → record_behind bytes ≡ held → is_sound_record s v slot held ≡ true → Shows content (HasSlot s v slot held)
 reads_held content s v slot bytes held reads is sound = record {
   holds = λ honest. record { held = ap record_behind (sym (reads honest)) ∙ is; sound = sound };
 }
 
 -- a slot that is open, and whose record is not sound
-pub reads_damage : (content : Content) (s : Shape) (v : Version) (slot : ℕ) (bytes : List ℕ) (damage : Damage) → ReadsSlot content slot bytes → damage ≡ Slot slot → is_sound_record s v slot (record_behind bytes) ≡ false → Shows content (IsUnsound s v slot damage)
+pub reads_damage : (content : Content) (s : Shape) (v : Version) (slot : ℕ) (bytes : List ℕ) (damage : Damage) → ReadsSlot content slot bytes
+    → damage ≡ Slot slot → is_sound_record s v slot (record_behind bytes) ≡ false → Shows content (IsUnsound s v slot damage)
 reads_damage content s v slot bytes damage reads place unsound = record {
   holds = λ honest. record { place = place; unsound = ap (λ held. is_sound_record s v slot (record_behind held)) (sym (reads honest)) ∙ unsound };
 }
@@ -49,7 +52,8 @@ first_damage s v damage image is unsound =
     record { found = found_at s v image (open_record image 0) (open_record image 1) is refl refl ∙ refused ∙ ap Err (sym unsound.place) }
 
 -- the second slot is damaged
-second_damage : (s : Shape) (v : Version) (damage : Damage) (first : Option SlotRecord) (image : List ℕ) → version_of (header_of image) ≡ v → HasSlot s v 0 first image → IsUnsound s v 1 damage image → IsDamaged s damage image
+second_damage : (s : Shape) (v : Version) (damage : Damage) (first : Option SlotRecord) (image : List ℕ) → version_of (header_of image) ≡ v
+    → HasSlot s v 0 first image → IsUnsound s v 1 damage image → IsDamaged s damage image
 unfolding record_found
 second_damage s v damage first image is has unsound =
     let refused : record_found s v first (open_record image 1) ≡ Err (Slot 1) = rw (has.sound, unsound.unsound) refl in
@@ -66,12 +70,15 @@ first_refused content s v W (Damaged damage) is refused = record { holds = λ ho
 first_refused content s v W (Device fault) is refused = refused
 
 -- the read of the second slot is refused
-pub second_refused : {F : Type 0} (content : Content) (s : Shape) (v : Version) (W : F → Type 0) (first : Option SlotRecord) (e : ReadFault F) → HasVersion content v → Shows content (HasSlot s v 0 first) → IsSlotRefused content s v W 1 e → IsNotRead content s W e
-second_refused content s v W first (Damaged damage) is has refused = record { holds = λ honest. second_damage s v damage first content.shown (sym (is honest)) (has.holds honest) (refused.holds honest) }
+pub second_refused : {F : Type 0} (content : Content) (s : Shape) (v : Version) (W : F → Type 0) (first : Option SlotRecord) (e : ReadFault F)
+    → HasVersion content v → Shows content (HasSlot s v 0 first) → IsSlotRefused content s v W 1 e → IsNotRead content s W e
+second_refused content s v W first (Damaged damage) is has refused =
+    record { holds = λ honest. second_damage s v damage first content.shown (sym (is honest)) (has.holds honest) (refused.holds honest) }
 second_refused content s v W first (Device fault) is has refused = refused
 
 -- both slots are closed
-pub none_refused : (content : Content) (s : Shape) (v : Version) (first second : Option SlotRecord) (made : Option ManifestState) → HasVersion content v → Shows content (HasSlot s v 0 first) → Shows content (HasSlot s v 1 second) → made ≡ manifest_of s first second → made ≡ None → Shows content (IsDamaged s NoSlot)
+pub none_refused : (content : Content) (s : Shape) (v : Version) (first second : Option SlotRecord) (made : Option ManifestState)
+    → HasVersion content v → Shows content (HasSlot s v 0 first) → Shows content (HasSlot s v 1 second) → made ≡ manifest_of s first second → made ≡ None → Shows content (IsDamaged s NoSlot)
 none_refused content s v None None made version one two is none = record { holds = λ honest. no_slot s v content.shown (sym (version honest)) (one.holds honest) (two.holds honest) }
 none_refused content s v None (Some b) made version one two is none = absurd (cc)
 none_refused content s v (Some a) None made version one two is none = absurd (cc)
@@ -86,7 +93,8 @@ holds_closed bytes holds =
     ]
 
 -- the record of the one slot is current, if the gate of the other is as given
-current_so : (s : Shape) (v : Version) (r o : ℕ) (b : SlotRecord) (spare_closed : Bool) (image : List ℕ) → r + o ≡ 1 → HasSlot s v r (Some b) image → current_manifest s image ≡ Some b → is_slot_open image o ≡ not spare_closed → IsCurrentIn (with_current s b spare_closed) image
+current_so : (s : Shape) (v : Version) (r o : ℕ) (b : SlotRecord) (spare_closed : Bool) (image : List ℕ) → r + o ≡ 1 → HasSlot s v r (Some b) image
+    → current_manifest s image ≡ Some b → is_slot_open image o ≡ not spare_closed → IsCurrentIn (with_current s b spare_closed) image
 current_so s v r o b spare_closed image slots has is_current spare =
     let own : b.body.generation % 2 ≡ r = (sound_parts s r b.body (sound_body s v r b has.sound)).slot_is in
     let other : (b.body.generation + 1) % 2 ≡ o = omega arith in
@@ -97,29 +105,38 @@ current_so s v r o b spare_closed image slots has is_current spare =
     }
 
 -- the manifest of two slots is what an image has
-current_in_image : (s : Shape) (v : Version) (first second : Option SlotRecord) (m : ManifestState) (image : List ℕ) → version_of (header_of image) ≡ v → HasSlot s v 0 first image → HasSlot s v 1 second image → manifest_of s first second ≡ Some m → IsCurrentIn m image
+current_in_image : (s : Shape) (v : Version) (first second : Option SlotRecord) (m : ManifestState) (image : List ℕ)
+    → version_of (header_of image) ≡ v → HasSlot s v 0 first image → HasSlot s v 1 second image → manifest_of s first second ≡ Some m → IsCurrentIn m image
 current_in_image s v None None m image version one two is = absurd (cc)
 current_in_image s v None (Some b) m image version one two is =
     let same : with_current s b true ≡ m = cc in
-    subst (λ state. IsCurrentIn state image) same (current_so s v 1 0 b true image refl two (ap where_found (alone_found s v 1 0 b image version refl two.sound two.held one.held)) (holds_closed (slot_of image 0) one.held))
+    subst (λ state. IsCurrentIn state image) same
+    (current_so s v 1 0 b true image refl two (ap where_found (alone_found s v 1 0 b image version refl two.sound two.held one.held)) (holds_closed (slot_of image 0) one.held))
 current_in_image s v (Some a) None m image version one two is =
     let same : with_current s a true ≡ m = cc in
-    subst (λ state. IsCurrentIn state image) same (current_so s v 0 1 a true image refl one (ap where_found (alone_found s v 0 1 a image version refl one.sound one.held two.held)) (holds_closed (slot_of image 1) two.held))
+    subst (λ state. IsCurrentIn state image) same
+    (current_so s v 0 1 a true image refl one (ap where_found (alone_found s v 0 1 a image version refl one.sound one.held two.held)) (holds_closed (slot_of image 1) two.held))
 current_in_image s v (Some a) (Some b) m image version one two is =
     elim (cases_Bool (nat_lt a.body.generation b.body.generation)) [
       | inl newer ↦
           let chosen : (if nat_lt a.body.generation b.body.generation then with_current s b false else with_current s a false) ≡ with_current s b false = rw newer refl in
           let same : with_current s b false ≡ m = cc in
-          subst (λ state. IsCurrentIn state image) same (current_so s v 1 0 b false image refl two (ap where_found (found_at s v image (Some a) (Some b) version one.held two.held ∙ newer_second s v a b one.sound two.sound newer)) (holds_open (slot_of image 0) a one.held))
+          subst (λ state. IsCurrentIn state image) same
+          (current_so s v 1 0 b false image refl two
+          (ap where_found (found_at s v image (Some a) (Some b) version one.held two.held ∙ newer_second s v a b one.sound two.sound newer)) (holds_open (slot_of image 0) a one.held))
       | inr older ↦
           let chosen : (if nat_lt a.body.generation b.body.generation then with_current s b false else with_current s a false) ≡ with_current s a false = rw older refl in
           let same : with_current s a false ≡ m = cc in
-          subst (λ state. IsCurrentIn state image) same (current_so s v 0 1 a false image refl one (ap where_found (found_at s v image (Some a) (Some b) version one.held two.held ∙ newer_first s v a b one.sound two.sound older)) (holds_open (slot_of image 1) b two.held))
+          subst (λ state. IsCurrentIn state image) same
+          (current_so s v 0 1 a false image refl one
+          (ap where_found (found_at s v image (Some a) (Some b) version one.held two.held ∙ newer_first s v a b one.sound two.sound older)) (holds_open (slot_of image 1) b two.held))
     ]
 
 -- the manifest of the slots is current in what is shown
-pub slots_are_current : (content : Content) (s : Shape) (v : Version) (first second : Option SlotRecord) (made : Option ManifestState) (m : ManifestState) → HasVersion content v → Shows content (HasSlot s v 0 first) → Shows content (HasSlot s v 1 second) → made ≡ manifest_of s first second → made ≡ Some m → Shows content (IsCurrentIn m)
-slots_are_current content s v first second made m version one two is some = record { holds = λ honest. current_in_image s v first second m content.shown (sym (version honest)) (one.holds honest) (two.holds honest) (sym is ∙ some) }
+pub slots_are_current : (content : Content) (s : Shape) (v : Version) (first second : Option SlotRecord) (made : Option ManifestState) (m : ManifestState)
+    → HasVersion content v → Shows content (HasSlot s v 0 first) → Shows content (HasSlot s v 1 second) → made ≡ manifest_of s first second → made ≡ Some m → Shows content (IsCurrentIn m)
+slots_are_current content s v first second made m version one two is some =
+    record { holds = λ honest. current_in_image s v first second m content.shown (sym (version honest)) (one.holds honest) (two.holds honest) (sym is ∙ some) }
 
 -- if nothing is pending, also in each possible crash image
 pub rest_is_current : (content : Content) (m : ManifestState) → Shows content (IsCurrentIn m) → Rests content → LeavesOnly content (IsCurrentIn m)

@@ -1,5 +1,6 @@
 -- What is written of a body is what is read.
-use Rattle.std.proofs.Common.{◌≡◌, ℕ, zero, suc, ◌+◌, ◌-◌, ◌*◌, ◌%◌, ◌^◌, ◌<◌, ◌≤◌, true, nat_lt, List, [], ◌∷◌, ◌++◌, length, map, take, drop, replicate, refl, sym, ap, ◌∙◌, arith, append_assoc, append-nil, length-append}
+use Rattle.std.proofs.Common.{◌≡◌, ℕ, zero, suc, ◌+◌, ◌-◌, ◌*◌, ◌%◌, ◌^◌, ◌<◌, ◌≤◌, true, nat_lt, List, [], ◌∷◌, ◌++◌, length, map, take, drop, replicate, refl}
+use Rattle.std.proofs.Common.{sym, ap, ◌∙◌, arith, append_assoc, append-nil, length-append}
 use Rattle.std.specs.List.{range_with_len, list_all}
 use Rattle.std.proofs.lemmas.List.{drop_at, take_at, length-replicate}
 use Rattle.std.proofs.lemmas.Bool.{and_parts, ltb-true}
@@ -31,7 +32,8 @@ map_same f g [] same = refl
 map_same f g (n ∷ ns) same = let head = same n in let rest = map_same f g ns same in cc
 
 -- numbers one after the other
-pub ids_behind : (ns : List ℕ) (i : ℕ) (pre post : List ℕ) → length pre ≡ i → list_all (λ n. nat_lt n (256 ^ 4)) ns ≡ true → map (λ k. number_at 4 (i + 4 * k) (pre ++ (id_bytes ns ++ post))) (range_with_len 0 (length ns)) ≡ ns
+pub ids_behind : (ns : List ℕ) (i : ℕ) (pre post : List ℕ) → length pre ≡ i → list_all (λ n. nat_lt n (256 ^ 4)) ns ≡ true
+    → map (λ k. number_at 4 (i + 4 * k) (pre ++ (id_bytes ns ++ post))) (range_with_len 0 (length ns)) ≡ ns
 ids_behind [] i pre post e small = refl
 ids_behind (n ∷ ns) i pre post e small =
     let parts = and_parts (nat_lt n (256 ^ 4)) (list_all (λ n. nat_lt n (256 ^ 4)) ns) small in
@@ -51,7 +53,8 @@ ids_behind (n ∷ ns) i pre post e small =
     cc
 
 -- as many as the count
-pub ids_at_behind : (room : ℕ) (ns : List ℕ) (i : ℕ) (pre post : List ℕ) → length pre ≡ i → length ns < 256 ^ 4 → list_all (λ n. nat_lt n (256 ^ 4)) ns ≡ true → ids_at i (pre ++ (ids_bytes room ns ++ post)) ≡ ns
+pub ids_at_behind : (room : ℕ) (ns : List ℕ) (i : ℕ) (pre post : List ℕ) → length pre ≡ i → length ns < 256 ^ 4
+    → list_all (λ n. nat_lt n (256 ^ 4)) ns ≡ true → ids_at i (pre ++ (ids_bytes room ns ++ post)) ≡ ns
 ids_at_behind room ns i pre post e short small =
     let pad = replicate (4 * (room - length ns)) 0 in
     let bytes = pre ++ (ids_bytes room ns ++ post) in
@@ -123,9 +126,11 @@ body_law b gate rest fits =
     let generation : number_at 8 1 slot % long_bit ≡ b.generation = ap (λ (n : ℕ). n % long_bit) field ∙ without_bit b.generation fits.generation in
     let active : number_at 4 9 slot ≡ b.active = big_number-reads_back 4 b.active [] fits.active in
     let frozen : ids_at 13 slot ≡ b.frozen = ap (ids_at 13) whole ∙ ids_at_behind 7 b.frozen 13 (front gate b) (H ++ (S ++ (C ++ rest))) refl (let h = fits.frozen_count in omega arith) fits.frozen in
-    let hashed : ids_at 45 slot ≡ b.hashed = ap (ids_at 45) (whole ∙ to_hashed) ∙ ids_at_behind 16 b.hashed 45 (front gate b ++ F) (S ++ (C ++ rest)) len_f (let h = fits.hashed_count in omega arith) fits.hashed in
+    let hashed : ids_at 45 slot ≡ b.hashed = ap (ids_at 45) (whole ∙ to_hashed)
+    ∙ ids_at_behind 16 b.hashed 45 (front gate b ++ F) (S ++ (C ++ rest)) len_f (let h = fits.hashed_count in omega arith) fits.hashed in
     let sorted : number_at 4 113 slot ≡ b.sorted = ap (number_at 4 113) (whole ∙ to_hashed ∙ to_sorted) ∙ number_behind 4 113 b.sorted ((front gate b ++ F) ++ H) (C ++ rest) len_h fits.sorted in
-    let count : number_at 4 117 slot ≡ b.sorted_count = ap (number_at 4 117) (whole ∙ to_hashed ∙ to_sorted ∙ to_count) ∙ number_behind 4 117 b.sorted_count (((front gate b ++ F) ++ H) ++ S) rest len_s fits.sorted_count in
+    let count : number_at 4 117 slot ≡ b.sorted_count = ap (number_at 4 117) (whole ∙ to_hashed ∙ to_sorted ∙ to_count)
+    ∙ number_behind 4 117 b.sorted_count (((front gate b ++ F) ++ H) ++ S) rest len_s fits.sorted_count in
     record_same generation active frozen hashed sorted count
   where
     record_same : {a c e f : ℕ} {xs ys : List ℕ} → a ≡ b.generation → c ≡ b.active → xs ≡ b.frozen → ys ≡ b.hashed → e ≡ b.sorted → f ≡ b.sorted_count

@@ -39,7 +39,8 @@ unfolding record_behind
 opened_record bytes opened = rw opened refl
 
 -- a change before or behind a slot's bytes
-pub slot_same : (at count slot : ℕ) (before after : List ℕ) → Torn at count before after → slot_at slot + 461 ≤ length before → (at + count ≤ slot_at slot) ⊎ (slot_at slot + 461 ≤ at) → slot_of after slot ≡ slot_of before slot
+pub slot_same : (at count slot : ℕ) (before after : List ℕ) → Torn at count before after → slot_at slot + 461 ≤ length before
+    → (at + count ≤ slot_at slot) ⊎ (slot_at slot + 461 ≤ at) → slot_of after slot ≡ slot_of before slot
 slot_same at count slot before after torn fits apart =
     elim apart [
       | inl below ↦ torn_slice_after at count before after torn (slot_at slot) (slot_at slot + 461) below fits
@@ -47,7 +48,8 @@ slot_same at count slot before after torn fits apart =
     ]
 
 -- a change in the one slot leaves the other as it is
-pub other_same : (r o at count : ℕ) (before after : List ℕ) → r + o ≡ 1 → slot_at o ≤ at → at + count ≤ slot_at o + 4096 → slot_at 1 + 4096 ≤ length before → Torn at count before after → slot_of after r ≡ slot_of before r
+pub other_same : (r o at count : ℕ) (before after : List ℕ) → r + o ≡ 1 → slot_at o ≤ at → at + count ≤ slot_at o + 4096
+    → slot_at 1 + 4096 ≤ length before → Torn at count before after → slot_of after r ≡ slot_of before r
 other_same r o at count before after slots low high fits torn =
     slot_same at count r before after torn (omega arith)
     (elim (cases_eq r 0) [
@@ -56,15 +58,19 @@ other_same r o at count before after slots low high fits torn =
     ])
 
 -- a torn gate of an open slot: the slot is closed now, or as it was
-pub gate_torn : (slot : ℕ) (before after : List ℕ) → slot_at slot + 461 ≤ length before → Torn (slot_at slot) 1 before after → is_slot_open before slot ≡ true → (open_record after slot ≡ None) ⊎ (open_record after slot ≡ open_record before slot)
+pub gate_torn : (slot : ℕ) (before after : List ℕ) → slot_at slot + 461 ≤ length before → Torn (slot_at slot) 1 before after
+    → is_slot_open before slot ≡ true → (open_record after slot ≡ None) ⊎ (open_record after slot ≡ open_record before slot)
 gate_torn slot before after fits torn opened =
     let fits_after : slot_at slot + 461 ≤ length after = omega (arith, torn.size) in
-    let behind : slice_range after (slot_at slot + 1) (slot_at slot + 461) ≡ slice_range before (slot_at slot + 1) (slot_at slot + 461) = torn_slice_after (slot_at slot) 1 before after torn (slot_at slot + 1) (slot_at slot + 461) (omega arith) fits in
+    let behind : slice_range after (slot_at slot + 1) (slot_at slot + 461) ≡ slice_range before (slot_at slot + 1) (slot_at slot + 461) =
+    torn_slice_after (slot_at slot) 1 before after torn (slot_at slot + 1) (slot_at slot + 461) (omega arith) fits in
     let was : get_or before (slot_at slot) 0 ≡ 167 = sym (gate_of before slot fits) ∙ open_gate _ opened in
     elim (cases_Bool (is_slot_open after slot)) [
       | inl still ↦
           let is : get_or after (slot_at slot) 0 ≡ 167 = sym (gate_of after slot fits_after) ∙ open_gate _ still in
-          let same : slot_of after slot ≡ slot_of before slot = slot_parts after slot fits_after ∙ ap (λ (gate : ℕ). gate ∷ slice_range after (slot_at slot + 1) (slot_at slot + 461)) (is ∙ sym was) ∙ ap (λ (rest : List ℕ). get_or before (slot_at slot) 0 ∷ rest) behind ∙ sym (slot_parts before slot fits) in
+          let same : slot_of after slot ≡ slot_of before slot =
+          slot_parts after slot fits_after ∙ ap (λ (gate : ℕ). gate ∷ slice_range after (slot_at slot + 1) (slot_at slot + 461)) (is ∙ sym was)
+          ∙ ap (λ (rest : List ℕ). get_or before (slot_at slot) 0 ∷ rest) behind ∙ sym (slot_parts before slot fits) in
           inr (ap record_behind same)
       | inr closed ↦ inl (closed_record (slot_of after slot) closed)
     ]

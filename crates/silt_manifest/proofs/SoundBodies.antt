@@ -113,10 +113,12 @@ without_body s version slot found unsound =
     ]
 
 -- a record with a well-formed body and the digests that are due is sound
-pub with_both : (s : Shape) (version : Version) (slot : ℕ) (found : SlotRecord) → has_due_digests version found.digests ≡ true → is_well_formed s slot found.body ≡ true → is_sound_record s version slot (Some found) ≡ true
+pub with_both : (s : Shape) (version : Version) (slot : ℕ) (found : SlotRecord) → has_due_digests version found.digests ≡ true
+    → is_well_formed s slot found.body ≡ true → is_sound_record s version slot (Some found) ≡ true
 with_both s version slot found due sound = rw (due, sound) refl
 
 -- a record with digests is allowed on a device of any version
-pub long_sound : (s : Shape) (version : Version) (slot : ℕ) (found : SlotRecord) → is_some found.digests ≡ true → is_well_formed s slot found.body ≡ true → is_sound_record s version slot (Some found) ≡ true
+pub long_sound : (s : Shape) (version : Version) (slot : ℕ) (found : SlotRecord) → is_some found.digests ≡ true
+    → is_well_formed s slot found.body ≡ true → is_sound_record s version slot (Some found) ≡ true
 long_sound s One slot found has sound = sound
 long_sound s Two slot found has sound = rw has sound

@@ -1,5 +1,6 @@
 -- The key that is decided next is the lowest one, and by what it is decided.
-use Rattle.std.proofs.Common.{◌≡◌, ◌≢◌, ℕ, ◌<◌, nat_lt, Bool, true, false, not, List, [], length, slice_get, Option, Some, None, option_map, inl, inr, refl, sym, subst, ap, ◌∙◌, is_some, Ordering, lt-ltb, Less, Equal, Greater}
+use Rattle.std.proofs.Common.{◌≡◌, ◌≢◌, ℕ, ◌<◌, nat_lt, Bool, true, false, not, List, [], length, slice_get, Option, Some, None, option_map, inl, inr, refl}
+use Rattle.std.proofs.Common.{sym, subst, ap, ◌∙◌, is_some, Ordering, lt-ltb, Less, Equal, Greater}
 use Rattle.std.specs.Ordering.{match_ordering, nat_cmp}
 use Rattle.std.specs.Cmp.Lexicographic.{slice_cmp, nat_list_cmp_total}
 use Rattle.std.proofs.lemmas.Map.Lookups.{exact_bytes}
@@ -23,7 +24,8 @@ not_both : (a b : List ℕ) → slice_cmp nat_cmp a b ≡ Less → slice_cmp nat
 not_both a b less other = not_below_itself a a refl (nat_list_cmp_total.trans a b a less other)
 
 -- the choice of a row that waits
-offered_row : (waiting : List (Key × Source)) (last : Option Key) (key : Key) (source : Source) (choice : Choice) → IsFirstWaiting waiting (Some (key, source)) → ((key : List ℕ) (its : Source) → source_at waiting key ≡ Some its → is_above last key ≡ true)
+offered_row : (waiting : List (Key × Source)) (last : Option Key) (key : Key) (source : Source) (choice : Choice)
+    → IsFirstWaiting waiting (Some (key, source)) → ((key : List ℕ) (its : Source) → source_at waiting key ≡ Some its → is_above last key ≡ true)
     → choice.key ≡ key → choice.source ≡ Some source → IsOffered waiting last choice
 offered_row waiting last key source choice is above its_key its_source = record {
   source = λ other same. ap (λ (k : Key). source_at waiting k.0) its_key ∙ is.0 ∙ sym its_source ∙ same;
@@ -33,7 +35,8 @@ offered_row waiting last key source choice is above its_key its_source = record 
 }
 
 -- that of the next entry, which is below each row
-offered_entry : (waiting : List (Key × Source)) (last : Option Key) (next : Key) (choice : Choice) → choice.key ≡ next → choice.source ≡ None → choice.passes ≡ true → is_behind last (Some next) ≡ false
+offered_entry : (waiting : List (Key × Source)) (last : Option Key) (next : Key) (choice : Choice) → choice.key ≡ next → choice.source ≡ None
+    → choice.passes ≡ true → is_behind last (Some next) ≡ false
     → ((key : List ℕ) (its : Source) → source_at waiting key ≡ Some its → slice_cmp nat_cmp key next.0 ≢ Less) → IsOffered waiting last choice
 offered_entry waiting last next choice its_key none passes ahead least = record {
   source = λ other is. absurd (cc);
@@ -48,26 +51,32 @@ offered_entry waiting last next choice its_key none passes ahead least = record 
 
 -- the choice of the lower of two keys
 lower_is : (key : Key) (source : Source) (next : Key) (o : Ordering) → slice_cmp nat_cmp key.0 next.0 ≡ o
-    → lower_choice key source next ≡ match_ordering o (record { key = key; source = Some source; passes = false }) (record { key = key; source = Some source; passes = true }) (record { key = next; source = None; passes = true })
+    → lower_choice key source next ≡ match_ordering o (record { key = key; source = Some source; passes = false })
+    (record { key = key; source = Some source; passes = true }) (record { key = next; source = None; passes = true })
 lower_is key source next o is =
-    ap (λ (p : Ordering). let it : Choice = match_ordering p (record { key = key; source = Some source; passes = false }) (record { key = key; source = Some source; passes = true }) (record { key = next; source = None; passes = true }) in it) is
+    ap (λ (p : Ordering). let it : Choice = match_ordering p (record { key = key; source = Some source; passes = false })
+    (record { key = key; source = Some source; passes = true }) (record { key = next; source = None; passes = true }) in it) is
 
 -- what is chosen is offered
-pub offered : (waiting : List (Key × Source)) (last : Option Key) (first : Option (Key × Source)) (next : Option Key) (choice : Choice) → IsFirstWaiting waiting first → choice_of first next ≡ Some choice → is_behind last next ≡ false
+pub offered : (waiting : List (Key × Source)) (last : Option Key) (first : Option (Key × Source)) (next : Option Key) (choice : Choice)
+    → IsFirstWaiting waiting first → choice_of first next ≡ Some choice → is_behind last next ≡ false
     → ((key : List ℕ) (its : Source) → source_at waiting key ≡ Some its → is_above last key ≡ true) → IsOffered waiting last choice
 offered waiting last None None choice is chosen ahead above = absurd (cc)
 offered waiting last None (Some next) choice is chosen ahead above =
     let it : record { key = next; source = None; passes = true } ≡ choice = cc in
     subst (IsOffered waiting last) it
-    (offered_entry waiting last next (record { key = next; source = None; passes = true }) refl refl refl ahead (λ key its waits. let none : source_at waiting key ≡ None = ap (λ l. source_at l key) is in absurd (cc)))
+    (offered_entry waiting last next (record { key = next; source = None; passes = true }) refl refl refl ahead
+    (λ key its waits. let none : source_at waiting key ≡ None = ap (λ l. source_at l key) is in absurd (cc)))
 offered waiting last (Some (key, source)) None choice is chosen ahead above =
     let it : record { key = key; source = Some source; passes = false } ≡ choice = cc in
     subst (IsOffered waiting last) it (offered_row waiting last key source (record { key = key; source = Some source; passes = false }) is above refl refl)
 offered waiting last (Some (key, source)) (Some next) choice is chosen ahead above =
     let it : lower_choice key source next ≡ choice = cc in
     let go : (o : Ordering) → slice_cmp nat_cmp key.0 next.0 ≡ o → IsOffered waiting last (lower_choice key source next) = elim [
-      | Less ↦ λ o. subst (IsOffered waiting last) (sym (lower_is key source next Less o)) (offered_row waiting last key source (record { key = key; source = Some source; passes = false }) is above refl refl)
-      | Equal ↦ λ o. subst (IsOffered waiting last) (sym (lower_is key source next Equal o)) (offered_row waiting last key source (record { key = key; source = Some source; passes = true }) is above refl refl)
+      | Less ↦ λ o. subst (IsOffered waiting last) (sym (lower_is key source next Less o))
+          (offered_row waiting last key source (record { key = key; source = Some source; passes = false }) is above refl refl)
+      | Equal ↦ λ o. subst (IsOffered waiting last) (sym (lower_is key source next Equal o))
+          (offered_row waiting last key source (record { key = key; source = Some source; passes = true }) is above refl refl)
       | Greater ↦ λ o. subst (IsOffered waiting last) (sym (lower_is key source next Greater o))
           (offered_entry waiting last next (record { key = next; source = None; passes = true }) refl refl refl ahead
           (λ other its waits less. is.1 other its waits (nat_list_cmp_total.trans other next.0 key.0 less (turned key.0 next.0 o))))
@@ -151,7 +160,8 @@ module _ (entries : List StoredRow) (passed : ℕ) (bytes : List ℕ) (row_of : 
     entry = λ none. absurd (cc);
   }
 
-  pub chosen : (first : Option (Key × Source)) (next : Option Key) (choice : Choice) → IsFirstWaiting waiting first → IsNextEntry entries passed bytes next → is_some next ≡ nat_lt passed (length entries)
+  pub chosen : (first : Option (Key × Source)) (next : Option Key) (choice : Choice) → IsFirstWaiting waiting first
+      → IsNextEntry entries passed bytes next → is_some next ≡ nat_lt passed (length entries)
       → choice_of first next ≡ Some choice → IsChosen entries passed bytes row_of waiting choice
   chosen None None choice is there some made = absurd (cc)
   chosen None (Some next) choice is there some made =

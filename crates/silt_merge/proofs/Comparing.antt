@@ -1,5 +1,6 @@
 -- The bytes that a merge hashes of what it reads, and what they say of the digests of the stores.
-use Rattle.std.proofs.Common.{◌≡◌, ℕ, ◌+◌, ◌*◌, ◌<◌, ◌≤◌, eqb, nat_lt, Bool, true, false, if◌then◌else◌, List, [], ◌∷◌, ◌++◌, length, get_or, take, Option, inl, inr, refl, sym, subst, ap, ◌∙◌, arith, length-append, Some, None, All}
+use Rattle.std.proofs.Common.{◌≡◌, ℕ, ◌+◌, ◌*◌, ◌<◌, ◌≤◌, eqb, nat_lt, Bool, true, false, if◌then◌else◌, List, [], ◌∷◌, ◌++◌, length, get_or, take, Option, inl}
+use Rattle.std.proofs.Common.{inr, refl, sym, subst, ap, ◌∙◌, arith, length-append, Some, None, All}
 use Rattle.std.proofs.lemmas.Bool.{and_parts, cases_eq, cases_lt, cond-true, cond-false, eq-eqb, eqb-true, le-ltb, lt-ltb}
 use Rattle.std.proofs.Math.Nat.{add-mul}
 use Rattle.std.proofs.lemmas.List.{take_all, take_more}
@@ -40,11 +41,13 @@ slot_bytes s region image slot slots some long are =
     ∙ ap (λ (l : List ℕ). rows_bytes (rows_before s region image slot) ++ l) (row_bytes_of (get_or slots 0 []) (omega (arith, long)))
 
 -- those of the entries before one and of this one, which is ahead
-pub entry_bytes : (rows : List StoredRow) (place : ℕ) (ahead : List (List ℕ)) → 0 < length ahead → AreEntries rows place ahead → entries_bytes (take (place + 1) rows) ≡ entries_bytes (take place rows) ++ get_or ahead 0 []
+pub entry_bytes : (rows : List StoredRow) (place : ℕ) (ahead : List (List ℕ)) → 0 < length ahead → AreEntries rows place ahead
+    → entries_bytes (take (place + 1) rows) ≡ entries_bytes (take place rows) ++ get_or ahead 0 []
 entry_bytes rows place ahead some are =
     let part : List ℕ = get_or ahead 0 [] in
     let there = first_entry rows place ahead some are in
-    ap entries_bytes (take_more rows place (entry_row part) (slice_get_within rows place (entry_row part) there) ∙ ap (λ r. take place rows ++ r ∷ []) (get_or_from_slice_get rows place (entry_row part) (entry_row part) there))
+    ap entries_bytes (take_more rows place (entry_row part) (slice_get_within rows place (entry_row part) there)
+    ∙ ap (λ r. take place rows ++ r ∷ []) (get_or_from_slice_get rows place (entry_row part) (entry_row part) there))
     ∙ bytes_more (take place rows) part
 
 module _ (content : Content) (stores : List HashState) (sorted : SortedState) (digest : List ℕ) (merge : MergeState) (matches : MatchesDigests content stores sorted digest merge) where
@@ -52,7 +55,8 @@ module _ (content : Content) (stores : List HashState) (sorted : SortedState) (d
   image = content.shown
 
   -- the last slot of a store is not refused
-  pub slot_agrees : (store : HashState) → merge.store < merge.stores → 0 < length merge.slots → length (get_or merge.slots 0 []) ≡ row_len merge.shape → All (λ (s : HashState). s.shape ≡ merge.shape) stores
+  pub slot_agrees : (store : HashState) → merge.store < merge.stores → 0 < length merge.slots → length (get_or merge.slots 0 []) ≡ row_len merge.shape
+      → All (λ (s : HashState). s.shape ≡ merge.shape) stores
       → store ≡ get_or stores merge.store store → ((bytes : List ℕ) → HasTaken merge.input bytes → MayTake (ends_store merge) (bytes ++ get_or merge.slots 0 []) store.digest false) → ⊥
   slot_agrees store below some long shapes here may =
       let inside : merge.store < length stores = omega (arith, below, matches.merged.counted) in
@@ -65,7 +69,8 @@ module _ (content : Content) (stores : List HashState) (sorted : SortedState) (d
       let all : merge.slot + 1 ≡ 4 * s.buckets = ends ∙ ap (λ (t : Shape). 4 * t.buckets) (sym shape) in
       let own : store.shape ≡ s = ap (λ (t : HashState). t.shape) here ∙ shapes merge.store store inside ∙ sym shape in
       let its = store_at stores merge.store store inside here in
-      let digested : store.digest ≡ sha1 (rows_bytes (hash_rows store.shape store.region image)) = subst (λ (t : HashState). t.digest ≡ sha1 (rows_bytes (hash_rows t.shape t.region image))) (sym here) ((matches.hashes merge.store store inside).digested matches.honest) in
+      let digested : store.digest ≡ sha1 (rows_bytes (hash_rows store.shape store.region image)) =
+      subst (λ (t : HashState). t.digest ≡ sha1 (rows_bytes (hash_rows t.shape t.region image))) (sym here) ((matches.hashes merge.store store inside).digested matches.honest) in
       let bytes : rows_bytes (rows_before s region image merge.slot) ++ get_or merge.slots 0 [] ≡ rows_bytes (hash_rows store.shape store.region image) =
       sym (slot_bytes s region image merge.slot merge.slots some (long ∙ ap row_len (sym shape)) (was.slots inside))
       ∙ ap (λ n. rows_bytes (rows_before s region image n)) all
@@ -100,7 +105,8 @@ fits_of true place none = refl
 fits_of false place none = let no : Some place ≡ None = none in absurd (cc)
 
 -- nothing is compared at the start
-pub none_compared : (stores : List HashState) (sorted : SortedState) (digest : List ℕ) (merge : MergeState) → merge.store ≡ 0 → merge.slot ≡ 0 → merge.passed ≡ 0 → HasTaken merge.input [] → HasCompared stores sorted digest merge
+pub none_compared : (stores : List HashState) (sorted : SortedState) (digest : List ℕ) (merge : MergeState) → merge.store ≡ 0
+    → merge.slot ≡ 0 → merge.passed ≡ 0 → HasTaken merge.input [] → HasCompared stores sorted digest merge
 none_compared stores sorted digest merge store slot passed fresh = record {
   hashes = λ none place its below. absurd (omega (arith, below, store));
   entries = λ none some past. absurd (omega (arith, some, past, passed));
@@ -117,10 +123,14 @@ module _ (stores : List HashState) (sorted : SortedState) (digest : List ℕ) (m
   compared_with slots ahead is = record { hashes = is.hashes; entries = is.entries; input = is.input }
 
   -- a slot more
-  pub compared_slot : (fits : Bool) (place : Place) → merge.damaged ≡ None → (store : HashState) (next : ℕ × ℕ) (waiting : List (Key × Source)) (slots : List (List ℕ)) (input : Taken) → IsHeldMerge merge → merge.store < merge.stores → length (get_or merge.slots 0 []) ≡ row_len merge.shape
+  pub compared_slot : (fits : Bool) (place : Place) → merge.damaged ≡ None
+      → (store : HashState) (next : ℕ × ℕ) (waiting : List (Key × Source)) (slots : List (List ℕ)) (input : Taken) → IsHeldMerge merge
+      → merge.store < merge.stores → length (get_or merge.slots 0 []) ≡ row_len merge.shape
       → store ≡ get_or stores merge.store store → ((bytes : List ℕ) → HasTaken merge.input bytes → MayTake (ends_store merge) (bytes ++ get_or merge.slots 0 []) store.digest fits)
-      → ((bytes : List ℕ) → HasTaken merge.input bytes → HasTaken input (input_after (ends_store merge) bytes (get_or merge.slots 0 []))) → next ≡ slot_after merge.store merge.slot (4 * merge.shape.buckets)
-      → HasCompared stores sorted digest merge → HasCompared stores sorted digest (record merge { store = next.0; slot = next.1; waiting = waiting; slots = slots; input = input; damaged = finding fits place })
+      → ((bytes : List ℕ) → HasTaken merge.input bytes → HasTaken input (input_after (ends_store merge) bytes (get_or merge.slots 0 [])))
+      → next ≡ slot_after merge.store merge.slot (4 * merge.shape.buckets)
+      → HasCompared stores sorted digest merge → HasCompared stores sorted digest
+      (record merge { store = next.0; slot = next.1; waiting = waiting; slots = slots; input = input; damaged = finding fits place })
   compared_slot fits found sound store next waiting slots input held below long here may hashed next_is is = go (ends_store merge) refl
     where
       part : List ℕ
@@ -139,12 +149,14 @@ module _ (stores : List HashState) (sorted : SortedState) (digest : List ℕ) (m
       len_after true = omega arith
       len_after false = omega (arith, ap (λ n. n * entry_len merge.shape) (held.unpassed below))
 
-      go : (ends : Bool) → ends_store merge ≡ ends → HasCompared stores sorted digest (record merge { store = next.0; slot = next.1; waiting = waiting; slots = slots; input = input; damaged = finding fits found })
+      go : (ends : Bool) → ends_store merge ≡ ends → HasCompared stores sorted digest
+          (record merge { store = next.0; slot = next.1; waiting = waiting; slots = slots; input = input; damaged = finding fits found })
       go true last =
           let next_store : next.0 ≡ merge.store + 1 = ap (λ (p : ℕ × ℕ). p.0) (next_is ∙ cond-true _ _ _ last) in
           let next_slot : next.1 ≡ 0 = ap (λ (p : ℕ × ℕ). p.1) (next_is ∙ cond-true _ _ _ last) in
           let slots_are : merge.slot + 1 ≡ 4 * merge.shape.buckets = eqb-true (merge.slot + 1) (4 * merge.shape.buckets) last in
-          let all_len : length (bytes ++ part) ≡ slots_len merge.shape = length-append bytes part ∙ more_parts merge.slot (4 * merge.shape.buckets) (row_len merge.shape) (length bytes) (length part) slots_are hashed_len long in
+          let all_len : length (bytes ++ part) ≡ slots_len merge.shape =
+          length-append bytes part ∙ more_parts merge.slot (4 * merge.shape.buckets) (row_len merge.shape) (length bytes) (length part) slots_are hashed_len long in
           let agrees : finding fits found ≡ None → store.digest ≡ sha1 (bytes ++ part) = λ none. (may bytes is.input.2).0 (fits_of fits found none) last in
           record {
             hashes = λ none place its under there. elim (cases_eq place merge.store) [
@@ -177,11 +189,25 @@ module _ (stores : List HashState) (sorted : SortedState) (digest : List ℕ) (m
           }
 
   -- a key more, with the next entry or without it
-  pub compared_key : (fits : Bool) (place : Place) → merge.damaged ≡ None → (passes : Bool) (waiting : List (Key × Source)) (written : ℕ) (index : BuilderState) (decided : ℕ) (last : Option Key) (ahead : List (List ℕ)) (input : Taken) (hasher : Sha1) → IsHeldMerge merge → merge.store ≡ merge.stores
+  pub compared_key : (fits : Bool) (place : Place) → merge.damaged ≡ None
+      → (passes : Bool) (waiting : List (Key × Source)) (written : ℕ) (index : BuilderState) (decided : ℕ) (last : Option Key)
+      (ahead : List (List ℕ)) (input : Taken) (hasher : Sha1) → IsHeldMerge merge → merge.store ≡ merge.stores
       → (passes ≡ true → length (get_or merge.ahead 0 []) ≡ entry_len merge.shape)
       → ((bytes : List ℕ) → HasTaken merge.input bytes → MayTake (ends_entries passes merge.passed sorted.count) (bytes ++ get_or merge.ahead 0 []) digest fits)
       → ((bytes : List ℕ) → HasTaken merge.input bytes → HasTaken input (hashed_after passes bytes (get_or merge.ahead 0 []))) → HasCompared stores sorted digest merge
-      → HasCompared stores sorted digest (record merge { waiting = waiting; passed = passed_after passes merge.passed; written = written; index = index; decided = decided; last = last; ahead = ahead; input = input; hasher = hasher; damaged = finding fits place })
+      → HasCompared stores sorted digest
+      (record merge {
+        waiting = waiting;
+        passed = passed_after passes merge.passed;
+        written = written;
+        index = index;
+        decided = decided;
+        last = last;
+        ahead = ahead;
+        input = input;
+        hasher = hasher;
+        damaged = finding fits place;
+      })
   compared_key fits found sound passes waiting written index decided last ahead input hasher held all long may hashed is = go passes refl
     where
       part : List ℕ
@@ -196,7 +222,19 @@ module _ (stores : List HashState) (sorted : SortedState) (digest : List ℕ) (m
       hashed_len : length bytes ≡ merge.passed * entry_len merge.shape
       hashed_len = is.input.1 ∙ cond-false _ _ _ past_all
 
-      go : (b : Bool) → passes ≡ b → HasCompared stores sorted digest (record merge { waiting = waiting; passed = passed_after passes merge.passed; written = written; index = index; decided = decided; last = last; ahead = ahead; input = input; hasher = hasher; damaged = finding fits found })
+      go : (b : Bool) → passes ≡ b → HasCompared stores sorted digest
+          (record merge {
+            waiting = waiting;
+            passed = passed_after passes merge.passed;
+            written = written;
+            index = index;
+            decided = decided;
+            last = last;
+            ahead = ahead;
+            input = input;
+            hasher = hasher;
+            damaged = finding fits found;
+          })
       go false stays =
           let as_before : passed_after passes merge.passed ≡ merge.passed = ap (λ b. passed_after b merge.passed) stays in
           record {

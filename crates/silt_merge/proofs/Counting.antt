@@ -42,16 +42,22 @@ find_pairs (row ∷ rows) key =
     ap (λ b. cond b (Some row.value) (find (slice_cmp nat_cmp) key (pairs rows))) same ∙ go (bytes_eq row.key key)
 
 -- which is what a put gives
-put_values : (rows : List StoredRow) (key : List ℕ) → option_and_then value_given (row_with key (filter is_put_row rows)) ≡ option_map (λ (r : StoredRow). r.value) (row_with key (filter is_put_row rows))
+put_values : (rows : List StoredRow) (key : List ℕ) → option_and_then value_given (row_with key (filter is_put_row rows)) ≡ option_map
+    (λ (r : StoredRow). r.value) (row_with key (filter is_put_row rows))
 put_values [] key = refl
 put_values (row ∷ rows) key =
     let further = put_values rows key in
-    let here : is_put_row row ≡ true → (b : Bool) → option_and_then value_given (cond b (Some row) (row_with key (filter is_put_row rows))) ≡ option_map (λ (r : StoredRow). r.value) (cond b (Some row) (row_with key (filter is_put_row rows))) = λ put b. elim b as (λ b. option_and_then value_given (cond b (Some row) (row_with key (filter is_put_row rows))) ≡ option_map (λ (r : StoredRow). r.value) (cond b (Some row) (row_with key (filter is_put_row rows)))) [
+    let here : is_put_row row ≡ true → (b : Bool) → option_and_then value_given (cond b (Some row) (row_with key (filter is_put_row rows))) ≡ option_map
+    (λ (r : StoredRow). r.value) (cond b (Some row) (row_with key (filter is_put_row rows))) =
+    λ put b. elim b as (λ b. option_and_then value_given (cond b (Some row) (row_with key (filter is_put_row rows))) ≡ option_map
+    (λ (r : StoredRow). r.value) (cond b (Some row) (row_with key (filter is_put_row rows)))) [
       | true ↦ cond-true _ _ _ put
       | false ↦ further
     ] in
-    let go : (p : Bool) → is_put_row row ≡ p → option_and_then value_given (row_with key (filter is_put_row (row ∷ rows))) ≡ option_map (λ (r : StoredRow). r.value) (row_with key (filter is_put_row (row ∷ rows))) = elim [
-      | true ↦ λ put. subst (λ l. option_and_then value_given (row_with key l) ≡ option_map (λ (r : StoredRow). r.value) (row_with key l)) (sym (put_first row rows put)) (here put (bytes_eq row.key key))
+    let go : (p : Bool) → is_put_row row ≡ p → option_and_then value_given (row_with key (filter is_put_row (row ∷ rows))) ≡ option_map
+    (λ (r : StoredRow). r.value) (row_with key (filter is_put_row (row ∷ rows))) = elim [
+      | true ↦ λ put. subst (λ l. option_and_then value_given (row_with key l) ≡ option_map (λ (r : StoredRow). r.value) (row_with key l))
+          (sym (put_first row rows put)) (here put (bytes_eq row.key key))
       | false ↦ λ other. subst (λ l. option_and_then value_given (row_with key l) ≡ option_map (λ (r : StoredRow). r.value) (row_with key l)) (sym (no_put_first row rows other)) further
     ] in
     go (is_put_row row) refl
@@ -65,5 +71,7 @@ merged_count rows =
     let sorted : T (is_sorted (slice_cmp nat_cmp) (pairs puts)) = subst T (sym (sorted_pairs puts rises)) tt in
     let listed : Map = from_sorted (pairs puts) in
     let same : map_of_rows puts ≡ listed = same_map nat_list_cmp_total (slice_cmp-IsAntisymmetric nat_cmp-IsAntisymmetric) (map_of_rows puts) listed (λ key.
-    newest_law puts key ∙ ap (option_and_then value_given) (newest_rising puts rises key) ∙ put_values (newest_rows rows) key ∙ sym (get-from_sorted (slice_cmp nat_cmp) (pairs puts) key sorted ∙ find_pairs puts key)) in
-    sym (ap len (sym (merged_map rows) ∙ same) ∙ len-entries listed ∙ ap (λ l. length l) (entries-from_sorted (slice_cmp nat_cmp) (pairs puts) sorted) ∙ length-map puts (λ (row : StoredRow). (row.key, row.value)))
+    newest_law puts key ∙ ap (option_and_then value_given) (newest_rising puts rises key) ∙ put_values (newest_rows rows) key
+    ∙ sym (get-from_sorted (slice_cmp nat_cmp) (pairs puts) key sorted ∙ find_pairs puts key)) in
+    sym (ap len (sym (merged_map rows) ∙ same) ∙ len-entries listed ∙ ap (λ l. length l) (entries-from_sorted (slice_cmp nat_cmp) (pairs puts) sorted)
+    ∙ length-map puts (λ (row : StoredRow). (row.key, row.value)))

@@ -1,5 +1,6 @@
 -- Which key is decided next, by what row, and what is due after it.
-use Rattle.std.proofs.Common.{◌≡◌, ◌≢◌, ℕ, zero, suc, ◌+◌, ◌<◌, ◌≤◌, ◌⊎◌, nat_lt, Bool, true, false, ◌||◌, cond, List, [], ◌∷◌, ◌++◌, filter, length, take, slice_get, Option, Some, None, inl, inr, refl, sym, ap, ◌∙◌, arith, nat_cmp, bytes_eq, Less}
+use Rattle.std.proofs.Common.{◌≡◌, ◌≢◌, ℕ, zero, suc, ◌+◌, ◌<◌, ◌≤◌, ◌⊎◌, nat_lt, Bool, true, false, ◌||◌, cond, List, [], ◌∷◌, ◌++◌, filter, length, take}
+use Rattle.std.proofs.Common.{slice_get, Option, Some, None, inl, inr, refl, sym, ap, ◌∙◌, arith, nat_cmp, bytes_eq, Less}
 use Rattle.std.specs.Option.{is_some, option_or}
 use Rattle.std.specs.Cmp.Lexicographic.{slice_cmp, nat_list_cmp_total}
 use Rattle.std.proofs.lemmas.Bool.{cases_Bool, cases_lt, cases_eq, cases_order, cond-true, cond-false, le-ltb, lt-ltb, ltb-false, or_parts}
@@ -97,7 +98,8 @@ has_more rows count row key there =
     ∙ ap (λ b. has_row_with key (take count rows) || b) (last (bytes_eq row.key key))
 
 -- a key of the first rows is below that of the next one
-pub before_at : (rows : List StoredRow) (count : ℕ) (key : List ℕ) (row : StoredRow) → Rises rows → has_row_with key (take count rows) ≡ true → slice_get rows count ≡ Some row → slice_cmp nat_cmp key row.key ≡ Less
+pub before_at : (rows : List StoredRow) (count : ℕ) (key : List ℕ) (row : StoredRow) → Rises rows → has_row_with key (take count rows) ≡ true
+    → slice_get rows count ≡ Some row → slice_cmp nat_cmp key row.key ≡ Less
 before_at [] count key row rises has there = absurd (cc)
 before_at (first ∷ rest) zero key row rises has there = absurd (cc)
 before_at (first ∷ rest) (suc count) key row rises has there =
@@ -208,7 +210,8 @@ module _ (entries hashed : List StoredRow) (decided passed : ℕ) (waits : List 
           elim (cases_eq passed place) [
             | inl same ↦ lowest.entry (omega arith) (ap (λ p. slice_cmp nat_cmp (key_at entries p) key) same ∙ ap (λ k. slice_cmp nat_cmp k key) its ∙ less)
             | inr other ↦
-                let under : slice_cmp nat_cmp (key_at entries passed) row.key ≡ Less = ap (slice_cmp nat_cmp (key_at entries passed)) (sym its) ∙ rises_at entries rises passed place (omega arith) inside in
+                let under : slice_cmp nat_cmp (key_at entries passed) row.key ≡ Less =
+                ap (slice_cmp nat_cmp (key_at entries passed)) (sym its) ∙ rises_at entries rises passed place (omega arith) inside in
                 lowest.entry (omega arith) (nat_list_cmp_total.trans (key_at entries passed) row.key key under less)
           ]
 
@@ -234,7 +237,8 @@ module _ (entries hashed : List StoredRow) (decided passed : ℕ) (waits : List 
   next_enters row entry there none at same =
       let rising = rises_newest (entries ++ hashed) in
       let lacks : newest_row hashed row.key ≡ None = sym (so_far.waiting row.key ∙ cond-false _ _ _ (none_before all decided row rising there)) ∙ none in
-      let one : Some row ≡ Some entry = sym (find_at all decided row rising there) ∙ newest_of row.key ∙ ap (λ o. option_or o (newest_row entries row.key)) lacks ∙ newest_entry passed entry row.key at same in
+      let one : Some row ≡ Some entry = sym (find_at all decided row rising there) ∙ newest_of row.key
+      ∙ ap (λ o. option_or o (newest_row entries row.key)) lacks ∙ newest_entry passed entry row.key at same in
       cc
 
   -- ---- with one key more
@@ -283,7 +287,8 @@ module _ (entries hashed : List StoredRow) (decided passed : ℕ) (waits : List 
       | inr (inl lower) ↦ ap (λ b. b || bytes_eq row.key (key_at entries place)) (lt-ltb place passed lower) ∙ sym (lt-ltb place passed lower)
       | inr (inr higher) ↦
           ap (λ b. b || bytes_eq row.key (key_at entries place)) (le-ltb place passed (omega arith))
-          ∙ key_below row.key (key_at entries place) (nat_list_cmp_total.trans row.key (key_at entries passed) (key_at entries place) (above (omega arith)) (rises_at entries rises passed place higher inside))
+          ∙ key_below row.key (key_at entries place)
+          (nat_list_cmp_total.trans row.key (key_at entries passed) (key_at entries place) (above (omega arith)) (rises_at entries rises passed place higher inside))
           ∙ sym (le-ltb place passed (omega arith))
     ];
   }
@@ -345,7 +350,8 @@ take_both most xs ys = elim (cases_lt (length xs) most) [
 ]
 
 -- one row more that is due, or not
-pub due_more : (rows : List StoredRow) (count most : ℕ) (row : StoredRow) (before due after : List StoredRow) → slice_get rows count ≡ Some row → before ≡ take most (filter is_put_row (take count rows))
+pub due_more : (rows : List StoredRow) (count most : ℕ) (row : StoredRow) (before due after : List StoredRow) → slice_get rows count ≡ Some row
+    → before ≡ take most (filter is_put_row (take count rows))
     → due ≡ filter is_put_row (row ∷ []) → after ≡ take most (before ++ due) → after ≡ take most (filter is_put_row (take (count + 1) rows))
 due_more rows count most row before due after there is more made =
     made

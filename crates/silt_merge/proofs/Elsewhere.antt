@@ -1,5 +1,6 @@
 -- What a change on another part of the disk leaves of a merge.
-use Rattle.std.proofs.Common.{◌≡◌, ◌≢◌, ℕ, suc, ◌+◌, ◌-◌, ◌*◌, ◌<◌, ◌≤◌, ◌⊎◌, cond, IsTrue, List, [], ◌∷◌, ◌++◌, filter, flat_map, length, drop, map, take, get_or, Option, Some, None, option_map, inl, inr, refl, sym, subst, ap, ◌∙◌, arith}
+use Rattle.std.proofs.Common.{◌≡◌, ◌≢◌, ℕ, suc, ◌+◌, ◌-◌, ◌*◌, ◌<◌, ◌≤◌, ◌⊎◌, cond, IsTrue, List, [], ◌∷◌, ◌++◌, filter, flat_map, length, drop, map, take}
+use Rattle.std.proofs.Common.{get_or, Option, Some, None, option_map, inl, inr, refl, sym, subst, ap, ◌∙◌, arith}
 use Rattle.std.specs.List.{All, range_with_len}
 use Rattle.std.proofs.lemmas.Bool.{cases_lt, cases_order}
 use Rattle.std.proofs.Math.Seq.{drop-append-add}
@@ -66,12 +67,14 @@ module _ (s : Shape) (old new : List ℕ) where
       ap (λ p. p ∷ map (hash_part s new) regions) first ∙ ap (λ ps. hash_part s old region ∷ ps) rest
 
   -- and those of the first of them
-  first_same : (count : ℕ) (regions : List ℕ) → ((store slot : ℕ) → store < length regions → slot < 4 * s.buckets → slot_row s (get_or regions store 0) new slot ≡ slot_row s (get_or regions store 0) old slot)
+  first_same : (count : ℕ) (regions : List ℕ) → ((store slot : ℕ) → store < length regions → slot < 4 * s.buckets
+      → slot_row s (get_or regions store 0) new slot ≡ slot_row s (get_or regions store 0) old slot)
       → map (hash_part s new) (take count regions) ≡ map (hash_part s old) (take count regions)
   first_same count regions rows = sym (take-map (hash_part s new) count regions) ∙ ap (take count) (parts_same regions rows) ∙ take-map (hash_part s old) count regions
 
   -- the rows that are gathered
-  gathered_same : (regions : List ℕ) (store slot : ℕ) → ((store slot : ℕ) → store < length regions → slot < 4 * s.buckets → slot_row s (get_or regions store 0) new slot ≡ slot_row s (get_or regions store 0) old slot)
+  gathered_same : (regions : List ℕ) (store slot : ℕ)
+      → ((store slot : ℕ) → store < length regions → slot < 4 * s.buckets → slot_row s (get_or regions store 0) new slot ≡ slot_row s (get_or regions store 0) old slot)
       → (store < length regions) ⊎ (slot ≡ 0) → slot ≤ 4 * s.buckets → gathered_rows s new regions store slot ≡ gathered_rows s old regions store slot
   unfolding gathered_rows rows_before
   gathered_same regions store slot rows some most =
@@ -101,13 +104,16 @@ module _ (old new : List ℕ) (stores : List HashState) (sorted : SortedState) (
   }
 
   -- the row of a source
-  row_same : (source : Source) → source.store < length (regions_of stores) → source.slot < 4 * sorted.shape.buckets → source_row sorted.shape new (regions_of stores) source ≡ source_row sorted.shape old (regions_of stores) source
+  row_same : (source : Source) → source.store < length (regions_of stores) → source.slot < 4 * sorted.shape.buckets
+      → source_row sorted.shape new (regions_of stores) source ≡ source_row sorted.shape old (regions_of stores) source
   row_same source below inside = ap (λ (r : StoredRow). let q : StoredRow = record r { kind = kind_byte source.kind } in q) (same.rows source.store source.slot below inside)
 
   -- what was gathered and decided is so still
-  pub merged_same : (merge : MergeState) → ((key : List ℕ) (source : Source) → source_at merge.waiting key ≡ Some source → (source.store < length (regions_of stores)) × (source.slot < 4 * sorted.shape.buckets))
+  pub merged_same : (merge : MergeState) → ((key : List ℕ) (source : Source) → source_at merge.waiting key ≡ Some source
+      → (source.store < length (regions_of stores)) × (source.slot < 4 * sorted.shape.buckets))
       → (merge.store < length (regions_of stores)) ⊎ (merge.slot ≡ 0) → merge.slot ≤ 4 * sorted.shape.buckets
-      → IsGatheredIn old stores sorted merge → sorted_rows merge.shape merge.region merge.written new ≡ take merge.shape.sorted_capacity (filter is_put_row (decided_rows old stores sorted merge.decided))
+      → IsGatheredIn old stores sorted merge → sorted_rows merge.shape merge.region merge.written new ≡ take merge.shape.sorted_capacity
+      (filter is_put_row (decided_rows old stores sorted merge.decided))
       → IsBuildingOf (keys_of (sorted_rows merge.shape merge.region merge.written new)) merge.index.building → IsMergedIn new stores sorted merge
   merged_same merge inside some most is writes index =
       let decided : decided_rows new stores sorted merge.decided ≡ decided_rows old stores sorted merge.decided = ap (λ l. take merge.decided (newest_rows l)) sources_same in
@@ -117,18 +123,22 @@ module _ (old new : List ℕ) (stores : List HashState) (sorted : SortedState) (
           waits = λ key.
               row_of_source key (source_at merge.waiting key) refl
               ∙ is.waits key
-              ∙ ap (λ l. cond (has_row_with key (decided_rows old stores sorted merge.decided)) None (newest_row l key)) (sym (gathered_same sorted.shape old new (regions_of stores) merge.store merge.slot same.rows some most))
+              ∙ ap (λ l. cond (has_row_with key (decided_rows old stores sorted merge.decided)) None (newest_row l key))
+              (sym (gathered_same sorted.shape old new (regions_of stores) merge.store merge.slot same.rows some most))
               ∙ ap (λ l. cond (has_row_with key l) None (newest_row (gathered_rows sorted.shape new (regions_of stores) merge.store merge.slot) key)) (sym decided);
           last = λ key same_key. ap (has_row_with key.0) decided ∙ is.last key same_key;
           slots = λ below.
-              slots_same sorted.shape (get_or (regions_of stores) merge.store 0) old new merge.slot merge.slots (λ slot inside. same.rows merge.store slot (omega (arith, below, regions_count stores)) inside) (is.slots below);
+              slots_same sorted.shape (get_or (regions_of stores) merge.store 0) old new merge.slot merge.slots
+              (λ slot inside. same.rows merge.store slot (omega (arith, below, regions_count stores)) inside) (is.slots below);
           ahead = subst (λ l. AreEntries l merge.passed merge.ahead) (sym same.entries) is.ahead;
           passes = λ place below.
               ap (λ l. has_row_with (get_or (keys_of l) place []) (decided_rows new stores sorted merge.decided)) same.entries
               ∙ ap (has_row_with (get_or (keys_of (entries_in old sorted)) place [])) decided
               ∙ is.passes place below;
           slots_hashed = λ below.
-              subst (λ l. HasTaken merge.input (rows_bytes l)) (sym (before_same sorted.shape old new (get_or (regions_of stores) merge.store 0) merge.slot (λ slot inside. same.rows merge.store slot (omega (arith, below, regions_count stores)) (omega (arith, inside, most)))))
+              subst (λ l. HasTaken merge.input (rows_bytes l))
+              (sym (before_same sorted.shape old new (get_or (regions_of stores) merge.store 0) merge.slot
+              (λ slot inside. same.rows merge.store slot (omega (arith, below, regions_count stores)) (omega (arith, inside, most)))))
               (is.slots_hashed below);
           entries_hashed = λ past. subst (λ l. HasTaken merge.input (entries_bytes (take merge.passed l))) (sym same.entries) (is.entries_hashed past);
         };
@@ -136,19 +146,23 @@ module _ (old new : List ℕ) (stores : List HashState) (sorted : SortedState) (
         index = index;
       }
     where
-      row_of_source : (key : List ℕ) (o : Option Source) → source_at merge.waiting key ≡ o → option_map (source_row sorted.shape new (regions_of stores)) (source_at merge.waiting key) ≡ option_map (source_row sorted.shape old (regions_of stores)) (source_at merge.waiting key)
+      row_of_source : (key : List ℕ) (o : Option Source) → source_at merge.waiting key ≡ o
+          → option_map (source_row sorted.shape new (regions_of stores)) (source_at merge.waiting key) ≡ option_map (source_row sorted.shape old (regions_of stores)) (source_at merge.waiting key)
       row_of_source key None is = ap (option_map (source_row sorted.shape new (regions_of stores))) is ∙ sym (ap (option_map (source_row sorted.shape old (regions_of stores))) is)
       row_of_source key (Some source) is =
           let where_it_is = inside key source is in
-          ap (option_map (source_row sorted.shape new (regions_of stores))) is ∙ ap Some (row_same source where_it_is.0 where_it_is.1) ∙ sym (ap (option_map (source_row sorted.shape old (regions_of stores))) is)
+          ap (option_map (source_row sorted.shape new (regions_of stores))) is ∙ ap Some (row_same source where_it_is.0 where_it_is.1)
+          ∙ sym (ap (option_map (source_row sorted.shape old (regions_of stores))) is)
 
 -- the region of a store
 region_of : (stores : List HashState) (store : ℕ) (blank : HashState) → store < length stores → get_or (regions_of stores) store 0 ≡ (get_or stores store blank).region
 region_of stores store blank below = get_or-map (λ (s : HashState). s.region) stores store blank 0 below
 
 -- a change outside all that is merged
-pub same_outside : (stores : List HashState) (sorted : SortedState) (old new : List ℕ) (at count : ℕ) → device_size sorted.shape ≤ length old → All (λ store. store.region < sorted.shape.hashes) stores → IsHeldSorted sorted
-    → LiesOutside (sorted_at sorted.shape sorted.region) (entries_len sorted.shape) at count → All (λ store. LiesOutside (hash_at sorted.shape store.region) (slots_len sorted.shape) at count) stores → Torn at count old new → SameSources sorted.shape (regions_of stores) sorted old new
+pub same_outside : (stores : List HashState) (sorted : SortedState) (old new : List ℕ) (at count : ℕ) → device_size sorted.shape ≤ length old
+    → All (λ store. store.region < sorted.shape.hashes) stores → IsHeldSorted sorted
+    → LiesOutside (sorted_at sorted.shape sorted.region) (entries_len sorted.shape) at count
+    → All (λ store. LiesOutside (hash_at sorted.shape store.region) (slots_len sorted.shape) at count) stores → Torn at count old new → SameSources sorted.shape (regions_of stores) sorted old new
 same_outside stores sorted old new at count fits there held behind outside torn = record {
   rows = λ store slot below inside.
       let blank : HashState = record { shape = sorted.shape; region = 0; tags = []; puts = 0; digest = [] } in
@@ -165,8 +179,10 @@ same_outside stores sorted old new at count fits there held behind outside torn 
 }
 
 -- a change of entries of another sorted region
-pub same_beside : (stores : List HashState) (sorted : SortedState) (region : ℕ) (old new : List ℕ) → device_size sorted.shape ≤ length old → All (λ store. store.region < sorted.shape.hashes) stores → IsHeldSorted sorted
-    → sorted.region ≢ region → region < 2 → Torn (sorted_at sorted.shape region) (sorted.shape.sorted_capacity * entry_len sorted.shape) old new → SameSources sorted.shape (regions_of stores) sorted old new
+pub same_beside : (stores : List HashState) (sorted : SortedState) (region : ℕ) (old new : List ℕ) → device_size sorted.shape ≤ length old
+    → All (λ store. store.region < sorted.shape.hashes) stores → IsHeldSorted sorted
+    → sorted.region ≢ region → region < 2 → Torn (sorted_at sorted.shape region) (sorted.shape.sorted_capacity * entry_len sorted.shape) old new
+    → SameSources sorted.shape (regions_of stores) sorted old new
 same_beside stores sorted region old new fits there held apart below torn =
     let s : Shape = sorted.shape in
     let regions = regions_apart s in
@@ -211,7 +227,8 @@ merged_elsewhere stores sorted merge old new at count held_sorted held fits own 
       let same = same_outside stores sorted old.shown new.shown at count fits sound.there held_sorted behind outside torn in
       let so_far = is.merged was (sound_before old.shown new.shown stores sorted same sound) in
       merged_same old.shown new.shown stores sorted same merge (source_inside stores sorted merge held is.shape is.counted) (store_next stores merge held is.counted)
-      (subst (λ (s : Shape). merge.slot ≤ 4 * s.buckets) (sym is.shape) (omega (arith, held.slot))) so_far.gathered (kept honest ∙ so_far.writes) (subst (λ l. IsBuildingOf (keys_of l) merge.index.building) (sym (kept honest)) so_far.index);
+      (subst (λ (s : Shape). merge.slot ≤ 4 * s.buckets) (sym is.shape) (omega (arith, held.slot))) so_far.gathered
+      (kept honest ∙ so_far.writes) (subst (λ l. IsBuildingOf (keys_of l) merge.index.building) (sym (kept honest)) so_far.index);
 }
   where
     -- what it wrote stays
@@ -219,7 +236,8 @@ merged_elsewhere stores sorted merge old new at count held_sorted held fits own 
     kept honest =
         let was : IsTrue old.honest = sym changes.honest ∙ honest in
         let ends = entries_inside sorted.shape merge.region held.there in
-        entries_outside merge.shape merge.region merge.written at count old.shown new.shown (subst (λ (s : Shape). sorted_at s merge.region + s.sorted_capacity * entry_len s ≤ size old) is.shape (omega (arith, ends))) held.room
+        entries_outside merge.shape merge.region merge.written at count old.shown new.shown
+        (subst (λ (s : Shape). sorted_at s merge.region + s.sorted_capacity * entry_len s ≤ size old) is.shape (omega (arith, ends))) held.room
         (subst (λ (s : Shape). LiesOutside (sorted_at s merge.region) (entries_len s) at count) is.shape own) (changes.shown was)
 
 -- the oldest stores, after newer ones came

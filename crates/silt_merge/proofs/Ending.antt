@@ -1,5 +1,7 @@
 -- What the decision of a key leaves, and what a merge that is done has written.
-use Rattle.std.proofs.Common.{◌≡◌, ◌≢◌, ℕ, ◌+◌, ◌*◌, ◌<◌, ◌≤◌, ◌&&◌, ◌==◌, nat_lt, nat_le, Bool, true, false, not, ◌||◌, cond, IsTrue, List, [], ◌∷◌, ◌++◌, filter, length, take, get_or, slice_get, Option, Some, None, IsSomeAnd, option_map, inl, inr, refl, sym, subst, ap, ◌∙◌, arith, is_some, bytes_eq, Ordering, is_lt, nat_cmp, Less, Equal, Greater}
+use Rattle.std.proofs.Common.{◌≡◌, ◌≢◌, ℕ, ◌+◌, ◌*◌, ◌<◌, ◌≤◌, ◌&&◌, ◌==◌, nat_lt, nat_le, Bool, true, false, not, ◌||◌, cond, IsTrue, List, [], ◌∷◌, ◌++◌}
+use Rattle.std.proofs.Common.{filter, length, take, get_or, slice_get, Option, Some, None, IsSomeAnd, option_map, inl, inr, refl, sym, subst, ap, ◌∙◌, arith}
+use Rattle.std.proofs.Common.{is_some, bytes_eq, Ordering, is_lt, nat_cmp, Less, Equal, Greater}
 use Rattle.std.proofs.lemmas.Bool.{and_from, and_parts, cases_lt, cond-true, cond-false, eq-eqb, eqb-true, le-leb, leb-true, ltb-false, ltb-true, ne_eqb}
 use Rattle.std.proofs.lemmas.Map.Text.{is_eq-slice_cmp}
 use Rattle.std.proofs.lemmas.List.{length-map, take_all}
@@ -66,7 +68,8 @@ module _ (image : List ℕ) (stores : List HashState) (sorted : SortedState) whe
       → IsDecided entries hashed merge.decided merge.passed (waits_in merge.waiting)
   unfolding sources
   decided_of merge past none is = record {
-    waiting = λ key. is.waits key ∙ ap (λ l. cond (has_row_with key (take merge.decided (newest_rows (entries ++ hashed)))) None (newest_row l key)) (all_gathered sorted.shape image (regions_of stores) merge.store merge.slot past none);
+    waiting = λ key. is.waits key ∙ ap (λ l. cond (has_row_with key (take merge.decided (newest_rows (entries ++ hashed)))) None (newest_row l key))
+        (all_gathered sorted.shape image (regions_of stores) merge.store merge.slot past none);
     passing = λ place inside. is.passes place (omega (arith, entry_count sorted.shape sorted.region sorted.count image));
   }
 
@@ -84,7 +87,8 @@ module _ (image : List ℕ) (stores : List HashState) (sorted : SortedState) whe
     slots_hashed = λ below. absurd (omega (arith, past, below, regions_count stores));
     entries_hashed = λ past_all. holds;
     waits = λ key. is.waiting key
-        ∙ ap (λ l. cond (has_row_with key (take merge.decided (newest_rows (entries ++ hashed)))) None (newest_row l key)) (sym (all_gathered sorted.shape image (regions_of stores) merge.store merge.slot past none));
+        ∙ ap (λ l. cond (has_row_with key (take merge.decided (newest_rows (entries ++ hashed)))) None (newest_row l key))
+        (sym (all_gathered sorted.shape image (regions_of stores) merge.store merge.slot past none));
     passes = λ place inside. is.passing place (omega (arith, entry_count sorted.shape sorted.region sorted.count image));
   }
 
@@ -92,7 +96,8 @@ module _ (image : List ℕ) (stores : List HashState) (sorted : SortedState) whe
 
 -- the entry that is due for a row of a source
 due_row : (row shown : StoredRow) (source : Source) (key bytes : List ℕ) → row ≡ (let r : StoredRow = record shown { kind = kind_byte source.kind } in r) → row.key ≡ key
-    → (is_put source.kind ≡ true → entry_row bytes ≡ (let r : StoredRow = record { kind = 1; key = key; value = shown.value } in r)) → due_rows (is_put source.kind) bytes ≡ filter is_put_row (row ∷ [])
+    → (is_put source.kind ≡ true → entry_row bytes ≡ (let r : StoredRow = record { kind = 1; key = key; value = shown.value } in r))
+    → due_rows (is_put source.kind) bytes ≡ filter is_put_row (row ∷ [])
 due_row row shown source key bytes is same read = go source.kind refl
   where
     go : (kind : Kind) → source.kind ≡ kind → due_rows (is_put source.kind) bytes ≡ filter is_put_row (row ∷ [])
@@ -127,25 +132,30 @@ module _ (image : List ℕ) (stores : List HashState) (sorted : SortedState) (me
   decides = lowest_next old_entries old_hashed merge.decided merge.passed (waits_in image stores sorted merge.waiting) rises so_far choice.key.0 is.lowest
 
   -- whose entry is written, if it is a put
-  pub due_is_row : (after : List ℕ) → ReadsRow sorted.shape image (regions_of stores) choice.key.0 choice.source bytes after → due_rows (choice_puts choice.source) after ≡ filter is_put_row (decides.0 ∷ [])
+  pub due_is_row : (after : List ℕ) → ReadsRow sorted.shape image (regions_of stores) choice.key.0 choice.source bytes after
+      → due_rows (choice_puts choice.source) after ≡ filter is_put_row (decides.0 ∷ [])
   due_is_row after read = go choice.source refl read
     where
       row : StoredRow
       row = decides.0
 
-      go : (o : Option Source) → choice.source ≡ o → ReadsRow sorted.shape image (regions_of stores) choice.key.0 o bytes after → due_rows (choice_puts choice.source) after ≡ filter is_put_row (row ∷ [])
+      go : (o : Option Source) → choice.source ≡ o → ReadsRow sorted.shape image (regions_of stores) choice.key.0 o bytes after
+          → due_rows (choice_puts choice.source) after ≡ filter is_put_row (row ∷ [])
       go None none same =
-          let lacks : waits_in image stores sorted merge.waiting row.key ≡ None = ap (waits_in image stores sorted merge.waiting) decides.2 ∙ ap (option_map (source_row sorted.shape image (regions_of stores))) (is.source ∙ none) in
+          let lacks : waits_in image stores sorted merge.waiting row.key ≡ None =
+          ap (waits_in image stores sorted merge.waiting) decides.2 ∙ ap (option_map (source_row sorted.shape image (regions_of stores))) (is.source ∙ none) in
           let at = (is.entry none).0 in
           let entry_key : (entry_row bytes).key ≡ row.key = sym (key_of_row old_entries merge.passed (entry_row bytes) at) ∙ (is.passes (is.entry none).1).1 ∙ sym decides.2 in
-          let it : row ≡ entry_row bytes = next_enters old_entries old_hashed merge.decided merge.passed (waits_in image stores sorted merge.waiting) rises so_far row (entry_row bytes) decides.1 lacks at entry_key in
+          let it : row ≡ entry_row bytes = next_enters old_entries old_hashed merge.decided merge.passed (waits_in image stores sorted merge.waiting)
+          rises so_far row (entry_row bytes) decides.1 lacks at entry_key in
           ap (λ o. due_rows (choice_puts o) after) none ∙ ap (λ b. entry_row b ∷ []) same
           ∙ sym (ap (λ r. filter is_put_row (r ∷ [])) it)
       go (Some source) some read_it =
           let shown : StoredRow = slot_row sorted.shape (get_or (regions_of stores) source.store 0) image source.slot in
           let has : waits_in image stores sorted merge.waiting row.key ≡ Some (source_row sorted.shape image (regions_of stores) source) =
           ap (waits_in image stores sorted merge.waiting) decides.2 ∙ ap (option_map (source_row sorted.shape image (regions_of stores))) (is.source ∙ some) in
-          let it = next_waits old_entries old_hashed merge.decided merge.passed (waits_in image stores sorted merge.waiting) rises so_far row (source_row sorted.shape image (regions_of stores) source) decides.1 has in
+          let it = next_waits old_entries old_hashed merge.decided merge.passed (waits_in image stores sorted merge.waiting) rises
+          so_far row (source_row sorted.shape image (regions_of stores) source) decides.1 has in
           ap (λ o. due_rows (choice_puts o) after) some ∙ due_row row shown source choice.key.0 after it decides.2 read_it
 
   -- one key more is decided
@@ -156,7 +166,10 @@ module _ (image : List ℕ) (stores : List HashState) (sorted : SortedState) (me
       -- the rows that wait
       let_go_row : (key : List ℕ) → waits_in image stores sorted after key ≡ cond (bytes_eq decides.0.key key) None (waits_in image stores sorted merge.waiting key)
       let_go_row key =
-          let turn : (b : Bool) (o : Option Source) → option_map (source_row sorted.shape image (regions_of stores)) (cond b None o) ≡ cond b None (option_map (source_row sorted.shape image (regions_of stores)) o) = λ b o. elim b as (λ b. option_map (source_row sorted.shape image (regions_of stores)) (cond b None o) ≡ cond b None (option_map (source_row sorted.shape image (regions_of stores)) o)) [ true ↦ refl | false ↦ refl ] in
+          let turn : (b : Bool) (o : Option Source) → option_map (source_row sorted.shape image (regions_of stores)) (cond b None o) ≡ cond
+          b None (option_map (source_row sorted.shape image (regions_of stores)) o) =
+          λ b o. elim b as (λ b. option_map (source_row sorted.shape image (regions_of stores)) (cond b None o) ≡ cond b
+          None (option_map (source_row sorted.shape image (regions_of stores)) o)) [ true ↦ refl | false ↦ refl ] in
           ap (option_map (source_row sorted.shape image (regions_of stores))) (gone key)
           ∙ turn (bytes_eq choice.key.0 key) (source_at merge.waiting key)
           ∙ ap (λ k. cond (bytes_eq k key) None (waits_in image stores sorted merge.waiting key)) (sym decides.2)
@@ -165,14 +178,16 @@ module _ (image : List ℕ) (stores : List HashState) (sorted : SortedState) (me
       go true passes =
           let it = is.passes passes in
           subst (λ p. IsDecided old_entries old_hashed (merge.decided + 1) p (waits_in image stores sorted after)) (sym (ap (λ b. passed_after b merge.passed) passes))
-          (decided_with old_entries old_hashed merge.decided merge.passed (waits_in image stores sorted merge.waiting) rises so_far decides.0 (waits_in image stores sorted after) decides.1 it.0 (it.1 ∙ sym decides.2) let_go_row)
+          (decided_with old_entries old_hashed merge.decided merge.passed (waits_in image stores sorted merge.waiting) rises so_far
+          decides.0 (waits_in image stores sorted after) decides.1 it.0 (it.1 ∙ sym decides.2) let_go_row)
       go false stays =
           subst (λ p. IsDecided old_entries old_hashed (merge.decided + 1) p (waits_in image stores sorted after)) (sym (ap (λ b. passed_after b merge.passed) stays))
           (decided_without old_entries old_hashed merge.decided merge.passed (waits_in image stores sorted merge.waiting) rises so_far decides.0 (waits_in image stores sorted after) decides.1
           (λ below. ap (λ k. slice_cmp nat_cmp k (key_at old_entries merge.passed)) decides.2 ∙ is.stays stays below) let_go_row)
 
 -- the last key of one key more
-last_decided : (rows : List StoredRow) (decided : ℕ) (row : StoredRow) (own key : Key) → slice_get rows decided ≡ Some row → row.key ≡ own.0 → Some own ≡ Some key → has_row_with key.0 (take (decided + 1) rows) ≡ true
+last_decided : (rows : List StoredRow) (decided : ℕ) (row : StoredRow) (own key : Key) → slice_get rows decided ≡ Some row
+    → row.key ≡ own.0 → Some own ≡ Some key → has_row_with key.0 (take (decided + 1) rows) ≡ true
 last_decided rows decided row own key there same is =
     let one : own ≡ key = cc in
     let last : (b : Bool) → (b || true) ≡ true = elim [ true ↦ refl | false ↦ refl ] in
@@ -187,7 +202,8 @@ ahead_after rows true passed (bytes ∷ ahead) is = is.1
 ahead_after rows false passed ahead is = is
 
 -- the next entry is skipped only if there is one
-pub skipped_inside : (passed count : ℕ) (last : Option Key) (first : Option (Key × Source)) (next : Option Key) (choice : Choice) → choice_of first next ≡ Some choice → is_some next ≡ nat_lt passed count → (is_behind last next || choice.passes) ≡ true → passed < count
+pub skipped_inside : (passed count : ℕ) (last : Option Key) (first : Option (Key × Source)) (next : Option Key) (choice : Choice)
+    → choice_of first next ≡ Some choice → is_some next ≡ nat_lt passed count → (is_behind last next || choice.passes) ≡ true → passed < count
 skipped_inside passed count last first (Some next) choice made some skips = ltb-true passed count (sym some)
 skipped_inside passed count last None None choice made some skips = absurd (cc)
 skipped_inside passed count last (Some (key, source)) None choice made some skips =
@@ -259,9 +275,12 @@ merged_noted content stores sorted merge damaged =
 -- ---- on a disk
 
 -- on an honest disk the next entry is above the last key, so that none is passed over for its key
-pub merged_behind : (content : Content) (stores : List HashState) (sorted : SortedState) (merge : MergeState) (next : Option Key) (bytes : List ℕ) (input : Taken) → IsHeldMerge merge → merge.store ≡ merge.stores
-    → is_some next ≡ nat_lt merge.passed sorted.count → (IsTrue content.honest → AreEntries (entries_of content sorted) merge.passed merge.ahead → IsNextEntry (entries_of content sorted) merge.passed bytes next) → is_behind merge.last next ≡ true
-    → HasMerged content stores sorted merge → HasMerged content stores sorted (record merge { passed = merge.passed + 1; decided = merge.decided + 1; ahead = parts_after true merge.ahead; input = input })
+pub merged_behind : (content : Content) (stores : List HashState) (sorted : SortedState) (merge : MergeState) (next : Option Key) (bytes : List ℕ) (input : Taken)
+    → IsHeldMerge merge → merge.store ≡ merge.stores
+    → is_some next ≡ nat_lt merge.passed sorted.count
+    → (IsTrue content.honest → AreEntries (entries_of content sorted) merge.passed merge.ahead → IsNextEntry (entries_of content sorted) merge.passed bytes next) → is_behind merge.last next ≡ true
+    → HasMerged content stores sorted merge → HasMerged content stores sorted
+    (record merge { passed = merge.passed + 1; decided = merge.decided + 1; ahead = parts_after true merge.ahead; input = input })
 unfolding sources
 merged_behind content stores sorted merge next bytes input held all some there behind is = record {
   shape = is.shape;
@@ -276,10 +295,12 @@ merged_behind content stores sorted merge next bytes input held all some there b
       let decided = decided_of image stores sorted merge past (held.ended all) so_far.gathered in
       let long = entry_count sorted.shape sorted.region sorted.count image in
       absurd (go next merge.last refl some (there honest so_far.gathered.ahead) behind (λ key is_key below.
-      next_above (entries_in image sorted) (rows_of_hashes sorted.shape image (regions_of stores)) merge.decided merge.passed (waits_in image stores sorted merge.waiting) rises decided key.0 (so_far.gathered.last key is_key) (omega (arith, long, below))));
+      next_above (entries_in image sorted) (rows_of_hashes sorted.shape image (regions_of stores)) merge.decided merge.passed
+      (waits_in image stores sorted merge.waiting) rises decided key.0 (so_far.gathered.last key is_key) (omega (arith, long, below))));
 }
   where
-    go : (next : Option Key) (last : Option Key) → merge.last ≡ last → is_some next ≡ nat_lt merge.passed sorted.count → IsNextEntry (entries_of content sorted) merge.passed bytes next → is_behind last next ≡ true
+    go : (next : Option Key) (last : Option Key) → merge.last ≡ last → is_some next ≡ nat_lt merge.passed sorted.count
+        → IsNextEntry (entries_of content sorted) merge.passed bytes next → is_behind last next ≡ true
         → ((key : Key) → merge.last ≡ Some key → merge.passed < sorted.count → slice_cmp nat_cmp key.0 (key_at (entries_of content sorted) merge.passed) ≡ Less) → ⊥
     go None last is_last some there behind lower = absurd (cc)
     go (Some next) None is_last some there behind lower = absurd (cc)
@@ -290,7 +311,8 @@ merged_behind content stores sorted merge next bytes input held all some there b
         let under : not (is_lt (slice_cmp nat_cmp last.0 next.0)) ≡ false = ap (λ o. not (is_lt o)) less in
         absurd (cc)
 
-module _ (old new : Content) (stores : List HashState) (sorted : SortedState) (merge : MergeState) (held : IsHeldMerge merge) (held_sorted : IsHeldSorted sorted) (fits : device_size merge.shape ≤ size old)
+module _ (old new : Content) (stores : List HashState) (sorted : SortedState) (merge : MergeState) (held : IsHeldMerge merge)
+    (held_sorted : IsHeldSorted sorted) (fits : device_size merge.shape ≤ size old)
     (changes : ChangesWithin (sorted_at merge.shape merge.region) (merge.shape.sorted_capacity * entry_len merge.shape) old new) where
   -- all that is merged stays
   sources_stay : HasMerged old stores sorted merge → AreSound new.shown stores sorted → IsTrue old.honest → SameSources sorted.shape (regions_of stores) sorted old.shown new.shown
@@ -304,18 +326,33 @@ module _ (old new : Content) (stores : List HashState) (sorted : SortedState) (m
   still_inside choice after gone key source is = (cond_some (bytes_eq choice.key.0 key) (source_at merge.waiting key) source (sym (gone key) ∙ is)).1
 
   -- a decided key, with its entry if it has one
-  pub merged_step : (first : Option (Key × Source)) (next : Option Key) (choice : Choice) (bytes row_bytes : List ℕ) (after : List (Key × Source)) (due : Bool) (count : ℕ) (index : BuilderState) (input : Taken) (hasher : Sha1) → merge.store ≡ merge.stores → IsFirstWaiting merge.waiting first
-      → choice_of first next ≡ Some choice → is_some next ≡ nat_lt merge.passed sorted.count → (IsTrue old.honest → AreEntries (entries_of old sorted) merge.passed merge.ahead → IsNextEntry (entries_of old sorted) merge.passed bytes next)
+  pub merged_step : (first : Option (Key × Source)) (next : Option Key) (choice : Choice) (bytes row_bytes : List ℕ) (after : List (Key × Source))
+      (due : Bool) (count : ℕ) (index : BuilderState) (input : Taken) (hasher : Sha1) → merge.store ≡ merge.stores → IsFirstWaiting merge.waiting first
+      → choice_of first next ≡ Some choice → is_some next ≡ nat_lt merge.passed sorted.count
+      → (IsTrue old.honest → AreEntries (entries_of old sorted) merge.passed merge.ahead → IsNextEntry (entries_of old sorted) merge.passed bytes next)
       → (merge.passed < sorted.count → 0 < length merge.ahead)
       → (IsTrue old.honest → ReadsRow merge.shape old.shown (regions_of stores) choice.key.0 choice.source bytes row_bytes)
       → due ≡ is_written (choice_puts choice.source) merge.written merge.shape.sorted_capacity → count ≡ merge.written + cond (is_written due merge.written merge.shape.sorted_capacity) 1 0
-      → (IsTrue old.honest → sorted_rows merge.shape merge.region count new.shown ≡ take merge.shape.sorted_capacity (sorted_rows merge.shape merge.region merge.written old.shown ++ due_rows due row_bytes))
+      → (IsTrue old.honest → sorted_rows merge.shape merge.region count new.shown ≡ take merge.shape.sorted_capacity
+      (sorted_rows merge.shape merge.region merge.written old.shown ++ due_rows due row_bytes))
       → ((key : List ℕ) → source_at after key ≡ cond (bytes_eq choice.key.0 key) None (source_at merge.waiting key))
-      → ((keys : List (List ℕ)) → IsBuildingOf keys merge.index.building → length keys ≡ merge.written → is_above merge.index.building.last choice.key.0 ≡ true → IsBuildingOf (keys_after due keys choice.key.0) index.building)
+      → ((keys : List (List ℕ)) → IsBuildingOf keys merge.index.building → length keys ≡ merge.written
+      → is_above merge.index.building.last choice.key.0 ≡ true → IsBuildingOf (keys_after due keys choice.key.0) index.building)
       → ((hashed : List ℕ) → HasTaken merge.input hashed → HasTaken input (hashed_after choice.passes hashed (get_or merge.ahead 0 [])))
       → ((hashed : List ℕ) → Holds merge.hasher hashed → Holds hasher (hashed_after due hashed row_bytes))
       → HasMerged old stores sorted merge
-      → HasMerged new stores sorted (record merge { waiting = after; passed = passed_after choice.passes merge.passed; written = written_after due merge.written; index = index; decided = merge.decided + 1; last = Some choice.key; ahead = parts_after choice.passes merge.ahead; input = input; hasher = hasher })
+      → HasMerged new stores sorted
+      (record merge {
+        waiting = after;
+        passed = passed_after choice.passes merge.passed;
+        written = written_after due merge.written;
+        index = index;
+        decided = merge.decided + 1;
+        last = Some choice.key;
+        ahead = parts_after choice.passes merge.ahead;
+        input = input;
+        hasher = hasher;
+      })
   unfolding sources
   merged_step first next choice bytes row_bytes after due count index input hasher all its_first made some there is_ahead read due_is counted written gone indexes takes hashes is = record {
     shape = is.shape;
@@ -323,11 +360,24 @@ module _ (old new : Content) (stores : List HashState) (sorted : SortedState) (m
     apart = is.apart;
     hashed = λ honest.
         let was : IsTrue old.honest = sym changes.honest ∙ honest in
-        subst (Holds hasher) (sym (ap entries_bytes rows_after ∙ bytes_written cap merge.written old_rows new_rows (choice_puts choice.source) due row_bytes due_is old_count held.room (written was))) (hashes (entries_bytes old_rows) (is.hashed was));
+        subst (Holds hasher) (sym (ap entries_bytes rows_after
+        ∙ bytes_written cap merge.written old_rows new_rows (choice_puts choice.source) due row_bytes due_is old_count held.room (written was))) (hashes (entries_bytes old_rows) (is.hashed was));
     merged = λ honest sound.
         let was : IsTrue old.honest = sym changes.honest ∙ honest in
         let image : List ℕ = old.shown in
-        let merge_after : MergeState = record merge { waiting = after; passed = passed_after choice.passes merge.passed; written = written_after due merge.written; index = index; decided = merge.decided + 1; last = Some choice.key; ahead = parts_after choice.passes merge.ahead; input = input; hasher = hasher } in
+        let merge_after : MergeState =
+        record merge {
+          waiting = after;
+          passed = passed_after choice.passes merge.passed;
+          written = written_after due merge.written;
+          index = index;
+          decided = merge.decided + 1;
+          last = Some choice.key;
+          ahead = parts_after choice.passes merge.ahead;
+          input = input;
+          hasher = hasher;
+        }
+        in
         let same = sources_stay is sound was in
         let sound_old = sound_before old.shown new.shown stores sorted same sound in
         let so_far = is.merged was sound_old in
@@ -336,23 +386,31 @@ module _ (old new : Content) (stores : List HashState) (sorted : SortedState) (m
         let rises = rises_of (entries_in image sorted) sound_old.entries in
         let decided = decided_of image stores sorted merge past none so_far.gathered in
         let long = entry_count sorted.shape sorted.region sorted.count image in
-        let choices = chosen (entries_in image sorted) merge.passed bytes (source_row sorted.shape image (regions_of stores)) merge.waiting first next choice its_first (there was so_far.gathered.ahead) (some ∙ ap (nat_lt merge.passed) (sym long)) made in
+        let choices = chosen (entries_in image sorted) merge.passed bytes (source_row sorted.shape image (regions_of stores))
+        merge.waiting first next choice its_first (there was so_far.gathered.ahead) (some ∙ ap (nat_lt merge.passed) (sym long)) made in
         let next_row = decides image stores sorted merge choice bytes rises decided choices in
         let reads = subst (λ (s : Shape). ReadsRow s image (regions_of stores) choice.key.0 choice.source bytes row_bytes) (sym is.shape) (read was) in
         let its_due = due_is_row image stores sorted merge choice bytes rises decided choices row_bytes reads in
         let below = slice_get_within (newest_rows (entries_in image sorted ++ rows_of_hashes sorted.shape image (regions_of stores))) merge.decided next_row.0 next_row.1 in
         let after_it = decided_step image stores sorted merge choice bytes rises decided choices after gone in
         let writes = due_more (newest_rows (entries_in image sorted ++ rows_of_hashes sorted.shape image (regions_of stores))) merge.decided cap next_row.0 old_rows
-        (due_rows (choice_puts choice.source) row_bytes) new_rows next_row.1 so_far.writes its_due (rows_due cap merge.written old_rows new_rows (choice_puts choice.source) due row_bytes due_is old_count held.room (written was)) in
+        (due_rows (choice_puts choice.source) row_bytes) new_rows next_row.1 so_far.writes its_due
+        (rows_due cap merge.written old_rows new_rows (choice_puts choice.source) due row_bytes due_is old_count held.room (written was)) in
         let keys = keys_written cap merge.written old_rows new_rows (choice_puts choice.source) due row_bytes due_is old_count held.room (written was) next_row.0 choice.key.0 its_due next_row.2 in
-        let above = above_index old_rows (newest_rows (entries_in image sorted ++ rows_of_hashes sorted.shape image (regions_of stores))) merge.index.building merge.decided cap next_row.0 choice.key.0 (rises_newest (entries_in image sorted ++ rows_of_hashes sorted.shape image (regions_of stores))) so_far.index so_far.writes next_row.1 next_row.2 in
-        let built : IsBuildingOf (keys_after due (keys_of old_rows) choice.key.0) index.building = indexes (keys_of old_rows) so_far.index (length-map old_rows (λ (r : StoredRow). r.key) ∙ old_count) above in
+        let above = above_index old_rows (newest_rows (entries_in image sorted ++ rows_of_hashes sorted.shape image (regions_of stores)))
+        merge.index.building merge.decided cap next_row.0 choice.key.0
+        (rises_newest (entries_in image sorted ++ rows_of_hashes sorted.shape image (regions_of stores))) so_far.index so_far.writes next_row.1 next_row.2 in
+        let built : IsBuildingOf (keys_after due (keys_of old_rows) choice.key.0) index.building =
+        indexes (keys_of old_rows) so_far.index (length-map old_rows (λ (r : StoredRow). r.key) ∙ old_count) above in
         let holds : HasTaken input (entries_bytes (take (passed_after choice.passes merge.passed) (entries_in image sorted))) =
-        subst (HasTaken input) (sym (passed_bytes (entries_in image sorted) choice.passes merge.passed merge.ahead (λ passes. is_ahead (let it = choices.passes passes in omega (arith, it.0, long))) so_far.gathered.ahead))
+        subst (HasTaken input) (sym (passed_bytes (entries_in image sorted) choice.passes merge.passed merge.ahead
+        (λ passes. is_ahead (let it = choices.passes passes in omega (arith, it.0, long))) so_far.gathered.ahead))
         (takes (entries_bytes (take merge.passed (entries_in image sorted))) (so_far.gathered.entries_hashed (omega (arith, past, regions_count stores)))) in
-        merged_same old.shown new.shown stores sorted same merge_after (λ key source found. source_inside stores sorted merge held is.shape is.counted key source (still_inside choice after gone key source found)) (inr none)
+        merged_same old.shown new.shown stores sorted same merge_after
+        (λ key source found. source_inside stores sorted merge held is.shape is.counted key source (still_inside choice after gone key source found)) (inr none)
         (omega (arith, none)) (gathered_of image stores sorted merge_after past none (omega (arith, below))
-        (λ key is_key. last_decided (newest_rows (entries_in image sorted ++ rows_of_hashes sorted.shape image (regions_of stores))) merge.decided next_row.0 choice.key key next_row.1 next_row.2 is_key)
+        (λ key is_key. last_decided (newest_rows (entries_in image sorted ++ rows_of_hashes sorted.shape image (regions_of stores)))
+        merge.decided next_row.0 choice.key key next_row.1 next_row.2 is_key)
         (ahead_after (entries_in image sorted) choice.passes merge.passed merge.ahead so_far.gathered.ahead) holds after_it) (rows_after ∙ writes)
         (subst (λ (l : List (List ℕ)). IsBuildingOf l index.building) (sym (ap keys_of rows_after ∙ keys)) built);
   }
@@ -374,10 +432,13 @@ module _ (old new : Content) (stores : List HashState) (sorted : SortedState) (m
       rows_after = ap (λ n. sorted_rows merge.shape merge.region n new.shown) (sym (count_written cap merge.written (choice_puts choice.source) due count due_is counted))
 
 -- the next row to decide is a put, if the row that decides is
-pub next_puts : (content : Content) (stores : List HashState) (sorted : SortedState) (merge : MergeState) (first : Option (Key × Source)) (next : Option Key) (choice : Choice) (bytes row_bytes : List ℕ) → IsHeldMerge merge → merge.store ≡ merge.stores → IsFirstWaiting merge.waiting first
-    → choice_of first next ≡ Some choice → is_some next ≡ nat_lt merge.passed sorted.count → (IsTrue content.honest → AreEntries (entries_of content sorted) merge.passed merge.ahead → IsNextEntry (entries_of content sorted) merge.passed bytes next)
+pub next_puts : (content : Content) (stores : List HashState) (sorted : SortedState) (merge : MergeState) (first : Option (Key × Source))
+    (next : Option Key) (choice : Choice) (bytes row_bytes : List ℕ) → IsHeldMerge merge → merge.store ≡ merge.stores → IsFirstWaiting merge.waiting first
+    → choice_of first next ≡ Some choice → is_some next ≡ nat_lt merge.passed sorted.count
+    → (IsTrue content.honest → AreEntries (entries_of content sorted) merge.passed merge.ahead → IsNextEntry (entries_of content sorted) merge.passed bytes next)
     → (IsTrue content.honest → ReadsRow merge.shape content.shown (regions_of stores) choice.key.0 choice.source bytes row_bytes) → choice_puts choice.source ≡ true
-    → IsTrue content.honest → HasMerged content stores sorted merge → AreSound content.shown stores sorted → IsSomeAnd (slice_get (newest_rows (sources content.shown stores sorted)) merge.decided) (λ row. is_put_row row ≡ true)
+    → IsTrue content.honest → HasMerged content stores sorted merge → AreSound content.shown stores sorted
+    → IsSomeAnd (slice_get (newest_rows (sources content.shown stores sorted)) merge.decided) (λ row. is_put_row row ≡ true)
 unfolding sources
 next_puts content stores sorted merge first next choice bytes row_bytes held all its_first made some there read puts honest is sound =
     let image : List ℕ = content.shown in
@@ -386,7 +447,8 @@ next_puts content stores sorted merge first next choice bytes row_bytes held all
     let rises = rises_of (entries_in image sorted) sound.entries in
     let decided = decided_of image stores sorted merge past (held.ended all) so_far.gathered in
     let long = entry_count sorted.shape sorted.region sorted.count image in
-    let choices = chosen (entries_in image sorted) merge.passed bytes (source_row sorted.shape image (regions_of stores)) merge.waiting first next choice its_first (there honest so_far.gathered.ahead) (some ∙ ap (nat_lt merge.passed) (sym long)) made in
+    let choices = chosen (entries_in image sorted) merge.passed bytes (source_row sorted.shape image (regions_of stores)) merge.waiting
+    first next choice its_first (there honest so_far.gathered.ahead) (some ∙ ap (nat_lt merge.passed) (sym long)) made in
     let next_row = decides image stores sorted merge choice bytes rises decided choices in
     let reads = subst (λ (s : Shape). ReadsRow s image (regions_of stores) choice.key.0 choice.source bytes row_bytes) (sym is.shape) (read honest) in
     let its_due = due_is_row image stores sorted merge choice bytes rises decided choices row_bytes reads in
@@ -396,7 +458,8 @@ next_puts content stores sorted merge first next choice bytes row_bytes held all
 -- ---- on any disk
 
 -- a merge with others ahead, another index with as many keys as there may be, and another hasher
-pub held_with : (merge : MergeState) (slots ahead : List (List ℕ)) (index : BuilderState) (hasher : Sha1) → index.building.count ≤ merge.written + 1 → IsHeldMerge merge → IsHeldMerge (record merge { slots = slots; ahead = ahead; index = index; hasher = hasher })
+pub held_with : (merge : MergeState) (slots ahead : List (List ℕ)) (index : BuilderState) (hasher : Sha1) → index.building.count ≤ merge.written + 1
+    → IsHeldMerge merge → IsHeldMerge (record merge { slots = slots; ahead = ahead; index = index; hasher = hasher })
 held_with merge slots ahead index hasher most held = record {
   there = held.there;
   store = held.store;
@@ -417,10 +480,19 @@ pub held_reads : (merge : MergeState) (slots ahead : List (List ℕ)) → IsHeld
 held_reads merge slots ahead held = held_with merge slots ahead merge.index merge.hasher held.index held
 
 -- a merge with one key more, whose entry is written or not
-pub decided_held : (merge : MergeState) (choice : Choice) (is_written : Bool) (after : List (Key × Source)) (ahead : List (List ℕ)) (input : Taken) → IsHeldMerge merge → merge.store ≡ merge.stores → IsOffered merge.waiting merge.last choice
+pub decided_held : (merge : MergeState) (choice : Choice) (is_written : Bool) (after : List (Key × Source)) (ahead : List (List ℕ)) (input : Taken)
+    → IsHeldMerge merge → merge.store ≡ merge.stores → IsOffered merge.waiting merge.last choice
     → (is_written ≡ true → merge.written < merge.shape.sorted_capacity) → ((key : List ℕ) → source_at after key ≡ cond (bytes_eq choice.key.0 key) None (source_at merge.waiting key))
     → length after ≤ length merge.waiting → ((source : Source) → source_at merge.waiting choice.key.0 ≡ Some source → length after + 1 ≡ length merge.waiting)
-    → IsHeldMerge (record merge { waiting = after; passed = passed_after choice.passes merge.passed; written = written_after is_written merge.written; decided = merge.decided + 1; last = Some choice.key; ahead = ahead; input = input })
+    → IsHeldMerge (record merge {
+      waiting = after;
+      passed = passed_after choice.passes merge.passed;
+      written = written_after is_written merge.written;
+      decided = merge.decided + 1;
+      last = Some choice.key;
+      ahead = ahead;
+      input = input;
+    })
 decided_held merge choice is_written after ahead input held all offers room gone long less = record {
   there = held.there;
   store = held.store;
@@ -470,7 +542,8 @@ offered_inside merge choice held offers source is = held.inside choice.key.0 sou
 -- ---- done
 
 -- the entries of a store of what is written
-pub entries_written : (merge : MergeState) (content : Content) (store made : SortedState) (count : ℕ) → store ≡ made → made ≡ (let s : SortedState = record { shape = merge.shape; region = merge.region; count = count } in s)
+pub entries_written : (merge : MergeState) (content : Content) (store made : SortedState) (count : ℕ) → store ≡ made
+    → made ≡ (let s : SortedState = record { shape = merge.shape; region = merge.region; count = count } in s)
     → count ≡ merge.written → entries_of content store ≡ sorted_rows merge.shape merge.region merge.written content.shown
 entries_written merge content store made count same is all = ap (entries_of content) (same ∙ is) ∙ ap (λ n. sorted_rows merge.shape merge.region n content.shown) all
 
@@ -490,7 +563,8 @@ module _ (merge : MergeState) (sorted : SortedState) where
   -- once all slots are gathered and no row waits, the entries decide
   pub entries_decide : merge.store ≡ merge.stores → length merge.waiting ≡ 0 → nat_le sorted.count merge.passed ≡ is_done merge sorted
   entries_decide all none =
-      let both : ((merge.store == merge.stores) && (length merge.waiting == 0)) ≡ true = and_from (merge.store == merge.stores) (length merge.waiting == 0) (eq-eqb merge.store merge.stores all) (eq-eqb (length merge.waiting) 0 none) in
+      let both : ((merge.store == merge.stores) && (length merge.waiting == 0)) ≡ true =
+      and_from (merge.store == merge.stores) (length merge.waiting == 0) (eq-eqb merge.store merge.stores all) (eq-eqb (length merge.waiting) 0 none) in
       sym (ap (λ b. b && nat_le sorted.count merge.passed) both)
 
   -- what a merge that is done has
@@ -507,10 +581,12 @@ module _ (merge : MergeState) (sorted : SortedState) where
   done_from : merge.store ≡ merge.stores → merge.waiting ≡ [] → sorted.count ≤ merge.passed → is_done merge sorted ≡ true
   done_from all none past =
       and_from ((merge.store == merge.stores) && (length merge.waiting == 0)) (nat_le sorted.count merge.passed)
-      (and_from (merge.store == merge.stores) (length merge.waiting == 0) (eq-eqb merge.store merge.stores all) (ap (λ (l : List (Key × Source)). length l == 0) none)) (le-leb sorted.count merge.passed past)
+      (and_from (merge.store == merge.stores) (length merge.waiting == 0) (eq-eqb merge.store merge.stores all) (ap (λ (l : List (Key × Source)). length l == 0) none))
+      (le-leb sorted.count merge.passed past)
 
   -- one that is not done has a key to decide once all slots are gathered
-  pub nothing_left : (first : Option (Key × Source)) (next : Option Key) → is_done merge sorted ≡ false → merge.store ≡ merge.stores → IsFirstWaiting merge.waiting first → is_some next ≡ nat_lt merge.passed sorted.count → choice_of first next ≡ None → ⊥
+  pub nothing_left : (first : Option (Key × Source)) (next : Option Key) → is_done merge sorted ≡ false → merge.store ≡ merge.stores
+      → IsFirstWaiting merge.waiting first → is_some next ≡ nat_lt merge.passed sorted.count → choice_of first next ≡ None → ⊥
   nothing_left None None more all none no_next no_choice = let done = done_from all none (ltb-false merge.passed sorted.count (sym no_next)) in absurd (cc)
   nothing_left None (Some next) more all its_first some no_choice = absurd (cc)
   nothing_left (Some (key, source)) None more all its_first some no_choice = absurd (cc)
@@ -525,7 +601,8 @@ module _ (merge : MergeState) (sorted : SortedState) where
       absurd (cc)
 
   -- a merge that is done has decided each key
-  all_keys : (content : Content) (stores : List HashState) → IsHeldMerge merge → HasMerged content stores sorted merge → IsTrue content.honest → AreSound content.shown stores sorted → is_done merge sorted ≡ true
+  all_keys : (content : Content) (stores : List HashState) → IsHeldMerge merge → HasMerged content stores sorted merge
+      → IsTrue content.honest → AreSound content.shown stores sorted → is_done merge sorted ≡ true
       → merge.decided ≡ key_count (sources content.shown stores sorted)
   unfolding sources
   all_keys content stores held is honest sound done =
@@ -535,14 +612,17 @@ module _ (merge : MergeState) (sorted : SortedState) where
       let past : length (regions_of stores) ≤ merge.store = omega (arith, regions_count stores, is.counted, parts.0) in
       let decided = decided_of image stores sorted merge past (held.ended parts.0) so_far.gathered in
       let long = entry_count sorted.shape sorted.region sorted.count image in
-      let all = all_decided (entries_in image sorted) (rows_of_hashes sorted.shape image (regions_of stores)) merge.decided merge.passed (waits_in image stores sorted merge.waiting) (rises_of (entries_in image sorted) sound.entries) decided
+      let all = all_decided (entries_in image sorted) (rows_of_hashes sorted.shape image (regions_of stores)) merge.decided merge.passed
+      (waits_in image stores sorted merge.waiting) (rises_of (entries_in image sorted) sound.entries) decided
       (λ key. ap (λ l. waits_in image stores sorted l key) parts.1) (omega (arith, long, parts.2)) in
       let most = so_far.gathered.most in
       omega (arith, all, most)
 
   -- it is done after so many steps
-  pub done_steps : (content : Content) (stores : List HashState) (done : Bool) → done ≡ is_done merge sorted → IsHeldMerge merge → HasMerged content stores sorted merge → IsTrue content.honest → AreSound content.shown stores sorted
-      → (IsTrue done → steps_of merge ≡ steps_for merge (key_count (sources content.shown stores sorted))) × (steps_of merge ≡ steps_for merge (key_count (sources content.shown stores sorted)) → IsTrue done)
+  pub done_steps : (content : Content) (stores : List HashState) (done : Bool) → done ≡ is_done merge sorted → IsHeldMerge merge
+      → HasMerged content stores sorted merge → IsTrue content.honest → AreSound content.shown stores sorted
+      → (IsTrue done → steps_of merge ≡ steps_for merge (key_count (sources content.shown stores sorted)))
+      × (steps_of merge ≡ steps_for merge (key_count (sources content.shown stores sorted)) → IsTrue done)
   unfolding sources
   done_steps content stores done same held is honest sound = (
     λ it.
@@ -560,7 +640,8 @@ module _ (merge : MergeState) (sorted : SortedState) where
         let past : length (regions_of stores) ≤ merge.store = omega (arith, regions_count stores, is.counted, whole.0) in
         let decided = decided_of image stores sorted merge past (held.ended whole.0) so_far.gathered in
         let long = entry_count sorted.shape sorted.region sorted.count image in
-        let none = none_waits (entries_in image sorted) (rows_of_hashes sorted.shape image (regions_of stores)) merge.decided merge.passed (waits_in image stores sorted merge.waiting) (rises_of (entries_in image sorted) sound.entries) decided whole.1 in
+        let none = none_waits (entries_in image sorted) (rows_of_hashes sorted.shape image (regions_of stores)) merge.decided
+        merge.passed (waits_in image stores sorted merge.waiting) (rises_of (entries_in image sorted) sound.entries) decided whole.1 in
         same ∙ done_from whole.0 (nothing_waits merge.waiting (λ key. no_source (source_at merge.waiting key) (none.0 key))) (omega (arith, long, none.1)),
   )
     where
@@ -572,7 +653,8 @@ module _ (merge : MergeState) (sorted : SortedState) where
       fewer store stores slot slots below inside = let apart = next_region store stores slots below in omega (arith, apart)
 
       all_gathered_at : merge.decided ≤ length (newest_rows (entries_in content.shown sorted ++ rows_of_hashes sorted.shape content.shown (regions_of stores)))
-          → merge.store * (4 * merge.shape.buckets) + merge.slot + merge.decided ≡ merge.stores * (4 * merge.shape.buckets) + length (newest_rows (entries_in content.shown sorted ++ rows_of_hashes sorted.shape content.shown (regions_of stores)))
+          → merge.store * (4 * merge.shape.buckets) + merge.slot + merge.decided ≡ merge.stores * (4 * merge.shape.buckets) + length
+          (newest_rows (entries_in content.shown sorted ++ rows_of_hashes sorted.shape content.shown (regions_of stores)))
           → (merge.store ≡ merge.stores) × (length (newest_rows (entries_in content.shown sorted ++ rows_of_hashes sorted.shape content.shown (regions_of stores))) ≤ merge.decided)
       all_gathered_at most steps = elim (cases_lt merge.store merge.stores) [
         | inl below ↦ let few = fewer merge.store merge.stores merge.slot (4 * merge.shape.buckets) below held.slot in absurd (omega (arith, few, most, steps))
@@ -584,7 +666,8 @@ module _ (merge : MergeState) (sorted : SortedState) where
       ]
 
   -- and has written all entries
-  pub done_entries : (content : Content) (stores : List HashState) → IsHeldMerge merge → is_done merge sorted ≡ true → HasMerged content stores sorted merge → IsTrue content.honest → AreSound content.shown stores sorted
+  pub done_entries : (content : Content) (stores : List HashState) → IsHeldMerge merge → is_done merge sorted ≡ true
+      → HasMerged content stores sorted merge → IsTrue content.honest → AreSound content.shown stores sorted
       → sorted_rows merge.shape merge.region merge.written content.shown ≡ take merge.shape.sorted_capacity (merged_rows (sources content.shown stores sorted))
   unfolding merged_rows
   done_entries content stores held done is honest sound =
@@ -594,12 +677,15 @@ module _ (merge : MergeState) (sorted : SortedState) where
       ∙ ap (λ l. take merge.shape.sorted_capacity (filter is_put_row l)) (take_all merge.decided (newest_rows (sources content.shown stores sorted)) (omega (arith, keys)))
 
   -- which are a merge of the rows
-  pub done_merge : (content : Content) (stores : List HashState) → IsHeldMerge merge → is_done merge sorted ≡ true → HasMerged content stores sorted merge → IsTrue content.honest → AreSound content.shown stores sorted
-      → length (merged_rows (sources content.shown stores sorted)) ≤ merge.shape.sorted_capacity → IsMergeOf (sources content.shown stores sorted) (sorted_rows merge.shape merge.region merge.written content.shown)
+  pub done_merge : (content : Content) (stores : List HashState) → IsHeldMerge merge → is_done merge sorted ≡ true
+      → HasMerged content stores sorted merge → IsTrue content.honest → AreSound content.shown stores sorted
+      → length (merged_rows (sources content.shown stores sorted)) ≤ merge.shape.sorted_capacity
+      → IsMergeOf (sources content.shown stores sorted) (sorted_rows merge.shape merge.region merge.written content.shown)
   done_merge content stores held done is honest sound room =
       let all = done_entries content stores held done is honest sound ∙ take_all merge.shape.sorted_capacity (merged_rows (sources content.shown stores sorted)) room in
       subst (IsMergeOf (sources content.shown stores sorted)) (sym all) (merged_law (sources content.shown stores sorted))
 
 -- the index of a merge, in which only its builder changes
-pub seals : (old new : MergeState) → (made : MarkedCode) × (new ≡ record old { index = record { building = old.index.building; sealed = Some made } }) × IsTrieOf old.index.building made → Seals old new
+pub seals : (old new : MergeState) → (made : MarkedCode) × (new ≡ record old { index = record { building = old.index.building; sealed = Some made } })
+    × IsTrieOf old.index.building made → Seals old new
 seals old new (made, same, trie) = record { made = made; same = same; indexed = λ content stores sorted done is honest sound. trie.keys _ (is.merged honest sound).index }

@@ -1,5 +1,6 @@
 -- What waits after one slot more.
-use Rattle.std.proofs.Common.{◌≡◌, ℕ, zero, suc, ◌+◌, ◌*◌, ◌<◌, ◌≤◌, eqb, Bool, true, false, ◌&&◌, cond, List, [], ◌∷◌, ◌++◌, filter, flat_map, length, map, take, get_or, Option, Some, None, option_map, inl, inr, refl, sym, ap, ◌∙◌, arith, append_assoc, append-nil, bytes_eq}
+use Rattle.std.proofs.Common.{◌≡◌, ℕ, zero, suc, ◌+◌, ◌*◌, ◌<◌, ◌≤◌, eqb, Bool, true, false, ◌&&◌, cond, List, [], ◌∷◌, ◌++◌, filter, flat_map, length, map}
+use Rattle.std.proofs.Common.{take, get_or, Option, Some, None, option_map, inl, inr, refl, sym, ap, ◌∙◌, arith, append_assoc, append-nil, bytes_eq}
 use Rattle.std.specs.Option.{option_or}
 use Rattle.std.proofs.lemmas.Bool.{cases_Bool, cond-true, cond-false, eqb-true, or_parts}
 use Rattle.std.proofs.lemmas.List.{map-append, take_all, take_more}
@@ -80,7 +81,8 @@ module _ (s : Shape) (image regions : List ℕ) (store : ℕ) where
   region = get_or regions store 0
 
   -- one slot more
-  slot_gathered : (slot : ℕ) → gathered_rows s image regions store (slot + 1) ≡ filter has_known_kind (rows_before s region image slot ++ slot_row s region image slot ∷ []) ++ rows_of_hashes s image (take store regions)
+  slot_gathered : (slot : ℕ) → gathered_rows s image regions store (slot + 1) ≡ filter has_known_kind
+      (rows_before s region image slot ++ slot_row s region image slot ∷ []) ++ rows_of_hashes s image (take store regions)
   unfolding gathered_rows
   slot_gathered slot = ap (λ l. filter has_known_kind l ++ rows_of_hashes s image (take store regions)) (before_more s region image slot)
 
@@ -89,7 +91,8 @@ module _ (s : Shape) (image regions : List ℕ) (store : ℕ) where
   unfolding gathered_rows
   store_gathered below =
       let more : take (store + 1) regions ≡ take store regions ++ region ∷ [] = take_more regions store 0 below in
-      let parts : map known_rows (map (hash_part s image) (take store regions ++ region ∷ [])) ≡ map known_rows (map (hash_part s image) (take store regions)) ++ known_rows (hash_part s image region) ∷ [] =
+      let parts : map known_rows (map (hash_part s image) (take store regions ++ region ∷ [])) ≡ map known_rows (map (hash_part s image) (take store regions))
+      ++ known_rows (hash_part s image region) ∷ [] =
       ap (map known_rows) (map-append (hash_part s image) (take store regions) (region ∷ [])) ∙ map-append known_rows (map (hash_part s image) (take store regions)) (hash_part s image region ∷ []) in
       ap (λ l. filter has_known_kind l ++ rows_of_hashes s image (take store regions)) (sym (all_before s region image))
       ∙ sym (ap (rows_of_hashes s image) more ∙ ap oldest_first parts ∙ oldest_behind (map known_rows (map (hash_part s image) (take store regions))) (known_rows (hash_part s image region)))
@@ -135,7 +138,8 @@ module _ (s : Shape) (image regions : List ℕ) (store slot : ℕ) (below : stor
       (ap (λ k. holds_key k (rows_before s region image slot)) (sym (key_is shown.key key same)) ∙ ap (holds_key shown.key) (sym (before_taken s region image slot (omega arith))) ∙ parts.1)
 
   -- the newest row of a key with one more slot, if the slot has a row of a known kind
-  row_gathered : (row : Row) (key : List ℕ) → IsRowAt shown slot (Some row) → newest_row (gathered_rows s image regions store (slot + 1)) key ≡ option_or (newest_row (gathered_rows s image regions store slot) key) (own shown key)
+  row_gathered : (row : Row) (key : List ℕ) → IsRowAt shown slot (Some row)
+      → newest_row (gathered_rows s image regions store (slot + 1)) key ≡ option_or (newest_row (gathered_rows s image regions store slot) key) (own shown key)
   unfolding gathered_rows
   row_gathered row key is =
       let region : ℕ = get_or regions store 0 in
@@ -154,7 +158,8 @@ module _ (s : Shape) (image regions : List ℕ) (store slot : ℕ) (below : stor
       ∙ ap (λ l. newest_row (l ++ rows_of_hashes s image (take store regions)) key) (unknown_more (rows_before s region image slot) shown unknown)
 
 -- the rows that are gathered before the next slot
-pub next_gathered : (s : Shape) (image regions : List ℕ) (store slot : ℕ) → store < length regions → gathered_rows s image regions (slot_after store slot (4 * s.buckets)).0 (slot_after store slot (4 * s.buckets)).1 ≡ gathered_rows s image regions store (slot + 1)
+pub next_gathered : (s : Shape) (image regions : List ℕ) (store slot : ℕ) → store < length regions
+    → gathered_rows s image regions (slot_after store slot (4 * s.buckets)).0 (slot_after store slot (4 * s.buckets)).1 ≡ gathered_rows s image regions store (slot + 1)
 next_gathered s image regions store slot below = elim (cases_Bool (eqb (slot + 1) (4 * s.buckets))) [
   | inl last ↦
       ap (λ (p : ℕ × ℕ). gathered_rows s image regions p.0 p.1) (cond-true _ _ _ last)

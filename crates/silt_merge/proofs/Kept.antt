@@ -13,7 +13,8 @@ use Rattle.silt_merge.proofs.Newest.{key_is, prefer}
 use Rattle.silt_frame.specs.Rows.{key_cmp}
 
 -- no row waits for a key below the first
-pub first_least : (waiting : BTreeMap Key Source) (key : Key) → tree.IsLowerBound key_cmp waiting key → (other : List ℕ) (its : Source) → source_at waiting.entries other ≡ Some its → slice_cmp nat_cmp other key.0 ≢ Less
+pub first_least : (waiting : BTreeMap Key Source) (key : Key) → tree.IsLowerBound key_cmp waiting key → (other : List ℕ) (its : Source)
+    → source_at waiting.entries other ≡ Some its → slice_cmp nat_cmp other key.0 ≢ Less
 first_least waiting key least other its is less =
     let not_above : is_gt (slice_cmp nat_cmp key.0 other) ≡ false = least (record { 0 = other }) (ap is_some is) in
     let above : is_gt (slice_cmp nat_cmp key.0 other) ≡ true = ap is_gt (nat_list_cmp_total.antisymm key.0 other ∙ ap ordering_reverse less) in
@@ -26,7 +27,8 @@ kept_row store slot row before after lacks updates key =
     let source : Source = record { kind = row.kind; store = store; slot = slot } in
     updates.0 (record { 0 = key })
     ∙ ap (λ b. cond b (Some source) (source_at before.entries key)) (is_eq-slice_cmp row.key.0 key)
-    ∙ prefer (bytes_eq row.key.0 key) source (source_at before.entries key) (λ same. nothing (source_at before.entries key) (ap (λ k. is_some (source_at before.entries k)) (sym (key_is row.key.0 key same)) ∙ lacks))
+    ∙ prefer (bytes_eq row.key.0 key) source (source_at before.entries key)
+    (λ same. nothing (source_at before.entries key) (ap (λ k. is_some (source_at before.entries k)) (sym (key_is row.key.0 key same)) ∙ lacks))
   where
     nothing : (o : Option Source) → is_some o ≡ false → o ≡ None
     nothing None none = refl

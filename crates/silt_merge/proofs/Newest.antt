@@ -1,5 +1,6 @@
 -- The newest rows of keys: how one is looked up, and that they rise.
-use Rattle.std.proofs.Common.{◌≡◌, ℕ, zero, suc, ◌+◌, ◌-◌, ◌==◌, ◌<◌, ◌≤◌, Bool, true, false, cond, List, [], ◌∷◌, ◌++◌, filter, find, length, reverse, Option, Some, None, option_and_then, inl, inr, refl, sym, subst, ap, ◌∙◌, arith, bytes_eq, Ordering, Less, Equal, Greater}
+use Rattle.std.proofs.Common.{◌≡◌, ℕ, zero, suc, ◌+◌, ◌-◌, ◌==◌, ◌<◌, ◌≤◌, Bool, true, false, cond, List, [], ◌∷◌, ◌++◌, filter, find, length, reverse, Option}
+use Rattle.std.proofs.Common.{Some, None, option_and_then, inl, inr, refl, sym, subst, ap, ◌∙◌, arith, bytes_eq, Ordering, Less, Equal, Greater}
 use Rattle.std.specs.Option.{option_or}
 use Rattle.std.specs.Ordering.{is_eq, is_lt, match_ordering, nat_cmp, ordering_reverse}
 use Rattle.std.specs.Cmp.Lexicographic.{slice_cmp, nat_list_cmp_total}
@@ -136,7 +137,8 @@ behind_first true x new old other is = refl
 behind_first false x new old other is = is
 
 -- the first row has the key of an older one
-kept_first : (row first : StoredRow) (rest : List StoredRow) (key : List ℕ) (b : Bool) → bytes_eq row.key key ≡ b → row.key ≡ first.key → row_with key (first ∷ rest) ≡ option_or (row_with key (first ∷ rest)) (own row key)
+kept_first : (row first : StoredRow) (rest : List StoredRow) (key : List ℕ) (b : Bool) → bytes_eq row.key key ≡ b → row.key ≡ first.key
+    → row_with key (first ∷ rest) ≡ option_or (row_with key (first ∷ rest)) (own row key)
 kept_first row first rest key true has same =
     let here : row_with key (first ∷ rest) ≡ Some first = cond-true _ _ _ (ap (λ k. bytes_eq k key) (sym same) ∙ has) in
     here ∙ sym (ap (λ o. option_or o (own row key)) here)
@@ -206,7 +208,8 @@ pub nothing_rising : (rows : List StoredRow) → Rises rows → sorted_findings 
 unfolding sorted_findings
 nothing_rising rows rises =
     none_of_all (entry_findings rows) 1 (length rows - 1)
-    (λ place low high. nothing_where_passes (is_key_below (key_at rows (place - 1)) (key_at rows place)) (Damaged (Sorted place)) (ap is_lt (rises_at rows rises (place - 1) place (omega arith) (omega arith))))
+    (λ place low high. nothing_where_passes (is_key_below (key_at rows (place - 1)) (key_at rows place)) (Damaged (Sorted place))
+    (ap is_lt (rises_at rows rises (place - 1) place (omega arith) (omega arith))))
 
 -- ---- those that are puts
 
@@ -273,7 +276,8 @@ merged_map rows =
     same_map nat_list_cmp_total (slice_cmp-IsAntisymmetric nat_cmp-IsAntisymmetric) (map_of_rows (filter is_put_row (newest_rows rows))) (map_of_rows rows)
     (λ key.
     newest_law (filter is_put_row (newest_rows rows)) key
-    ∙ ap (option_and_then value_given) (newest_rising (filter is_put_row (newest_rows rows)) (rises_puts (newest_rows rows) (rises_newest rows)) key ∙ find_puts (newest_rows rows) (rises_newest rows) key)
+    ∙ ap (option_and_then value_given) (newest_rising (filter is_put_row (newest_rows rows)) (rises_puts (newest_rows rows) (rises_newest rows)) key
+    ∙ find_puts (newest_rows rows) (rises_newest rows) key)
     ∙ put_value (row_with key (newest_rows rows))
     ∙ ap (option_and_then value_given) (find_newest rows key)
     ∙ sym (newest_law rows key))

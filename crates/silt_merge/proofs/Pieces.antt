@@ -21,7 +21,8 @@ part_of_front front rest from count inside =
     ∙ ap (λ l. slice_range l from (from + count)) (ap (λ n. take n (front ++ rest)) long ∙ take-append_seam front rest)
 
 -- what bytes hold of entries, they hold with others behind them
-pub holds_front : (rows : List StoredRow) (place count len : ℕ) (front rest : List ℕ) → count * len ≤ length front → HoldsEntries rows place count len front → HoldsEntries rows place count len (front ++ rest)
+pub holds_front : (rows : List StoredRow) (place count len : ℕ) (front rest : List ℕ) → count * len ≤ length front
+    → HoldsEntries rows place count len front → HoldsEntries rows place count len (front ++ rest)
 holds_front rows place count len front rest long holds = λ i below.
     let inside = part_inside 0 len count i (length front) (omega (arith, long)) below in
     subst (HasEntry rows (place + i)) (sym (part_of_front front rest (i * len) len (omega (arith, inside)))) (holds i below)
@@ -65,7 +66,8 @@ first_entry rows place (part ∷ parts) some are = are.0
 -- ---- slots
 
 -- what bytes hold of slots, they hold with others behind them
-pub slots_front : (s : Shape) (region slot count : ℕ) (image front rest : List ℕ) → count * row_len s ≤ length front → HoldsSlots s region image slot count front → HoldsSlots s region image slot count (front ++ rest)
+pub slots_front : (s : Shape) (region slot count : ℕ) (image front rest : List ℕ) → count * row_len s ≤ length front
+    → HoldsSlots s region image slot count front → HoldsSlots s region image slot count (front ++ rest)
 slots_front s region slot count image front rest long holds = λ i below.
     let len : ℕ = row_len s in
     let inside = part_inside 0 len count i (length front) (omega (arith, long)) below in
@@ -73,7 +75,8 @@ slots_front s region slot count image front rest long holds = λ i below.
 
 -- parts of bytes that hold slots are these
 slots_from : (s : Shape) (region slot at count : ℕ) (image bytes : List ℕ) → slot + at + count ≤ 4 * s.buckets
-    → ((i : ℕ) → at ≤ i → i < at + count → slot_row s region image (slot + i) ≡ row_of (slice_range bytes (i * row_len s) (i * row_len s + row_len s))) → AreSlots s region image (slot + at) (parts_from bytes (row_len s) at count)
+    → ((i : ℕ) → at ≤ i → i < at + count → slot_row s region image (slot + i) ≡ row_of (slice_range bytes (i * row_len s) (i * row_len s + row_len s)))
+    → AreSlots s region image (slot + at) (parts_from bytes (row_len s) at count)
 slots_from s region slot at zero image bytes within each = tt
 slots_from s region slot at (suc count) image bytes within each = (
   (omega (arith, within), each at (omega arith) (omega arith)),
@@ -82,17 +85,21 @@ slots_from s region slot at (suc count) image bytes within each = (
 )
 
 -- all of them
-pub are_slots : (s : Shape) (region slot count : ℕ) (image bytes : List ℕ) → slot + count ≤ 4 * s.buckets → HoldsSlots s region image slot count bytes → AreSlots s region image slot (parts_from bytes (row_len s) 0 count)
+pub are_slots : (s : Shape) (region slot count : ℕ) (image bytes : List ℕ) → slot + count ≤ 4 * s.buckets → HoldsSlots s region image slot count bytes
+    → AreSlots s region image slot (parts_from bytes (row_len s) 0 count)
 are_slots s region slot count image bytes within holds =
-    subst (λ n. AreSlots s region image n (parts_from bytes (row_len s) 0 count)) (omega arith) (slots_from s region slot 0 count image bytes (omega (arith, within)) (λ i low high. holds i (omega arith)))
+    subst (λ n. AreSlots s region image n (parts_from bytes (row_len s) 0 count)) (omega arith)
+    (slots_from s region slot 0 count image bytes (omega (arith, within)) (λ i low high. holds i (omega arith)))
 
 -- the first of them shows the row in its slot
-pub first_slot : (s : Shape) (region slot : ℕ) (image : List ℕ) (parts : List (List ℕ)) → 0 < length parts → AreSlots s region image slot parts → slot_row s region image slot ≡ row_of (get_or parts 0 [])
+pub first_slot : (s : Shape) (region slot : ℕ) (image : List ℕ) (parts : List (List ℕ)) → 0 < length parts → AreSlots s region image slot parts
+    → slot_row s region image slot ≡ row_of (get_or parts 0 [])
 first_slot s region slot image [] some are = absurd (omega arith)
 first_slot s region slot image (part ∷ parts) some are = are.0.1
 
 -- if the rows of the slots are the same, the parts are still their bytes
-pub slots_same : (s : Shape) (region : ℕ) (old new : List ℕ) (slot : ℕ) (parts : List (List ℕ)) → ((n : ℕ) → n < 4 * s.buckets → slot_row s region new n ≡ slot_row s region old n) → AreSlots s region old slot parts → AreSlots s region new slot parts
+pub slots_same : (s : Shape) (region : ℕ) (old new : List ℕ) (slot : ℕ) (parts : List (List ℕ))
+    → ((n : ℕ) → n < 4 * s.buckets → slot_row s region new n ≡ slot_row s region old n) → AreSlots s region old slot parts → AreSlots s region new slot parts
 slots_same s region old new slot [] same are = tt
 slots_same s region old new slot (part ∷ parts) same are = ((are.0.0, same slot are.0.0 ∙ are.0.1), slots_same s region old new (slot + 1) parts same are.1)
 

@@ -28,7 +28,8 @@ pub store_at : (stores : List HashState) (place : ℕ) (store : HashState) → p
 store_at stores place store below is = get_or-map (λ (s : HashState). s.region) stores place store 0 below ∙ ap (λ (s : HashState). s.region) (sym is)
 
 -- a key and the value of the row that decides
-pub row_read : {A E : Type 0} (result : Result A E) (shape : Shape) (image : List ℕ) (stores : List HashState) (store : HashState) (key : List ℕ) (source : Source) (old front value : List ℕ) → source.store < length stores
+pub row_read : {A E : Type 0} (result : Result A E) (shape : Shape) (image : List ℕ) (stores : List HashState) (store : HashState)
+    (key : List ℕ) (source : Source) (old front value : List ℕ) → source.store < length stores
     → store ≡ get_or stores source.store store → All (λ s. s.shape ≡ shape) stores → front ≡ key → length front ≡ 20 → OnOk result (value ≡ (slot_row store.shape store.region image source.slot).value)
     → OnOk result (ReadsRow shape image (regions_of stores) key (Some source) old (front ++ value))
 row_read result shape image stores store key source old front value below is shapes same long read =
@@ -53,7 +54,8 @@ one_row stored slot (Some a) (Some b) first second =
     let kind : a.kind ≡ b.kind = one_kind a.kind b.kind (first.kind ∙ sym second.kind) in
     let key : a.key.0 ≡ b.key.0 = first.key ∙ sym second.key in
     let place : a.place ≡ b.place = first.place ∙ sym second.place in
-    ap Some (ap (λ k. let r : Row = record a { kind = k } in r) kind ∙ ap (λ k. let r : Row = record { kind = b.kind; key = record { 0 = k }; place = a.place } in r) key ∙ ap (λ p. let r : Row = record b { place = p } in r) place)
+    ap Some (ap (λ k. let r : Row = record a { kind = k } in r) kind
+    ∙ ap (λ k. let r : Row = record { kind = b.kind; key = record { 0 = k }; place = a.place } in r) key ∙ ap (λ p. let r : Row = record b { place = p } in r) place)
   where
     one_kind : (k l : Kind) → kind_byte k ≡ kind_byte l → k ≡ l
     one_kind Put Put same = refl

@@ -22,7 +22,8 @@ use Rattle.silt_merge.proofs.Making.{grown, made_none, stayed}
 use Rattle.silt_merge.proofs.Reading.{store_at}
 
 -- what is damaged while a merge gathers
-pub gathering_place : (stores : List HashState) (merge : MergeState) (store : HashState) (region : ℕ) → merge.store < merge.stores → length stores ≡ merge.stores → store ≡ get_or stores merge.store store → region ≡ store.region
+pub gathering_place : (stores : List HashState) (merge : MergeState) (store : HashState) (region : ℕ) → merge.store < merge.stores
+    → length stores ≡ merge.stores → store ≡ get_or stores merge.store store → region ≡ store.region
     → HashDigest region ≡ damaged_place stores merge
 gathering_place stores merge store region below counted here is =
     ap HashDigest (is ∙ sym (store_at stores merge.store store (omega (arith, below, counted)) here)) ∙ sym (cond-true _ _ _ (lt-ltb merge.store merge.stores below))
@@ -78,7 +79,8 @@ module _ {D F : Type 0} (facts : Ghosts D F) (stores : List HashState) (sorted :
       ap (λ p. let r : Result T (StepError F) = Err (Damaged p) in r) own) held (refl, refl, found)
 
   -- a step that wrote nothing
-  pub went_on : {T : Type 0} (disk : D) (before after : MergeState) (x : T) → IsSameMerge before after → IsHeldMerge after → after.last ≡ before.last → after.written ≡ before.written → steps_of after ≡ steps_of before + 1 → before.damaged ≡ None
+  pub went_on : {T : Type 0} (disk : D) (before after : MergeState) (x : T) → IsSameMerge before after → IsHeldMerge after
+      → after.last ≡ before.last → after.written ≡ before.written → steps_of after ≡ steps_of before + 1 → before.damaged ≡ None
       → (HasMerged (facts.content disk) stores sorted before → HasMerged (facts.content disk) stores sorted after) → (HasCompared stores sorted digest before → HasCompared stores sorted digest after)
       → Finds (facts.content disk) stores sorted digest before after → TakesStep facts stores sorted digest disk disk before after (Ok x)
   went_on disk before after x same held last written steps sound merged compared finds =
@@ -98,7 +100,8 @@ module _ {D F : Type 0} (facts : Ghosts D F) (stores : List HashState) (sorted :
         fails = tt;
       }
 
-  module _ (old new : D) (before after : MergeState) (sound : before.damaged ≡ None) (sizes : size (facts.content new) ≡ size (facts.content old)) (all : before.store ≡ before.stores) (same : IsSameMerge before after) (held : IsHeldMerge after)
+  module _ (old new : D) (before after : MergeState) (sound : before.damaged ≡ None) (sizes : size (facts.content new) ≡ size (facts.content old))
+      (all : before.store ≡ before.stores) (same : IsSameMerge before after) (held : IsHeldMerge after)
       (entry : ChangesWithin (sorted_entry_at before.shape before.region before.written) (entry_len before.shape) (facts.content old) (facts.content new))
       (within : ChangesWithin (sorted_at before.shape before.region) (before.shape.sorted_capacity * entry_len before.shape) (facts.content old) (facts.content new)) where
     in_region : ChangesWithin (sorted_at before.shape before.region) (sorted_size before.shape) (facts.content old) (facts.content new)
@@ -107,9 +110,11 @@ module _ {D F : Type 0} (facts : Ghosts D F) (stores : List HashState) (sorted :
         within_wider (sorted_at before.shape before.region) (sorted_size before.shape) (omega arith) (omega (arith, least)) within
 
     -- a step that decided a key, whose entry is written or not
-    pub decided_on : {T : Type 0} (is_written : Bool) (x : T) → LastRises before after → after.written ≡ written_after is_written before.written → Makes facts.writes facts.syncs (after.written - before.written) 0 old new
+    pub decided_on : {T : Type 0} (is_written : Bool) (x : T) → LastRises before after → after.written ≡ written_after is_written before.written
+        → Makes facts.writes facts.syncs (after.written - before.written) 0 old new
         → facts.failures new ≡ facts.failures old → steps_of after ≡ steps_of before + 1 → (HasMerged (facts.content old) stores sorted before → HasMerged (facts.content new) stores sorted after)
-        → (HasCompared stores sorted digest before → HasCompared stores sorted digest after) → Finds (facts.content old) stores sorted digest before after → TakesStep facts stores sorted digest old new before after (Ok x)
+        → (HasCompared stores sorted digest before → HasCompared stores sorted digest after) → Finds (facts.content old) stores sorted digest before after
+        → TakesStep facts stores sorted digest old new before after (Ok x)
     decided_on is_written x rises written made failures steps merged compared finds = record {
       stuck = λ place found. none_stuck before sound place found;
       size = sizes;
@@ -126,7 +131,8 @@ module _ {D F : Type 0} (facts : Ghosts D F) (stores : List HashState) (sorted :
     }
 
     -- a step whose write failed
-    pub broke : {T : Type 0} (fault : F) → after.last ≡ before.last → after.written ≡ before.written → MakesAtMost facts.writes facts.syncs 1 0 old new → CountsFault facts.failures facts.gave old new fault
+    pub broke : {T : Type 0} (fault : F) → after.last ≡ before.last → after.written ≡ before.written → MakesAtMost facts.writes facts.syncs 1 0 old new
+        → CountsFault facts.failures facts.gave old new fault
         → TakesStep {T = T} facts stores sorted digest old new before after (Err (Write fault))
     broke fault last written most counts = record {
       stuck = λ place found. none_stuck before sound place found;
@@ -145,7 +151,8 @@ module _ {D F : Type 0} (facts : Ghosts D F) (stores : List HashState) (sorted :
 
   -- ---- what is read ahead first
 
-  module _ (old new : D) (before : MergeState) (slots ahead : List (List ℕ)) (reads : HasMerged (facts.content old) stores sorted before → HasMerged (facts.content old) stores sorted (record before { slots = slots; ahead = ahead })) where
+  module _ (old new : D) (before : MergeState) (slots ahead : List (List ℕ)) (reads : HasMerged (facts.content old) stores sorted before
+      → HasMerged (facts.content old) stores sorted (record before { slots = slots; ahead = ahead })) where
     abbrev read : MergeState
     read = record before { slots = slots; ahead = ahead }
 
@@ -186,14 +193,16 @@ module _ {D F : Type 0} (facts : Ghosts D F) (stores : List HashState) (sorted :
     takes_before (inr key) = inr (record { gathered = key.gathered; room = key.room; puts = λ honest merged sound. key.puts honest (reads merged) sound })
 
     -- the cause of an error is that of the step without it
-    fails_before : (mid after : MergeState) (error : StepError F) → (mid ≡ read → after ≡ before) → FailsMerge facts stores sorted old new read mid error → FailsMerge facts stores sorted old new before after error
+    fails_before : (mid after : MergeState) (error : StepError F) → (mid ≡ read → after ≡ before) → FailsMerge facts stores sorted old new read mid error
+        → FailsMerge facts stores sorted old new before after error
     fails_before mid after (Read fault) back fails = (back fails.0, fails.1, fails.2)
     fails_before mid after (Write fault) back fails = fails
     fails_before mid after NoMemory back fails = (back fails.0, fails.1, λ merged sound. takes_before (fails.2 (reads merged) sound))
     fails_before mid after (Damaged place) back fails = (back fails.0, fails.1, fails.2)
 
     -- a step that forgets it again after an error
-    pub read_and_failed : {T : Type 0} (mid after : MergeState) (slots_after ahead_after : List (List ℕ)) (error : StepError F) → after ≡ record mid { slots = slots_after; ahead = ahead_after } → (mid ≡ read → after ≡ before) → IsHeldMerge after
+    pub read_and_failed : {T : Type 0} (mid after : MergeState) (slots_after ahead_after : List (List ℕ)) (error : StepError F)
+        → after ≡ record mid { slots = slots_after; ahead = ahead_after } → (mid ≡ read → after ≡ before) → IsHeldMerge after
         → TakesStep {T = T} facts stores sorted digest old new read mid (Err error) → TakesStep {T = T} facts stores sorted digest old new before after (Err error)
     read_and_failed {T} mid after slots_after ahead_after error is_after back held is =
         let written : after.written ≡ mid.written = ap (λ (m : MergeState). m.written) is_after in

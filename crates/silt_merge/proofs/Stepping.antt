@@ -1,5 +1,6 @@
 -- What each step of a merge leaves.
-use Rattle.std.proofs.Common.{◌≡◌, ◌≢◌, ℕ, ◌+◌, ◌*◌, ◌<◌, ◌≤◌, ◌⊎◌, eqb, Bool, true, false, cond, IsTrue, List, [], ◌∷◌, ◌++◌, length, get_or, take, Option, Some, None, option_map, inl, inr, refl, sym, subst, ap, ◌∙◌, arith, bytes_eq, take_all}
+use Rattle.std.proofs.Common.{◌≡◌, ◌≢◌, ℕ, ◌+◌, ◌*◌, ◌<◌, ◌≤◌, ◌⊎◌, eqb, Bool, true, false, cond, IsTrue, List, [], ◌∷◌, ◌++◌, length, get_or, take, Option}
+use Rattle.std.proofs.Common.{Some, None, option_map, inl, inr, refl, sym, subst, ap, ◌∙◌, arith, bytes_eq, take_all}
 use Rattle.std.specs.Option.{option_or}
 use Rattle.std.proofs.lemmas.Bool.{cases_Bool, cond-true, cond-false, eq-eqb, eqb-true, le-ltb}
 use Rattle.silt_disk.specs.Disk.{Content}
@@ -39,9 +40,28 @@ unfolding rows_before
 no_slots s region image = refl
 
 -- nothing is gathered, and nothing is due
-pub started : (content : Content) (stores : List HashState) (sorted : SortedState) (shape : Shape) (region : ℕ) (waiting : List (Key × Source)) (index : BuilderState) (slots ahead : List (List ℕ)) (input : Taken) (hasher : Sha1) → shape ≡ sorted.shape → sorted.region ≢ region
+pub started : (content : Content) (stores : List HashState) (sorted : SortedState) (shape : Shape) (region : ℕ) (waiting : List (Key × Source))
+    (index : BuilderState) (slots ahead : List (List ℕ)) (input : Taken) (hasher : Sha1) → shape ≡ sorted.shape → sorted.region ≢ region
     → waiting ≡ [] → IsBuildingOf [] index.building → slots ≡ [] → ahead ≡ [] → HasTaken input [] → Holds hasher []
-    → HasMerged content stores sorted (record { shape = shape; region = region; stores = length stores; store = 0; slot = 0; waiting = waiting; passed = 0; written = 0; index = index; decided = 0; last = None; slots = slots; ahead = ahead; input = input; hasher = hasher; damaged = None })
+    → HasMerged content stores sorted
+    (record {
+      shape = shape;
+      region = region;
+      stores = length stores;
+      store = 0;
+      slot = 0;
+      waiting = waiting;
+      passed = 0;
+      written = 0;
+      index = index;
+      decided = 0;
+      last = None;
+      slots = slots;
+      ahead = ahead;
+      input = input;
+      hasher = hasher;
+      damaged = None;
+    })
 started content stores sorted shape region waiting index slots ahead input hasher same apart none no_keys none_read none_ahead fresh_input fresh = record {
   shape = sym same;
   counted = refl;
@@ -94,21 +114,25 @@ kept_inside : (merge : MergeState) (row : Option Row) (after : List (Key × Sour
     → (key : List ℕ) (source : Source) → source_at after key ≡ Some source → (source.store < merge.stores) × (source.slot < 4 * merge.shape.buckets)
 kept_inside merge None after held below keeps key source is = let inside = held.inside key source (sym (keeps key) ∙ is) in (inside.store, inside.slot)
 kept_inside merge (Some row) after held below keeps key source is =
-    let go : (o : Option Source) → source_at merge.waiting key ≡ o → option_or o (own_source merge.store merge.slot row key) ≡ Some source → (source.store < merge.stores) × (source.slot < 4 * merge.shape.buckets) = elim [
+    let go : (o : Option Source) → source_at merge.waiting key ≡ o → option_or o (own_source merge.store merge.slot row key) ≡ Some source
+    → (source.store < merge.stores) × (source.slot < 4 * merge.shape.buckets) = elim [
       | Some other ↦ λ was found. let same : other ≡ source = cc in let inside = held.inside key source (was ∙ ap Some same) in (inside.store, inside.slot)
       | None ↦ λ was found. own_inside (bytes_eq row.key.0 key) found
     ] in
     go (source_at merge.waiting key) refl (sym (keeps key) ∙ is)
   where
-    own_inside : (b : Bool) → cond b (Some (record { kind = row.kind; store = merge.store; slot = merge.slot })) None ≡ Some source → (source.store < merge.stores) × (source.slot < 4 * merge.shape.buckets)
+    own_inside : (b : Bool) → cond b (Some (record { kind = row.kind; store = merge.store; slot = merge.slot })) None ≡ Some source
+        → (source.store < merge.stores) × (source.slot < 4 * merge.shape.buckets)
     own_inside true found =
         let same : record { kind = row.kind; store = merge.store; slot = merge.slot } ≡ source = cc in
         subst (λ (s : Source). (s.store < merge.stores) × (s.slot < 4 * merge.shape.buckets)) same (below, held.slot)
     own_inside false found = absurd (cc)
 
 -- a merge with one slot more
-pub gathered_held : (merge : MergeState) (row : Option Row) (after : List (Key × Source)) (next : ℕ × ℕ) (slots : List (List ℕ)) (input : Taken) → IsHeldMerge merge → merge.store < merge.stores → Gathers merge.store merge.slot row merge.waiting after
-    → length after ≤ length merge.waiting + 1 → next ≡ slot_after merge.store merge.slot (4 * merge.shape.buckets) → IsHeldMerge (record merge { store = next.0; slot = next.1; waiting = after; slots = slots; input = input })
+pub gathered_held : (merge : MergeState) (row : Option Row) (after : List (Key × Source)) (next : ℕ × ℕ) (slots : List (List ℕ)) (input : Taken)
+    → IsHeldMerge merge → merge.store < merge.stores → Gathers merge.store merge.slot row merge.waiting after
+    → length after ≤ length merge.waiting + 1 → next ≡ slot_after merge.store merge.slot (4 * merge.shape.buckets)
+    → IsHeldMerge (record merge { store = next.0; slot = next.1; waiting = after; slots = slots; input = input })
 gathered_held merge row after next slots input held below keeps long is =
     let count : next.0 * (4 * merge.shape.buckets) + next.1 ≡ merge.store * (4 * merge.shape.buckets) + merge.slot + 1 =
     ap (λ (p : ℕ × ℕ). p.0 * (4 * merge.shape.buckets) + p.1) is ∙ slots_more merge.store merge.slot (4 * merge.shape.buckets) in
@@ -128,7 +152,8 @@ gathered_held merge row after next slots input held below keeps long is =
       index = held.index;
     }
   where
-    where_next : (slot_after merge.store merge.slot (4 * merge.shape.buckets) ≡ (merge.store + 1, 0)) ⊎ ((slot_after merge.store merge.slot (4 * merge.shape.buckets) ≡ (merge.store, merge.slot + 1)) × (merge.slot + 1 ≢ 4 * merge.shape.buckets))
+    where_next : (slot_after merge.store merge.slot (4 * merge.shape.buckets) ≡ (merge.store + 1, 0))
+        ⊎ ((slot_after merge.store merge.slot (4 * merge.shape.buckets) ≡ (merge.store, merge.slot + 1)) × (merge.slot + 1 ≢ 4 * merge.shape.buckets))
         → (next.0 ≤ merge.stores) × (next.1 < 4 * merge.shape.buckets) × (next.0 ≡ merge.stores → next.1 ≡ 0)
     where_next (inl last) =
         let store : next.0 ≡ merge.store + 1 = ap (λ (p : ℕ × ℕ). p.0) (is ∙ last) in
@@ -160,7 +185,8 @@ slots_next s regions image store slot (part ∷ other ∷ slots) are =
         omega (arith, zero_slot)
 
 -- the hashed bytes are those of the slots before the next one, or none before the first of the next store
-input_next : (s : Shape) (regions image : List ℕ) (store slot : ℕ) (slots : List (List ℕ)) (input : Taken) → 0 < length slots → length (get_or slots 0 []) ≡ row_len s → AreSlots s (get_or regions store 0) image slot slots
+input_next : (s : Shape) (regions image : List ℕ) (store slot : ℕ) (slots : List (List ℕ)) (input : Taken) → 0 < length slots
+    → length (get_or slots 0 []) ≡ row_len s → AreSlots s (get_or regions store 0) image slot slots
     → HasTaken input (input_after (eqb (slot + 1) (4 * s.buckets)) (rows_bytes (rows_before s (get_or regions store 0) image slot)) (get_or slots 0 []))
     → ((slot_after store slot (4 * s.buckets)).0 ≡ store + 1 → HasTaken input [])
     × HasTaken input (rows_bytes (rows_before s (get_or regions (slot_after store slot (4 * s.buckets)).0 0) image (slot_after store slot (4 * s.buckets)).1))
@@ -173,7 +199,8 @@ input_next s regions image store slot slots input some long are holds = elim (ca
             (subst (λ (rows : List StoredRow). HasTaken input (rows_bytes rows)) (sym (no_slots s (get_or regions (store + 1) 0) image)) nothing),
       )
   | inr other ↦
-      let more : HasTaken input (rows_bytes (rows_before s (get_or regions store 0) image slot) ++ get_or slots 0 []) = subst (λ b. HasTaken input (input_after b (rows_bytes (rows_before s (get_or regions store 0) image slot)) (get_or slots 0 []))) other holds in
+      let more : HasTaken input (rows_bytes (rows_before s (get_or regions store 0) image slot) ++ get_or slots 0 []) =
+      subst (λ b. HasTaken input (input_after b (rows_bytes (rows_before s (get_or regions store 0) image slot)) (get_or slots 0 []))) other holds in
       let next : slot_after store slot (4 * s.buckets) ≡ (store, slot + 1) = cond-false _ _ _ other in (
         λ same. let here : store ≡ store + 1 = sym (ap (λ (p : ℕ × ℕ). p.0) next) ∙ same in absurd (omega (arith, here)),
         subst (λ (p : ℕ × ℕ). HasTaken input (rows_bytes (rows_before s (get_or regions p.0 0) image p.1))) (sym next)
@@ -182,7 +209,8 @@ input_next s regions image store slot slots input some long are holds = elim (ca
 ]
 
 -- has gathered one slot more
-pub gathered_step : (content : Content) (stores : List HashState) (sorted : SortedState) (merge : MergeState) (row : Option Row) (after : List (Key × Source)) (next : ℕ × ℕ) (input : Taken) → IsHeldMerge merge → merge.store < merge.stores → 0 < length merge.slots
+pub gathered_step : (content : Content) (stores : List HashState) (sorted : SortedState) (merge : MergeState) (row : Option Row)
+    (after : List (Key × Source)) (next : ℕ × ℕ) (input : Taken) → IsHeldMerge merge → merge.store < merge.stores → 0 < length merge.slots
     → length (get_or merge.slots 0 []) ≡ row_len merge.shape → ((bytes : List ℕ) → HasTaken merge.input bytes → HasTaken input (input_after (ends_store merge) bytes (get_or merge.slots 0 [])))
     → (IsTrue content.honest → sorted.shape ≡ merge.shape → AreSlots sorted.shape (get_or (regions_of stores) merge.store 0) content.shown merge.slot merge.slots
     → IsRowAt (slot_row sorted.shape (get_or (regions_of stores) merge.store 0) content.shown merge.slot) merge.slot row)
@@ -205,14 +233,16 @@ gathered_step content stores sorted merge row after next input held below some l
       let first : (key : List ℕ) (l : List StoredRow) → cond (has_row_with key (decided_rows image stores sorted merge.decided)) None (newest_row l key) ≡ newest_row l key =
       λ key l. ap (λ n. cond (has_row_with key (decided_rows image stores sorted n)) None (newest_row l key)) none in
       let shown = read honest so_far.shape (was.gathered.slots inside) in
-      let kept = waits_kept s image regions merge.store merge.slot row merge.waiting after within slot sound.hashes shown keeps (λ key. was.gathered.waits key ∙ first key (gathered_rows s image regions merge.store merge.slot)) in
+      let kept = waits_kept s image regions merge.store merge.slot row merge.waiting after within slot sound.hashes shown keeps
+      (λ key. was.gathered.waits key ∙ first key (gathered_rows s image regions merge.store merge.slot)) in
       let moved : gathered_rows s image regions next.0 next.1 ≡ gathered_rows s image regions merge.store (merge.slot + 1) =
       ap (λ (p : ℕ × ℕ). gathered_rows s image regions p.0 p.1) is
       ∙ ap (λ (t : Shape). gathered_rows s image regions (slot_after merge.store merge.slot (4 * t.buckets)).0 (slot_after merge.store merge.slot (4 * t.buckets)).1) (sym so_far.shape)
       ∙ next_gathered s image regions merge.store merge.slot within in
       let same_next : slot_after merge.store merge.slot (4 * s.buckets) ≡ next = ap (λ (t : Shape). slot_after merge.store merge.slot (4 * t.buckets)) so_far.shape ∙ sym is in
       let holds = input_next s regions image merge.store merge.slot merge.slots input some (long ∙ ap row_len (sym so_far.shape)) (was.gathered.slots inside)
-      (subst (λ (t : Shape). HasTaken input (input_after (eqb (merge.slot + 1) (4 * t.buckets)) (rows_bytes (rows_before s (get_or regions merge.store 0) image merge.slot)) (get_or merge.slots 0 []))) (sym so_far.shape)
+      (subst (λ (t : Shape). HasTaken input (input_after (eqb (merge.slot + 1) (4 * t.buckets))
+      (rows_bytes (rows_before s (get_or regions merge.store 0) image merge.slot)) (get_or merge.slots 0 []))) (sym so_far.shape)
       (hashed (rows_bytes (rows_before s (get_or regions merge.store 0) image merge.slot)) (was.gathered.slots_hashed inside))) in
       record {
         gathered = record {

@@ -1,5 +1,6 @@
 -- What a step does that gathers a slot, and one that decides a key.
-use Rattle.std.proofs.Common.{◌≡◌, ℕ, ◌+◌, ◌*◌, ◌<◌, nat_lt, Bool, true, false, IsTrue, List, [], ◌++◌, length, get_or, Option, Some, None, Ok, Err, ◌⊎◌, inl, inr, refl, sym, subst, ap, ◌∙◌, arith, All, is_some, IsSomeAnd}
+use Rattle.std.proofs.Common.{◌≡◌, ℕ, ◌+◌, ◌*◌, ◌<◌, nat_lt, Bool, true, false, IsTrue, List, [], ◌++◌, length, get_or, Option, Some, None, Ok, Err, ◌⊎◌, inl}
+use Rattle.std.proofs.Common.{inr, refl, sym, subst, ap, ◌∙◌, arith, All, is_some, IsSomeAnd}
 use Rattle.silt_disk.specs.Disk.{Content}
 use Rattle.silt_disk.specs.Layout.{Shape, entry_len, row_len}
 use Rattle.silt_disk.specs.declared.disk.Disk.{Ghosts}
@@ -28,14 +29,17 @@ use Rattle.silt_merge.proofs.Stepping.{gathered_step, slots_more}
 use Rattle.silt_hasher.specs.Taking.{HasTaken, Taken}
 
 -- a slot that is gathered from a store, or not
-module _ {D F : Type 0} (facts : Ghosts D F) (stores : List HashState) (disk : D) (merge : MergeState) (store : HashState) (held : IsHeldMerge merge) (below : merge.store < merge.stores) (counted : length stores ≡ merge.stores)
-    (shapes : All (λ (s : HashState). s.shape ≡ merge.shape) stores) (some : 0 < length merge.slots) (long : length (get_or merge.slots 0 []) ≡ row_len merge.shape) (here : store ≡ get_or stores merge.store store) where
+module _ {D F : Type 0} (facts : Ghosts D F) (stores : List HashState) (disk : D) (merge : MergeState) (store : HashState)
+    (held : IsHeldMerge merge) (below : merge.store < merge.stores) (counted : length stores ≡ merge.stores)
+    (shapes : All (λ (s : HashState). s.shape ≡ merge.shape) stores) (some : 0 < length merge.slots)
+    (long : length (get_or merge.slots 0 []) ≡ row_len merge.shape) (here : store ≡ get_or stores merge.store store) where
   abbrev content : Content
   content = facts.content disk
 
   -- it fits, or the store is found damaged
   slot_finds : (region : ℕ) (fits : Bool) → region ≡ store.region → ((bytes : List ℕ) → HasTaken merge.input bytes → MayTake (ends_store merge) (bytes ++ get_or merge.slots 0 []) store.digest fits)
-      → (sorted : SortedState) (digest : List ℕ) → (finding fits (HashDigest region) ≡ None) ⊎ ((finding fits (HashDigest region) ≡ Some (damaged_place stores merge)) × (MatchesDigests content stores sorted digest merge → ⊥))
+      → (sorted : SortedState) (digest : List ℕ) → (finding fits (HashDigest region) ≡ None)
+      ⊎ ((finding fits (HashDigest region) ≡ Some (damaged_place stores merge)) × (MatchesDigests content stores sorted digest merge → ⊥))
   slot_finds region true region_is may sorted digest = inl refl
   slot_finds region false region_is may sorted digest =
       inr (ap Some (gathering_place stores merge store region below counted here region_is), λ matches. slot_agrees content stores sorted digest merge matches store below some long shapes here may)
@@ -50,7 +54,15 @@ module _ {D F : Type 0} (facts : Ghosts D F) (stores : List HashState) (disk : D
     pub slot_taken : {T : Type 0} (region : ℕ) (fits : Bool) → region ≡ store.region → merge.damaged ≡ None → (waiting : List (Key × Source)) (input : Taken) (after : MergeState) (x : T)
         → ((bytes : List ℕ) → HasTaken merge.input bytes → MayTake (ends_store merge) (bytes ++ get_or merge.slots 0 []) store.digest fits)
         → Gathers merge.store merge.slot row merge.waiting waiting → ((bytes : List ℕ) → HasTaken merge.input bytes → HasTaken input (input_after (ends_store merge) bytes (get_or merge.slots 0 [])))
-        → after ≡ (let m : MergeState = record merge { store = (slot_after merge.store merge.slot (4 * merge.shape.buckets)).0; slot = (slot_after merge.store merge.slot (4 * merge.shape.buckets)).1; waiting = waiting; slots = parts_after true merge.slots; input = input; damaged = finding fits (HashDigest region) } in m)
+        → after ≡ (let m : MergeState = record merge {
+          store = (slot_after merge.store merge.slot (4 * merge.shape.buckets)).0;
+          slot = (slot_after merge.store merge.slot (4 * merge.shape.buckets)).1;
+          waiting = waiting;
+          slots = parts_after true merge.slots;
+          input = input;
+          damaged = finding fits (HashDigest region);
+        } in
+        m)
         → IsHeldMerge after → (sorted : SortedState) (digest : List ℕ) → TakesStep facts stores sorted digest disk disk merge after (Ok x)
     slot_taken region fits region_is sound waiting input after x may keeps hashed is held_after sorted digest =
         let next : ℕ × ℕ = slot_after merge.store merge.slot (4 * merge.shape.buckets) in
@@ -60,7 +72,8 @@ module _ {D F : Type 0} (facts : Ghosts D F) (stores : List HashState) (disk : D
         subst (λ (m : MergeState). TakesStep facts stores sorted digest disk disk merge m (Ok x)) (sym is)
         (went_on facts stores sorted digest disk merge moved x (record { shape = refl; region = refl; stores = refl }) (subst IsHeldMerge is held_after) refl refl (omega (arith, further)) sound
         (λ was. merged_noted (facts.content disk) stores sorted taken (finding fits (HashDigest region))
-        (gathered_step (facts.content disk) stores sorted merge row waiting next input held below some long hashed (λ honest same slots. shown sorted.shape (get_or (regions_of stores) merge.store 0) (facts.content disk).shown slots) keeps refl was))
+        (gathered_step (facts.content disk) stores sorted merge row waiting next input held below some long hashed
+        (λ honest same slots. shown sorted.shape (get_or (regions_of stores) merge.store 0) (facts.content disk).shown slots) keeps refl was))
         (compared_slot stores sorted digest merge fits (HashDigest region) sound store next waiting (parts_after true merge.slots) input held below long here may hashed refl)
         (slot_finds region fits region_is may sorted digest))
 
@@ -75,7 +88,8 @@ module _ {D F : Type 0} (facts : Ghosts D F) (stores : List HashState) (disk : D
 
     -- there is no memory for it
     takes_row : (o : Option Row) → row ≡ o → IsSomeAnd o (λ (r : Row). source_at merge.waiting r.key.0 ≡ None)
-        → (IsTrue (facts.content disk).honest → IsRowAt (slot_row merge.shape (get_or (regions_of stores) merge.store 0) (facts.content disk).shown merge.slot) merge.slot o) → GathersRow (facts.content disk) stores merge
+        → (IsTrue (facts.content disk).honest → IsRowAt (slot_row merge.shape (get_or (regions_of stores) merge.store 0) (facts.content disk).shown merge.slot) merge.slot o)
+        → GathersRow (facts.content disk) stores merge
     takes_row None is never shows = absurd never
     takes_row (Some r) is new shows = record {
       gathers = below;
@@ -86,7 +100,8 @@ module _ {D F : Type 0} (facts : Ghosts D F) (stores : List HashState) (disk : D
     pub row_refused : {T : Type 0} (after : MergeState) → merge.damaged ≡ None → IsSomeAnd row (λ (r : Row). source_at merge.waiting r.key.0 ≡ None) → after ≡ merge
         → (sorted : SortedState) (digest : List ℕ) → TakesStep {T = T} facts stores sorted digest disk disk merge after (Err NoMemory)
     row_refused after sound new_key same sorted digest =
-        refused facts stores sorted digest disk merge after NoMemory same held sound (refl, refl, λ merged sound. inl (takes_row row refl new_key (λ honest. shows_row sorted merged (sound honest) honest)))
+        refused facts stores sorted digest disk merge after NoMemory same held sound
+        (refl, refl, λ merged sound. inl (takes_row row refl new_key (λ honest. shows_row sorted merged (sound honest) honest)))
 
 -- ---- a key
 
@@ -94,10 +109,12 @@ module _ {D F : Type 0} (facts : Ghosts D F) (stores : List HashState) (disk : D
 pub may_be : (ends ends_is : Bool) (part part_is digest : List ℕ) (answer answer_is : Bool) (input : Taken) → ends ≡ ends_is → part ≡ part_is → answer ≡ answer_is
     → ((bytes : List ℕ) → HasTaken input bytes → MayTake ends (bytes ++ part) digest answer) → (bytes : List ℕ) → HasTaken input bytes → MayTake ends_is (bytes ++ part_is) digest answer_is
 may_be ends ends_is part part_is digest answer answer_is input same_ends same_part same_answer may bytes holds =
-    subst (λ b. MayTake b (bytes ++ part_is) digest answer_is) same_ends (subst (λ l. MayTake ends (bytes ++ l) digest answer_is) same_part (subst (MayTake ends (bytes ++ part) digest) same_answer (may bytes holds)))
+    subst (λ b. MayTake b (bytes ++ part_is) digest answer_is) same_ends
+    (subst (λ l. MayTake ends (bytes ++ l) digest answer_is) same_part (subst (MayTake ends (bytes ++ part) digest) same_answer (may bytes holds)))
 
 -- an entry fits, or the old entries are found damaged
-pub entry_finds : (content : Content) (stores : List HashState) (sorted : SortedState) (digest : List ℕ) (merge : MergeState) (passes fits : Bool) → merge.store ≡ merge.stores → (merge.passed < sorted.count → 0 < length merge.ahead)
+pub entry_finds : (content : Content) (stores : List HashState) (sorted : SortedState) (digest : List ℕ) (merge : MergeState) (passes fits : Bool)
+    → merge.store ≡ merge.stores → (merge.passed < sorted.count → 0 < length merge.ahead)
     → ((bytes : List ℕ) → HasTaken merge.input bytes → MayTake (ends_entries passes merge.passed sorted.count) (bytes ++ get_or merge.ahead 0 []) digest fits)
     → (finding fits SortedDigest ≡ None) ⊎ ((finding fits SortedDigest ≡ Some (damaged_place stores merge)) × (MatchesDigests content stores sorted digest merge → ⊥))
 entry_finds content stores sorted digest merge passes true all there may = inl refl
@@ -105,13 +122,16 @@ entry_finds content stores sorted digest merge passes false all there may =
     inr (ap Some (deciding_place stores merge all), λ matches. entry_agrees content stores sorted digest merge matches passes all there may)
 
 -- an entry that is skipped because its key is not above the last one
-pub entry_skipped : {D F T : Type 0} (facts : Ghosts D F) (stores : List HashState) (sorted : SortedState) (digest : List ℕ) (disk : D) (merge after : MergeState) (fits : Bool) (next : Option Key) (bytes : List ℕ) (input : Taken) (x : T) → IsHeldMerge merge → merge.store ≡ merge.stores → merge.damaged ≡ None
+pub entry_skipped : {D F T : Type 0} (facts : Ghosts D F) (stores : List HashState) (sorted : SortedState) (digest : List ℕ) (disk : D)
+    (merge after : MergeState) (fits : Bool) (next : Option Key) (bytes : List ℕ) (input : Taken) (x : T) → IsHeldMerge merge → merge.store ≡ merge.stores → merge.damaged ≡ None
     → (merge.passed < sorted.count → 0 < length merge.ahead)
-    → is_some next ≡ nat_lt merge.passed sorted.count → (IsTrue (facts.content disk).honest → AreEntries (entries_of (facts.content disk) sorted) merge.passed merge.ahead → IsNextEntry (entries_of (facts.content disk) sorted) merge.passed bytes next)
+    → is_some next ≡ nat_lt merge.passed sorted.count
+    → (IsTrue (facts.content disk).honest → AreEntries (entries_of (facts.content disk) sorted) merge.passed merge.ahead → IsNextEntry (entries_of (facts.content disk) sorted) merge.passed bytes next)
     → is_behind merge.last next ≡ true → length (get_or merge.ahead 0 []) ≡ entry_len merge.shape
     → ((bytes : List ℕ) → HasTaken merge.input bytes → MayTake (ends_entries true merge.passed sorted.count) (bytes ++ get_or merge.ahead 0 []) digest fits)
     → ((bytes : List ℕ) → HasTaken merge.input bytes → HasTaken input (bytes ++ get_or merge.ahead 0 []))
-    → after ≡ (let m : MergeState = record merge { passed = merge.passed + 1; decided = merge.decided + 1; ahead = parts_after true merge.ahead; input = input; damaged = finding fits SortedDigest } in m) → IsHeldMerge after
+    → after ≡ (let m : MergeState = record merge
+    { passed = merge.passed + 1; decided = merge.decided + 1; ahead = parts_after true merge.ahead; input = input; damaged = finding fits SortedDigest } in m) → IsHeldMerge after
     → TakesStep facts stores sorted digest disk disk merge after (Ok x)
 entry_skipped facts stores sorted digest disk merge after fits next bytes input x held all sound some_ahead some there behind long may hashed is held_after =
     let taken : MergeState = record merge { passed = merge.passed + 1; decided = merge.decided + 1; ahead = parts_after true merge.ahead; input = input } in
@@ -119,5 +139,6 @@ entry_skipped facts stores sorted digest disk merge after fits next bytes input 
     subst (λ (m : MergeState). TakesStep facts stores sorted digest disk disk merge m (Ok x)) (sym is)
     (went_on facts stores sorted digest disk merge moved x (record { shape = refl; region = refl; stores = refl }) (subst IsHeldMerge is held_after) refl refl (omega arith) sound
     (λ was. merged_noted (facts.content disk) stores sorted taken (finding fits SortedDigest) (merged_behind (facts.content disk) stores sorted merge next bytes input held all some there behind was))
-    (compared_key stores sorted digest merge fits SortedDigest sound true merge.waiting merge.written merge.index (merge.decided + 1) merge.last (parts_after true merge.ahead) input merge.hasher held all (λ passes. long) may hashed)
+    (compared_key stores sorted digest merge fits SortedDigest sound true merge.waiting merge.written merge.index (merge.decided + 1)
+    merge.last (parts_after true merge.ahead) input merge.hasher held all (λ passes. long) may hashed)
     (entry_finds (facts.content disk) stores sorted digest merge true fits all some_ahead may))

@@ -47,7 +47,8 @@ abbrev pub FailsMerge : {D F : Type 0} → Ghosts D F → List HashState → Sor
 FailsMerge facts stores sorted old new before after (Read fault) = (after ≡ before) × (new ≡ old) × GaveAny facts.gave old fault
 FailsMerge facts stores sorted old new before after (Write fault) = CountsFault facts.failures facts.gave old new fault
 FailsMerge facts stores sorted old new before after NoMemory = (after ≡ before) × (new ≡ old)
-    × (HasMerged (facts.content old) stores sorted before → (IsTrue (facts.content old).honest → AreSound (facts.content old).shown stores sorted) → TakesMemory (facts.content old) stores sorted before)
+    × (HasMerged (facts.content old) stores sorted before → (IsTrue (facts.content old).honest → AreSound (facts.content old).shown stores sorted)
+    → TakesMemory (facts.content old) stores sorted before)
 FailsMerge facts stores sorted old new before after (Damaged place) = (after ≡ before) × (new ≡ old) × (before.damaged ≡ Some place)
 
 -- A step finds nothing, or that what it reads is damaged. That cannot come if the disk obeys the crash model and the stores have their

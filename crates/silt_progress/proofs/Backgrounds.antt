@@ -78,7 +78,8 @@ module _ {D F : Type 0} (facts : Ghosts D F) where
   -- a step of conversion leaves the steps of the merge in progress
   merge_same : (old new : CoreState D) (progress : ProgressOf) → Does facts old new Convert (Progress progress) → (next_merge new).steps ≡ (next_merge old).steps
   merge_same old new progress does =
-      ap (λ (o : Option MergeWork). (unwrap_or o (record { stores = length new.body.hashed; steps = 0; written = 0; damaged = None })).steps) (does.keeps_merging (works facts old new Convert progress does does.cause.0) refl)
+      ap (λ (o : Option MergeWork). (unwrap_or o (record { stores = length new.body.hashed; steps = 0; written = 0; damaged = None })).steps)
+      (does.keeps_merging (works facts old new Convert progress does does.cause.0) refl)
       ∙ steps_same old.merging (length old.body.hashed) (length new.body.hashed)
 
   convert_falls : (old new : CoreState D) (progress : ProgressOf) → Does facts old new Convert (Progress progress) → is_work progress ≡ true → IsSized old → Falls 1 old new
@@ -97,7 +98,8 @@ module _ {D F : Type 0} (facts : Ghosts D F) where
   convert_falls old new Finished does work sized =
       let on = finished facts old new does sized in
       let is = does.cause.2 in
-      let before : stores_left old ≡ (length old.body.frozen - 1) + 1 + length old.body.hashed = ap (λ (o : Option ConvertWork). logs_left (length old.body.frozen) o + length old.body.hashed) is.was in
+      let before : stores_left old ≡ (length old.body.frozen - 1) + 1 + length old.body.hashed =
+      ap (λ (o : Option ConvertWork). logs_left (length old.body.frozen) o + length old.body.hashed) is.was in
       let after : stores_left new ≡ length new.body.frozen + length new.body.hashed = ap (λ (o : Option ConvertWork). logs_left (length new.body.frozen) o + length new.body.hashed) is.none in
       let stores : stores_left new ≡ stores_left old = omega (arith, before, after, on.1, on.3) in
       let all : stores_left new * most_per_store new ≡ stores_left old * most_per_store old =
@@ -115,7 +117,8 @@ module _ {D F : Type 0} (facts : Ghosts D F) where
         ap (λ (ids : List ℕ). logs_left (length ids) new.converting) frozen ∙ ap (logs_left (length old.body.frozen)) same,
       )
 
-  merge_falls : (old new : CoreState D) (progress : ProgressOf) → Does facts old new Merge (Progress progress) → is_work progress ≡ true → IsTrue (facts.content old.disk).honest → IsSized old → Falls 1 old new
+  merge_falls : (old new : CoreState D) (progress : ProgressOf) → Does facts old new Merge (Progress progress) → is_work progress ≡ true
+      → IsTrue (facts.content old.disk).honest → IsSized old → Falls 1 old new
   merge_falls old new Idle does work honest sized = absurd (let no : false ≡ true = work in cc)
   merge_falls old new Waiting does work honest sized = absurd (let no : false ≡ true = work in cc)
   merge_falls old new Moved does work honest sized =
@@ -135,7 +138,8 @@ module _ {D F : Type 0} (facts : Ghosts D F) where
       let taken : (next_merge old).stores ≡ is.work.stores = ap (λ (w : MergeWork). w.stores) own in
       let takes : TakesSome (length old.body.hashed) is.work = subst (λ (o : Option MergeWork). IfSome o (TakesSome (length old.body.hashed))) is.was sized.merging in
       let same = converts_same old new Finished does (ap (λ (b : Body). b.frozen) is.body) in
-      let fewer : length new.body.hashed ≡ length old.body.hashed - is.work.stores = ap (λ (b : Body). length b.hashed) is.body ∙ length-take-le (length old.body.hashed - is.work.stores) old.body.hashed (omega arith) in
+      let fewer : length new.body.hashed ≡ length old.body.hashed - is.work.stores =
+      ap (λ (b : Body). length b.hashed) is.body ∙ length-take-le (length old.body.hashed - is.work.stores) old.body.hashed (omega arith) in
       let begins : (next_merge new).steps ≡ 0 = ap (λ (o : Option MergeWork). (unwrap_or o (record { stores = length new.body.hashed; steps = 0; written = 0; damaged = None })).steps) is.none in
       let stores : stores_left old ≡ stores_left new + (next_merge old).stores = omega (arith, same.1, fewer, taken, takes.1) in
       let all : stores_left old * most_per_store old ≡ stores_left new * most_per_store new + (next_merge old).stores * most_per_store old =

@@ -1,5 +1,6 @@
 -- Conversions, step by step.
-use Rattle.std.proofs.Common.{◌≡◌, ◌≢◌, ◌≤◌, ◌<◌, ℕ, zero, suc, ◌+◌, ◌-◌, ◌*◌, ◌==◌, Bool, true, false, not, if◌then◌else◌, IsTrue, List, [], ◌∷◌, length, Option, Some, None, IfSome, refl, ap, sym, ◌∙◌, subst, arith, suc-mul}
+use Rattle.std.proofs.Common.{◌≡◌, ◌≢◌, ◌≤◌, ◌<◌, ℕ, zero, suc, ◌+◌, ◌-◌, ◌*◌, ◌==◌, Bool, true, false, not, if◌then◌else◌, IsTrue, List, [], ◌∷◌, length}
+use Rattle.std.proofs.Common.{Option, Some, None, IfSome, refl, ap, sym, ◌∙◌, subst, arith, suc-mul}
 use Rattle.std.specs.Prelude.{replicate}
 use Rattle.std.specs.List.{list_all}
 use Rattle.std.proofs.lemmas.Bool.{and_from, and_parts, eqb-false, eqb-true}
@@ -144,7 +145,8 @@ none_left zero slots none = refl
 none_left (suc n) slots none = absurd (omega (arith, none, suc-mul n (slots + 1)))
 
 -- with no steps to do there is nothing to do
-idle_left : (frozen hashed regions slots : ℕ) (o : Option ConvertWork) → slots_written o ≤ slots → conversions_left frozen (slots + 1) o ≡ 0 → progress_due frozen hashed regions slots (written_of o) ≡ Idle
+idle_left : (frozen hashed regions slots : ℕ) (o : Option ConvertWork) → slots_written o ≤ slots → conversions_left frozen (slots + 1) o ≡ 0
+    → progress_due frozen hashed regions slots (written_of o) ≡ Idle
 idle_left frozen hashed regions slots (Some work) most none = absurd (omega (arith, most, none))
 idle_left frozen hashed regions slots None most none = rw (none_left frozen slots none) refl
 
@@ -193,7 +195,8 @@ module _ {D F : Type 0} (facts : Ghosts D F) where
       → (slots_written new.converting ≡ slots_written old.converting + 1) × (convert_steps old ≡ convert_steps new + 1) × IsSized new
   moved old new does sized =
       let body : new.body ≡ old.body = does.cause.2.0 in
-      let on = goes_on (length old.body.frozen) (length old.body.hashed) old.shape.hashes (4 * old.shape.buckets) old.shape.hashes old.body old.converting new.converting does.cause.2.1 does.cause.1 sized.written (some_slots old.shape sized.limits) in
+      let on = goes_on (length old.body.frozen) (length old.body.hashed) old.shape.hashes (4 * old.shape.buckets) old.shape.hashes
+      old.body old.converting new.converting does.cause.2.1 does.cause.1 sized.written (some_slots old.shape sized.limits) in
       let same : convert_steps new ≡ conversions_left (length old.body.frozen) (steps_per_log old) new.converting =
       ap (λ (b : Body). conversions_left (length b.frozen) (steps_per_log new) new.converting) body
       ∙ ap (λ (s : Shape). conversions_left (length old.body.frozen) (4 * s.buckets + 1) new.converting) does.shape in (
@@ -210,15 +213,18 @@ module _ {D F : Type 0} (facts : Ghosts D F) where
 
   -- the step that finishes
   pub finished : (old new : CoreState D) → Does facts old new Convert (Progress Finished) → IsSized old
-      → (slots_written old.converting ≡ 4 * old.shape.buckets) × (length new.body.frozen ≡ length old.body.frozen - 1) × (convert_steps old ≡ convert_steps new + 1) × (length new.body.hashed ≡ length old.body.hashed + 1) × IsSized new
+      → (slots_written old.converting ≡ 4 * old.shape.buckets) × (length new.body.frozen ≡ length old.body.frozen - 1)
+      × (convert_steps old ≡ convert_steps new + 1) × (length new.body.hashed ≡ length old.body.hashed + 1) × IsSized new
   finished old new does sized =
       let is = does.cause.2 in
       let due : Finished ≡ progress_due (length old.body.frozen) (length old.body.hashed) old.shape.hashes (4 * old.shape.buckets) (Some is.work.written)
       = does.cause.1 ∙ ap (λ o. progress_due (length old.body.frozen) (length old.body.hashed) old.shape.hashes (4 * old.shape.buckets) (written_of o)) is.was in
       let all : is.work.written ≡ 4 * old.shape.buckets = due_finished (length old.body.frozen) (length old.body.hashed) old.shape.hashes (4 * old.shape.buckets) is.work.written due in
       let fewer : length new.body.frozen ≡ length old.body.frozen - 1 = ap (λ (b : Body). length b.frozen) is.body ∙ length-take-le (length old.body.frozen - 1) old.body.frozen (omega arith) in
-      let more : length new.body.hashed ≡ length old.body.hashed + 1 = ap (λ (b : Body). length b.hashed) is.body ∙ let one : length (is.work.region ∷ old.body.hashed) ≡ length old.body.hashed + 1 = omega arith in one in
-      let before : convert_steps old ≡ (steps_per_log old - is.work.written) + (length old.body.frozen - 1) * steps_per_log old = ap (conversions_left (length old.body.frozen) (steps_per_log old)) is.was in
+      let more : length new.body.hashed ≡ length old.body.hashed + 1 =
+      ap (λ (b : Body). length b.hashed) is.body ∙ let one : length (is.work.region ∷ old.body.hashed) ≡ length old.body.hashed + 1 = omega arith in one in
+      let before : convert_steps old ≡ (steps_per_log old - is.work.written) + (length old.body.frozen - 1) * steps_per_log old =
+      ap (conversions_left (length old.body.frozen) (steps_per_log old)) is.was in
       let after : convert_steps new ≡ (length old.body.frozen - 1) * steps_per_log old =
       ap (conversions_left (length new.body.frozen) (steps_per_log new)) is.none
       ∙ ap (λ (s : Shape). length new.body.frozen * (4 * s.buckets + 1)) does.shape

@@ -1,5 +1,6 @@
 -- Merges, step by step.
-use Rattle.std.proofs.Common.{◌≡◌, ◌≤◌, ◌<◌, ℕ, zero, suc, ◌+◌, ◌-◌, ◌*◌, ◌==◌, Bool, true, false, not, if◌then◌else◌, IsTrue, List, [], ◌∷◌, ◌++◌, drop, filter, length, map, take, Option, Some, None, IfSome, inl, inr, refl, ap, sym, ◌∙◌, subst, arith, suc-mul, length-append}
+use Rattle.std.proofs.Common.{◌≡◌, ◌≤◌, ◌<◌, ℕ, zero, suc, ◌+◌, ◌-◌, ◌*◌, ◌==◌, Bool, true, false, not, if◌then◌else◌, IsTrue, List, [], ◌∷◌, ◌++◌, drop}
+use Rattle.std.proofs.Common.{filter, length, map, take, Option, Some, None, IfSome, inl, inr, refl, ap, sym, ◌∙◌, subst, arith, suc-mul, length-append}
 use Rattle.std.proofs.Math.Nat.{mul-le-mul_right}
 use Rattle.std.specs.Prelude.{replicate, cond, unwrap_or, ◌⊎◌}
 use Rattle.std.specs.List.{list_all}
@@ -90,18 +91,22 @@ unfolding hash_rows
 slot_count shape region image = length-map-range_with_len _ 0 (4 * shape.buckets)
 
 -- hash stores have at most so many rows of known kinds
-few_rows : (shape : Shape) (image regions : List ℕ) (skipped : ℕ) → length (oldest_first (map known_rows (drop skipped (map (hash_part shape image) regions)))) ≤ (length regions - skipped) * (4 * shape.buckets)
+few_rows : (shape : Shape) (image regions : List ℕ) (skipped : ℕ)
+    → length (oldest_first (map known_rows (drop skipped (map (hash_part shape image) regions)))) ≤ (length regions - skipped) * (4 * shape.buckets)
 few_rows shape image [] zero = omega arith
 few_rows shape image [] (suc skipped) = omega arith
 few_rows shape image (region ∷ regions) zero =
     let rest = few_rows shape image regions zero in
     let here = few_known (hash_rows shape region image) in
     let both = length-append (oldest_first (map known_rows (map (hash_part shape image) regions))) (known_rows (hash_part shape image region)) in
-    let same : (length regions - 0) * (4 * shape.buckets) ≡ length regions * (4 * shape.buckets) = ap (λ (n : ℕ). n * (4 * shape.buckets)) (let it : length regions - 0 ≡ length regions = omega arith in it) in
-    let more : (length (region ∷ regions) - 0) * (4 * shape.buckets) ≡ suc (length regions) * (4 * shape.buckets) = ap (λ (n : ℕ). n * (4 * shape.buckets)) (let it : length (region ∷ regions) - 0 ≡ suc (length regions) = omega arith in it) in
+    let same : (length regions - 0) * (4 * shape.buckets) ≡ length regions * (4 * shape.buckets) =
+    ap (λ (n : ℕ). n * (4 * shape.buckets)) (let it : length regions - 0 ≡ length regions = omega arith in it) in
+    let more : (length (region ∷ regions) - 0) * (4 * shape.buckets) ≡ suc (length regions) * (4 * shape.buckets) =
+    ap (λ (n : ℕ). n * (4 * shape.buckets)) (let it : length (region ∷ regions) - 0 ≡ suc (length regions) = omega arith in it) in
     omega (arith, rest, here, both, same, more, suc-mul (length regions) (4 * shape.buckets), slot_count shape region image)
 few_rows shape image (region ∷ regions) (suc skipped) =
-    let same : (length (region ∷ regions) - suc skipped) * (4 * shape.buckets) ≡ (length regions - skipped) * (4 * shape.buckets) = ap (λ (n : ℕ). n * (4 * shape.buckets)) (let it : length (region ∷ regions) - suc skipped ≡ length regions - skipped = omega arith in it) in
+    let same : (length (region ∷ regions) - suc skipped) * (4 * shape.buckets) ≡ (length regions - skipped) * (4 * shape.buckets) =
+    ap (λ (n : ℕ). n * (4 * shape.buckets)) (let it : length (region ∷ regions) - suc skipped ≡ length regions - skipped = omega arith in it) in
     omega (arith, few_rows shape image regions skipped, same)
 
 -- a merge of so many hash stores takes at most so many rows, and they have at most so many keys
@@ -113,7 +118,8 @@ few_keys shape body image count =
     let hashed : List StoredRow = oldest_first (map known_rows (drop (length hashes - count) hashes)) in
     let keys = (key_count_law (entries ++ hashed)).0 in
     let few = few_rows shape image body.hashed (length hashes - count) in
-    let most : (length body.hashed - (length hashes - count)) * (4 * shape.buckets) ≤ count * (4 * shape.buckets) = mul-le-mul_right (4 * shape.buckets) (omega (arith, length-map body.hashed (hash_part shape image))) in
+    let most : (length body.hashed - (length hashes - count)) * (4 * shape.buckets) ≤ count * (4 * shape.buckets) =
+    mul-le-mul_right (4 * shape.buckets) (omega (arith, length-map body.hashed (hash_part shape image))) in
     omega (arith, keys, few, most, length-append entries hashed, entry_count shape body.sorted body.sorted_count image)
 
 pub merge_length : {D : Type 0} → MergeLengthLaw D
@@ -137,8 +143,10 @@ few_taken core left =
 module _ {D F : Type 0} (facts : Ghosts D F) where
   -- the merge that goes on is the same, and took one step more
   goes_on : (body : Body) (before after : Option MergeWork) → MergeGoesOn body before after
-      → ((unwrap_or after (record { stores = length body.hashed; steps = 0; written = 0; damaged = None })).stores ≡ (unwrap_or before (record { stores = length body.hashed; steps = 0; written = 0; damaged = None })).stores)
-      × ((unwrap_or after (record { stores = length body.hashed; steps = 0; written = 0; damaged = None })).steps ≡ (unwrap_or before (record { stores = length body.hashed; steps = 0; written = 0; damaged = None })).steps + 1)
+      → ((unwrap_or after (record { stores = length body.hashed; steps = 0; written = 0; damaged = None })).stores ≡ (unwrap_or
+      before (record { stores = length body.hashed; steps = 0; written = 0; damaged = None })).stores)
+      × ((unwrap_or after (record { stores = length body.hashed; steps = 0; written = 0; damaged = None })).steps ≡ (unwrap_or before
+      (record { stores = length body.hashed; steps = 0; written = 0; damaged = None })).steps + 1)
   goes_on body (Some before) (Some after) on = (on.0, on.1)
   goes_on body None (Some after) on = (on.0, on.1)
   goes_on body before None on = absurd on
@@ -180,7 +188,8 @@ module _ {D F : Type 0} (facts : Ghosts D F) where
       let is = does.cause.2 in
       let own : is.work ≡ next_merge old = sym (ap (λ (o : Option MergeWork). unwrap_or o (record { stores = length old.body.hashed; steps = 0; written = 0; damaged = None })) is.was) in (
         λ honest.
-            let due : Finished ≡ merge_progress (length old.body.hashed) (Some (has_decided old is.work)) = does.cause.1.exact honest ∙ ap (λ (o : Option MergeWork). merge_progress (length old.body.hashed) (option_map (has_decided old) o)) is.was in
+            let due : Finished ≡ merge_progress (length old.body.hashed) (Some (has_decided old is.work)) =
+            does.cause.1.exact honest ∙ ap (λ (o : Option MergeWork). merge_progress (length old.body.hashed) (option_map (has_decided old) o)) is.was in
             let all : is.work.steps ≡ is.work.stores * (4 * old.shape.buckets) + key_count (taken_by old is.work) = eqb-true _ _ (decided (length old.body.hashed) (has_decided old is.work) due) in
             subst (λ (w : MergeWork). w.steps + 1 ≡ w.stores * (4 * old.shape.buckets) + key_count (taken_by old w) + 1) own (ap (λ (n : ℕ). n + 1) all),
         λ all.
@@ -225,7 +234,8 @@ module _ {D F : Type 0} (facts : Ghosts D F) where
   whole_merge old last new n none runs does honest =
       let on = all_moved n old last runs honest in
       let ends = merge_end last new does in
-      let first : next_merge old ≡ record { stores = length old.body.hashed; steps = 0; written = 0; damaged = None } = ap (λ (o : Option MergeWork). unwrap_or o (record { stores = length old.body.hashed; steps = 0; written = 0; damaged = None })) none in
+      let first : next_merge old ≡ record { stores = length old.body.hashed; steps = 0; written = 0; damaged = None } =
+      ap (λ (o : Option MergeWork). unwrap_or o (record { stores = length old.body.hashed; steps = 0; written = 0; damaged = None })) none in
       let all : (next_merge last).stores ≡ length last.body.hashed = on.0.stores ∙ ap (λ (w : MergeWork). w.stores) first ∙ sym (ap (λ (b : Body). length b.hashed) on.0.body) in
       let steps : (next_merge last).steps ≡ n = omega (arith, on.0.steps, ap (λ (w : MergeWork). w.steps) first) in
       (sym (ap (λ (k : ℕ). k + 1) steps) ∙ ends.0 on.1, on.0.body, ends.1 all)

@@ -51,7 +51,8 @@ some_hashes zero work = absurd (let no : true ≡ false = work in cc)
 some_hashes (suc hashes) work = omega arith
 
 -- a merge that goes on takes what it took, and one that begins takes all
-takes_on : (body : Body) (before after : Option MergeWork) (decided : MergeWork → Bool) → MergeGoesOn body before after → true ≡ is_work (merge_progress (length body.hashed) (option_map decided before))
+takes_on : (body : Body) (before after : Option MergeWork) (decided : MergeWork → Bool) → MergeGoesOn body before after
+    → true ≡ is_work (merge_progress (length body.hashed) (option_map decided before))
     → IfSome before (TakesSome (length body.hashed)) → IfSome after (TakesSome (length body.hashed))
 takes_on body (Some before) (Some after) decided on work takes = (omega (arith, on.0, takes.0), omega (arith, on.0, takes.1))
 takes_on body None (Some after) decided on work takes = (omega (arith, on.0, some_hashes (length body.hashed) work), omega (arith, on.0))
@@ -96,7 +97,8 @@ module _ {D F : Type 0} (facts : Ghosts D F) where
   kept_merge old new (Progress Moved) does working honest sized =
       let body : new.body ≡ old.body = does.cause.2.0 in
       let takes : IfSome new.merging (TakesSome (length old.body.hashed)) = takes_on old.body old.merging new.merging (has_decided old) does.cause.2.1 does.cause.1.work sized.merging in
-      sized_by new (does.numbers working honest) (written_still old new Merge (Progress Moved) does refl working sized) (subst (λ (b : Body). IfSome new.merging (TakesSome (length b.hashed))) (sym body) takes)
+      sized_by new (does.numbers working honest) (written_still old new Merge (Progress Moved) does refl working sized)
+      (subst (λ (b : Body). IfSome new.merging (TakesSome (length b.hashed))) (sym body) takes)
   kept_merge old new (Progress Finished) does working honest sized =
       sized_by new (does.numbers working honest) (written_still old new Merge (Progress Finished) does refl working sized) (no_merge new.merging (length new.body.hashed) does.cause.2.none)
   kept_merge old new (Refused refusal) does working honest sized = subst IsSized (sym (refused_same old new Merge (Refused refusal) does refl working)) sized
@@ -137,7 +139,8 @@ module _ {D F : Type 0} (facts : Ghosts D F) where
       let same = same_hashes old new event reply does other another working in
       let merging : new.merging ≡ old.merging = does.keeps_merging working another in
       sized_by new (does.numbers working honest) (written_still old new event reply does other working sized)
-      (takes_more new.merging (length old.body.hashed) (length new.body.hashed) (omega (arith, same)) (subst (λ (o : Option MergeWork). IfSome o (TakesSome (length old.body.hashed))) (sym merging) sized.merging))
+      (takes_more new.merging (length old.body.hashed) (length new.body.hashed) (omega (arith, same))
+      (subst (λ (o : Option MergeWork). IfSome o (TakesSome (length old.body.hashed))) (sym merging) sized.merging))
 
   kept_one : (old new : CoreState D) (event : Event) (reply : Reply F) → Does facts old new event reply → new.failed ≡ false → IsTrue (facts.content old.disk).honest → IsSized old → IsSized new
   kept_one old new Convert reply does working honest sized = kept_convert old new reply does working sized

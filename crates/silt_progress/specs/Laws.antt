@@ -12,7 +12,8 @@ use Rattle.silt_event.specs.declared.reply.Reply.{Reply}
 use Rattle.silt_event.specs.declared.reply.Reply.TheVariants.{Progress, Refused}
 use Rattle.silt_engine.specs.Conversion.{is_work}
 use Rattle.silt_store_set.specs.CoreState.{CoreState, Does, HasFreeLog, Opens, Runs, convert_due, is_refused, merge_due, wants_convert, wants_merge}
-use Rattle.silt_progress.specs.Steps.{HasFreeHashes, HasStepLeft, IsSized, TakesAll, background_steps, convert_steps, is_background, is_step, most_merge_steps, next_conversion, next_merge, steps_per_merge}
+use Rattle.silt_progress.specs.Steps.{HasFreeHashes, HasStepLeft, IsSized, TakesAll, background_steps, convert_steps, is_background, is_step, most_merge_steps}
+use Rattle.silt_progress.specs.Steps.{next_conversion, next_merge, steps_per_merge}
 
 -- ---- which states the laws speak of
 

@@ -39,7 +39,8 @@ module _ (content : Content) (shape : Shape) (said : Option Digests) (region cou
   unfolding rows
   unsound_entry place found = record { first = first_of_front (sorted_findings rows) (digest_findings SortedDigest (said_sorted said) (entries_digest rows)) (Damaged (Sorted place)) found }
 
-  module _ (store : SortedState) (digest : List ℕ) (is : store ≡ record { shape = shape; region = region; count = count }) (digested : HasDigest content store digest) (sound : IsTrue content.honest → sorted_findings (sorted_rows shape region count content.shown) ≡ [])
+  module _ (store : SortedState) (digest : List ℕ) (is : store ≡ record { shape = shape; region = region; count = count })
+      (digested : HasDigest content store digest) (sound : IsTrue content.honest → sorted_findings (sorted_rows shape region count content.shown) ≡ [])
       (told : Option (List ℕ)) (is_said : told ≡ said_sorted said) (test : Bool) (tests : (place : Place) → digest_findings place told digest ≡ finding_if test (Damaged place)) where
     -- the digest is that of what is shown
     digest_shown : IsTrue content.honest → digest ≡ entries_digest (sorted_rows shape region count content.shown)

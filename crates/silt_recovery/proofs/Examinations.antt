@@ -40,12 +40,14 @@ use Rattle.silt_recovery.proofs.Searches.{found_within, log_verdict, sound_both}
 
 -- the stores in the words of the six numbers and the body
 pub named_so : (content : Content) (manifest : ManifestState) (shape : Shape) (body : Body) → shape ≡ manifest.shape → body ≡ manifest.current
-    → (IsTrue content.honest → image_stores content.shown ≡ Ok (stores_named manifest.shape manifest.current content.shown)) → IsTrue content.honest → image_stores content.shown ≡ Ok (stores_named shape body content.shown)
+    → (IsTrue content.honest → image_stores content.shown ≡ Ok (stores_named manifest.shape manifest.current content.shown))
+    → IsTrue content.honest → image_stores content.shown ≡ Ok (stores_named shape body content.shown)
 named_so content manifest shape body same_shape same_body named h =
     named h ∙ ap (λ (s : Shape). Ok (stores_named s manifest.current content.shown)) (sym same_shape) ∙ ap (λ (b : Body). Ok (stores_named shape b content.shown)) (sym same_body)
 
 -- nothing is found in the stores, and the manifest's digests are theirs
-all_found : (said : Option Digests) (s : Stores) → flat_map (log_findings s.shape) s.logs ≡ [] → flat_map (said_hash_findings s.shape said) (enumerate_from 0 s.hashes) ≡ [] → said_entry_findings said s.entries ≡ []
+all_found : (said : Option Digests) (s : Stores) → flat_map (log_findings s.shape) s.logs ≡ []
+    → flat_map (said_hash_findings s.shape said) (enumerate_from 0 s.hashes) ≡ [] → said_entry_findings said s.entries ≡ []
     → charge_of s ≤ s.shape.sorted_capacity → IsSound s × AreDigestsOf said s
 all_found said s logs hashes entries charge =
     (said_law said s).0 (none_found said s (record {
@@ -56,7 +58,8 @@ all_found said s logs hashes entries charge =
     }))
 
 -- the digests in the words of the manifest
-pub says_so : (content : Content) (manifest : ManifestState) (said : Option Digests) → said ≡ manifest.digests → (IsTrue content.honest → image_digests content.shown ≡ manifest.digests) → IsTrue content.honest → image_digests content.shown ≡ said
+pub says_so : (content : Content) (manifest : ManifestState) (said : Option Digests) → said ≡ manifest.digests
+    → (IsTrue content.honest → image_digests content.shown ≡ manifest.digests) → IsTrue content.honest → image_digests content.shown ≡ said
 says_so content manifest said same says h = says h ∙ sym same
 
 module _ (content : Content) (shape : Shape) (body : Body) (named : IsTrue content.honest → image_stores content.shown ≡ Ok (stores_named shape body content.shown)) where
@@ -71,7 +74,8 @@ module _ (content : Content) (shape : Shape) (body : Body) (named : IsTrue conte
 
   module _ (sound : IsTrue content.honest → AreSoundLogs shape content.shown (body.active ∷ [])) where
     -- or in a frozen one
-    pub frozen_refused : (regions : List ℕ) → regions ≡ body.frozen → (finding : Finding) → (IsTrue content.honest → HasFirstFinding shape content.shown regions finding) → IsTrue content.honest → IsFound content.shown finding
+    pub frozen_refused : (regions : List ℕ) → regions ≡ body.frozen → (finding : Finding)
+        → (IsTrue content.honest → HasFirstFinding shape content.shown regions finding) → IsTrue content.honest → IsFound content.shown finding
     frozen_refused regions are finding found h =
         let all : (body.active ∷ []) ++ regions ++ [] ≡ body.active ∷ body.frozen = append-nil (body.active ∷ regions) ∙ ap (λ (ids : List ℕ). body.active ∷ ids) are in
         log_verdict shape body content.shown finding (named h)
@@ -85,10 +89,12 @@ module _ (content : Content) (shape : Shape) (body : Body) (named : IsTrue conte
           subst (λ (ids : List ℕ). AreSoundLogs shape content.shown (body.active ∷ ids)) frozen_are (sound_both shape content.shown (body.active ∷ []) regions (sound h) (read.sound h))
 
       -- or in a hash store
-      pub hashed_refused : (ids : List ℕ) → ids ≡ body.hashed → (finding : Finding) → (IsTrue content.honest → HasFirstSlot shape said content.shown ids finding) → IsTrue content.honest → IsFound content.shown finding
+      pub hashed_refused : (ids : List ℕ) → ids ≡ body.hashed → (finding : Finding) → (IsTrue content.honest → HasFirstSlot shape said content.shown ids finding)
+          → IsTrue content.honest → IsFound content.shown finding
       hashed_refused ids named_ids finding found h =
           slot_verdict shape body content.shown finding (named h) (all_sound h)
-          (subst (λ (d : Option Digests). HasFirstSlot shape d content.shown body.hashed finding) (sym (says h)) (subst (λ (hashed : List ℕ). HasFirstSlot shape said content.shown hashed finding) named_ids (found h)))
+          (subst (λ (d : Option Digests). HasFirstSlot shape d content.shown body.hashed finding) (sym (says h))
+          (subst (λ (hashed : List ℕ). HasFirstSlot shape said content.shown hashed finding) named_ids (found h)))
 
       module _ (ids : List ℕ) (named_ids : ids ≡ body.hashed) (hashes : List HashState) (hash_puts hash_rows : ℕ) (hashed : AreReadHashes content shape said ids hashes hash_puts hash_rows) where
         -- nothing is found in any hash store
@@ -100,26 +106,30 @@ module _ (content : Content) (shape : Shape) (body : Body) (named : IsTrue conte
         image_sound h = subst (λ (d : Option Digests). AreSoundHashes shape d content.shown body.hashed) (sym (says h)) (hashes_sound h)
 
         -- or in an entry
-        pub entry_refused : (finding : Finding) → (IsTrue content.honest → HasFirstEntry shape said content.shown body.sorted body.sorted_count finding) → IsTrue content.honest → IsFound content.shown finding
+        pub entry_refused : (finding : Finding) → (IsTrue content.honest → HasFirstEntry shape said content.shown body.sorted body.sorted_count finding)
+            → IsTrue content.honest → IsFound content.shown finding
         entry_refused finding found h =
             entry_verdict shape body content.shown finding (named h) (all_sound h) (image_sound h)
             (subst (λ (d : Option Digests). HasFirstEntry shape d content.shown body.sorted body.sorted_count finding) (sym (says h)) (found h))
 
         -- the rows that were counted are all
-        pub rows_counted : (manifest : ManifestState) → shape ≡ manifest.shape → body ≡ manifest.current → IsTrue content.honest → hash_rows ≡ sum_by known_count (stores_named manifest.shape manifest.current content.shown).hashes
+        pub rows_counted : (manifest : ManifestState) → shape ≡ manifest.shape → body ≡ manifest.current → IsTrue content.honest
+            → hash_rows ≡ sum_by known_count (stores_named manifest.shape manifest.current content.shown).hashes
         unfolding stores_named
         rows_counted manifest same_shape same_body h =
             hashed.counted h ∙ ap (sum_by (region_rows shape content.shown)) named_ids ∙ rows_of_hashes shape content.shown body.hashed
             ∙ ap (λ (s : Stores). sum_by known_count s.hashes) (same_stores manifest same_shape same_body)
 
-        module _ (sorted : SortedState) (are : sorted ≡ sorted_named shape body) (held_sorted : IsHeldSorted sorted) (entries_sound : IsTrue content.honest → AreSoundEntries shape said content.shown body.sorted body.sorted_count)
+        module _ (sorted : SortedState) (are : sorted ≡ sorted_named shape body) (held_sorted : IsHeldSorted sorted)
+            (entries_sound : IsTrue content.honest → AreSoundEntries shape said content.shown body.sorted body.sorted_count)
             (newest : ℕ) (counted : IsTrue content.honest → newest ≡ put_count (log_rows shape body.active content.shown)) where
           -- the puts that were counted are all
           charge_is : IsTrue content.honest → newest + older + hash_puts + sorted.count ≡ charge_of (stores_named shape body content.shown)
           charge_is h =
               let puts : ℕ → ℕ = λ (region : ℕ). put_count (log_rows shape region content.shown) in
               let in_logs : newest + older ≡ put_rows shape content.shown (body.active ∷ body.frozen) =
-              ap (λ (n : ℕ). n + older) (counted h) ∙ ap (λ (n : ℕ). puts body.active + n) (read.counted h ∙ ap (put_rows shape content.shown) frozen_are) ∙ sym (sum_by-cons puts body.active body.frozen) in
+              ap (λ (n : ℕ). n + older) (counted h) ∙ ap (λ (n : ℕ). puts body.active + n) (read.counted h ∙ ap (put_rows shape content.shown) frozen_are)
+              ∙ sym (sum_by-cons puts body.active body.frozen) in
               let in_hashes : hash_puts ≡ sum_by (region_puts shape content.shown) body.hashed = hashed.charged h ∙ ap (sum_by (region_puts shape content.shown)) named_ids in
               let entries : sorted.count ≡ body.sorted_count = ap (λ (s : SortedState). s.count) are in
               omega (arith, in_logs, in_hashes, entries, charge_of_named shape body content.shown)
@@ -129,18 +139,24 @@ module _ (content : Content) (shape : Shape) (body : Body) (named : IsTrue conte
           unfolding stores_named
           charge_refused many h =
               charge_found_law content.shown (stores_named shape body content.shown) (named h) (all_sound h) (image_sound h)
-              (subst (λ (d : Option Digests). AreSoundEntries shape d content.shown body.sorted body.sorted_count) (sym (says h)) (entries_sound h)) (subst (λ (n : ℕ). shape.sorted_capacity < n) (charge_is h) many)
+              (subst (λ (d : Option Digests). AreSoundEntries shape d content.shown body.sorted body.sorted_count) (sym (says h)) (entries_sound h))
+              (subst (λ (n : ℕ). shape.sorted_capacity < n) (charge_is h) many)
 
           -- nothing is found, and the manifest's digests are those of the stores
-          nothing_found : newest + older + hash_puts + sorted.count ≤ shape.sorted_capacity → IsTrue content.honest → IsSound (stores_named shape body content.shown) × AreDigestsOf said (stores_named shape body content.shown)
+          nothing_found : newest + older + hash_puts + sorted.count ≤ shape.sorted_capacity → IsTrue content.honest
+              → IsSound (stores_named shape body content.shown) × AreDigestsOf said (stores_named shape body content.shown)
           unfolding stores_named
-          nothing_found most h = all_found said (stores_named shape body content.shown) (all_sound h) (hashes_sound h) (entries_sound h) (subst (λ (n : ℕ). n ≤ shape.sorted_capacity) (charge_is h) most)
+          nothing_found most h = all_found said (stores_named shape body content.shown) (all_sound h) (hashes_sound h) (entries_sound h)
+              (subst (λ (n : ℕ). n ≤ shape.sorted_capacity) (charge_is h) most)
 
           module _ (manifest : ManifestState) (same_shape : shape ≡ manifest.shape) (same_body : body ≡ manifest.current) (same_said : said ≡ manifest.digests) where
             -- what is held
-            pub held : (active : LogStoreState) (index : MarkedCode) (digest : List ℕ) (charge : ℕ) → InLimits shape → size content ≡ device_size manifest.shape → manifest.prepared ≡ None → (Rests content → IsCurrent manifest content)
-                → IsReadLog content shape active → active.log.region ≡ body.active → HasIndex content sorted index → HasDigest content sorted digest → charge ≡ newest + older + hash_puts + sorted.count → charge ≤ shape.sorted_capacity
-                → Holds content (record { manifest = manifest; active = active; frozen = frozen; hashes = hashes; sorted = sorted; index = index; digest = digest; converting = None; merging = None; charge = charge })
+            pub held : (active : LogStoreState) (index : MarkedCode) (digest : List ℕ) (charge : ℕ) → InLimits shape
+                → size content ≡ device_size manifest.shape → manifest.prepared ≡ None → (Rests content → IsCurrent manifest content)
+                → IsReadLog content shape active → active.log.region ≡ body.active → HasIndex content sorted index
+                → HasDigest content sorted digest → charge ≡ newest + older + hash_puts + sorted.count → charge ≤ shape.sorted_capacity
+                → Holds content (record
+                { manifest = manifest; active = active; frozen = frozen; hashes = hashes; sorted = sorted; index = index; digest = digest; converting = None; merging = None; charge = charge })
             held active index digest charge limits sized idle is_current own region located digested total most = record {
               limits = subst InLimits same_shape limits;
               has_size = sized;
@@ -206,7 +222,8 @@ named_regions shape slot body limits sound =
     }
 
 -- the same of a body and of numbers that are named in another way
-pub regions_so : (manifest : ManifestState) (slot : ℕ) (shape : Shape) (body : Body) → shape ≡ manifest.shape → body ≡ manifest.current → InLimits shape → is_well_formed manifest.shape slot manifest.current ≡ true → HasRegions shape body
+pub regions_so : (manifest : ManifestState) (slot : ℕ) (shape : Shape) (body : Body) → shape ≡ manifest.shape → body ≡ manifest.current
+    → InLimits shape → is_well_formed manifest.shape slot manifest.current ≡ true → HasRegions shape body
 regions_so manifest slot shape body same_shape same_body limits sound =
     named_regions shape slot body limits
     (ap (λ (s : Shape). is_well_formed s slot body) same_shape ∙ ap (λ (b : Body). is_well_formed manifest.shape slot b) same_body ∙ sound)

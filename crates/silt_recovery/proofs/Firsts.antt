@@ -21,7 +21,8 @@ pub charge_nothing : (n capacity : ℕ) (finding : Finding) → n ≤ capacity �
 charge_nothing n capacity finding most = ap (λ (b : Bool). finding_if b finding) (le-ltb capacity n most)
 
 -- the test of a digest either finds it wrong or does not
-module _ (said : Option (List ℕ)) (digest read : List ℕ) (test : Bool) (tests : (place : Place) → digest_findings place said read ≡ finding_if test (Damaged place)) (same : read ≡ digest) (place : Place) where
+module _ (said : Option (List ℕ)) (digest read : List ℕ) (test : Bool)
+    (tests : (place : Place) → digest_findings place said read ≡ finding_if test (Damaged place)) (same : read ≡ digest) (place : Place) where
   pub other_found : test ≡ true → slice_get (digest_findings place said digest) 0 ≡ Some (Damaged place)
   other_found is = ap (λ (d : List ℕ). slice_get (digest_findings place said d) 0) (sym same) ∙ ap (λ l. slice_get l 0) (tests place) ∙ ap (λ (b : Bool). slice_get (finding_if b (Damaged place)) 0) is
 

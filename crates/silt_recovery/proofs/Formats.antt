@@ -25,24 +25,30 @@ pub slice_join : (xs : List ℕ) (a b c : ℕ) → a ≤ b → b ≤ c → slice
 slice_join xs a b c low high =
     let sizes : c - a ≡ (b - a) + (c - b) = omega arith in
     let place : a + (b - a) ≡ b = omega arith in
-    ap (λ (n : ℕ). take n (drop a xs)) sizes ∙ take-add (b - a) (c - b) (drop a xs) ∙ ap (λ (ys : List ℕ). take (b - a) (drop a xs) ++ take (c - b) ys) (drop-drop (b - a) a xs ∙ ap (λ (n : ℕ). drop n xs) place)
+    ap (λ (n : ℕ). take n (drop a xs)) sizes ∙ take-add (b - a) (c - b) (drop a xs)
+    ∙ ap (λ (ys : List ℕ). take (b - a) (drop a xs) ++ take (c - b) ys) (drop-drop (b - a) a xs ∙ ap (λ (n : ℕ). drop n xs) place)
 
 -- bytes behind a gate that was opened after them
-pub gated : (at : ℕ) (bytes old mid new : List ℕ) → at + 1 + length bytes ≤ length old → mid ≡ splice (at + 1) bytes old → new ≡ splice at (167 ∷ []) mid → slice_range new at (at + 1 + length bytes) ≡ 167 ∷ bytes
+pub gated : (at : ℕ) (bytes old mid new : List ℕ) → at + 1 + length bytes ≤ length old → mid ≡ splice (at + 1) bytes old
+    → new ≡ splice at (167 ∷ []) mid → slice_range new at (at + 1 + length bytes) ≡ 167 ∷ bytes
 gated at bytes old mid new fits first second =
     let long : length mid ≡ length old = ap length first ∙ length-splice (at + 1) bytes old fits in
     let gate_fits : at + 1 ≤ length mid = omega (arith, long) in
     let torn : Torn at 1 mid new = subst (Torn at 1 mid) (sym second) (torn_splice at (167 ∷ []) mid gate_fits) in
     let gate : slice_range new at (at + 1) ≡ 167 ∷ [] = ap (λ (image : List ℕ). slice_range image at (at + 1)) second ∙ splice_slice at (167 ∷ []) mid gate_fits in
     let body : slice_range new (at + 1) (at + 1 + length bytes) ≡ bytes =
-    torn_slice_after at 1 mid new torn (at + 1) (at + 1 + length bytes) (omega arith) (omega (arith, long)) ∙ ap (λ (image : List ℕ). slice_range image (at + 1) (at + 1 + length bytes)) first ∙ splice_slice (at + 1) bytes old fits in
-    slice_join new at (at + 1) (at + 1 + length bytes) (omega arith) (omega arith) ∙ ap (λ (xs : List ℕ). xs ++ slice_range new (at + 1) (at + 1 + length bytes)) gate ∙ ap (λ (xs : List ℕ). 167 ∷ xs) body
+    torn_slice_after at 1 mid new torn (at + 1) (at + 1 + length bytes) (omega arith) (omega (arith, long))
+    ∙ ap (λ (image : List ℕ). slice_range image (at + 1) (at + 1 + length bytes)) first ∙ splice_slice (at + 1) bytes old fits in
+    slice_join new at (at + 1) (at + 1 + length bytes) (omega arith) (omega arith)
+    ∙ ap (λ (xs : List ℕ). xs ++ slice_range new (at + 1) (at + 1 + length bytes)) gate ∙ ap (λ (xs : List ℕ). 167 ∷ xs) body
 
 -- an image with the header, the first manifest body with the digest of no entries, and an empty log 0
-pub fresh_store : (shape : Shape) (digests : Digests) (image : List ℕ) → InLimits shape → digests.sorted.0 ≡ entries_digest [] → length image ≡ device_size shape → header_of image ≡ 167 ∷ header_bytes shape → IsFirst digests image
+pub fresh_store : (shape : Shape) (digests : Digests) (image : List ℕ) → InLimits shape → digests.sorted.0 ≡ entries_digest []
+    → length image ≡ device_size shape → header_of image ≡ 167 ∷ header_bytes shape → IsFirst digests image
     → log_rows shape 0 image ≡ [] → StandsFor shape empty image
 fresh_store shape digests image limits of_none long header first rows =
-    let is : shape_found (length image) (header_of image) ≡ Ok shape = ap (λ (n : ℕ). shape_found n (header_of image)) long ∙ ap (shape_found (device_size shape)) header ∙ formatted_law shape limits in
+    let is : shape_found (length image) (header_of image) ≡ Ok shape =
+    ap (λ (n : ℕ). shape_found n (header_of image)) long ∙ ap (shape_found (device_size shape)) header ∙ formatted_law shape limits in
     let is_current : manifest_found shape image ≡ Ok (long_record first_body digests) = first_is_current shape digests image limits first.first first.second in
     empty_law image shape digests is is_current of_none rows
 
@@ -53,11 +59,14 @@ module _ (shape : Shape) (limits : InLimits shape) (c1 c2 c3 : Content) (sized :
   second_closed rests =
       let low : 12288 ≤ gates_at shape 0 = omega arith in
       let end : 12288 ≤ device_size shape = omega (arith) in
-      rests_leaves rests (closed_elsewhere 1 (gates_at shape 0) shape.log_capacity c2 c3 (omega arith) (omega (arith, long2, sized, end)) (inr low) prepared (closed_shown 1 c1 c2 (omega (arith, sized, end)) slot))
+      rests_leaves rests (closed_elsewhere 1 (gates_at shape 0) shape.log_capacity c2 c3 (omega arith) (omega (arith, long2, sized, end))
+      (inr low) prepared (closed_shown 1 c1 c2 (omega (arith, sized, end)) slot))
 
 -- each possible crash image of the device is an empty store
-pub formatted : (shape : Shape) (digests : Digests) (c3 c4 c5 : Content) → InLimits shape → digests.sorted.0 ≡ entries_digest [] → size c3 ≡ device_size shape → size c4 ≡ device_size shape → size c5 ≡ device_size shape
-    → LeavesOnly c3 (λ image. log_rows shape 0 image ≡ []) → ChangesWithin (slot_at 0) 4096 c3 c4 → LeavesOnly c4 (IsFirst digests) → ChangesWithin 0 37 c4 c5 → (IsTrue c5.honest → header_of c5.shown ≡ 167 ∷ header_bytes shape) → Rests c5
+pub formatted : (shape : Shape) (digests : Digests) (c3 c4 c5 : Content) → InLimits shape → digests.sorted.0 ≡ entries_digest []
+    → size c3 ≡ device_size shape → size c4 ≡ device_size shape → size c5 ≡ device_size shape
+    → LeavesOnly c3 (λ image. log_rows shape 0 image ≡ []) → ChangesWithin (slot_at 0) 4096 c3 c4 → LeavesOnly c4 (IsFirst digests)
+    → ChangesWithin 0 37 c4 c5 → (IsTrue c5.honest → header_of c5.shown ≡ 167 ∷ header_bytes shape) → Rests c5
     → LeavesOnly c5 (StandsFor shape empty)
 formatted shape digests c3 c4 c5 limits of_none size3 size4 size5 empties manifest first header has_header rests =
     let first5 : LeavesOnly c5 (IsFirst digests) = first_elsewhere 0 37 c4 c5 (omega (arith, size4)) (inl (omega arith)) header first in
@@ -66,8 +75,10 @@ formatted shape digests c3 c4 c5 limits of_none size3 size4 size5 empties manife
           let h4 : IsTrue c4.honest = sym header.honest ∙ h5 in
           let h3 : IsTrue c3.honest = sym manifest.honest ∙ h4 in
           let least : 0 < shape.logs = omega (arith, limits.logs_least) in
-          let rows4 : log_rows shape 0 c4.shown ≡ log_rows shape 0 c3.shown = log_rows_elsewhere shape 0 (slot_at 0) 4096 c3.shown c4.shown least (omega (arith, size3)) (inl (omega arith)) (manifest.shown h3) in
+          let rows4 : log_rows shape 0 c4.shown ≡ log_rows shape 0 c3.shown =
+          log_rows_elsewhere shape 0 (slot_at 0) 4096 c3.shown c4.shown least (omega (arith, size3)) (inl (omega arith)) (manifest.shown h3) in
           let rows5 : log_rows shape 0 c5.shown ≡ log_rows shape 0 c4.shown = log_rows_elsewhere shape 0 0 37 c4.shown c5.shown least (omega (arith, size4)) (inl (omega arith)) (header.shown h4) in
-          let shown : StandsFor shape empty c5.shown = fresh_store shape digests c5.shown limits of_none size5 (has_header h5) (first5.each h5 c5.shown (shown_left c5)) (rows5 ∙ rows4 ∙ empties.each h3 c3.shown (shown_left c3)) in
+          let shown : StandsFor shape empty c5.shown =
+          fresh_store shape digests c5.shown limits of_none size5 (has_header h5) (first5.each h5 c5.shown (shown_left c5)) (rows5 ∙ rows4 ∙ empties.each h3 c3.shown (shown_left c3)) in
           subst (StandsFor shape empty) (sym (left_at_rest rests h5 image left)) shown;
     }

@@ -14,7 +14,8 @@ use Rattle.silt_recovery.specs.Logs.{AreReadLogs, AreSoundLogs, HasFirstFinding,
 use Rattle.silt_recovery.proofs.Searches.{found_within, sound_both}
 
 -- one log more
-pub one_more_read : (content : Content) (shape : Shape) (regions : List ℕ) (i : ℕ) (stores : List LogStoreState) (puts : ℕ) (store : LogStoreState) (added : ℕ) → i < length regions → AreReadLogs content shape (take i regions) stores puts
+pub one_more_read : (content : Content) (shape : Shape) (regions : List ℕ) (i : ℕ) (stores : List LogStoreState) (puts : ℕ) (store : LogStoreState) (added : ℕ)
+    → i < length regions → AreReadLogs content shape (take i regions) stores puts
     → store.log.region ≡ get_or regions i 0 → IsReadLog content shape store → (IsTrue content.honest → AreSoundLogs shape content.shown (get_or regions i 0 ∷ []))
     → (IsTrue content.honest → added ≡ put_count (log_rows shape (get_or regions i 0) content.shown)) → AreReadLogs content shape (take (i + 1) regions) (stores ++ store ∷ []) (puts + added)
 one_more_read content shape regions i stores puts store added before read has_region own sound counted =
@@ -31,9 +32,11 @@ one_more_read content shape regions i stores puts store added before read has_re
 
 -- a finding in the next log
 pub next_finding : (content : Content) (shape : Shape) (regions : List ℕ) (i : ℕ) (stores : List LogStoreState) (puts : ℕ) → i < length regions → AreReadLogs content shape (take i regions) stores puts
-    → (finding : Finding) → (IsTrue content.honest → HasFirstFinding shape content.shown (get_or regions i 0 ∷ []) finding) → IsTrue content.honest → HasFirstFinding shape content.shown regions finding
+    → (finding : Finding) → (IsTrue content.honest → HasFirstFinding shape content.shown (get_or regions i 0 ∷ []) finding)
+    → IsTrue content.honest → HasFirstFinding shape content.shown regions finding
 next_finding content shape regions i stores puts before read finding found h =
     let region : ℕ = get_or regions i 0 in
     let all : take i regions ++ (region ∷ []) ++ drop (i + 1) regions ≡ regions =
     append_assoc (take i regions) (region ∷ []) (drop (i + 1) regions) ∙ ap (λ (ids : List ℕ). take i regions ++ ids) (sym (drop_more regions i 0 before)) ∙ take-append-drop i regions in
-    subst (λ (ids : List ℕ). HasFirstFinding shape content.shown ids finding) all (found_within shape content.shown (take i regions) (region ∷ []) (drop (i + 1) regions) finding (read.sound h) (found h))
+    subst (λ (ids : List ℕ). HasFirstFinding shape content.shown ids finding) all
+    (found_within shape content.shown (take i regions) (region ∷ []) (drop (i + 1) regions) finding (read.sound h) (found h))

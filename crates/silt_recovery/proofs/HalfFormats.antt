@@ -1,5 +1,6 @@
 -- What a crash leaves of a formatting.
-use Rattle.std.proofs.Common.{◌≡◌, ◌≢◌, ◌≤◌, ◌<◌, ℕ, ◌+◌, ◌==◌, Bool, false, ◌&&◌, ◌||◌, IsTrue, List, [], ◌∷◌, ◌++◌, length, get_or, slice_range, slice_index, Result, Ok, Err, Some, inl, inr, refl, ap, sym, ◌∙◌, subst, arith}
+use Rattle.std.proofs.Common.{◌≡◌, ◌≢◌, ◌≤◌, ◌<◌, ℕ, ◌+◌, ◌==◌, Bool, false, ◌&&◌, ◌||◌, IsTrue, List, [], ◌∷◌, ◌++◌, length, get_or, slice_range, slice_index}
+use Rattle.std.proofs.Common.{Result, Ok, Err, Some, inl, inr, refl, ap, sym, ◌∙◌, subst, arith}
 use Rattle.std.specs.Result.{OnErr}
 use Rattle.std.proofs.lemmas.Bool.{cases_Bool, cases_eq}
 use Rattle.std.proofs.lemmas.Bool.Decides.{nat_tests}
@@ -59,7 +60,8 @@ closed_verdict image closed =
       | inl opened ↦ absurd (other (sym gate ∙ (let same : slice_index (header_of image) 0 ≡ 167 = grind (arith, nat_tests) in same)))
       | inr none ↦ none
     ]) in
-    let none : is_formatted (header_of image) ≡ false = ap (λ (b : Bool). b && (bytes_eq (slice_range (header_of image) 1 9) magic) && ((version_number (header_of image) == 1) || (version_number (header_of image) == 2))) shut in
+    let none : is_formatted (header_of image) ≡ false =
+    ap (λ (b : Bool). b && (bytes_eq (slice_range (header_of image) 1 9) magic) && ((version_number (header_of image) == 1) || (version_number (header_of image) == 2))) shut in
     no_stores_law image NotFormatted (ap (stores_shaped image) (not_formatted (length image) (header_of image) none))
 
 -- ---- the exits of writing the header
@@ -69,7 +71,8 @@ pub header_behind : (shape : Shape) (at count : ℕ) (old new : Content) → 1 �
 header_behind shape at count old new behind changes closed = record { each = λ honest image left. inl ((gate_kept at count old new behind changes closed).each honest image left) }
 
 -- the header with any gate
-pub header_gated : (shape : Shape) (old between new : Content) → 37 ≤ size old → Writes 1 (header_bytes shape) old between → Rests between → size between ≡ size old → ChangesWithin 0 1 between new → LeavesOnly new (HasHeaderOrNone shape)
+pub header_gated : (shape : Shape) (old between new : Content) → 37 ≤ size old → Writes 1 (header_bytes shape) old between
+    → Rests between → size between ≡ size old → ChangesWithin 0 1 between new → LeavesOnly new (HasHeaderOrNone shape)
 header_gated shape old between new least writes rests same changes = record {
   each = λ honest image left.
       let h1 : IsTrue between.honest = sym changes.honest ∙ honest in
@@ -79,7 +82,8 @@ header_gated shape old between new least writes rests same changes = record {
       let torn : Torn 0 1 between.shown image = subst (λ (before : List ℕ). Torn 0 1 before image) is from.2 in
       let long : length between.shown ≡ length old.shown = same in
       let body : slice_range image 1 37 ≡ header_bytes shape =
-      torn_slice_after 0 1 between.shown image torn 1 37 (omega arith) (omega (arith, long, least)) ∙ ap (λ (x : List ℕ). slice_range x 1 37) (writes.shown h0) ∙ splice_slice 1 (header_bytes shape) old.shown (omega (arith, least)) in
+      torn_slice_after 0 1 between.shown image torn 1 37 (omega arith) (omega (arith, long, least)) ∙ ap (λ (x : List ℕ). slice_range x 1 37) (writes.shown h0)
+      ∙ splice_slice 1 (header_bytes shape) old.shown (omega (arith, least)) in
       elim (cases_eq (get_or image 0 0) 167) [
         | inl opened ↦
             let room : length image ≡ length between.shown = torn.size in
@@ -108,14 +112,17 @@ pub left_closed : (shape : Shape) (old new : Content) → LeavesOnly new IsGateC
 left_closed shape old new closed = record { each = λ honest image left. inr (inl (closed_verdict image (closed.each honest image left))) }
 
 -- the rows of log 0 stay none under a change before the logs
-rows_stay : (shape : Shape) (at count : ℕ) (old new : Content) → 0 < shape.logs → size old ≡ device_size shape → at + count ≤ 12288 → ChangesWithin at count old new → LeavesOnly old (λ image. log_rows shape 0 image ≡ []) → LeavesOnly new (λ image. log_rows shape 0 image ≡ [])
+rows_stay : (shape : Shape) (at count : ℕ) (old new : Content) → 0 < shape.logs → size old ≡ device_size shape → at + count ≤ 12288
+    → ChangesWithin at count old new → LeavesOnly old (λ image. log_rows shape 0 image ≡ []) → LeavesOnly new (λ image. log_rows shape 0 image ≡ [])
 rows_stay shape at count old new least sized low changes none =
     within_leaves changes (sized_leaves none) (λ before after (had : (length before ≡ size old) × (log_rows shape 0 before ≡ [])) torn.
     log_rows_elsewhere shape 0 at count before after least (omega (arith, had.0, sized)) (inl (omega (arith, low))) torn ∙ had.1)
 
 -- with any of the header's gate
-pub left_at_last : (shape : Shape) (digests : Digests) (old c3 c4 c5 : Content) → InLimits shape → digests.sorted.0 ≡ entries_digest [] → size c3 ≡ device_size shape → size c4 ≡ device_size shape → size c5 ≡ device_size shape
-    → LeavesOnly c3 (λ image. log_rows shape 0 image ≡ []) → ChangesWithin (slot_at 0) 4096 c3 c4 → LeavesOnly c4 (IsFirst digests) → ChangesWithin 0 37 c4 c5 → LeavesOnly c5 (HasHeaderOrNone shape) → LeavesOnly c5 (IsHalfFormatted old shape)
+pub left_at_last : (shape : Shape) (digests : Digests) (old c3 c4 c5 : Content) → InLimits shape → digests.sorted.0 ≡ entries_digest []
+    → size c3 ≡ device_size shape → size c4 ≡ device_size shape → size c5 ≡ device_size shape
+    → LeavesOnly c3 (λ image. log_rows shape 0 image ≡ []) → ChangesWithin (slot_at 0) 4096 c3 c4 → LeavesOnly c4 (IsFirst digests)
+    → ChangesWithin 0 37 c4 c5 → LeavesOnly c5 (HasHeaderOrNone shape) → LeavesOnly c5 (IsHalfFormatted old shape)
 left_at_last shape digests old c3 c4 c5 limits of_none size3 size4 size5 empties manifest first header has_header =
     let least : 0 < shape.logs = omega (arith, limits.logs_least) in
     let first5 : LeavesOnly c5 (IsFirst digests) = first_elsewhere 0 37 c4 c5 (omega (arith, size4)) (inl (omega arith)) header first in

@@ -1,5 +1,6 @@
 -- Findings in hash stores that are read one after the other.
-use Rattle.std.proofs.Common.{◌≡◌, ◌<◌, ℕ, ◌+◌, Bool, true, false, IsTrue, List, [], ◌∷◌, ◌++◌, length, map, take, drop, flat_map, get_or, sum_by, slice_get, Option, Some, Ok, refl, ap, sym, ◌∙◌, subst, arith}
+use Rattle.std.proofs.Common.{◌≡◌, ◌<◌, ℕ, ◌+◌, Bool, true, false, IsTrue, List, [], ◌∷◌, ◌++◌, length, map, take, drop, flat_map, get_or, sum_by, slice_get}
+use Rattle.std.proofs.Common.{Option, Some, Ok, refl, ap, sym, ◌∙◌, subst, arith}
 use Rattle.std.specs.List.{enumerate_from}
 use Rattle.std.proofs.Common.{length-take-le}
 use Rattle.std.proofs.lemmas.List.{append-nil, drop_more, length-map, map-append, take-append-drop, take_more}
@@ -41,7 +42,8 @@ module _ (content : Content) (shape : Shape) (region : ℕ) (said : Option (List
   pub damaged_slot : (slot : ℕ) → IsFirstUnsound content shape region slot → HasFirstInRegion shape said content.shown region (Damaged (Hash region slot))
   damaged_slot slot found = record {
     first =
-        first_of_front (hash_findings shape (hash_part shape content.shown region)) (digest_findings (HashDigest region) said (part_digest (hash_part shape content.shown region))) (Damaged (Hash region slot)) found.first;
+        first_of_front (hash_findings shape (hash_part shape content.shown region))
+        (digest_findings (HashDigest region) said (part_digest (hash_part shape content.shown region))) (Damaged (Hash region slot)) found.first;
   }
 
   module _ (store : HashState) (has_shape : store.shape ≡ shape) (has_region : store.region ≡ region) (stands : IsHashStore content store) where
@@ -61,7 +63,8 @@ module _ (content : Content) (shape : Shape) (region : ℕ) (said : Option (List
       pub other_digest : test ≡ true → IsTrue content.honest → HasFirstInRegion shape said content.shown region (Damaged (HashDigest region))
       other_digest is h = record {
         first =
-            first_behind (hash_findings shape (hash_part shape content.shown region)) (digest_findings (HashDigest region) said (part_digest (hash_part shape content.shown region))) (Damaged (HashDigest region))
+            first_behind (hash_findings shape (hash_part shape content.shown region))
+            (digest_findings (HashDigest region) said (part_digest (hash_part shape content.shown region))) (Damaged (HashDigest region))
             (slots_sound h) (other_found said (part_digest (hash_part shape content.shown region)) store.digest test tests (digest_shown h) (HashDigest region) is);
       }
 
@@ -74,7 +77,8 @@ module _ (content : Content) (shape : Shape) (region : ℕ) (said : Option (List
 -- ---- in several
 
 -- some hash stores and the next one behind them
-one_more_sound : (shape : Shape) (said : Option Digests) (image some : List ℕ) (region place : ℕ) → length some ≡ place → AreSoundHashes shape said image some → region_findings shape (said_hash said place) image region ≡ []
+one_more_sound : (shape : Shape) (said : Option Digests) (image some : List ℕ) (region place : ℕ) → length some ≡ place
+    → AreSoundHashes shape said image some → region_findings shape (said_hash said place) image region ≡ []
     → AreSoundHashes shape said image (some ++ region ∷ [])
 one_more_sound shape said image some region place counted first second =
     let parts : List Part = map (hash_part shape image) some in
@@ -122,7 +126,8 @@ rows_of_hashes shape image (region ∷ regions) =
     ∙ sym (sum_by-cons known_count (hash_part shape image region) (map (hash_part shape image) regions))
 
 -- the charge is the sorted entries and the puts in the hash stores and the logs
-pub charge_of_named : (shape : Shape) (body : Body) (image : List ℕ) → charge_of (stores_named shape body image) ≡ body.sorted_count + (sum_by (region_puts shape image) body.hashed + put_rows shape image (body.active ∷ body.frozen))
+pub charge_of_named : (shape : Shape) (body : Body) (image : List ℕ)
+    → charge_of (stores_named shape body image) ≡ body.sorted_count + (sum_by (region_puts shape image) body.hashed + put_rows shape image (body.active ∷ body.frozen))
 unfolding rows_of stores_named
 charge_of_named shape body image =
     let entries : List StoredRow = sorted_rows shape body.sorted body.sorted_count image in
@@ -140,11 +145,13 @@ charge_of_named shape body image =
 -- ---- the hash stores so far, and one more
 
 -- a hash store that was read has the puts that are shown
-puts_read : (content : Content) (shape : Shape) (store : HashState) (region : ℕ) → store.region ≡ region → IsReadHash content shape store → IsTrue content.honest → store.puts ≡ region_puts shape content.shown region
+puts_read : (content : Content) (shape : Shape) (store : HashState) (region : ℕ) → store.region ≡ region → IsReadHash content shape store
+    → IsTrue content.honest → store.puts ≡ region_puts shape content.shown region
 puts_read content shape store region has_region own h =
     own.stands.counted h ∙ ap (λ (s : Shape). region_puts s content.shown store.region) own.hash.has_shape ∙ ap (region_puts shape content.shown) has_region
 
-module _ (content : Content) (shape : Shape) (said : Option Digests) (regions : List ℕ) (i : ℕ) (stores : List HashState) (puts rows : ℕ) (before : i < length regions) (read : AreReadHashes content shape said (take i regions) stores puts rows) where
+module _ (content : Content) (shape : Shape) (said : Option Digests) (regions : List ℕ) (i : ℕ) (stores : List HashState) (puts rows : ℕ)
+    (before : i < length regions) (read : AreReadHashes content shape said (take i regions) stores puts rows) where
   -- this many are read
   so_many : length (take i regions) ≡ i
   so_many = length-take-le i regions (omega (arith, before))
@@ -153,7 +160,8 @@ module _ (content : Content) (shape : Shape) (said : Option Digests) (regions : 
     -- one hash store more
     pub one_more_hash : (store : HashState) (more_puts more_rows : ℕ) → store.region ≡ get_or regions i 0 → IsReadHash content shape store
         → (IsTrue content.honest → region_findings shape digest content.shown (get_or regions i 0) ≡ []) → more_puts ≡ store.puts
-        → (IsTrue content.honest → more_rows ≡ region_rows shape content.shown (get_or regions i 0)) → AreReadHashes content shape said (take (i + 1) regions) (stores ++ store ∷ []) (puts + more_puts) (rows + more_rows)
+        → (IsTrue content.honest → more_rows ≡ region_rows shape content.shown (get_or regions i 0))
+        → AreReadHashes content shape said (take (i + 1) regions) (stores ++ store ∷ []) (puts + more_puts) (rows + more_rows)
     one_more_hash store more_puts more_rows has_region own sound are_puts counted =
         let region : ℕ = get_or regions i 0 in
         let charged : IsTrue content.honest → more_puts ≡ region_puts shape content.shown region = λ h. are_puts ∙ puts_read content shape store region has_region own h in

@@ -23,13 +23,15 @@ pub record_that_is_current : (shape : Shape) (image : List ℕ) (m : ManifestSta
 record_that_is_current shape image m same was_current = ap (λ (s : Shape). manifest_found s image) (sym same) ∙ found_record (manifest_found m.shape image) (current_record m) was_current.current
 
 -- the stores of the current record
-pub current_stores : (shape : Shape) (image : List ℕ) (m : ManifestState) → shape_found (length image) (header_of image) ≡ Ok shape → m.shape ≡ shape → IsCurrentIn m image → image_stores image ≡ Ok (stores_named shape m.current image)
+pub current_stores : (shape : Shape) (image : List ℕ) (m : ManifestState) → shape_found (length image) (header_of image) ≡ Ok shape
+    → m.shape ≡ shape → IsCurrentIn m image → image_stores image ≡ Ok (stores_named shape m.current image)
 unfolding stores_named
 current_stores shape image m header same was_current =
     (stores_law image (stores_named shape m.current image)).1 (record { shape = header; digests = m.digests; current = record_that_is_current shape image m same was_current; named = refl })
 
 -- the digests behind it
-pub current_digests_of : (shape : Shape) (image : List ℕ) (m : ManifestState) → image_stores image ≡ Ok (stores_named shape m.current image) → m.shape ≡ shape → IsCurrentIn m image → image_digests image ≡ m.digests
+pub current_digests_of : (shape : Shape) (image : List ℕ) (m : ManifestState) → image_stores image ≡ Ok (stores_named shape m.current image)
+    → m.shape ≡ shape → IsCurrentIn m image → image_digests image ≡ m.digests
 unfolding stores_named
 current_digests_of shape image m stores same was_current = digests_law image (stores_named shape m.current image) (current_record m) stores (record_that_is_current shape image m same was_current)
 

@@ -34,12 +34,14 @@ abbrev pub part_count : Part → ℕ
 part_count part = length part.rows
 
 -- a log that was read has as many rows as are shown
-count_read : (content : Content) (shape : Shape) (store : LogStoreState) → IsTrue content.honest → IsReadLog content shape store → store.log.used ≡ length (log_rows shape store.log.region content.shown)
+count_read : (content : Content) (shape : Shape) (store : LogStoreState) → IsTrue content.honest → IsReadLog content shape store
+    → store.log.used ≡ length (log_rows shape store.log.region content.shown)
 count_read content shape store h read =
     (read.scanned h).used ∙ sym (row_count store.log.shape store.log.region content.shown) ∙ ap (λ (s : Shape). length (log_rows s store.log.region content.shown)) read.has_shape
 
 -- and so have several together
-counts_read : (content : Content) (shape : Shape) (stores : List LogStoreState) → IsTrue content.honest → All (IsReadLog content shape) stores → sum_by used_rows stores ≡ sum_by part_count (map (log_part shape content.shown) (map region_of stores))
+counts_read : (content : Content) (shape : Shape) (stores : List LogStoreState) → IsTrue content.honest → All (IsReadLog content shape) stores
+    → sum_by used_rows stores ≡ sum_by part_count (map (log_part shape content.shown) (map region_of stores))
 counts_read content shape [] h read = refl
 counts_read content shape (store ∷ stores) h read =
     let first = count_read content shape store h (All-head (IsReadLog content shape) store stores read) in
@@ -49,18 +51,19 @@ counts_read content shape (store ∷ stores) h read =
     ∙ sym (sum_by-cons part_count (log_part shape content.shown store.log.region) (map (log_part shape content.shown) (map region_of stores)))
 
 -- the numbers of the stores that are held
-pub reported : (content : Content) (s : EngineState) (body : Body) (hash_rows : ℕ) → Holds content s → CountsHashRows content s hash_rows → body ≡ s.manifest.current → IsTrue content.honest → IsReported content.shown (record {
-  generation = body.generation;
-  active = body.active;
-  active_rows = s.active.log.used;
-  frozen = length body.frozen;
-  frozen_rows = sum_by used_rows s.frozen;
-  hashes = length body.hashed;
-  hash_rows = hash_rows;
-  entries = body.sorted_count;
-  charge = s.charge;
-  layout = layout_of s.manifest.digests;
-})
+pub reported : (content : Content) (s : EngineState) (body : Body) (hash_rows : ℕ) → Holds content s → CountsHashRows content s hash_rows
+    → body ≡ s.manifest.current → IsTrue content.honest → IsReported content.shown (record {
+      generation = body.generation;
+      active = body.active;
+      active_rows = s.active.log.used;
+      frozen = length body.frozen;
+      frozen_rows = sum_by used_rows s.frozen;
+      hashes = length body.hashed;
+      hash_rows = hash_rows;
+      entries = body.sorted_count;
+      charge = s.charge;
+      layout = layout_of s.manifest.digests;
+    })
 unfolding stores_named
 reported content s body hash_rows holds counts same h =
     let named : Stores = shown_stores content s in
@@ -93,7 +96,8 @@ reported content s body hash_rows holds counts same h =
           ap (λ (b : Body). told said b s.active.log.used (sum_by used_rows s.frozen) hash_rows s.charge) same
           ∙ ap (λ (n : ℕ). told said s.manifest.current n (sum_by used_rows s.frozen) hash_rows s.charge) active_rows
           ∙ ap (λ (n : ℕ). told said s.manifest.current (sum_by part_count (first ∷ [])) n hash_rows s.charge) frozen_rows
-          ∙ ap (λ (n : ℕ). told said s.manifest.current (sum_by part_count (first ∷ [])) (sum_by part_count (map (log_part s.manifest.shape content.shown) s.manifest.current.frozen)) n s.charge) (counts h)
+          ∙ ap (λ (n : ℕ). told said s.manifest.current (sum_by part_count (first ∷ []))
+          (sum_by part_count (map (log_part s.manifest.shape content.shown) s.manifest.current.frozen)) n s.charge) (counts h)
           ∙ ap (λ (n : ℕ). told said s.manifest.current (sum_by part_count (first ∷ [])) (sum_by part_count (map (log_part s.manifest.shape content.shown) s.manifest.current.frozen))
           (sum_by known_count (map (hash_part s.manifest.shape content.shown) s.manifest.current.hashed)) n) (holds.counted h)
           ∙ ap (λ (d : Option Digests). told d s.manifest.current (sum_by part_count (first ∷ [])) (sum_by part_count (map (log_part s.manifest.shape content.shown) s.manifest.current.frozen))
@@ -101,14 +105,17 @@ reported content s body hash_rows holds counts same h =
     }
 
 -- no log has more rows than a table has room for
-pub few_rows : (content : Content) (shape : Shape) (stores : List LogStoreState) → InLimits shape → All (IsReadLog content shape) stores → All (λ (store : LogStoreState). store.log.used ≤ 131072) stores
+pub few_rows : (content : Content) (shape : Shape) (stores : List LogStoreState) → InLimits shape → All (IsReadLog content shape) stores
+    → All (λ (store : LogStoreState). store.log.used ≤ 131072) stores
 few_rows content shape stores limits read =
     All-weaker (IsReadLog content shape) (λ (store : LogStoreState). store.log.used ≤ 131072) (λ store is.
     let room : store.log.used ≤ shape.log_capacity = subst (λ (s : Shape). store.log.used ≤ s.log_capacity) is.has_shape is.bounds.room in
     omega (arith, room, limits.log_capacity_most, bucket_count_most shape.buckets limits.buckets)) stores read
 
 -- the same of numbers that are named in another way
-pub reported_so : (content : Content) (s : EngineState) (body : Body) (rows frozen older hashes hash_rows : ℕ) (layout : Layout) → Holds content s → CountsHashRows content s hash_rows → body ≡ s.manifest.current → rows ≡ s.active.log.used → frozen ≡ length body.frozen → older ≡ sum_by used_rows s.frozen → hashes ≡ length body.hashed → layout ≡ layout_of s.manifest.digests
+pub reported_so : (content : Content) (s : EngineState) (body : Body) (rows frozen older hashes hash_rows : ℕ) (layout : Layout) → Holds content s
+    → CountsHashRows content s hash_rows → body ≡ s.manifest.current → rows ≡ s.active.log.used → frozen ≡ length body.frozen
+    → older ≡ sum_by used_rows s.frozen → hashes ≡ length body.hashed → layout ≡ layout_of s.manifest.digests
     → IsTrue content.honest → IsReported content.shown (record {
       generation = body.generation;
       active = body.active;
@@ -138,7 +145,8 @@ reported_so content s body rows frozen older hashes hash_rows layout holds count
     (subst (λ (n : ℕ). IsReported content.shown (told s.active.log.used n older hashes layout)) (sym are_frozen)
     (subst (λ (n : ℕ). IsReported content.shown (told s.active.log.used (length body.frozen) n hashes layout)) (sym are_older)
     (subst (λ (n : ℕ). IsReported content.shown (told s.active.log.used (length body.frozen) (sum_by used_rows s.frozen) n layout)) (sym are_hashes)
-    (subst (λ (l : Layout). IsReported content.shown (told s.active.log.used (length body.frozen) (sum_by used_rows s.frozen) (length body.hashed) l)) (sym is_layout) (reported content s body hash_rows holds counts same h)))))
+    (subst (λ (l : Layout). IsReported content.shown (told s.active.log.used (length body.frozen) (sum_by used_rows s.frozen) (length body.hashed) l))
+    (sym is_layout) (reported content s body hash_rows holds counts same h)))))
 
 -- no more logs are frozen than a device can have
 pub few_frozen : (content : Content) (s : EngineState) (slot : ℕ) → Holds content s → is_well_formed s.manifest.shape slot s.manifest.current ≡ true → length s.frozen ≤ 7

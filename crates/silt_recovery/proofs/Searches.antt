@@ -56,7 +56,8 @@ module _ (shape : Shape) (image : List ℕ) (region : ℕ) where
         there = slice_get-get_or (log_rows shape region image) place blank first.there;
         known = first.before.known;
         fits = first.before.placed;
-        first = ap (λ (b : Bool). slice_get (finding_if (not b) (Damaged (Log region place)) ++ finding_if (not (fits_table shape (take (place + 1) (log_rows shape region image)))) Crowded) 0) unknown;
+        first = ap (λ (b : Bool). slice_get (finding_if (not b) (Damaged (Log region place))
+            ++ finding_if (not (fits_table shape (take (place + 1) (log_rows shape region image)))) Crowded) 0) unknown;
       })
 
   -- a key that finds no place
@@ -75,13 +76,15 @@ module _ (shape : Shape) (image : List ℕ) (region : ℕ) where
       })
 
   -- all kinds known and all keys placed
-  pub sound_log : (table : Slots) → list_all has_known_kind (log_rows shape region image) ≡ true → index_of_keys shape.buckets (keys_of (log_rows shape region image)) ≡ Some table → AreSoundLogs shape image (region ∷ [])
+  pub sound_log : (table : Slots) → list_all has_known_kind (log_rows shape region image) ≡ true
+      → index_of_keys shape.buckets (keys_of (log_rows shape region image)) ≡ Some table → AreSoundLogs shape image (region ∷ [])
   unfolding fits_table
   sound_log table known indexed =
       append-nil (log_findings shape (log_part shape image region)) ∙ (log_sound_law shape (log_part shape image region)).1 (known, ap is_some indexed)
 
 -- a log that was rebuilt
-pub rebuilt_sound : (content : Content) (shape : Shape) (region : ℕ) (store : LogStoreState) → store.log.shape ≡ shape → store.log.region ≡ region → IsRebuilt content store → AreSoundLogs shape content.shown (region ∷ [])
+pub rebuilt_sound : (content : Content) (shape : Shape) (region : ℕ) (store : LogStoreState) → store.log.shape ≡ shape
+    → store.log.region ≡ region → IsRebuilt content store → AreSoundLogs shape content.shown (region ∷ [])
 rebuilt_sound content shape region store has_shape has_region rebuilt =
     let own : AreSoundLogs store.log.shape content.shown (store.log.region ∷ []) = sound_log store.log.shape content.shown store.log.region store.table rebuilt.known rebuilt.indexed in
     subst (λ (s : Shape). AreSoundLogs s content.shown (region ∷ [])) has_shape (subst (λ (r : ℕ). AreSoundLogs store.log.shape content.shown (r ∷ [])) has_region own)
@@ -96,7 +99,8 @@ sound_both shape image some more first second =
     ∙ ap (λ (l : List Finding). l ++ flat_map (log_findings shape) (map (log_part shape image) more)) first ∙ second
 
 -- the first finding among some of the logs, behind others in which nothing is found
-pub found_within : (shape : Shape) (image before regions after : List ℕ) (finding : Finding) → AreSoundLogs shape image before → HasFirstFinding shape image regions finding → HasFirstFinding shape image (before ++ regions ++ after) finding
+pub found_within : (shape : Shape) (image before regions after : List ℕ) (finding : Finding) → AreSoundLogs shape image before
+    → HasFirstFinding shape image regions finding → HasFirstFinding shape image (before ++ regions ++ after) finding
 found_within shape image before regions after finding sound found = record {
   before = before ++ found.before;
   region = found.region;
@@ -111,10 +115,12 @@ found_within shape image before regions after finding sound found = record {
 }
 
 -- the first finding in the logs that the current record names is the verdict
-pub log_verdict : (shape : Shape) (body : Body) (image : List ℕ) (finding : Finding) → image_stores image ≡ Ok (stores_named shape body image) → HasFirstFinding shape image (body.active ∷ body.frozen) finding → image_verdict image ≡ Some finding
+pub log_verdict : (shape : Shape) (body : Body) (image : List ℕ) (finding : Finding) → image_stores image ≡ Ok (stores_named shape body image)
+    → HasFirstFinding shape image (body.active ∷ body.frozen) finding → image_verdict image ≡ Some finding
 unfolding stores_named
 log_verdict shape body image finding stores found =
-    first_finding_law image (stores_named shape body image) (map (log_part shape image) found.before) (map (log_part shape image) found.after) (log_part shape image found.region) found.place found.row finding stores
+    first_finding_law image (stores_named shape body image) (map (log_part shape image) found.before) (map (log_part shape image) found.after)
+    (log_part shape image found.region) found.place found.row finding stores
     (ap (map (log_part shape image)) found.all ∙ map-append (log_part shape image) found.before (found.region ∷ found.after)) found.sound found.first
 
 -- ---- the puts

@@ -79,7 +79,8 @@ pub settled_image : (old new : Content) → Settles old new → LeavesNoOther ol
 settled_image old new settles = record { each = λ honest image left. inl ((settled_only old new settles).left.each honest image left) }
 
 -- why a look was refused is why the opening is
-pub looked_up : {F : Type 0} (W : F → Type 0) (old new : Content) (error : OpenError F) → Settles old new → IsRefusedLook (λ finding. IsTrue new.honest → IsFound new.shown finding) W error → IsRefusedLook (λ finding. IsTrue old.honest → IsFound old.shown finding) W error
+pub looked_up : {F : Type 0} (W : F → Type 0) (old new : Content) (error : OpenError F) → Settles old new
+    → IsRefusedLook (λ finding. IsTrue new.honest → IsFound new.shown finding) W error → IsRefusedLook (λ finding. IsTrue old.honest → IsFound old.shown finding) W error
 looked_up W old new error settles refused =
     refused_weaker (λ finding. IsTrue new.honest → IsFound new.shown finding) (λ finding. IsTrue old.honest → IsFound old.shown finding) W error
     (λ finding found h. subst (λ (image : List ℕ). IsFound image finding) (settles.shown h) (found (settles.honest ∙ h))) refused
@@ -126,7 +127,8 @@ same_rows shape a b (store ∷ stores) same =
     All-cons (λ (s : LogStoreState). log_rows shape s.log.region a ≡ log_rows shape s.log.region b) store stores (ap (λ (part : Part). part.rows) first) (same_rows shape a b stores rest)
 
 -- what a seal changes lies in its log's region
-sealed_within : (log : LogState) (old new : Content) → InLimits log.shape → InBounds log → ChangesWithin (gates_at log.shape log.region + log.used + 1) (log.shape.log_capacity - (log.used + 1)) old new
+sealed_within : (log : LogState) (old new : Content) → InLimits log.shape → InBounds log
+    → ChangesWithin (gates_at log.shape log.region + log.used + 1) (log.shape.log_capacity - (log.used + 1)) old new
     → ChangesWithin (gates_at log.shape log.region) (log_size log.shape) old new
 sealed_within log old new limits bounds changes =
     let bodies : 1 ≤ log.shape.log_capacity * row_len log.shape = one-le-mul limits.log_capacity_least (omega arith) in
@@ -134,7 +136,8 @@ sealed_within log old new limits bounds changes =
     (omega (arith, bounds.room, limits.log_capacity_least, bodies, up_least log.shape.log_capacity, up_least (log.shape.log_capacity * row_len log.shape))) changes
 
 -- a hash store still matches the disk if only a log region changes
-hash_stands : (between new : Content) (shape : Shape) (log : ℕ) (store : HashState) → log < shape.logs → device_size shape ≤ size between → ChangesWithin (gates_at shape log) (log_size shape) between new → IsHashOf shape store
+hash_stands : (between new : Content) (shape : Shape) (log : ℕ) (store : HashState) → log < shape.logs → device_size shape ≤ size between
+    → ChangesWithin (gates_at shape log) (log_size shape) between new → IsHashOf shape store
     → IsHashStore between store → IsHashStore new store
 hash_stands between new shape log store exists fits changes is stands =
     let behind : log * log_size shape + log_size shape ≤ shape.logs * log_size shape = next_region log shape.logs (log_size shape) exists in
@@ -143,7 +146,8 @@ hash_stands between new shape log store exists fits changes is stands =
     (inl (subst (λ (x : Shape). gates_at shape log + log_size shape ≤ hash_at x store.region) (sym is.has_shape) before)) changes stands
 
 -- the index of entries is theirs while a log region alone is changed
-index_stands : (between new : Content) (s : EngineState) (log : ℕ) → log < s.manifest.shape.logs → device_size s.manifest.shape ≤ size between → ChangesWithin (gates_at s.manifest.shape log) (log_size s.manifest.shape) between new
+index_stands : (between new : Content) (s : EngineState) (log : ℕ) → log < s.manifest.shape.logs → device_size s.manifest.shape ≤ size between
+    → ChangesWithin (gates_at s.manifest.shape log) (log_size s.manifest.shape) between new
     → AreWhole s → IsLocated between s → IsLocated new s
 index_stands between new s log exists fits changes whole located =
     let is_shape : s.manifest.shape ≡ s.sorted.shape = ap (λ (t : SortedState). t.shape) (sym whole.sorted) in
@@ -152,7 +156,8 @@ index_stands between new s log exists fits changes whole located =
     (entries_behind_log s.manifest.shape log s.sorted.region exists)) changes located
 
 -- and so is their digest
-digest_stands : (between new : Content) (s : EngineState) (log : ℕ) → log < s.manifest.shape.logs → device_size s.manifest.shape ≤ size between → ChangesWithin (gates_at s.manifest.shape log) (log_size s.manifest.shape) between new
+digest_stands : (between new : Content) (s : EngineState) (log : ℕ) → log < s.manifest.shape.logs → device_size s.manifest.shape ≤ size between
+    → ChangesWithin (gates_at s.manifest.shape log) (log_size s.manifest.shape) between new
     → AreWhole s → IsDigested between s → IsDigested new s
 digest_stands between new s log exists fits changes whole digested =
     let is_shape : s.manifest.shape ≡ s.sorted.shape = ap (λ (t : SortedState). t.shape) (sym whole.sorted) in
@@ -247,14 +252,16 @@ module _ (old between new : Content) (s : EngineState) (settles : Settles old be
   same_said = record { each = λ honest image left. said_in image (same_stores.each honest image left) (stays_current_in.each honest image left) }
 
   -- each image represents what was shown
-  stands_for : IsTrue old.honest → (image : List ℕ) → image_stores image ≡ Ok (shown_stores between s) → image_digests image ≡ s.manifest.digests → StandsFor (shape_of old.shown) (image_map old.shown) image
+  stands_for : IsTrue old.honest → (image : List ℕ) → image_stores image ≡ Ok (shown_stores between s) → image_digests image ≡ s.manifest.digests
+      → StandsFor (shape_of old.shown) (image_map old.shown) image
   unfolding stores_named image_map
   stands_for o image stores says =
       let h : IsTrue between.honest = here o in
       let stands : StandsFor s.manifest.shape (map_of_rows (rows_of (shown_stores between s))) image =
       stands_law image (shown_stores between s) stores (holds.sound h) (subst (λ (d : Option Digests). AreDigestsOf d (shown_stores between s)) (sym says) (holds.said h)) in
       let has_shape : s.manifest.shape ≡ shape_of old.shown = sym (whole h).has_shape ∙ ap shape_of (settles.shown o) in
-      let has_map : map_of_rows (rows_of (shown_stores between s)) ≡ image_map old.shown = ap map_of_rows (sym (rows_law between.shown (shown_stores between s) (holds.named h))) ∙ ap image_map (settles.shown o) in
+      let has_map : map_of_rows (rows_of (shown_stores between s)) ≡ image_map old.shown =
+      ap map_of_rows (sym (rows_law between.shown (shown_stores between s) (holds.named h))) ∙ ap image_map (settles.shown o) in
       subst (λ (x : Shape). StandsFor x (image_map old.shown) image) has_shape (subst (λ m. StandsFor s.manifest.shape m image) has_map stands)
 
   pub sealed_images : LeavesNoOther old new
@@ -267,7 +274,8 @@ module _ (old between new : Content) (s : EngineState) (settles : Settles old be
     frozen_rows : IsTrue between.honest → All (λ (store : LogStoreState). log_rows s.manifest.shape store.log.region new.shown ≡ log_rows s.manifest.shape store.log.region between.shown) s.frozen
     unfolding stores_named
     frozen_rows h =
-        let all : map (log_part s.manifest.shape new.shown) (s.manifest.current.active ∷ s.manifest.current.frozen) ≡ map (log_part s.manifest.shape between.shown) (s.manifest.current.active ∷ s.manifest.current.frozen) =
+        let all : map (log_part s.manifest.shape new.shown) (s.manifest.current.active ∷ s.manifest.current.frozen) ≡ map
+        (log_part s.manifest.shape between.shown) (s.manifest.current.active ∷ s.manifest.current.frozen) =
         ap (λ (x : Stores). x.logs) (shown_same h) in
         let frozen : map (log_part s.manifest.shape new.shown) s.manifest.current.frozen ≡ map (log_part s.manifest.shape between.shown) s.manifest.current.frozen = cc in
         same_rows s.manifest.shape new.shown between.shown s.frozen
@@ -324,7 +332,8 @@ module _ (old between new : Content) (s : EngineState) (settles : Settles old be
           active = sealed.log;
           indexed = sealed.index;
           frozen = λ k d inside. frozen_stands between new s.manifest.shape (slice_index_or s.frozen k d) changes.honest (holds.frozen k d inside) (λ h. frozen_rows h k d inside);
-          hashed = λ k d inside. hash_stands between new s.manifest.shape s.manifest.current.active (slice_index_or s.hashes k d) exists (omega (arith, holds.has_size)) changed (holds.whole.hashed k d inside) (holds.hashed k d inside);
+          hashed = λ k d inside. hash_stands between new s.manifest.shape s.manifest.current.active (slice_index_or s.hashes k d)
+              exists (omega (arith, holds.has_size)) changed (holds.whole.hashed k d inside) (holds.hashed k d inside);
           located = index_stands between new s s.manifest.current.active exists (omega (arith, holds.has_size)) changed holds.whole holds.located;
           digested = digest_stands between new s s.manifest.current.active exists (omega (arith, holds.has_size)) changed holds.whole holds.digested;
           written = none_written new (record s { active = after }) holds.none_converted;
@@ -347,5 +356,6 @@ module _ (old between new : Content) (s : EngineState) (settles : Settles old be
       none_merged = holds.none_merged;
       has_shape = λ o. sym (whole (here o)).has_shape ∙ ap shape_of (settles.shown o);
       has_map = λ o.
-          ap (λ (x : Stores). map_of_rows (rows_of x)) (shown_same (here o)) ∙ ap map_of_rows (sym (rows_law between.shown (shown_stores between s) (holds.named (here o)))) ∙ ap image_map (settles.shown o);
+          ap (λ (x : Stores). map_of_rows (rows_of x)) (shown_same (here o))
+          ∙ ap map_of_rows (sym (rows_law between.shown (shown_stores between s) (holds.named (here o)))) ∙ ap image_map (settles.shown o);
     }

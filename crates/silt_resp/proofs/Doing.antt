@@ -1,5 +1,6 @@
 -- Doing commands in two parts is doing them at once, and a beginning of a part is a beginning of the whole.
-use Rattle.std.proofs.Common.{◌≡◌, ◌+◌, ◌≤◌, ℕ, suc, Result, Ok, Err, List, [], ◌∷◌, ◌++◌, length, map, take, drop, take-append-drop, refl, sym, ap, subst, ◌∙◌, append_assoc, get_or, inl, inr, ◌<◌, Option, Some, arith, length-append, append-nil, None}
+use Rattle.std.proofs.Common.{◌≡◌, ◌+◌, ◌≤◌, ℕ, suc, Result, Ok, Err, List, [], ◌∷◌, ◌++◌, length, map, take, drop, take-append-drop, refl, sym, ap, subst, ◌∙◌}
+use Rattle.std.proofs.Common.{append_assoc, get_or, inl, inr, ◌<◌, Option, Some, arith, length-append, append-nil, None}
 use Rattle.std.specs.Prelude.{IfOk, OnErr, OnOk, min}
 use Rattle.std.proofs.Math.ListN.{drop_of_length-le}
 use Rattle.std.proofs.Math.Seq.{drop-cons}
@@ -25,7 +26,8 @@ use Rattle.silt_resp.specs.declared.batch.Due.{Due}
 use Rattle.silt_resp.specs.declared.asked.Tail.{Tail}
 use Rattle.silt_resp.specs.Batches.{HoldsAsked, Part, due_seen, part_len, part_of, part_text, part_texts, tail_answers, tail_parts, tail_queries}
 use Rattle.silt_resp.specs.Commands.{Asked, asked_for, asks, asks_admin, says, visitor_after}
-use Rattle.silt_resp.specs.Sessions.{AnswersCommands, AnswersSomeCommands, Client, EndsWith, IsCommandsEnd, IsLast, ServesCommands, ServesSomeCommands, all_queries, asked_queries, replies_in, asked_after, asked_each, client_after, asked_text, asked_texts, visitor_behind}
+use Rattle.silt_resp.specs.Sessions.{AnswersCommands, AnswersSomeCommands, Client, EndsWith, IsCommandsEnd, IsLast, ServesCommands, ServesSomeCommands}
+use Rattle.silt_resp.specs.Sessions.{all_queries, asked_queries, replies_in, asked_after, asked_each, client_after, asked_text, asked_texts, visitor_behind}
 use Rattle.silt_resp.specs.Stream.{Command, closed, commands_after, stream_after}
 use Rattle.silt_resp.proofs.Runs.{closed_run}
 use Rattle.silt_resp.proofs.Streams.{commands_after-append, stream_after-append}
@@ -199,7 +201,8 @@ module _ {A : Type 0} (answers : A → A → Query → Answer → Type 0) where
         asked_texts xs h.0 ++ out,
         begins-behind xs some ys begins,
         subst (λ es. AnswersEach answers a es (h.0 ++ given) c) (sym (all_queries-append xs some)) (each-append answers a b c (all_queries xs) (all_queries some) h.0 given h.1 each),
-        subst (λ t. IsBeginning (asked_texts xs h.0 ++ out) t) (sym (asked_texts-append xs some h.0 given (each-length answers a b (all_queries xs) h.0 h.1))) (begins-behind (asked_texts xs h.0) out (asked_texts some given) beginning),
+        subst (λ t. IsBeginning (asked_texts xs h.0 ++ out) t) (sym (asked_texts-append xs some h.0 given (each-length answers a b (all_queries xs) h.0 h.1)))
+            (begins-behind (asked_texts xs h.0) out (asked_texts some given) beginning),
         Appends-append w v u _ _ h.2 appends,
       )
 
@@ -211,11 +214,13 @@ module _ {A : Type 0} (answers : A → A → Query → Answer → Type 0) where
 
   pub all-bytes : (s : Settings) (c : Client) (xs ys : List ℕ) (a b d : A) (w v u : Option (List ℕ)) → ServesCommands answers s c xs a b w v
       → ServesCommands answers s (client_after s c xs) ys b d v u → ServesCommands answers s c (xs ++ ys) a d w u
-  all-bytes s c xs ys a b d w v u h k = subst (λ q. AnswersCommands answers q a d w u) (sym (asked_after-append s c xs ys)) (all-append a b d (asked_after s c xs) (asked_after s (client_after s c xs) ys) w v u h k)
+  all-bytes s c xs ys a b d w v u h k = subst (λ q. AnswersCommands answers q a d w u) (sym (asked_after-append s c xs ys))
+      (all-append a b d (asked_after s c xs) (asked_after s (client_after s c xs) ys) w v u h k)
 
   some-bytes : (s : Settings) (c : Client) (xs ys : List ℕ) (a b d : A) (w v u : Option (List ℕ)) → ServesCommands answers s c xs a b w v
       → ServesSomeCommands answers s (client_after s c xs) ys b d v u → ServesSomeCommands answers s c (xs ++ ys) a d w u
-  some-bytes s c xs ys a b d w v u h k = subst (λ q. AnswersSomeCommands answers q a d w u) (sym (asked_after-append s c xs ys)) (some-append a b d (asked_after s c xs) (asked_after s (client_after s c xs) ys) w v u h k)
+  some-bytes s c xs ys a b d w v u h k = subst (λ q. AnswersSomeCommands answers q a d w u) (sym (asked_after-append s c xs ys))
+      (some-append a b d (asked_after s c xs) (asked_after s (client_after s c xs) ys) w v u h k)
 
   -- an end in the second part is one of both
   pub ends-bytes : (end : RespEnd) (s : Settings) (c : Client) (xs ys : List ℕ) (a b d : A) (w v u : Option (List ℕ)) → ServesCommands answers s c xs a b w v

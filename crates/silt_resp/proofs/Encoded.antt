@@ -1,5 +1,6 @@
 -- What clients encode is read.
-use Rattle.std.proofs.Common.{◌≡◌, ◌<◌, ◌≤◌, ◌+◌, ◌-◌, ◌%◌, ◌^◌, ◌==◌, ◌&&◌, ℕ, suc, true, false, List, [], ◌∷◌, ◌++◌, length, map, take, drop, Some, None, is_some, Ok, refl, sym, ap, subst, ◌∙◌, append_assoc, arith, rules}
+use Rattle.std.proofs.Common.{◌≡◌, ◌<◌, ◌≤◌, ◌+◌, ◌-◌, ◌%◌, ◌^◌, ◌==◌, ◌&&◌, ℕ, suc, true, false, List, [], ◌∷◌, ◌++◌, length, map, take, drop, Some, None}
+use Rattle.std.proofs.Common.{is_some, Ok, refl, sym, ap, subst, ◌∙◌, append_assoc, arith, rules}
 use Rattle.std.specs.Prelude.{All, nat_lt, nat_le, slice_index, if◌then◌else◌}
 use Rattle.std.specs.Char.{is_ascii_digit}
 use Rattle.std.specs.Fmt.{decimal}
@@ -15,7 +16,9 @@ use Rattle.silt_resp.specs.declared.fault.ProtocolFault.TheVariants.{BadCount, B
 use Rattle.silt_resp.specs.declared.heads.LineKind.TheVariants.{Inline, Count, WordLength}
 use Rattle.silt_resp.specs.Buffers.{NoFeed}
 use Rattle.silt_resp.specs.Heads.{before_return, bytes_announced, count_announced, length_in, longest_announced, most_announced, number_or, within, word_count, words_announced}
-use Rattle.silt_resp.specs.Stream.{Command, IsEncodable, RespLaw, Word, byte_taken, closes, closed, command_bytes, command_read, commands_after, count_ended, ends, goes_on, length_ended, line, line_closed, line_kind, line_limit, long, longest_word, next_stream, start, up_to_closing, whole, word_bytes, word_ended, word_grown, word_of}
+use Rattle.silt_resp.specs.Stream.{Command, IsEncodable, RespLaw, Word, byte_taken, closes, closed, command_bytes, command_read, commands_after, count_ended}
+use Rattle.silt_resp.specs.Stream.{ends, goes_on, length_ended, line, line_closed, line_kind, line_limit, long, longest_word, next_stream, start, up_to_closing}
+use Rattle.silt_resp.specs.Stream.{whole, word_bytes, word_ended, word_grown, word_of}
 use Rattle.silt_resp.proofs.Runs.{Goes, Goes-append, Goes-byte, at_line, at_word, closed_run, line_run, word_run}
 use Rattle.silt_resp.proofs.Streams.{commands_after-append}
 
@@ -137,7 +140,8 @@ word_goes words left word =
 
 -- a word as it is encoded
 encoded_word : (words : List Word) (left : ℕ) (word : List ℕ) → length word ≤ longest_announced
-    → Goes (at_line words (suc left) []) (word_bytes word) (word_ended (at_word words (suc left) 1 (word_of word)) (word_of word)).0 (word_ended (at_word words (suc left) 1 (word_of word)) (word_of word)).1
+    → Goes (at_line words (suc left) []) (word_bytes word) (word_ended (at_word words (suc left) 1 (word_of word)) (word_of word)).0
+    (word_ended (at_word words (suc left) 1 (word_of word)) (word_of word)).1
 encoded_word words left word short =
     let s = at_line words (suc left) [] in
     let here = at_word words (suc left) 2 (word_of word) in
@@ -154,7 +158,8 @@ encoded_word words left word short =
 
 -- the words of a command
 encoded_words : (words : List Word) (word : List ℕ) (rest : List (List ℕ)) → All (λ w. length w ≤ longest_announced) (word ∷ rest)
-    → Goes (at_line words (length (word ∷ rest)) []) (flat_map word_bytes (word ∷ rest)) (next_stream (command_read (words ++ map word_of (word ∷ rest)))) (command_read (words ++ map word_of (word ∷ rest)) ∷ [])
+    → Goes (at_line words (length (word ∷ rest)) []) (flat_map word_bytes (word ∷ rest)) (next_stream (command_read (words ++ map word_of (word ∷ rest))))
+    (command_read (words ++ map word_of (word ∷ rest)) ∷ [])
 encoded_words words word [] short =
     let command = command_read (words ++ word_of word ∷ []) in
     let all : Goes (at_line words 1 []) (word_bytes word) (next_stream command) (command ∷ []) =

@@ -8,7 +8,8 @@ use Rattle.std.proofs.lemmas.List.{append-nil, get_or-take, length-append, lengt
 use Rattle.std.proofs.lemmas.List.Quantifiers.{position-Some}
 use Rattle.std.proofs.lemmas.List.Sums.{fails_before_first}
 use Rattle.silt_resp.specs.declared.fault.ProtocolFault.TheVariants.{NoCrLf}
-use Rattle.silt_resp.specs.Stream.{Command, Stream, Word, broken, bulk, byte_taken, closed, commands_after, end_byte, ends, goes_on, line, line_closed, line_grown, line_kind, line_limit, long, stream_after, too_long, whole, word_ended, word_grown}
+use Rattle.silt_resp.specs.Stream.{Command, Stream, Word, broken, bulk, byte_taken, closed, commands_after, end_byte, ends, goes_on, line, line_closed}
+use Rattle.silt_resp.specs.Stream.{line_grown, line_kind, line_limit, long, stream_after, too_long, whole, word_ended, word_grown}
 use Rattle.silt_resp.specs.Buffers.{NoFeed}
 use Rattle.silt_resp.proofs.Streams.{commands_after-append, stream_after-append}
 
@@ -122,10 +123,12 @@ line_run words left bytes (x ∷ xs) none short =
     subst (λ k. length more + length xs ≤ line_limit k) kind (subst (λ n. n ≤ line_limit (line_kind left (bytes ++ x ∷ xs))) (ap (λ l. length l) (sym same) ∙ length-append more xs) short) in
     let step = line_step words left bytes x none.0 (not_below (line_limit (line_kind left more)) (length more) (omega arith)) in
     let rest = line_run words left more xs none.1 (subst (λ l. length l ≤ line_limit (line_kind left l)) (sym same) short) in
-    subst (λ t. Goes (at_line words left bytes) (x ∷ xs) (at_line words left t) []) same (Goes-cons (at_line words left bytes) x xs (at_line words left more) (at_line words left (more ++ xs)) [] [] step rest)
+    subst (λ t. Goes (at_line words left bytes) (x ∷ xs) (at_line words left t) []) same
+    (Goes-cons (at_line words left bytes) x xs (at_line words left more) (at_line words left (more ++ xs)) [] [] step rest)
 
 -- bytes of a line that gets too long
-pub line_over : (words : List Word) (left : ℕ) (bytes xs : List ℕ) → NoFeed xs → length bytes ≤ line_limit (line_kind left (bytes ++ xs)) → line_limit (line_kind left (bytes ++ xs)) < length (bytes ++ xs)
+pub line_over : (words : List Word) (left : ℕ) (bytes xs : List ℕ) → NoFeed xs → length bytes ≤ line_limit (line_kind left (bytes ++ xs))
+    → line_limit (line_kind left (bytes ++ xs)) < length (bytes ++ xs)
     → Goes (at_line words left bytes) xs (at_end [] 0) (broken (too_long (line_kind left (bytes ++ xs))) ∷ [])
 line_over words left bytes [] none short over =
     let same = ap (λ l. length l) (append-nil bytes) in

@@ -11,7 +11,9 @@ use Rattle.silt_resp.specs.declared.fault.ProtocolFault.{ProtocolFault}
 use Rattle.silt_resp.specs.declared.heads.LineKind.{LineKind}
 use Rattle.silt_resp.specs.declared.heads.LineKind.TheVariants.{Inline, Count, WordLength}
 use Rattle.silt_resp.specs.Buffers.{HoldsCommand, HoldsEnded, HoldsStreamPlace, HoldsStream, HoldsWords, IsPiece, NoFeed, TakesInput}
-use Rattle.silt_resp.specs.Stream.{Command, Place, Stream, Word as WordOf, broken, bulk, byte_taken, closed, command_read, commands_after, ends, goes_on, inline_ended, inline_words, line, line_closed, line_kind, line_limit, next_stream, start, stream_after, too_long, word_ended, word_grown}
+use Rattle.silt_resp.specs.Stream.{Command, Place, Stream, Word as WordOf, broken, bulk, byte_taken, closed, command_read, commands_after, ends, goes_on}
+use Rattle.silt_resp.specs.Stream.{inline_ended, inline_words, line, line_closed, line_kind, line_limit, next_stream, start, stream_after, too_long, word_ended}
+use Rattle.silt_resp.specs.Stream.{word_grown}
 use Rattle.silt_resp.proofs.Runs.{Goes, Goes-byte, at_end, at_line, at_word, closed_run, line_over, line_run, word_run}
 use Rattle.silt_resp.proofs.Streams.{commands_after-append, stream_after-append}
 
@@ -118,7 +120,8 @@ takes_line old new s xs kind is h none e short words left place piece =
     })
 
 -- the line feed of a line
-feed_taken : (s : Stream) (piece : List ℕ) (kind : LineKind) → s ≡ at_line s.words s.left piece → line_kind s.left piece ≡ kind → byte_taken s 10 ≡ line_closed (at_line s.words s.left piece) piece kind
+feed_taken : (s : Stream) (piece : List ℕ) (kind : LineKind) → s ≡ at_line s.words s.left piece → line_kind s.left piece ≡ kind
+    → byte_taken s 10 ≡ line_closed (at_line s.words s.left piece) piece kind
 feed_taken s piece kind is e = ap (λ t. byte_taken t 10) is ∙ ap (line_closed (at_line s.words s.left piece) piece) e
 
 -- only a line in front of a command has no mark

@@ -9,7 +9,8 @@ use Rattle.silt_resp.specs.Words.{words_in}
 use Rattle.silt_resp.specs.declared.command_buffer.BufferPlace.{BufferPlace}
 use Rattle.silt_resp.specs.declared.command_buffer.BufferPlace.TheVariants.{Line, Word, Broken}
 use Rattle.silt_resp.specs.declared.command_buffer.CommandBuffer.{CommandBuffer}
-use Rattle.silt_resp.specs.Stream.{Word as WordOf, whole, long, kept_len, longest_word, most_bytes, most_words, Command, broken, command_read, Place, line, bulk, Stream, line_kind, line_limit, next_stream, commands_after, stream_after}
+use Rattle.silt_resp.specs.Stream.{Word as WordOf, whole, long, kept_len, longest_word, most_bytes, most_words, Command, broken, command_read, Place, line}
+use Rattle.silt_resp.specs.Stream.{bulk, Stream, line_kind, line_limit, next_stream, commands_after, stream_after}
 
 -- the bytes of a word are among so many
 abbrev pub IsWithin : ℕ → Span → Type 0

@@ -1,5 +1,6 @@
 -- What commands ask of a store, and replies that need no store.
-use Rattle.std.specs.Prelude.{◌==◌, ◌&&◌, ◌||◌, ◌/◌, ◌%◌, ℕ, Bool, true, false, nat_le, List, [], ◌∷◌, ◌++◌, length, map, take, drop, All, slice_get, codes, Option, Some, None, is_none, Result, Ok, Err, is_ok, if◌then◌else◌}
+use Rattle.std.specs.Prelude.{◌==◌, ◌&&◌, ◌||◌, ◌/◌, ◌%◌, ℕ, Bool, true, false, nat_le, List, [], ◌∷◌, ◌++◌, length, map, take, drop, All, slice_get, codes}
+use Rattle.std.specs.Prelude.{Option, Some, None, is_none, Result, Ok, Err, is_ok, if◌then◌else◌}
 use Rattle.std.specs.Str.{bytes_eq}
 use Rattle.sha1.specs.Sha1.{sha1}
 use Rattle.silt_event.specs.declared.event.Event.{Event}
@@ -7,11 +8,14 @@ use Rattle.silt_event.specs.declared.event.Event.TheVariants.{Put, Delete, Swap,
 use Rattle.silt_event.specs.Events.{HasValueOf}
 use Rattle.silt_resp.specs.declared.fault.ProtocolFault.{ProtocolFault}
 use Rattle.silt_resp.specs.declared.fault.CommandFault.{CommandFault}
-use Rattle.silt_resp.specs.declared.fault.CommandFault.TheVariants.{LongValue, ManyKeys, ManyWords, ManyBytes, WrongCount, BadSyntax, BadIndex, BadSubcommand, NoCluster, NotLetIn, NoPassword, WrongPassword, OtherProtocol}
+use Rattle.silt_resp.specs.declared.fault.CommandFault.TheVariants.{LongValue, ManyKeys, ManyWords, ManyBytes, WrongCount, BadSyntax, BadIndex, BadSubcommand}
+use Rattle.silt_resp.specs.declared.fault.CommandFault.TheVariants.{NoCluster, NotLetIn, NoPassword, WrongPassword, OtherProtocol}
 use Rattle.silt_resp.specs.declared.settings.Settings.{Settings}
 use Rattle.silt_resp.specs.declared.settings.Visitor.{Visitor}
 use Rattle.silt_resp.specs.declared.table.CommandName.{CommandName}
-use Rattle.silt_resp.specs.declared.table.CommandName.TheVariants.{Get, Strlen, Mget, Exists, Touch, Set, Setnx, Delifeq, Mset, Del, Unlink, Ping, Echo, Quit, Select, Auth, Hello, Client, Command as CommandList, Config, Cluster, Info, Shutdown as ShutdownName, Bgsave}
+use Rattle.silt_resp.specs.declared.table.CommandName.TheVariants.{Get, Strlen, Mget, Exists, Touch, Set, Setnx, Delifeq, Mset, Del, Unlink, Ping, Echo, Quit}
+use Rattle.silt_resp.specs.declared.table.CommandName.TheVariants.{Select, Auth, Hello, Client, Command as CommandList, Config, Cluster, Info}
+use Rattle.silt_resp.specs.declared.table.CommandName.TheVariants.{Shutdown as ShutdownName, Bgsave}
 use Rattle.silt_event.specs.declared.admin.Admin.{Admin}
 use Rattle.silt_event.specs.declared.admin.Admin.TheVariants as admin_case
 use Rattle.silt_resp.specs.declared.asked.Tail.{Tail}

@@ -4,7 +4,8 @@ use Rattle.std.specs.Fmt.{decimal}
 use Rattle.silt_resp.specs.declared.fault.ProtocolFault.{ProtocolFault}
 use Rattle.silt_resp.specs.declared.fault.ProtocolFault.TheVariants.{InlineTooLong, CountTooLong, LengthTooLong, BadCount, BadLength, NoDollar, NoCrLf}
 use Rattle.silt_resp.specs.declared.fault.CommandFault.{CommandFault}
-use Rattle.silt_resp.specs.declared.fault.CommandFault.TheVariants.{LongKey, LongValue, ManyKeys, ManyWords, ManyBytes, WrongCount, BadSyntax, BadIndex, BadSubcommand, NoCluster, NotLetIn, NoPassword, WrongPassword, OtherProtocol, NoMemory}
+use Rattle.silt_resp.specs.declared.fault.CommandFault.TheVariants.{LongKey, LongValue, ManyKeys, ManyWords, ManyBytes, WrongCount, BadSyntax, BadIndex}
+use Rattle.silt_resp.specs.declared.fault.CommandFault.TheVariants.{BadSubcommand, NoCluster, NotLetIn, NoPassword, WrongPassword, OtherProtocol, NoMemory}
 use Rattle.silt_resp.specs.Table.{command_row}
 
 -- what is wrong with bytes that begin no command

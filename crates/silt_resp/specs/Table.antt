@@ -3,7 +3,8 @@ use Rattle.std.specs.Prelude.{ℕ, Bool, ◌&&◌, nat_le, List, [], ◌∷◌, 
 use Rattle.std.specs.List.{find}
 use Rattle.std.specs.Str.{str_eq_ignore_ascii_case}
 use Rattle.silt_resp.specs.declared.table.CommandName.{CommandName}
-use Rattle.silt_resp.specs.declared.table.CommandName.TheVariants.{Get, Strlen, Mget, Exists, Touch, Set, Setnx, Delifeq, Mset, Del, Unlink, Ping, Echo, Quit, Select, Auth, Hello, Client, Command, Config, Cluster, Info, Shutdown, Bgsave}
+use Rattle.silt_resp.specs.declared.table.CommandName.TheVariants.{Get, Strlen, Mget, Exists, Touch, Set, Setnx, Delifeq, Mset, Del, Unlink, Ping, Echo, Quit}
+use Rattle.silt_resp.specs.declared.table.CommandName.TheVariants.{Select, Auth, Hello, Client, Command, Config, Cluster, Info, Shutdown, Bgsave}
 use Rattle.silt_resp.specs.Stream.{Word, whole, long}
 
 -- a command's name in lower case, and the fewest and the most words that may follow it

@@ -19,7 +19,8 @@ no_memory_is : (F : Type 0) → codes "refused 6 NoMemory\n" ≡ refused_text {F
 no_memory_is F = ap (λ (digits : List ℕ). (codes "refused " ++ (digits ++ codes " NoMemory")) ++ 10 ∷ []) (sym (decimal_digit 6 (search (arith))))
 
 -- this line reports that memory ran out
-pub reports_no_memory : {F : Type 0} (refusal : Refusal F) (before after : Option (List ℕ)) → refusal ≡ NoMemory → Appends before after (codes "refused 6 NoMemory\n") → Appends before after (refused_text refusal)
+pub reports_no_memory : {F : Type 0} (refusal : Refusal F) (before after : Option (List ℕ)) → refusal ≡ NoMemory
+    → Appends before after (codes "refused 6 NoMemory\n") → Appends before after (refused_text refusal)
 reports_no_memory {F} refusal before after is printed =
     subst (λ (r : Refusal F). Appends before after (refused_text r)) (sym is) (subst (λ (text : List ℕ). Appends before after text) (no_memory_is F) printed)
 

@@ -1,5 +1,6 @@
 -- What a batch does to the writer's seat, and one batch more.
-use Rattle.std.proofs.Common.{◌≡◌, ◌⊎◌, inl, inr, ℕ, zero, suc, ◌-◌, ◌<◌, ◌≤◌, ◌&&◌, ◌||◌, Bool, true, false, Option, Some, None, Result, Ok, Err, List, [], ◌∷◌, ◌++◌, append_assoc, drop, drop_of_length-le, get_or, length, take, refl, sym, ◌∙◌, ap, subst, arith}
+use Rattle.std.proofs.Common.{◌≡◌, ◌⊎◌, inl, inr, ℕ, zero, suc, ◌-◌, ◌<◌, ◌≤◌, ◌&&◌, ◌||◌, Bool, true, false, Option, Some, None, Result, Ok, Err, List, []}
+use Rattle.std.proofs.Common.{◌∷◌, ◌++◌, append_assoc, drop, drop_of_length-le, get_or, length, take, refl, sym, ◌∙◌, ap, subst, arith}
 use Rattle.std.specs.List.{AllZip}
 use Rattle.std.specs.Prelude.{MatchBool}
 use Rattle.std.proofs.lemmas.List.{append-nil, drop-append-le, take-append-le, take_all}
@@ -24,7 +25,9 @@ use Rattle.silt_desk.specs.CallLogs.{PlaceState}
 use Rattle.silt_session.proofs.Tolds.{done_place}
 use Rattle.silt_session.specs.Requests.{Answer, Flushed, TaskState, compared, requests_of}
 use Rattle.silt_session.specs.Origins.{Flushes, HasDone, Performs, WasFlushed}
-use Rattle.silt_session.specs.Batches.{FindsNoRoom, FindsNoRoomTimes, IsBatch, IsDueAt, KeepsLeft, MayMakeRoom, PerformsAll, PerformsAtOnce, PerformsJob, PerformsLast, PerformsLater, PerformsRequest, PerformsTask, RepliesTo, RepliesToAll, ServesBatch, ServesBatches, StepsThrough, TriesAgain, TriesOnce, WriterState, done_in, lacks_room, left_in, may_get_room, writer_at}
+use Rattle.silt_session.specs.Batches.{FindsNoRoom, FindsNoRoomTimes, IsBatch, IsDueAt, KeepsLeft, MayMakeRoom, PerformsAll, PerformsAtOnce, PerformsJob}
+use Rattle.silt_session.specs.Batches.{PerformsLast, PerformsLater, PerformsRequest, PerformsTask, RepliesTo, RepliesToAll, ServesBatch, ServesBatches}
+use Rattle.silt_session.specs.Batches.{StepsThrough, TriesAgain, TriesOnce, WriterState, done_in, lacks_room, left_in, may_get_room, writer_at}
 use Rattle.silt_session.specs.declared.held.Batch.{Batch}
 use Rattle.silt_session.specs.declared.job.Job.{Job}
 use Rattle.silt_session.specs.declared.job.Request.{Request}
@@ -314,7 +317,8 @@ module _ {D F T N : Type 0} (facts : Ghosts D F) (trace : TraceOf T) (seconds : 
       → new.tasks.ticket ≡ job.tasks.ticket → new.replies ≡ job.replies → left_in held ≡ left_in next → done_in held ≡ done_in worked ++ new ∷ []
       → (olds : List (Job D T N F)) × (dones : List (Job D T N F)) × (olds ++ left_in held ≡ all) × PerformsAll facts trace seconds is_over start olds dones (writer_at after held)
   jobs_more start seat after batch next worked held all old done job new is so_far first same steps ticket replies left behind =
-      let from = subst (λ (l : List (Job D T N F)). StepsThrough (PerformsTask facts trace seconds is_over) (record { seat = seat; done = l }) job.tasks.items new.tasks.items (writer_at after worked)) same steps in (
+      let from = subst (λ (l : List (Job D T N F)). StepsThrough (PerformsTask facts trace seconds is_over) (record { seat = seat; done = l })
+      job.tasks.items new.tasks.items (writer_at after worked)) same steps in (
         old ++ job ∷ [],
         done ++ new ∷ [],
         append_assoc old (job ∷ []) (left_in held) ∙ ap (λ (l : List (Job D T N F)). old ++ job ∷ l) left ∙ ap (λ (l : List (Job D T N F)). old ++ l) (sym first) ∙ is,

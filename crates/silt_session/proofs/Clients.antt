@@ -39,7 +39,8 @@ module _ {A : Type 0} (gives : A → A → Event → PlainReply → Type 0) wher
   again_each client [] (r ∷ replies) all = absurd all
   again_each client (e ∷ events) [] all = absurd all
 
-  given_again : ((a b : A) (e : Event) (r : PlainReply) → gives a b e r → gives b b e r) → (a b : A) (events : List Event) (replies : List PlainReply) → AllZip (gives a b) events replies → AllZip (gives b b) events replies
+  given_again : ((a b : A) (e : Event) (r : PlainReply) → gives a b e r → gives b b e r) → (a b : A) (events : List Event) (replies : List PlainReply)
+      → AllZip (gives a b) events replies → AllZip (gives b b) events replies
   given_again law a b [] [] all = tt
   given_again law a b (e ∷ events) (r ∷ replies) all = (law a b e r all.0, given_again law a b events replies all.1)
   given_again law a b [] (r ∷ replies) all = absurd all

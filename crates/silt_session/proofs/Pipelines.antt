@@ -1,5 +1,6 @@
 -- One event more of a session that asks several at once.
-use Rattle.std.proofs.Common.{rules, ◌≡◌, ◌⊎◌, inl, inr, ℕ, ◌+◌, ◌≤◌, Bool, true, false, cond, List, [], ◌∷◌, ◌++◌, append_assoc, length, map, refl, sym, ◌∙◌, ap, subst, arith, vec_capacity, vec_len, suc}
+use Rattle.std.proofs.Common.{rules, ◌≡◌, ◌⊎◌, inl, inr, ℕ, ◌+◌, ◌≤◌, Bool, true, false, cond, List, [], ◌∷◌, ◌++◌, append_assoc, length, map, refl, sym, ◌∙◌}
+use Rattle.std.proofs.Common.{ap, subst, arith, vec_capacity, vec_len, suc}
 use Rattle.std.specs.List.{AllZip}
 use Rattle.std.specs.Result.{result_ok}
 use Rattle.std.specs.VecDeque.{deque_capacity, deque_len}
@@ -23,7 +24,9 @@ use Rattle.silt_store_set.specs.Replies.{get_reply}
 use Rattle.silt_store_set.specs.declared.store_core.Look.{Look}
 use Rattle.silt_desk.specs.declared.trace.Trace.{Ghosts as TraceOf}
 use Rattle.silt_session.specs.Marks.{IsMarked, mark_of}
-use Rattle.silt_session.specs.Pipelines.{AddsFlush, AnswersSoFar, AwaitsFlush, Fills, FillsAll, FillsOne, GathersTask, HasRoom, IsFlushedBy, IsFree, IsNoGetOf, IsPlaceOf, IsSettled, IsShown, IsTaskOf, Looks, MarksToo, MaySettle, MovesPlaces, NoneOvertakes, NothingWaits, SettlesAll, SettlesEach, SettlesShown, flush_if, given_after, given_by, reply_without_tasks, shown_of, waiting_events}
+use Rattle.silt_session.specs.Pipelines.{AddsFlush, AnswersSoFar, AwaitsFlush, Fills, FillsAll, FillsOne, GathersTask, HasRoom, IsFlushedBy, IsFree, IsNoGetOf}
+use Rattle.silt_session.specs.Pipelines.{IsPlaceOf, IsSettled, IsShown, IsTaskOf, Looks, MarksToo, MaySettle, MovesPlaces, NoneOvertakes, NothingWaits}
+use Rattle.silt_session.specs.Pipelines.{SettlesAll, SettlesEach, SettlesShown, flush_if, given_after, given_by, reply_without_tasks, shown_of, waiting_events}
 use Rattle.silt_session.specs.Requests.{TaskState, asked_event, changed_key, requests_of}
 use Rattle.silt_session.specs.Sessions.{IsAnswer, IsKept, IsReplyOf, IsToldTo}
 use Rattle.silt_session.specs.Tolds.{IsToldMore, ToldState}
@@ -119,7 +122,8 @@ module _ {D F : Type 0} (facts : Ghosts D F) (settles : Bool) where
 module _ {D F T : Type 0} (facts : Ghosts D F) (trace : TraceOf T) (told : ToldState) where
   -- one place more
   pub fills_more : (flushed : Option PlainReply) (tasks mid left : List TaskState) (places : List Place) (replies : List PlainReply) (place : Place) (reply : PlainReply)
-      → Fills facts trace told flushed tasks places replies mid → FillsOne facts trace told flushed mid place reply left → Fills facts trace told flushed tasks (places ++ place ∷ []) (replies ++ reply ∷ []) left
+      → Fills facts trace told flushed tasks places replies mid → FillsOne facts trace told flushed mid place reply left
+      → Fills facts trace told flushed tasks (places ++ place ∷ []) (replies ++ reply ∷ []) left
   fills_more flushed tasks mid left [] [] place reply all one = (left, subst (λ (l : List TaskState). FillsOne facts trace told flushed l place reply left) all one, refl)
   fills_more flushed tasks mid left (p ∷ places) (r ∷ replies) place reply all one = (all.0, all.1, fills_more flushed all.0 mid left places replies place reply all.2 one)
   fills_more flushed tasks mid left [] (r ∷ replies) place reply all one = absurd all
@@ -296,7 +300,8 @@ nothing_moved mid new none moved =
 pub told_none : {D T F : Type 0} (old new : Pipeline D T F) → new ≡ record old { told = new.told } → NothingWaits old → NothingWaits new
 told_none old new same none = subst NothingWaits (sym same) (record { tasks = none.tasks; memory = none.memory; flush = none.flush; marks = none.marks })
 
-module _ {D F T : Type 0} (facts : Ghosts D F) (trace : TraceOf T) (old mid new : Pipeline D T F) (none : NothingWaits mid) (same : (mid.replies ≡ old.replies) × (mid.places ≡ old.places)) (more : IsToldMore old.told mid.told) where
+module _ {D F T : Type 0} (facts : Ghosts D F) (trace : TraceOf T) (old mid new : Pipeline D T F) (none : NothingWaits mid)
+    (same : (mid.replies ≡ old.replies) × (mid.places ≡ old.places)) (more : IsToldMore old.told mid.told) where
   moved_settles : (given : List PlainReply) → new.replies.items ≡ mid.replies.items ++ given
       → (given ≡ map reply_without_tasks mid.places.items) ⊎ ((old.lacks_memory ≡ false) × SettlesEach facts trace mid.told mid.places.items (requests_of old.tasks.items) given)
       → MovesPlaces mid new → SettlesAll facts trace old new
@@ -308,7 +313,8 @@ module _ {D F T : Type 0} (facts : Ghosts D F) (trace : TraceOf T) (old mid new 
         fits = subst
             (λ v. (given ≡ map reply_without_tasks v.items) ⊎ ((old.lacks_memory ≡ false) × SettlesEach facts trace new.told v.items (requests_of old.tasks.items) given))
             same.1
-            (subst (λ (s : ToldState). (given ≡ map reply_without_tasks mid.places.items) ⊎ ((old.lacks_memory ≡ false) × SettlesEach facts trace s mid.places.items (requests_of old.tasks.items) given)) (sym told) fits);
+            (subst (λ (s : ToldState). (given ≡ map reply_without_tasks mid.places.items)
+            ⊎ ((old.lacks_memory ≡ false) × SettlesEach facts trace s mid.places.items (requests_of old.tasks.items) given)) (sym told) fits);
         told = subst (λ (s : ToldState). IsToldMore old.told s) (sym told) more;
         settled = (moved.places, nothing_moved mid new none moved);
         replies_room = moved.replies_room ∙ ap vec_capacity same.0;
@@ -513,7 +519,8 @@ module _ {D F : Type 0} (facts : Ghosts D F) (settles : Bool) where
         ] in
         subst (λ (l : List Event). AllZip (IsAnswer facts trace new.told settles) l new.replies.items) (sym so_far.whole)
         (subst (λ (l : List PlainReply). AllZip (IsAnswer facts trace new.told settles) (so_far.done ++ so_far.later) l) (sym all.replies)
-        (zip_append (IsAnswer facts trace new.told settles) so_far.done old.replies.items so_far.later all.given (answers_more facts trace settles old.told new.told all.told so_far.done old.replies.items so_far.replied) (go all.fits)))
+        (zip_append (IsAnswer facts trace new.told settles) so_far.done old.replies.items so_far.later all.given
+        (answers_more facts trace settles old.told new.told all.told so_far.done old.replies.items so_far.replied) (go all.fits)))
 
     -- what was settled, or not, is as before
     pub settles_some : (events : List Event) (old new : Pipeline D T F) → MaySettle facts trace old new → AnswersSoFar facts settles trace events old → AnswersSoFar facts settles trace events new

@@ -1,5 +1,6 @@
 -- The replies of shards, woven into those of a set.
-use Rattle.std.proofs.Common.{◌≡◌, ◌⊎◌, inl, inr, ◌==◌, ℕ, zero, suc, ◌<◌, ◌≤◌, ◌+◌, Bool, true, false, List, [], ◌∷◌, ◌++◌, Option, Some, None, cond, drop, get_or, length, map, set, take, refl, sym, ◌∙◌, ap, subst, arith}
+use Rattle.std.proofs.Common.{◌≡◌, ◌⊎◌, inl, inr, ◌==◌, ℕ, zero, suc, ◌<◌, ◌≤◌, ◌+◌, Bool, true, false, List, [], ◌∷◌, ◌++◌, Option, Some, None, cond, drop}
+use Rattle.std.proofs.Common.{get_or, length, map, set, take, refl, sym, ◌∙◌, ap, subst, arith}
 use Rattle.std.specs.Prelude.{IfOk, IfSome, IsSomeAnd, OnOk, Result, Ok, Err, slice_get}
 use Rattle.std.specs.List.{AllZip}
 use Rattle.std.specs.Option.{option_to_list}
@@ -318,7 +319,8 @@ get_last (a ∷ xs) x = get_last xs x
 pub each_more : {A B : Type 0} (shards : List A) (things : List B) (Fits : ℕ → A → B → Type 0) (shard : A) (thing : B) → length things ≡ length shards
     → EachShard shards things Fits → Fits (length shards) shard thing → EachShard (shards ++ shard ∷ []) (things ++ thing ∷ []) Fits
 each_more shards things Fits shard thing count each one = λ i s at. elim (get_append shards shard i s at) [
-  | inl front ↦ let found = some_and (λ t. Fits i s t) (slice_get things i) (each i s front) in some_is (λ t. Fits i s t) (slice_get (things ++ thing ∷ []) i) found.0 (get_front things thing i found.0 found.1) found.2
+  | inl front ↦ let found = some_and (λ t. Fits i s t) (slice_get things i) (each i s front) in
+      some_is (λ t. Fits i s t) (slice_get (things ++ thing ∷ []) i) found.0 (get_front things thing i found.0 found.1) found.2
   | inr last ↦
       some_is (λ t. Fits i s t) (slice_get (things ++ thing ∷ []) i) thing (ap (slice_get (things ++ thing ∷ [])) (last.0 ∙ sym count) ∙ get_last things thing)
       (subst (λ (n : ℕ). Fits n s thing) (sym last.0) (subst (λ a. Fits (length shards) a thing) (sym last.1) one))

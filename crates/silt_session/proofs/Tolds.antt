@@ -1,5 +1,6 @@
 -- What a session is told, and more of it.
-use Rattle.std.proofs.Common.{◌≡◌, ◌⊎◌, inl, inr, ℕ, zero, suc, ◌≤◌, Bool, true, false, cond, List, [], ◌∷◌, ◌++◌, append_assoc, length, refl, sym, ◌∙◌, ap, subst, Option, Some, None, Result, Ok, Err, slice_get}
+use Rattle.std.proofs.Common.{◌≡◌, ◌⊎◌, inl, inr, ℕ, zero, suc, ◌≤◌, Bool, true, false, cond, List, [], ◌∷◌, ◌++◌, append_assoc, length, refl, sym, ◌∙◌, ap}
+use Rattle.std.proofs.Common.{subst, Option, Some, None, Result, Ok, Err, slice_get}
 use Rattle.std.specs.List.{AllZip}
 use Rattle.std.specs.Bool.{then_some}
 use Rattle.std.specs.Option.{option_map}
@@ -70,7 +71,8 @@ module _ (from : ℕ) (calls more : List RecordedCall) (begins : IsPrefix calls 
   told_more e (Progress progress) told = tt
   told_more e NotServed told = tt
 
-of_more : (from : ℕ) (e : Event) (r : PlainReply) (old new : Option (List RecordedCall)) → ExtendsCalls old new → IfSome old (λ calls. IsTold from calls e r) → IfSome new (λ calls. IsTold from calls e r)
+of_more : (from : ℕ) (e : Event) (r : PlainReply) (old new : Option (List RecordedCall)) → ExtendsCalls old new
+    → IfSome old (λ calls. IsTold from calls e r) → IfSome new (λ calls. IsTold from calls e r)
 of_more from e r None None goes told = tt
 of_more from e r None (Some more) goes told = absurd (cc)
 of_more from e r (Some calls) None goes told = absurd goes
@@ -172,7 +174,8 @@ recorded_plain (Refused HistoryFull) = refl
 
 module _ {D F T : Type 0} (facts : Ghosts D F) (trace : TraceOf T) where
   -- the seat has the place of a call that was recorded
-  served_place : (old new : DeskState D T) (seat after : SeatState) (e : Event) (r : Reply F) → Serves facts trace old new seat after e r → PlacesEvent trace.log e (plain r) (reply_place (plain r) after.last)
+  served_place : (old new : DeskState D T) (seat after : SeatState) (e : Event) (r : Reply F) → Serves facts trace old new seat after e r
+      → PlacesEvent trace.log e (plain r) (reply_place (plain r) after.last)
   served_place old new seat after e r serves =
       let go : (b : Bool) → is_recorded r ≡ b → MatchBool b (Records facts trace old new seat after e r) (Refuses facts trace old new seat after e r)
       → PlacesEvent trace.log e (plain r) (if b then after.last else None) = elim [
@@ -202,20 +205,25 @@ module _ {D F T : Type 0} (facts : Ghosts D F) (trace : TraceOf T) where
       → CallsAt trace.log request answer (answer_place answer after.last)
   performed_place old new seat after request None performs = refl
   performed_place old new seat after (Put key value) (Some answer) (reported, is, serves, agrees) =
-      place_as (event.Put key value) (plain (change_reply reported)) (swap_reply answer) after.last (ap swap_reply is ∙ change_told reported) (served_place old new seat after (event.Put key value) (change_reply reported) serves)
+      place_as (event.Put key value) (plain (change_reply reported)) (swap_reply answer) after.last (ap swap_reply is ∙ change_told reported)
+      (served_place old new seat after (event.Put key value) (change_reply reported) serves)
   performed_place old new seat after (Delete key) (Some answer) (reported, is, serves, agrees) =
-      place_as (event.Delete key) (plain (change_reply reported)) (swap_reply answer) after.last (ap swap_reply is ∙ change_told reported) (served_place old new seat after (event.Delete key) (change_reply reported) serves)
+      place_as (event.Delete key) (plain (change_reply reported)) (swap_reply answer) after.last (ap swap_reply is ∙ change_told reported)
+      (served_place old new seat after (event.Delete key) (change_reply reported) serves)
   performed_place old new seat after (Swap key expected value) (Some answer) (reported, is, serves, agrees) =
-      place_as (event.Swap key expected value) (plain (swap_reply reported)) (swap_reply answer) after.last (ap swap_reply is ∙ swap_told reported) (served_place old new seat after (event.Swap key expected value) (swap_reply reported) serves)
+      place_as (event.Swap key expected value) (plain (swap_reply reported)) (swap_reply answer) after.last (ap swap_reply is ∙ swap_told reported)
+      (served_place old new seat after (event.Swap key expected value) (swap_reply reported) serves)
   performed_place old new seat after Flush (Some answer) performs = absurd performs
 
   -- the seat has the place of a flush
   pub flushed_place : (old new : DeskState D T) (seat after : SeatState) (flushed : Flushed) → Flushes facts trace old new seat after flushed
       → PlacesEvent trace.log event.Flush (acknowledged flushed) (reply_place (acknowledged flushed) after.last)
   flushed_place old new seat after flushed (reported, is, serves, agrees) =
-      place_as event.Flush (plain (flush_reply reported)) (acknowledged flushed) after.last (ap acknowledged is ∙ flush_told reported) (served_place old new seat after event.Flush (flush_reply reported) serves)
+      place_as event.Flush (plain (flush_reply reported)) (acknowledged flushed) after.last (ap acknowledged is ∙ flush_told reported)
+      (served_place old new seat after event.Flush (flush_reply reported) serves)
 
-  last_place : (seat after : SeatState) (request : Request) (answer : Option Answer) → PerformsLast facts trace seat request answer after → CallsAt trace.log request answer (answer_place answer after.last)
+  last_place : (seat after : SeatState) (request : Request) (answer : Option Answer) → PerformsLast facts trace seat request answer after
+      → CallsAt trace.log request answer (answer_place answer after.last)
   last_place seat after request answer (before, later, performs, none) = performed_place before later seat after request answer performs
 
   refused_place : (seat after : SeatState) (request : Request) (answer : Option Answer) → answer ≡ Some (Err NoRoom) → FindsNoRoom facts trace seat request after
@@ -229,7 +237,8 @@ module _ {D F T : Type 0} (facts : Ghosts D F) (trace : TraceOf T) where
   done_place seconds is_over writer after request answer (inl (same, inl last)) = last_place writer.seat after.seat request answer last
   done_place seconds is_over writer after request answer (inl (same, inr (is, finds, none))) = refused_place writer.seat after.seat request answer is finds
   done_place seconds is_over writer after request answer (inr (waits, first, second, finds, ends, none, (times, mid, few, tried, inl last))) = last_place mid after.seat request answer last
-  done_place seconds is_over writer after request answer (inr (waits, first, second, finds, ends, none, (times, mid, few, tried, inr (is, again, over)))) = refused_place mid after.seat request answer is again
+  done_place seconds is_over writer after request answer (inr (waits, first, second, finds, ends, none, (times, mid, few, tried, inr (is, again, over)))) =
+      refused_place mid after.seat request answer is again
 
 -- ---- the reply of a task
 

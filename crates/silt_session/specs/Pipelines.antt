@@ -1,5 +1,6 @@
 -- The events that a session asks at once, on their way to replies.
-use Rattle.std.specs.Prelude.{◌≡◌, ◌≢◌, ◌⊎◌, ◌↔◌, ℕ, ◌+◌, ◌≤◌, Bool, false, true, nat_le, if◌then◌else◌, All, IfSome, IsSomeAnd, IsTrue, not, ◌&&◌, is_some, MatchBool, MatchOption, map, Ok, Option, Some, None, List, [], ◌∷◌, ◌++◌, vec_capacity, vec_len}
+use Rattle.std.specs.Prelude.{◌≡◌, ◌≢◌, ◌⊎◌, ◌↔◌, ℕ, ◌+◌, ◌≤◌, Bool, false, true, nat_le, if◌then◌else◌, All, IfSome, IsSomeAnd, IsTrue, not, ◌&&◌, is_some}
+use Rattle.std.specs.Prelude.{MatchBool, MatchOption, map, Ok, Option, Some, None, List, [], ◌∷◌, ◌++◌, vec_capacity, vec_len}
 use Rattle.std.specs.List.{AllZip}
 use Rattle.std.specs.VecDeque.{deque_capacity, deque_len}
 use Rattle.silt_disk.specs.declared.disk.Disk.{Ghosts}

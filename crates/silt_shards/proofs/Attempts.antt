@@ -102,7 +102,8 @@ module _ {D F : Type 0} (facts : Ghosts D F) where
   -- it gave none: its shard is refused
   pub gathers_refused : (disks : List D) (cores : List (CoreState D)) (attempt : Attempt D F) (left : List (Attempt D F)) (shard : ℕ) (back : D) (cause : SetCause F)
       → Gathers disks cores (attempt ∷ left) → shard ≡ length cores
-      → ((disk : D) → IsAttemptOn facts disk attempt → (count : ℕ) (first : D) → IfSome (slice_get cores 0) (Opens facts (facts.content first)) → CausedAt facts count (length cores) first disk back cause)
+      → ((disk : D) → IsAttemptOn facts disk attempt → (count : ℕ) (first : D) → IfSome (slice_get cores 0) (Opens facts (facts.content first))
+      → CausedAt facts count (length cores) first disk back cause)
       → ((disk : D) → IsAttemptOn facts disk attempt → LeavesNoOther (facts.content disk) (facts.content back)) → IsRefusedSet facts disks shard back cause
   gathers_refused disks cores attempt left shard back cause now number caused images =
       let front = zip_front (IsAttemptOn facts) now.rest attempt left now.on in

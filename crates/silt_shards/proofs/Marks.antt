@@ -1,5 +1,6 @@
 -- Marks: what is written is read, what a crash leaves, and that stores do not see them.
-use Rattle.std.proofs.Common.{◌≡◌, ◌≤◌, ◌<◌, ◌⊎◌, inl, inr, ℕ, ◌+◌, ◌-◌, ◌^◌, Bool, true, false, not, ◌&&◌, nat_le, IsTrue, List, [], ◌∷◌, ◌++◌, length, get_or, slice_range, slice_index, take, drop, min, refl, ap, sym, ◌∙◌, subst, arith}
+use Rattle.std.proofs.Common.{◌≡◌, ◌≤◌, ◌<◌, ◌⊎◌, inl, inr, ℕ, ◌+◌, ◌-◌, ◌^◌, Bool, true, false, not, ◌&&◌, nat_le, IsTrue, List, [], ◌∷◌, ◌++◌, length, get_or}
+use Rattle.std.proofs.Common.{slice_range, slice_index, take, drop, min, refl, ap, sym, ◌∙◌, subst, arith}
 use Rattle.std.specs.Prelude.{if◌then◌else◌}
 use Rattle.std.proofs.lemmas.Bool.{cases_Bool, cases_eq, ne_eqb, and_parts}
 use Rattle.std.proofs.lemmas.Bool.Decides.{nat_tests}
@@ -163,7 +164,8 @@ mark_behind mark at count old new behind changes closed =
     record { each = λ honest image left. inl (closed_unmarked image ((gate_kept at count old new behind changes closed).each honest image left)) }
 
 -- the mark with any gate
-module _ (mark : Mark) (old between new : Content) (is : IsShardMark mark) (least : 2085 ≤ size old) (writes : Writes 2049 (mark_bytes mark) old between) (rests : Rests between) (same : size between ≡ size old) where
+module _ (mark : Mark) (old between new : Content) (is : IsShardMark mark) (least : 2085 ≤ size old) (writes : Writes 2049 (mark_bytes mark) old between)
+    (rests : Rests between) (same : size between ≡ size old) where
   -- the bytes behind the gate
   body_written : IsTrue between.honest → slice_range between.shown 2049 2085 ≡ mark_bytes mark
   body_written honest =
@@ -171,7 +173,8 @@ module _ (mark : Mark) (old between new : Content) (is : IsShardMark mark) (leas
       let len = mark_bytes_len mark is in
       let fits : 2049 + length (mark_bytes mark) ≤ length old.shown = omega (arith, len, least) in
       let end : 2085 ≡ 2049 + length (mark_bytes mark) = omega (arith, len) in
-      ap (λ (x : List ℕ). slice_range x 2049 2085) (writes.shown h) ∙ ap (λ (to : ℕ). slice_range (splice 2049 (mark_bytes mark) old.shown) 2049 to) end ∙ splice_slice 2049 (mark_bytes mark) old.shown fits
+      ap (λ (x : List ℕ). slice_range x 2049 2085) (writes.shown h) ∙ ap (λ (to : ℕ). slice_range (splice 2049 (mark_bytes mark) old.shown) 2049 to) end
+      ∙ splice_slice 2049 (mark_bytes mark) old.shown fits
 
   -- an image with this gate
   torn_open : IsTrue between.honest → (image : List ℕ) → Torn 2048 1 between.shown image → get_or image 2048 0 ≡ 167 → marking_of image ≡ Marked mark
@@ -200,7 +203,8 @@ module _ (mark : Mark) (old between new : Content) (is : IsShardMark mark) (leas
     holds = λ honest.
         let h : IsTrue between.honest = sym gate.honest ∙ honest in
         let long : length between.shown ≡ length old.shown = same in
-        let byte : get_or new.shown 2048 0 ≡ 167 = ap (λ (image : List ℕ). get_or image 2048 0) (gate.shown h) ∙ splice_byte 2048 (167 ∷ []) between.shown 0 (omega (arith, long, least)) (omega arith) in
+        let byte : get_or new.shown 2048 0 ≡ 167 = ap (λ (image : List ℕ). get_or image 2048 0) (gate.shown h)
+        ∙ splice_byte 2048 (167 ∷ []) between.shown 0 (omega (arith, long, least)) (omega arith) in
         torn_open h new.shown (changes.shown h) byte;
   })
 

@@ -140,7 +140,8 @@ module _ {A : Type 0} (answers : A → A → Event → PlainReply → Type 0) wh
           runs = subst (λ (b : Bool). AnswersEach answers before (cond b (event ∷ routed count shard events) (routed count shard events)) (does.0 ∷ rest.own) last) (sym here)
               (step.after, does.1, rest.runs);
           parts = subst (λ (b : Bool). AllZip (λ (asked : Event × PlainReply) part. IsPart shard asked.0 asked.1 part)
-              (cond b ((event, reply) ∷ filter (λ (asked : Event × PlainReply). is_routed count shard asked.0) (zip events replies)) (filter (λ (asked : Event × PlainReply). is_routed count shard asked.0) (zip events replies)))
+              (cond b ((event, reply) ∷ filter (λ (asked : Event × PlainReply). is_routed count shard asked.0) (zip events replies))
+              (filter (λ (asked : Event × PlainReply). is_routed count shard asked.0) (zip events replies)))
               (does.0 ∷ rest.own)) (sym here) (does.2, rest.parts);
         }
     | inr away ↦
@@ -149,7 +150,8 @@ module _ {A : Type 0} (answers : A → A → Event → PlainReply → Type 0) wh
           runs = subst (λ (b : Bool). AnswersEach answers before (cond b (event ∷ routed count shard events) (routed count shard events)) rest.own last) (sym away)
               (subst (λ (x : A). AnswersEach answers x (routed count shard events) rest.own last) (step.other away) rest.runs);
           parts = subst (λ (b : Bool). AllZip (λ (asked : Event × PlainReply) part. IsPart shard asked.0 asked.1 part)
-              (cond b ((event, reply) ∷ filter (λ (asked : Event × PlainReply). is_routed count shard asked.0) (zip events replies)) (filter (λ (asked : Event × PlainReply). is_routed count shard asked.0) (zip events replies)))
+              (cond b ((event, reply) ∷ filter (λ (asked : Event × PlainReply). is_routed count shard asked.0) (zip events replies))
+              (filter (λ (asked : Event × PlainReply). is_routed count shard asked.0) (zip events replies)))
               rest.own) (sym away) rest.parts;
         }
   ]

@@ -80,7 +80,8 @@ module _ {D F : Type 0} (facts : Ghosts D F) where
       let h = all_at (λ (core : CoreState D). IsTrue (facts.content core.disk).honest) old (shard_of (length old) key) does.0 honest does.2 in
       let own = does.3 in
       let k : KeyStep key event reply values (map_of does.0) (map_of does.1) =
-      subst (λ (r : PlainReply). KeyStep key event r values (map_of does.0) (map_of does.1)) (sym own.2) (step own.0 (value_at old does.0 values key is does.2) (shard_step does.0 does.1 event reply h own)) in
+      subst (λ (r : PlainReply). KeyStep key event r values (map_of does.0) (map_of does.1)) (sym own.2)
+      (step own.0 (value_at old does.0 values key is does.2) (shard_step does.0 does.1 event reply h own)) in
       record { to = k.to; is = keyed_map old new event key reply values is does k; step = k.step; honest = honest_at (shard_of (length old) key) old new event reply honest does }
 
   -- ---- a flush
@@ -157,8 +158,10 @@ module _ {D F : Type 0} (facts : Ghosts D F) where
     step = subst (λ (r : PlainReply). Step values Flush r values) (sym does.2) (flush_joined old does.0 new values does.1 honest);
     honest = flush_honest old does.0 new does.1 honest;
   }
-  maps_to old new Convert reply values honest is does = record { to = values; is = subst (λ (l : List (CoreState D)). IsMapOf l values) (sym does.0) is; step = (does.1, refl); honest = subst (AreHonest facts) (sym does.0) honest }
-  maps_to old new Merge reply values honest is does = record { to = values; is = subst (λ (l : List (CoreState D)). IsMapOf l values) (sym does.0) is; step = (does.1, refl); honest = subst (AreHonest facts) (sym does.0) honest }
+  maps_to old new Convert reply values honest is does =
+      record { to = values; is = subst (λ (l : List (CoreState D)). IsMapOf l values) (sym does.0) is; step = (does.1, refl); honest = subst (AreHonest facts) (sym does.0) honest }
+  maps_to old new Merge reply values honest is does =
+      record { to = values; is = subst (λ (l : List (CoreState D)). IsMapOf l values) (sym does.0) is; step = (does.1, refl); honest = subst (AreHonest facts) (sym does.0) honest }
 
   pub set_map_law : SetMapLaw facts
   set_map_law old new [] [] values honest is runs = (values, subst (λ (l : List (CoreState D)). IsMapOf l values) (sym runs) is, refl)

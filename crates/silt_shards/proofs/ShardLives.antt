@@ -125,7 +125,8 @@ module _ {D F : Type 0} (facts : Ghosts D F) where
             parts = run.parts;
             accepted = after.count;
             end = map_of after;
-            legal = subst (λ (m : Map). Legal 0 m mine run.own after.count (map_of after)) start (subst (λ (c : ℕ). Legal c (map_of core) mine run.own after.count (map_of after)) opens.count (run.legal here));
+            legal = subst (λ (m : Map). Legal 0 m mine run.own after.count (map_of after)) start
+                (subst (λ (c : ℕ). Legal c (map_of core) mine run.own after.count (map_of after)) opens.count (run.legal here));
             kept = kept.0;
             keeps = record {
               begins = record { rest = kept.1.begins.rest; is = kept.1.begins.is ∙ ap (λ (cs : List Command). cs ++ accepted_commands mine run.own) none_wait };

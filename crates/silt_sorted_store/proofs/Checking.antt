@@ -23,7 +23,8 @@ found_where_fails false f fails = refl
 
 module _ (rows : List StoredRow) (place : ℕ) where
   -- the test of an entry's key against the one before it is that against the last key
-  last_decides : (last key : List ℕ) (test : Bool) → key_at rows (place - 1) ≡ last → key_at rows place ≡ key → is_key_below last key ≡ test → is_key_below (key_at rows (place - 1)) (key_at rows place) ≡ test
+  last_decides : (last key : List ℕ) (test : Bool) → key_at rows (place - 1) ≡ last → key_at rows place ≡ key → is_key_below last key ≡ test
+      → is_key_below (key_at rows (place - 1)) (key_at rows place) ≡ test
   last_decides last key test before is decides = ap (λ k. is_key_below k (key_at rows place)) before ∙ ap (is_key_below last) is ∙ decides
 
   -- there is no finding at an entry whose key is greater than the last one
@@ -32,7 +33,8 @@ module _ (rows : List StoredRow) (place : ℕ) where
   fine_here (Some last) key before least is above = nothing_where_passes _ (Damaged (Sorted place)) (last_decides last.0 key true before.1 is above)
 
   -- the first entry whose key is not
-  damaged_here : (last : Option Key) (key : List ℕ) → place < length rows → ((earlier : ℕ) → 0 < earlier → earlier < place → entry_findings rows earlier ≡ []) → IsKeyBefore rows place last → key_at rows place ≡ key
+  damaged_here : (last : Option Key) (key : List ℕ) → place < length rows → ((earlier : ℕ) → 0 < earlier → earlier < place → entry_findings rows earlier ≡ [])
+      → IsKeyBefore rows place last → key_at rows place ≡ key
       → is_above last key ≡ false → IsFirstOutOfOrder rows place
   unfolding sorted_findings
   damaged_here None key inside fine before is fails = absurd (cc)
@@ -69,7 +71,8 @@ module _ (rows : List StoredRow) where
       }
 
   -- the next key is not above the last one
-  pub indexing_refused : (place : ℕ) (builder : Building) (key : List ℕ) → place < length rows → IsIndexing rows place builder → key_at rows place ≡ key → is_above builder.last key ≡ false → IsFirstOutOfOrder rows place
+  pub indexing_refused : (place : ℕ) (builder : Building) (key : List ℕ) → place < length rows → IsIndexing rows place builder
+      → key_at rows place ≡ key → is_above builder.last key ≡ false → IsFirstOutOfOrder rows place
   indexing_refused place builder key inside so_far is fails = damaged_here rows place builder.last key inside so_far.fine so_far.last is fails
 
   -- there is no finding in entries whose keys were all taken

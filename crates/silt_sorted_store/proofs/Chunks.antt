@@ -12,14 +12,16 @@ use Rattle.silt_sorted_store.proofs.Elsewhere.{entries_inside}
 use Rattle.silt_sorted_store.proofs.Rising.{key_at}
 
 -- they lie within the device
-pub chunk_inside : (shape : Shape) (region total place count at n end : ℕ) → region < 2 → total ≤ shape.sorted_capacity → place + count ≤ total → at ≡ sorted_entry_at shape region place → n ≡ count * entry_len shape → device_size shape ≤ end → at + n ≤ end
+pub chunk_inside : (shape : Shape) (region total place count at n end : ℕ) → region < 2 → total ≤ shape.sorted_capacity
+    → place + count ≤ total → at ≡ sorted_entry_at shape region place → n ≡ count * entry_len shape → device_size shape ≤ end → at + n ≤ end
 chunk_inside shape region total place count at n end there room within here long fits =
     let ends = entries_inside shape region there in
     let most : (place + count) * entry_len shape ≤ shape.sorted_capacity * entry_len shape = mul-le-mul_right (entry_len shape) (omega (arith, room, within)) in
     omega (arith, ends, most, add-mul place count (entry_len shape), here, long, fits)
 
 -- and hold their keys
-pub keys_read : (shape : Shape) (region total : ℕ) (image : List ℕ) (place count at n : ℕ) (bytes : List ℕ) → place + count ≤ total → at ≡ sorted_entry_at shape region place → n ≡ count * entry_len shape → at + n ≤ length image
+pub keys_read : (shape : Shape) (region total : ℕ) (image : List ℕ) (place count at n : ℕ) (bytes : List ℕ) → place + count ≤ total
+    → at ≡ sorted_entry_at shape region place → n ≡ count * entry_len shape → at + n ≤ length image
     → bytes ≡ slice_range image at (at + n) → HoldsKeys (sorted_rows shape region total image) place count (entry_len shape) bytes
 keys_read shape region total image place count at n bytes within here long fits read = λ i below.
     let len : ℕ = entry_len shape in
@@ -30,7 +32,8 @@ keys_read shape region total image place count at n bytes within here long fits 
     key_read shape region total image (place + i) (at + i * len) (slice_range bytes (i * len) (i * len + 20)) (omega (arith, within, below)) there (omega (arith, inside, fits)) (sym part)
 
 -- and the entries themselves
-pub entries_read : (shape : Shape) (region total : ℕ) (image : List ℕ) (place count at n : ℕ) (bytes : List ℕ) → place + count ≤ total → at ≡ sorted_entry_at shape region place → n ≡ count * entry_len shape → at + n ≤ length image
+pub entries_read : (shape : Shape) (region total : ℕ) (image : List ℕ) (place count at n : ℕ) (bytes : List ℕ) → place + count ≤ total
+    → at ≡ sorted_entry_at shape region place → n ≡ count * entry_len shape → at + n ≤ length image
     → bytes ≡ slice_range image at (at + n) → HoldsEntries (sorted_rows shape region total image) place count (entry_len shape) bytes
 entries_read shape region total image place count at n bytes within here long fits read = λ i below.
     let len : ℕ = entry_len shape in
@@ -57,7 +60,8 @@ front_of_part bytes at len least fits =
     ap (λ n. slice_range bytes n (n + 20)) (sym none) ∙ slice_of_slice bytes at len 0 20 least fits
 
 -- the key that begins one of the parts is that of its entry
-pub key_in_part : (rows : List StoredRow) (first count len i : ℕ) (bytes key : List ℕ) → 20 ≤ len → length bytes ≡ count * len → i < count → HoldsKeys rows first count len bytes → key ≡ take 20 (slice_range bytes (i * len) (i * len + len))
+pub key_in_part : (rows : List StoredRow) (first count len i : ℕ) (bytes key : List ℕ) → 20 ≤ len → length bytes ≡ count * len
+    → i < count → HoldsKeys rows first count len bytes → key ≡ take 20 (slice_range bytes (i * len) (i * len + len))
     → key_at rows (first + i) ≡ key
 key_in_part rows first count len i bytes key least long below holds is =
     let inside = part_inside 0 len count i (length bytes) (omega (arith, long)) below in

@@ -22,7 +22,8 @@ abbrev pub entry_bytes : Shape → ℕ → List ℕ → ℕ → List ℕ
 entry_bytes s region image place = slice_range image (sorted_entry_at s region place) (sorted_entry_at s region place + entry_len s)
 
 -- a change outside the entries of a sorted region leaves each entry
-pub entries_outside : (s : Shape) (region n at count : ℕ) (old new : List ℕ) → sorted_at s region + s.sorted_capacity * entry_len s ≤ length old → n ≤ s.sorted_capacity → LiesOutside (sorted_at s region) (entries_len s) at count
+pub entries_outside : (s : Shape) (region n at count : ℕ) (old new : List ℕ) → sorted_at s region + s.sorted_capacity * entry_len s ≤ length old
+    → n ≤ s.sorted_capacity → LiesOutside (sorted_at s region) (entries_len s) at count
     → Torn at count old new → sorted_rows s region n new ≡ sorted_rows s region n old
 unfolding sorted_rows
 entries_outside s region n at count old new fits most outside torn =
@@ -43,7 +44,8 @@ entries_before s region n old new fits most torn =
     map_range_same (λ (p : ℕ). entry_row (entry_bytes s region new p)) (λ (p : ℕ). entry_row (entry_bytes s region old p)) 0 n (λ place low high.
     let inside = part_inside (sorted_at s region) (entry_len s) s.sorted_capacity place (length old) fits (omega arith) in
     let apart = next_region place n (entry_len s) (omega arith) in
-    ap entry_row (torn_slice_before (sorted_entry_at s region n) (entry_len s) old new torn (sorted_entry_at s region place) (sorted_entry_at s region place + entry_len s) (omega (arith, apart)) inside))
+    ap entry_row (torn_slice_before (sorted_entry_at s region n) (entry_len s) old new torn (sorted_entry_at s region place)
+    (sorted_entry_at s region place + entry_len s) (omega (arith, apart)) inside))
 
 -- one entry more
 pub entry_more : (s : Shape) (region n : ℕ) (image : List ℕ) → sorted_rows s region (n + 1) image ≡ sorted_rows s region n image ++ entry_row (entry_bytes s region image n) ∷ []

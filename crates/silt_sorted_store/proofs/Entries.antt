@@ -68,7 +68,8 @@ module _ (shape : Shape) (region count : ℕ) (image : List ℕ) where
       ∙ sym (read ∙ front ∙ ap (λ n. take 20 (slice_range image n (n + len))) here)
 
   -- the value of an entry that was read
-  pub value_read : (place at n : ℕ) (bytes : List ℕ) → place < count → at ≡ sorted_entry_at shape region place → at + entry_len shape ≤ length image → n ≡ shape.value_len → bytes ≡ slice_range image (at + 20) (at + 20 + n)
+  pub value_read : (place at n : ℕ) (bytes : List ℕ) → place < count → at ≡ sorted_entry_at shape region place → at + entry_len shape ≤ length image
+      → n ≡ shape.value_len → bytes ≡ slice_range image (at + 20) (at + 20 + n)
       → HasValue (sorted_rows shape region count image) place bytes
   value_read place at n bytes below here fits long read =
       let len : ℕ = entry_len shape in (
@@ -78,7 +79,8 @@ module _ (shape : Shape) (region count : ℕ) (image : List ℕ) where
       )
 
   -- an entry that was read
-  pub entry_read : (place at n : ℕ) (bytes : List ℕ) → place < count → at ≡ sorted_entry_at shape region place → n ≡ entry_len shape → bytes ≡ slice_range image at (at + n) → HasEntry (sorted_rows shape region count image) place bytes
+  pub entry_read : (place at n : ℕ) (bytes : List ℕ) → place < count → at ≡ sorted_entry_at shape region place → n ≡ entry_len shape
+      → bytes ≡ slice_range image at (at + n) → HasEntry (sorted_rows shape region count image) place bytes
   entry_read place at n bytes below here long read =
       entry_there place below
       ∙ ap (λ b. Some (entry_row b)) (sym (read ∙ ap (λ m. slice_range image at (at + m)) long ∙ ap (λ m. slice_range image m (m + entry_len shape)) here))

@@ -26,7 +26,8 @@ none_of_all f from (suc n) each =
     nothing_both (f from) (flat_map f (range_with_len (from + 1) n)) (each from (omega arith) (omega arith)) (none_of_all f (from + 1) n (λ place low high. each place (omega arith) (omega arith)))
 
 -- the first that comes of them is that of the first number of which something comes
-pub first_of_range : {X : Type 0} (f : ℕ → List X) (from n at : ℕ) (x : X) → from ≤ at → at < from + n → ((place : ℕ) → from ≤ place → place < at → f place ≡ []) → slice_get (f at) 0 ≡ Some x → slice_get (flat_map f (range_with_len from n)) 0 ≡ Some x
+pub first_of_range : {X : Type 0} (f : ℕ → List X) (from n at : ℕ) (x : X) → from ≤ at → at < from + n
+    → ((place : ℕ) → from ≤ place → place < at → f place ≡ []) → slice_get (f at) 0 ≡ Some x → slice_get (flat_map f (range_with_len from n)) 0 ≡ Some x
 first_of_range f from zero at x low high before first = absurd (omega arith)
 first_of_range f from (suc n) at x low high before first =
     let rest = flat_map f (range_with_len (from + 1) n) in

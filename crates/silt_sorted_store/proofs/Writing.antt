@@ -13,7 +13,8 @@ use Rattle.silt_sorted_store.proofs.Entries.{entry_count, part_inside}
 
 module _ (s : Shape) (region place : ℕ) where
   -- if there is no entry to write, nothing is written
-  pub none_due : (image bytes : List ℕ) (due : Bool) → place ≤ s.sorted_capacity → due ≡ false → sorted_rows s region place image ≡ take s.sorted_capacity (sorted_rows s region place image ++ due_rows due bytes)
+  pub none_due : (image bytes : List ℕ) (due : Bool) → place ≤ s.sorted_capacity → due ≡ false
+      → sorted_rows s region place image ≡ take s.sorted_capacity (sorted_rows s region place image ++ due_rows due bytes)
   none_due image bytes due most none =
       let rows : List StoredRow = sorted_rows s region place image in
       let long = entry_count s region place image in

@@ -62,9 +62,11 @@ pub record Standing {D F : Type 0} (facts : Ghosts D F) (core : CoreState D) : T
 pub stands_seen : {D F : Type 0} (facts : Ghosts D F) (disk : D) (stores : EngineState) (count : ℕ) → Stands (facts.content disk) stores → Standing facts (seen facts disk stores count)
 stands_seen facts disk stores count stands = record {
   numbers = (meaning (facts.content disk) stores stands).numbers;
-  has_map = λ h. (meaning (facts.content disk) stores stands).full h ∙ ap (λ m. map_after m (waiting_commands (facts.content disk) stores)) (sym ((meaning (facts.content disk) stores stands).shown h));
+  has_map = λ h. (meaning (facts.content disk) stores stands).full h
+      ∙ ap (λ m. map_after m (waiting_commands (facts.content disk) stores)) (sym ((meaning (facts.content disk) stores stands).shown h));
   safe = record {
-    each = λ h image left. subst (λ m. StandsFor stores.manifest.shape m image) (sym ((meaning (facts.content disk) stores stands).shown h)) ((meaning (facts.content disk) stores stands).safe.each h image left);
+    each = λ h image left. subst (λ m. StandsFor stores.manifest.shape m image) (sym ((meaning (facts.content disk) stores stands).shown h))
+        ((meaning (facts.content disk) stores stands).safe.each h image left);
   };
 }
 
@@ -96,12 +98,14 @@ endures facts disk stores count false basis holds =
     }
 
 -- and of the store that contracts see so
-pub endures_seen : {D F : Type 0} (facts : Ghosts D F) (disk : D) (stores : EngineState) (count : ℕ) (failed : Bool) (basis : BasisState) (core : CoreState D) → seen_core facts disk stores count failed basis ≡ core
+pub endures_seen : {D F : Type 0} (facts : Ghosts D F) (disk : D) (stores : EngineState) (count : ℕ) (failed : Bool) (basis : BasisState) (core : CoreState D)
+    → seen_core facts disk stores count failed basis ≡ core
     → IsCore (facts.content disk) stores count failed basis → Endures facts core
 endures_seen facts disk stores count failed basis core is holds = subst (Endures facts) is (endures facts disk stores count failed basis holds)
 
 -- what is true of a store stays true if its disk and its stores stay
-pub core_stays : {D : Type 0} (content : D → Content) (old new : D) (stores after : EngineState) (count : ℕ) (failed : Bool) (basis : BasisState) → IsCore (content old) stores count failed basis → after ≡ stores → new ≡ old
+pub core_stays : {D : Type 0} (content : D → Content) (old new : D) (stores after : EngineState) (count : ℕ) (failed : Bool) (basis : BasisState)
+    → IsCore (content old) stores count failed basis → after ≡ stores → new ≡ old
     → IsCore (content new) after count failed basis
 core_stays content old new stores after count failed basis holds same same_disk = rw (same_disk, same) holds
 
@@ -128,7 +132,8 @@ core_broke old new stores after count failed basis holds working same shape brea
     }
 
 -- what is true of a store after a successful call that accepted these commands
-pub core_went : (adds : List Command) (old new : Content) (stores after : EngineState) (count next : ℕ) (failed : Bool) (basis : BasisState) → IsCore old stores count failed basis → failed ≡ false → SameDisk old new
+pub core_went : (adds : List Command) (old new : Content) (stores after : EngineState) (count next : ℕ) (failed : Bool) (basis : BasisState)
+    → IsCore old stores count failed basis → failed ≡ false → SameDisk old new
     → Advances adds old new stores after → next ≡ count + length adds → next < 2 ^ 63 → IsCore new after next failed basis
 core_went adds old new stores after count next failed basis holds working same goes is most = record {
   has_size = same.size ∙ holds.has_size ∙ ap device_size (sym goes.shape);
@@ -313,7 +318,8 @@ module _ {D F : Type 0} (facts : Ghosts D F) where
       keeps_body = λ f. absurd (cc);
       keeps_converting = λ f. absurd (cc);
       keeps_merging = λ f. absurd (cc);
-      step = λ _ h. subst (Step (image_map (full_image (facts.content disk) stores)) event (Refused (Device fault))) (sym (maps h)) (step_refused (image_map (full_image (facts.content disk) stores)) event (Device fault));
+      step = λ _ h. subst (Step (image_map (full_image (facts.content disk) stores)) event (Refused (Device fault))) (sym (maps h))
+          (step_refused (image_map (full_image (facts.content disk) stores)) event (Device fault));
       has_map = λ f. absurd (cc);
       numbers = λ f. absurd (cc);
       moves = λ f. absurd (cc);
@@ -321,7 +327,8 @@ module _ {D F : Type 0} (facts : Ghosts D F) where
       safe = λ f. absurd (cc);
       crash = λ _ _. record {
         each = λ h image left.
-            subst (λ m. HasBegun stores.manifest.shape m (waiting_commands (facts.content disk) stores) image) (sym ((meaning (facts.content disk) stores stands).shown (back h))) (breaks.each h image left);
+            subst (λ m. HasBegun stores.manifest.shape m (waiting_commands (facts.content disk) stores) image)
+            (sym ((meaning (facts.content disk) stores stands).shown (back h))) (breaks.each h image left);
       };
       keeps_basis = λ _ _. (refl, refl);
     }

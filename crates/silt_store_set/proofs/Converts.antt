@@ -27,7 +27,8 @@ written_same None = refl
 written_same (Some conversion) = refl
 
 -- the contracts' view of a step in memory
-goes_on : (s : EngineState) (before : Option ConversionState) (after : ConversionState) → IsNextStep s before after → ConvertGoesOn s.manifest.shape.hashes s.manifest.current (convert_work before) (convert_work (Some after))
+goes_on : (s : EngineState) (before : Option ConversionState) (after : ConversionState) → IsNextStep s before after
+    → ConvertGoesOn s.manifest.shape.hashes s.manifest.current (convert_work before) (convert_work (Some after))
 goes_on s None after step = step
 goes_on s (Some before) after step = step
 
@@ -56,20 +57,24 @@ module _ {D F : Type 0} (facts : Ghosts D F) (disk : D) (stores : EngineState) (
 
   -- there was nothing to do
   stood : (progress : ProgressOf) (new : D) (after : EngineState) → progress ≡ convert_turn stores → new ≡ disk → after ≡ stores → facts.failures new ≡ facts.failures disk
-      → ConvertsTo facts before before progress → Makes facts.writes facts.syncs (step_writes progress) (step_syncs progress) disk disk → is_work progress ≡ false → Does facts before (seen facts new after count) Convert (Progress progress)
+      → ConvertsTo facts before before progress → Makes facts.writes facts.syncs (step_writes progress) (step_syncs progress) disk disk
+      → is_work progress ≡ false → Does facts before (seen facts new after count) Convert (Progress progress)
   stood progress new after due same_disk same counted does made idle =
       rw (same_disk, same) (answered facts disk stores count Convert (Progress progress) stands refl refl refl (refl, due ∙ sym due_same, does, refl) (made_step progress made) (λ _. refl) (λ _. tt))
 
   -- what the slots have
   rows_are : (new : D) (after : EngineState) (conversion : ConversionState) → stores.converting ≡ Some conversion → HasConvertedRows (facts.content disk) (facts.content new) stores after
-      → AreConverted stores.manifest.shape (oldest_rows stores.manifest.shape stores.manifest.current (full_image (facts.content disk) stores)) (hash_rows stores.manifest.shape conversion.region (full_image (facts.content new) after))
+      → AreConverted stores.manifest.shape (oldest_rows stores.manifest.shape stores.manifest.current (full_image (facts.content disk) stores))
+      (hash_rows stores.manifest.shape conversion.region (full_image (facts.content new) after))
   rows_are new after conversion was has =
       subst (λ (o : Option ConversionState). IfSome o (λ c.
-      AreConverted stores.manifest.shape (oldest_rows stores.manifest.shape stores.manifest.current (full_image (facts.content disk) stores)) (hash_rows stores.manifest.shape c.region (full_image (facts.content new) after)))) was has
+      AreConverted stores.manifest.shape (oldest_rows stores.manifest.shape stores.manifest.current (full_image (facts.content disk) stores))
+      (hash_rows stores.manifest.shape c.region (full_image (facts.content new) after)))) was has
 
   -- a step succeeded
   pub stepped : (progress : ProgressOf) (new : D) (after : EngineState) → SameDisk (facts.content disk) (facts.content new) → Advances [] (facts.content disk) (facts.content new) stores after
-      → Converts progress stores after → (progress ≡ Finished → IsTrue (facts.content disk).honest → HasConvertedRows (facts.content disk) (facts.content new) stores after) → (is_work progress ≡ false → new ≡ disk) → facts.failures new ≡ facts.failures disk
+      → Converts progress stores after → (progress ≡ Finished → IsTrue (facts.content disk).honest → HasConvertedRows (facts.content disk) (facts.content new) stores after)
+      → (is_work progress ≡ false → new ≡ disk) → facts.failures new ≡ facts.failures disk
       → Makes facts.writes facts.syncs (step_writes (convert_turn stores)) (step_syncs (convert_turn stores)) disk new
       → Does facts before (seen facts new after count) Convert (Progress progress)
   stepped Idle new after same goes converts rows quiet counted made = stood Idle new after converts.due (quiet refl) converts.done counted refl none_made refl
@@ -78,9 +83,11 @@ module _ {D F : Type 0} (facts : Ghosts D F) (disk : D) (stores : EngineState) (
       let moves : MovesOn stores after = converts.done in
       let current : after.manifest.current ≡ stores.manifest.current = ap (λ (s : EngineState). s.manifest.current) moves.is in
       let work : after.converting ≡ Some moves.conversion = ap (λ (s : EngineState). s.converting) moves.is in
-      let on : ConvertGoesOn stores.manifest.shape.hashes stores.manifest.current (convert_work stores.converting) (convert_work after.converting) = rw work (goes_on stores stores.converting moves.conversion moves.step) in
+      let on : ConvertGoesOn stores.manifest.shape.hashes stores.manifest.current (convert_work stores.converting) (convert_work after.converting) =
+      rw work (goes_on stores stores.converting moves.conversion moves.step) in
       advanced facts disk new stores after same stands [] count count Convert (Progress Moved) goes refl refl refl refl
-      (refl, converts.due ∙ sym due_same, (current, on), counted) (λ m to e. e) (λ _ _. current) (λ other. absurd (cc)) (λ _. ap (λ (s : EngineState). s.merging) moves.is) (λ _. tt) counted (made_due Moved new converts.due made)
+      (refl, converts.due ∙ sym due_same, (current, on), counted) (λ m to e. e) (λ _ _. current) (λ other. absurd (cc))
+      (λ _. ap (λ (s : EngineState). s.merging) moves.is) (λ _. tt) counted (made_due Moved new converts.due made)
   stepped Finished new after same goes converts rows quiet counted made =
       let ends : Finishes stores after = converts.done in
       advanced facts disk new stores after same stands [] count count Convert (Progress Finished) goes refl refl refl refl (
@@ -113,9 +120,12 @@ module _ {D F : Type 0} (facts : Ghosts D F) (disk : D) (stores : EngineState) (
   step_no_memory new after same same_disk due none = rw (same_disk, same) (refused facts disk stores count Convert NoMemory stands refl (refl, due_same ∙ due, ap convert_work none))
 
   -- a write or a sync failed
-  pub step_broke : (new : D) (after : EngineState) (fault : F) → SameDisk (facts.content disk) (facts.content new) → is_work (convert_turn stores) ≡ true → Breaks (facts.content disk) (facts.content new) stores
-      → Remaps [] (facts.content disk) (facts.content new) stores after → after.manifest.shape ≡ stores.manifest.shape → GaveAny facts.gave new fault → facts.failures new ≡ (facts.failures disk + 1) % 2 ^ 64
-      → MakesAtMost facts.writes facts.syncs (step_writes (convert_turn stores)) (step_syncs (convert_turn stores)) disk new → Does facts before (seen_failed facts (basis_of (facts.content disk) stores) new after count) Convert (Refused (Device fault))
+  pub step_broke : (new : D) (after : EngineState) (fault : F) → SameDisk (facts.content disk) (facts.content new)
+      → is_work (convert_turn stores) ≡ true → Breaks (facts.content disk) (facts.content new) stores
+      → Remaps [] (facts.content disk) (facts.content new) stores after → after.manifest.shape ≡ stores.manifest.shape
+      → GaveAny facts.gave new fault → facts.failures new ≡ (facts.failures disk + 1) % 2 ^ 64
+      → MakesAtMost facts.writes facts.syncs (step_writes (convert_turn stores)) (step_syncs (convert_turn stores)) disk new
+      → Does facts before (seen_failed facts (basis_of (facts.content disk) stores) new after count) Convert (Refused (Device fault))
   step_broke new after fault same work breaks remaps shape given counted most =
       broke facts disk new stores after same stands count Convert fault breaks shape remaps
       (inr (ap is_work due_same ∙ work, record { given = given; counted = counted; failed = refl })) counted

@@ -1,5 +1,6 @@
 -- What the next step of merging reads, in the words of the manifest record.
-use Rattle.std.proofs.Common.{◌≡◌, ◌≢◌, ℕ, ◌+◌, ◌-◌, ◌*◌, ◌/◌, ◌<◌, ◌≤◌, nat_lt, if◌then◌else◌, Bool, true, false, List, drop, get_or, length, map, Option, Some, None, IfSome, inl, inr, refl, ap, sym, ◌∙◌, subst, arith}
+use Rattle.std.proofs.Common.{◌≡◌, ◌≢◌, ℕ, ◌+◌, ◌-◌, ◌*◌, ◌/◌, ◌<◌, ◌≤◌, nat_lt, if◌then◌else◌, Bool, true, false, List, drop, get_or, length, map, Option}
+use Rattle.std.proofs.Common.{Some, None, IfSome, inl, inr, refl, ap, sym, ◌∙◌, subst, arith}
 use Rattle.std.proofs.lemmas.Bool.{cases_lt, le-ltb, lt-ltb}
 use Rattle.std.proofs.lemmas.List.{drop-map, length-map}
 use Rattle.std.proofs.lemmas.Nat.{div-mul-add, mul-add-lt}
@@ -46,7 +47,8 @@ module _ (s : EngineState) (whole : AreWhole s) where
         ap (λ (n : ℕ). merge.store * n + merge.slot + merge.decided) slots_same ∙ omega (arith, way.held.gathers below) in
         let fewer : steps_of merge < merge.stores * slots = subst (λ (n : ℕ). n < merge.stores * slots) (sym steps) (slot_below merge.store merge.stores merge.slot slots below inside) in
         let number : steps_of merge / slots ≡ merge.store = ap (λ (n : ℕ). n / slots) steps ∙ div-mul-add merge.store slots merge.slot inside in
-        ap (λ (b : Bool). place_of b (regions_of (oldest_stores merge.stores s.hashes)) merge.store) (lt-ltb merge.store merge.stores below ∙ sym (lt-ltb (steps_of merge) (merge.stores * slots) fewer))
+        ap (λ (b : Bool). place_of b (regions_of (oldest_stores merge.stores s.hashes)) merge.store)
+        (lt-ltb merge.store merge.stores below ∙ sym (lt-ltb (steps_of merge) (merge.stores * slots) fewer))
         ∙ ap (λ (l : List ℕ). place_of (nat_lt (steps_of merge) (merge.stores * slots)) l merge.store) (regions_taken merge.stores)
         ∙ ap (λ (n : ℕ). place_of (nat_lt (steps_of merge) (merge.stores * slots)) (drop (length s.manifest.current.hashed - merge.stores) s.manifest.current.hashed) n) (sym number)
 
@@ -57,7 +59,8 @@ module _ (s : EngineState) (whole : AreWhole s) where
         let gathered : merge.store * (4 * merge.shape.buckets) ≡ merge.stores * slots = ap (λ (n : ℕ). n * (4 * merge.shape.buckets)) all ∙ ap (λ (n : ℕ). merge.stores * n) slots_same in
         let more : merge.stores * slots ≤ steps_of merge = omega (arith, gathered) in
         ap (λ (b : Bool). place_of b (regions_of (oldest_stores merge.stores s.hashes)) merge.store) (le-ltb merge.store merge.stores past)
-        ∙ sym (ap (λ (b : Bool). place_of b (drop (length s.manifest.current.hashed - merge.stores) s.manifest.current.hashed) (steps_of merge / slots)) (le-ltb (steps_of merge) (merge.stores * slots) more))
+        ∙ sym (ap (λ (b : Bool). place_of b (drop (length s.manifest.current.hashed - merge.stores) s.manifest.current.hashed) (steps_of merge / slots))
+        (le-ltb (steps_of merge) (merge.stores * slots) more))
 
   -- what a step reads in memory is what is due by the manifest record
   pub place_seen : (o : Option MergeState) → IfSome o (IsMerging s) → place_read s.hashes o ≡ place_due s.manifest.shape s.manifest.current (merge_work o)

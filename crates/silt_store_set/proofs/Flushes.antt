@@ -22,7 +22,8 @@ module _ {D F : Type 0} (facts : Ghosts D F) (disk : D) (stores : EngineState) (
   waits = waits_same (facts.content disk) stores stands.active.bounds
 
   -- the waiting rows are settled, and if none waits nothing is done
-  pub flushed : (new : D) (after : EngineState) → SameDisk (facts.content disk) (facts.content new) → Advances [] (facts.content disk) (facts.content new) stores after → IsQuiet (facts.content new) after
+  pub flushed : (new : D) (after : EngineState) → SameDisk (facts.content disk) (facts.content new)
+      → Advances [] (facts.content disk) (facts.content new) stores after → IsQuiet (facts.content new) after
       → after.manifest ≡ stores.manifest → after.converting ≡ stores.converting → after.merging ≡ stores.merging → facts.failures new ≡ facts.failures disk
       → (stores.active.log.settled ≡ stores.active.log.used → (new ≡ disk) × (after ≡ stores))
       → Makes facts.writes facts.syncs (row_waits stores) (2 * row_waits stores) disk new → Does facts (seen facts disk stores count) (seen facts new after count) Flush (Acknowledged count)
@@ -36,7 +37,8 @@ module _ {D F : Type 0} (facts : Ghosts D F) (disk : D) (stores : EngineState) (
       (subst (λ (n : ℕ). Makes facts.writes facts.syncs n (2 * n) disk new) waits made)
 
   -- a sync or the write of the gates failed
-  pub flush_broke : (new : D) (after : EngineState) (fault : F) → SameDisk (facts.content disk) (facts.content new) → Breaks (facts.content disk) (facts.content new) stores → Remaps [] (facts.content disk) (facts.content new) stores after
+  pub flush_broke : (new : D) (after : EngineState) (fault : F) → SameDisk (facts.content disk) (facts.content new)
+      → Breaks (facts.content disk) (facts.content new) stores → Remaps [] (facts.content disk) (facts.content new) stores after
       → after.manifest ≡ stores.manifest → GaveAny facts.gave new fault → facts.failures new ≡ (facts.failures disk + 1) % 2 ^ 64
       → MakesAtMost facts.writes facts.syncs (row_waits stores) (2 * row_waits stores) disk new
       → Does facts (seen facts disk stores count) (seen_failed facts (basis_of (facts.content disk) stores) new after count) Flush (Refused (Device fault))

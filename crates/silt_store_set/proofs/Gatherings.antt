@@ -1,5 +1,6 @@
 -- If a merge is out of memory, the slot that it gathers next has the first row of a key, or the key that it decides next has a value.
-use Rattle.std.proofs.Common.{◌≡◌, ℕ, zero, suc, ◌+◌, ◌-◌, ◌*◌, ◌<◌, ◌≤◌, true, IsTrue, cond, List, [], ◌∷◌, ◌++◌, drop, filter, flat_map, length, map, take, get_or, slice_get, Option, Some, None, IsSomeAnd, option_map, refl, sym, subst, ap, ◌∙◌, arith, append_assoc, suc-mul}
+use Rattle.std.proofs.Common.{◌≡◌, ℕ, zero, suc, ◌+◌, ◌-◌, ◌*◌, ◌<◌, ◌≤◌, true, IsTrue, cond, List, [], ◌∷◌, ◌++◌, drop, filter, flat_map, length, map, take}
+use Rattle.std.proofs.Common.{get_or, slice_get, Option, Some, None, IsSomeAnd, option_map, refl, sym, subst, ap, ◌∙◌, arith, append_assoc, suc-mul}
 use Rattle.std.specs.Option.{option_or}
 use Rattle.std.proofs.lemmas.List.{length-append, length-map, take-append-drop}
 use Rattle.std.proofs.lemmas.List.Elements.{filter-append}
@@ -80,7 +81,8 @@ module _ (key : List ℕ) where
   none_together older newer old new = newest_append older newer key ∙ ap (λ o. option_or o (newest_row older key)) new ∙ old
 
   -- as far as rows are of known kinds
-  none_known : (first second : List StoredRow) → newest_row (filter has_known_kind first) key ≡ None → newest_row (filter has_known_kind second) key ≡ None → newest_row (filter has_known_kind (first ++ second)) key ≡ None
+  none_known : (first second : List StoredRow) → newest_row (filter has_known_kind first) key ≡ None → newest_row (filter has_known_kind second) key ≡ None
+      → newest_row (filter has_known_kind (first ++ second)) key ≡ None
   none_known first second one other = ap (λ l. newest_row l key) (filter-append has_known_kind first second) ∙ none_together (filter has_known_kind first) (filter has_known_kind second) one other
 
 -- ---- the slots of regions
@@ -131,9 +133,16 @@ module _ (s : Shape) (image : List ℕ) where
       let region : ℕ = get_or regions store 0 in
       let row : StoredRow = slot_row s region image slot in
       let before : List StoredRow = slots_in (take store regions) ++ rows_before s region image slot in
-      let all = stands_behind (λ (r : ℕ). hash_rows s r image) regions store 0 (rows_before s region image slot) row (drop (slot + 1) (hash_rows s region image)) below (row_behind region slot inside) in
+      let all = stands_behind (λ (r : ℕ). hash_rows s r image) regions store 0 (rows_before s region image slot) row
+      (drop (slot + 1) (hash_rows s region image)) below (row_behind region slot inside) in
       let long : length before ≡ steps =
-      omega (arith, length-append (slots_in (take store regions)) (rows_before s region image slot), lists_long (λ (r : ℕ). hash_rows s r image) (4 * s.buckets) region_long regions store (omega (arith, below)), before_count s region image slot, is) in
+      omega (
+        arith,
+        length-append (slots_in (take store regions)) (rows_before s region image slot),
+        lists_long (λ (r : ℕ). hash_rows s r image) (4 * s.buckets) region_long regions store (omega (arith, below)),
+        before_count s region image slot,
+        is,
+      ) in
       record {
         row = row;
         next = ap (λ (l : List StoredRow). slice_get l steps) all.1 ∙ next_there before row all.0 steps long;
@@ -147,13 +156,15 @@ module _ (s : Shape) (image : List ℕ) where
 -- ---- a merge in progress
 
 -- other rows of a log leave the hash stores
-hashes_with : (region : ℕ) (rows : List StoredRow) (shape : Shape) (body : Body) (image : List ℕ) → (with_log_rows region rows (stores_named shape body image)).hashes ≡ map (hash_part shape image) body.hashed
+hashes_with : (region : ℕ) (rows : List StoredRow) (shape : Shape) (body : Body) (image : List ℕ)
+    → (with_log_rows region rows (stores_named shape body image)).hashes ≡ map (hash_part shape image) body.hashed
 unfolding with_log_rows stores_named
 hashes_with region rows shape body image = refl
 
 module _ (content : Content) (s : EngineState) (stands : Stands content s) (honest : IsTrue content.honest) where
   -- the slots that it takes of the full image are those of its stores
-  slots_taken : (count : ℕ) → flat_map part_rows (drop (length (full_stores content s).hashes - count) (full_stores content s).hashes) ≡ slots_in s.manifest.shape content.shown (regions_of (oldest_stores count s.hashes))
+  slots_taken : (count : ℕ) → flat_map part_rows (drop (length (full_stores content s).hashes - count) (full_stores content s).hashes) ≡ slots_in
+      s.manifest.shape content.shown (regions_of (oldest_stores count s.hashes))
   slots_taken count =
       let same : (full_stores content s).hashes ≡ map (hash_part s.manifest.shape content.shown) s.manifest.current.hashed =
       ap (λ (t : Stores). t.hashes) (full_is content s stands honest)

@@ -28,7 +28,8 @@ not_changed false is = refl
 
 module _ {D F : Type 0} (facts : Ghosts D F) (disk : D) (stores : EngineState) (count : ℕ) (key : Key) (stands : Stands (facts.content disk) stores) where
   -- the map that lookups read is that of the full image
-  pub looked_up : (value : Option (List ℕ)) → (IsTrue (facts.content disk).honest → get (current_map (facts.content disk) stores) key.0 ≡ value) → IsTrue (facts.content disk).honest → get (image_map (full_image (facts.content disk) stores)) key.0 ≡ value
+  pub looked_up : (value : Option (List ℕ)) → (IsTrue (facts.content disk).honest → get (current_map (facts.content disk) stores) key.0 ≡ value)
+      → IsTrue (facts.content disk).honest → get (image_map (full_image (facts.content disk) stores)) key.0 ≡ value
   looked_up value found h = ap (λ (m : Map). get m key.0) ((meaning (facts.content disk) stores stands).full h) ∙ found h
 
   pub get_found : (value : List ℕ) → (IsTrue (facts.content disk).honest → get (current_map (facts.content disk) stores) key.0 ≡ Some value)
@@ -47,7 +48,8 @@ module _ {D F : Type 0} (facts : Ghosts D F) (disk : D) (stores : EngineState) (
   get_answered false out there none = get_absent (none refl)
 
   -- if no waiting command changes the key, the base has what the map has
-  kept : (value : Option (List ℕ)) → changes_key (waiting_commands (facts.content disk) stores) key.0 ≡ false → IsTrue (facts.content disk).honest → get (current_map (facts.content disk) stores) key.0 ≡ value
+  kept : (value : Option (List ℕ)) → changes_key (waiting_commands (facts.content disk) stores) key.0 ≡ false → IsTrue (facts.content disk).honest
+      → get (current_map (facts.content disk) stores) key.0 ≡ value
       → get (image_map (facts.content disk).shown) key.0 ≡ value
   kept value none h found =
       ap (λ (m : Map). get m key.0) ((meaning (facts.content disk) stores stands).shown h)
@@ -67,7 +69,8 @@ module _ {D F : Type 0} (facts : Ghosts D F) (disk : D) (stores : EngineState) (
   get_faulted fault given = refused facts disk stores count (Get key) (Device fault) stands refl (record { given = given; working = refl; same = refl })
 
   -- a value was not read
-  pub get_refused : (refusal : Refusal F) (value : List ℕ) → (IsTrue (facts.content disk).honest → get (current_map (facts.content disk) stores) key.0 ≡ Some value) → ReadCause (GaveAny facts.gave disk) refusal
+  pub get_refused : (refusal : Refusal F) (value : List ℕ) → (IsTrue (facts.content disk).honest → get (current_map (facts.content disk) stores) key.0 ≡ Some value)
+      → ReadCause (GaveAny facts.gave disk) refusal
       → Does facts (seen facts disk stores count) (seen facts disk stores count) (Get key) (Refused refusal)
   get_refused (Device fault) value found given = get_faulted fault given
   get_refused NoMemory value found none =

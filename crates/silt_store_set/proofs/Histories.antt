@@ -73,7 +73,8 @@ module _ {D F : Type 0} (facts : Ghosts D F) (old : Content) (value_len : ℕ) (
   )
 
   -- a store that was opened and did its events
-  pub life_ran : (core after : CoreState D) (replies : Vec (Reply F) Global) (new : Content) → Opens facts old core → Runs facts core events replies.items after → Restarts (facts.content after.disk) new → SameDisk (facts.content core.disk) (facts.content after.disk)
+  pub life_ran : (core after : CoreState D) (replies : Vec (Reply F) Global) (new : Content) → Opens facts old core
+      → Runs facts core events replies.items after → Restarts (facts.content after.disk) new → SameDisk (facts.content core.disk) (facts.content after.disk)
       → (to : Map) × LifeHistory m events (Opened replies) to × LeavesOnly new (IsSafe value_len to)
   life_ran core after replies new opens runs restarts same =
       let here : IsTrue (facts.content core.disk).honest = opens.disk.honest ∙ h in
@@ -88,7 +89,8 @@ module _ {D F : Type 0} (facts : Ghosts D F) (old : Content) (value_len : ℕ) (
           after.count,
           map_of after,
           kept.0,
-          subst (λ (n : Map). Legal 0 n events replies.items after.count (map_of after)) start (subst (λ (c : ℕ). Legal c (map_of core) events replies.items after.count (map_of after)) opens.count legal),
+          subst (λ (n : Map). Legal 0 n events replies.items after.count (map_of after)) start
+              (subst (λ (c : ℕ). Legal c (map_of core) events replies.items after.count (map_of after)) opens.count legal),
           record {
             begins = record { rest = kept.1.begins.rest; is = kept.1.begins.is ∙ ap (λ (cs : List Command). cs ++ accepted_commands events replies.items) none };
             acknowledged = let settled : 0 + length core.waiting ≡ core.count = omega (arith, ap length none, opens.count) in omega (arith, kept.1.acknowledged 0 settled);

@@ -22,7 +22,8 @@ or_true true = refl
 or_true false = refl
 
 -- as many commands are counted as an event adds
-pub own_counts : {D F : Type 0} (facts : Ghosts D F) (old new : CoreState D) (event : Event) (reply : Reply F) (c d : ℕ) → Cause facts old new event reply → Counts c reply d → d ≡ c + length (accepted_command event reply)
+pub own_counts : {D F : Type 0} (facts : Ghosts D F) (old new : CoreState D) (event : Event) (reply : Reply F) (c d : ℕ)
+    → Cause facts old new event reply → Counts c reply d → d ≡ c + length (accepted_command event reply)
 own_counts facts old new (Put key value) (Accepted n) c d cause counts = counts.1
 own_counts facts old new (Delete key) (Accepted n) c d cause counts = counts.1
 own_counts facts old new (Swap key expected value) (Accepted n) c d cause counts = counts.1
@@ -99,14 +100,16 @@ pub record Ended {D F : Type 0} (old new : CoreState D) (events : List Event) (r
   pub acknowledged : (n : ℕ) → acknowledged_after n replies ≡ n
   pub nines : FailsAfterFault true replies
 
-pub ended : {D F : Type 0} (facts : Ghosts D F) (old new : CoreState D) (events : List Event) (replies : List (Reply F)) → old.failed ≡ true → Runs facts old events replies new → Ended old new events replies
+pub ended : {D F : Type 0} (facts : Ghosts D F) (old new : CoreState D) (events : List Event) (replies : List (Reply F))
+    → old.failed ≡ true → Runs facts old events replies new → Ended old new events replies
 ended facts old new [] [] failed runs = record { same = runs; none = refl; acknowledged = λ n. refl; nines = tt }
 ended {D} {F} facts old new (event ∷ events) (reply ∷ replies) failed runs =
     let is = runs.1.failed failed in
     let rest : Ended old new events replies = ended facts old new events replies failed (subst (λ (c : CoreState D). Runs facts c events replies new) is.0 runs.2) in
     record {
       same = rest.same;
-      none = ap (λ (r : Reply F). accepted_command event r ++ accepted_commands events replies) is.1 ∙ ap (λ (cs : List Command). cs ++ accepted_commands events replies) (none_refused {F = F} event Failed) ∙ rest.none;
+      none = ap (λ (r : Reply F). accepted_command event r ++ accepted_commands events replies) is.1
+          ∙ ap (λ (cs : List Command). cs ++ accepted_commands events replies) (none_refused {F = F} event Failed) ∙ rest.none;
       acknowledged = λ n. ap (λ (r : Reply F). acknowledged_after (acknowledged_by n r) replies) is.1 ∙ rest.acknowledged n;
       nines = (λ _. refl, rest.nines);
     }
@@ -116,7 +119,8 @@ ended facts old new (event ∷ events) [] failed runs = absurd runs
 -- ---- runs of a store that is not failed
 
 -- Failed comes only after a fault
-pub nines : {D F : Type 0} (facts : Ghosts D F) (old new : CoreState D) (events : List Event) (replies : List (Reply F)) (before : Bool) → old.failed ≡ false → Runs facts old events replies new → FailsAfterFault before replies
+pub nines : {D F : Type 0} (facts : Ghosts D F) (old new : CoreState D) (events : List Event) (replies : List (Reply F)) (before : Bool)
+    → old.failed ≡ false → Runs facts old events replies new → FailsAfterFault before replies
 nines facts old new [] [] before working runs = tt
 nines facts old new (event ∷ events) (reply ∷ replies) before working runs =
     let next = runs.0 in
@@ -132,7 +136,8 @@ nines facts old new [] (reply ∷ replies) before working runs = absurd runs
 nines facts old new (event ∷ events) [] before working runs = absurd runs
 
 -- what was acknowledged by one reply is settled after it
-acknowledged_one : {D F : Type 0} (old next : CoreState D) (reply : Reply F) (settled moved : ℕ) → Counts old.count reply next.count → Durable next reply → settled + moved + length next.waiting ≡ next.count → acknowledged_by settled reply ≤ settled + moved
+acknowledged_one : {D F : Type 0} (old next : CoreState D) (reply : Reply F) (settled moved : ℕ) → Counts old.count reply next.count
+    → Durable next reply → settled + moved + length next.waiting ≡ next.count → acknowledged_by settled reply ≤ settled + moved
 acknowledged_one old next (Accepted n) settled moved counts none sum = omega arith
 acknowledged_one old next (Acknowledged n) settled moved counts none sum = omega (arith, counts.0, counts.1, ap length none)
 acknowledged_one old next (Found v) settled moved counts none sum = omega arith
@@ -157,7 +162,8 @@ fault_adds event (Refused r) fault = (none_refused event r, λ n. refl)
 
 module _ {D F : Type 0} (facts : Ghosts D F) where
   -- the first call did not fail
-  keeps_on : (old next : CoreState D) (event : Event) (reply : Reply F) (events : List Event) (replies : List (Reply F)) (image : List ℕ) → old.failed ≡ false → next.failed ≡ false → IsTrue (facts.content old.disk).honest
+  keeps_on : (old next : CoreState D) (event : Event) (reply : Reply F) (events : List Event) (replies : List (Reply F)) (image : List ℕ)
+      → old.failed ≡ false → next.failed ≡ false → IsTrue (facts.content old.disk).honest
       → Does facts old next event reply → StandsKept next events replies image → StandsKept old (event ∷ events) (reply ∷ replies) image
   keeps_on old next event reply events replies image working goes h does kept =
       let moves = does.moves goes h in
@@ -175,14 +181,20 @@ module _ {D F : Type 0} (facts : Ghosts D F) where
           acknowledged = λ settled sum.
               let now : settled + length moves.moved + length next.waiting ≡ next.count = omega (arith, waits, counts, sum) in
               let one = acknowledged_one old next reply settled (length moves.moved) does.counts (does.settles h) now in
-              omega (arith, acknowledged_more (acknowledged_by settled reply) (settled + length moves.moved) replies one, kept.1.acknowledged (settled + length moves.moved) now, length-append moves.moved kept.0);
+              omega (
+                arith,
+                acknowledged_more (acknowledged_by settled reply) (settled + length moves.moved) replies one,
+                kept.1.acknowledged (settled + length moves.moved) now,
+                length-append moves.moved kept.0,
+              );
         },
         subst (λ (m : Map). StandsFor old.shape m image) (sym (map_after-append old.base moves.moved kept.0))
             (subst (λ (m : Map). StandsFor old.shape (map_after m kept.0) image) moves.base (subst (λ (s : Shape). StandsFor s (map_after next.base kept.0) image) does.shape kept.2)),
       )
 
   -- the first call failed, and so did all after it
-  keeps_out : (old next new : CoreState D) (event : Event) (reply : Reply F) (events : List Event) (replies : List (Reply F)) (image : List ℕ) → old.failed ≡ false → next.failed ≡ true → IsTrue (facts.content next.disk).honest
+  keeps_out : (old next new : CoreState D) (event : Event) (reply : Reply F) (events : List Event) (replies : List (Reply F)) (image : List ℕ)
+      → old.failed ≡ false → next.failed ≡ true → IsTrue (facts.content next.disk).honest
       → Does facts old next event reply → Runs facts next events replies new → Left (facts.content new.disk) image → StandsKept old (event ∷ events) (reply ∷ replies) image
   keeps_out old next new event reply events replies image working fails h does runs left =
       let rest = ended facts next new events replies fails runs in

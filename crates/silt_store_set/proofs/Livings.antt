@@ -28,17 +28,20 @@ module _ {D F : Type 0} (facts : Ghosts D F) (value_len : ℕ) where
   life_refused events NoMemory disk stopped same images cause = inl (record { same = same; images = images; cause = cause })
   life_refused events refusal disk stopped same images cause = absurd cause
 
-  pub ends_refused : (events : List Event) (refusal : Refusal F) (disk stopped next : D) → SameDisk (facts.content disk) (facts.content stopped) → LeavesNoOther (facts.content disk) (facts.content stopped)
+  pub ends_refused : (events : List Event) (refusal : Refusal F) (disk stopped next : D) → SameDisk (facts.content disk) (facts.content stopped)
+      → LeavesNoOther (facts.content disk) (facts.content stopped)
       → OpeningCause facts (facts.content disk) stopped refusal → Restarts (facts.content stopped) (facts.content next) → LifeEnds facts value_len events (NotOpened refusal) disk next
   ends_refused events refusal disk stopped next same images cause restarts = (stopped, life_refused events refusal disk stopped same images cause, restarts)
 
   -- a store with values of another length
-  pub ends_other : (events : List Event) (disk next : D) (core : CoreState D) → Opens facts (facts.content disk) core → core.shape.value_len ≢ value_len → Restarts (facts.content core.disk) (facts.content next)
+  pub ends_other : (events : List Event) (disk next : D) (core : CoreState D) → Opens facts (facts.content disk) core
+      → core.shape.value_len ≢ value_len → Restarts (facts.content core.disk) (facts.content next)
       → LifeEnds facts value_len events (NotOpened BadGeometry) disk next
   ends_other events disk next core opens other restarts = (core.disk, record { first = core; opens = opens; has_len = other; is = refl }, restarts)
 
   -- a store that was out of memory for its replies
-  pub ends_idle : (events : List Event) (disk next : D) (core : CoreState D) → Opens facts (facts.content disk) core → core.shape.value_len ≡ value_len → Restarts (facts.content core.disk) (facts.content next)
+  pub ends_idle : (events : List Event) (disk next : D) (core : CoreState D) → Opens facts (facts.content disk) core
+      → core.shape.value_len ≡ value_len → Restarts (facts.content core.disk) (facts.content next)
       → LifeEnds facts value_len events (NotOpened NoMemory) disk next
   ends_idle events disk next core opens len restarts = (core.disk, inr (record { first = core; opens = opens; has_len = len; is = refl }), restarts)
 

@@ -21,12 +21,14 @@ use Rattle.silt_standing.specs.Standing.{SameDisk}
 use Rattle.silt_engine.specs.Conversion.{is_work}
 use Rattle.silt_engine.specs.Costs.{step_syncs, step_writes}
 use Rattle.silt_engine.specs.Costs as engine
-use Rattle.silt_engine.specs.Merge.{EndsMerged, damaged_in, HasMergedEntries, IsDoneBySteps, IsNextMerge, MayLackMemory, Merges, MergesOn, full_stores, merge_progress, merge_sources, merge_turn, merged_body, place_read}
+use Rattle.silt_engine.specs.Merge.{EndsMerged, damaged_in, HasMergedEntries, IsDoneBySteps, IsNextMerge, MayLackMemory, Merges, MergesOn, full_stores}
+use Rattle.silt_engine.specs.Merge.{merge_progress, merge_sources, merge_turn, merged_body, place_read}
 use Rattle.silt_standing.specs.Standing.{HasGathered, Stands}
 use Rattle.silt_standing.specs.State.{IsMerging, EngineState, hash_region_of}
 use Rattle.silt_engine.proofs.Meaning.{meaning}
 use Rattle.silt_store_set.specs.Basis.{basis_of}
-use Rattle.silt_store_set.specs.CoreState.{CoreState, DecidesValue, Does, GathersNewKey, GathersNext, IsMergeDue, MadeFor, MergeGoesOn, MergeLacksMemory, MayFind, entries_written, found_damaged, has_decided, merge_due, merge_work, place_due}
+use Rattle.silt_store_set.specs.CoreState.{CoreState, DecidesValue, Does, GathersNewKey, GathersNext, IsMergeDue, MadeFor, MergeGoesOn, MergeLacksMemory}
+use Rattle.silt_store_set.specs.CoreState.{MayFind, entries_written, found_damaged, has_decided, merge_due, merge_work, place_due}
 use Rattle.silt_store_set.proofs.Calls.{seen, seen_failed, advanced, answered, broke, refused}
 use Rattle.silt_store_set.proofs.Damages.{place_seen, slot_below}
 use Rattle.silt_store_set.proofs.Gatherings.{decides_next, new_key_next}
@@ -81,7 +83,8 @@ module _ {D F : Type 0} (facts : Ghosts D F) (disk : D) (stores : EngineState) (
   decided_same None merging done = refl
   decided_same (Some merge) merging done =
       let keys : ℕ = key_count (merge_sources merge.stores (full_stores (facts.content disk) stores)) in
-      let slots : merge.stores * (4 * stores.manifest.shape.buckets) + keys ≡ merge.stores * (4 * merge.shape.buckets) + keys = ap (λ (s : Shape). merge.stores * (4 * s.buckets) + keys) (sym merging.has_shape) in
+      let slots : merge.stores * (4 * stores.manifest.shape.buckets) + keys ≡ merge.stores * (4 * merge.shape.buckets) + keys =
+      ap (λ (s : Shape). merge.stores * (4 * s.buckets) + keys) (sym merging.has_shape) in
       ap Some (tells_same (steps_of merge) (merge.stores * (4 * stores.manifest.shape.buckets) + keys) (is_done merge stores.sorted) (λ d. done.0 d ∙ sym slots) (λ e. done.1 (e ∙ slots)))
 
   -- on an honest disk, the next step is the same in memory and by the manifest record
@@ -91,7 +94,8 @@ module _ {D F : Type 0} (facts : Ghosts D F) (disk : D) (stores : EngineState) (
       ∙ ap (merge_progress (length stores.hashes)) (decided_same stores.merging stands.whole.merging ((meaning (facts.content disk) stores stands).merging h))
 
   both_work : (o : Option MergeState)
-      → is_work (merge_progress (length stores.hashes) (option_map (has_decided before) (merge_work o))) ≡ is_work (merge_progress (length stores.hashes) (option_map (λ (merge : MergeState). is_done merge stores.sorted) o))
+      → is_work (merge_progress (length stores.hashes) (option_map (has_decided before) (merge_work o))) ≡ is_work
+      (merge_progress (length stores.hashes) (option_map (λ (merge : MergeState). is_done merge stores.sorted) o))
   both_work None = refl
   both_work (Some merge) = some_work (length stores.hashes) _ ∙ sym (some_work (length stores.hashes) (is_done merge stores.sorted))
 
@@ -148,7 +152,8 @@ module _ {D F : Type 0} (facts : Ghosts D F) (disk : D) (stores : EngineState) (
       → (is_work progress ≡ false → new ≡ disk) → facts.failures new ≡ facts.failures disk → engine.StepMakes facts disk new stores after progress → IsSound
       → Does facts before (seen facts new after count) Merge (Progress progress)
   stepped Idle new after same goes merges entries quiet counted made sound =
-      rw (quiet refl, merges.done) (answered facts disk stores count Merge (Progress Idle) stands refl refl refl (refl, due Idle merges.due, refl, refl, none_seen sound) none_made (λ _. refl) (λ _. tt))
+      rw (quiet refl, merges.done) (answered facts disk stores count Merge (Progress Idle) stands refl refl refl
+      (refl, due Idle merges.due, refl, refl, none_seen sound) none_made (λ _. refl) (λ _. tt))
   stepped Waiting new after same goes merges entries quiet counted made sound = absurd merges.done
   stepped Moved new after same goes merges entries quiet counted made sound =
       let moves : MergesOn stores after = merges.done in
@@ -157,7 +162,8 @@ module _ {D F : Type 0} (facts : Ghosts D F) (disk : D) (stores : EngineState) (
       let on : MergeGoesOn stores.manifest.current (merge_work stores.merging) (merge_work after.merging) = rw merging (goes_on stores stores.merging moves.merge hash_count moves.step) in
       let finds : MayFind (place_due stores.manifest.shape stores.manifest.current (merge_work stores.merging)) (merge_work after.merging) = rw merging (finds_seen moves.merge moves.found) in
       advanced facts disk new stores after same stands [] count count Merge (Progress Moved) goes refl refl refl refl
-      (refl, due Moved merges.due, (current, on, finds), counted, none_seen sound) (λ m to e. e) (λ _ _. current) (λ _. ap (λ (s : EngineState). s.converting) moves.is) (λ other. absurd (cc)) (λ _. tt) counted (moved_made new after made)
+      (refl, due Moved merges.due, (current, on, finds), counted, none_seen sound) (λ m to e. e) (λ _ _. current)
+      (λ _. ap (λ (s : EngineState). s.converting) moves.is) (λ other. absurd (cc)) (λ _. tt) counted (moved_made new after made)
   stepped Finished new after same goes merges entries quiet counted made sound =
       let ends : EndsMerged stores after = merges.done in
       let region : ends.merge.region ≡ 1 - stores.manifest.current.sorted = other_region stores.merging stands.whole.merging ends.merge ends.was in
@@ -194,17 +200,20 @@ module _ {D F : Type 0} (facts : Ghosts D F) (disk : D) (stores : EngineState) (
       ⊎ IsSomeAnd (merge_work o) (DecidesValue facts before)
 
   -- a merge that gathers a slot has not gathered all of them, and what it gathers is the first row of a key
-  lacks_row : (merge : MergeState) → IsMerging stores merge → HasGathered (facts.content disk) stores merge → GathersRow (facts.content disk) (oldest_stores merge.stores stores.hashes) merge → Lacks (Some merge)
+  lacks_row : (merge : MergeState) → IsMerging stores merge → HasGathered (facts.content disk) stores merge
+      → GathersRow (facts.content disk) (oldest_stores merge.stores stores.hashes) merge → Lacks (Some merge)
   lacks_row merge merging merged takes =
       let slots : 4 * merge.shape.buckets ≡ 4 * stores.manifest.shape.buckets = ap (λ (s : Shape). 4 * s.buckets) merging.has_shape in
-      let below : merge.store * (4 * merge.shape.buckets) + merge.slot < merge.stores * (4 * merge.shape.buckets) = slot_below merge.store merge.stores merge.slot (4 * merge.shape.buckets) takes.gathers merging.held.slot in
+      let below : merge.store * (4 * merge.shape.buckets) + merge.slot < merge.stores * (4 * merge.shape.buckets) =
+      slot_below merge.store merge.stores merge.slot (4 * merge.shape.buckets) takes.gathers merging.held.slot in
       inl (
         subst (λ (n : ℕ). steps_of merge < merge.stores * n) slots (omega (arith, below, merging.held.gathers takes.gathers)),
         λ h. new_key_next (facts.content disk) stores stands h merge merging merged takes,
       )
 
   -- one that indexes a key has gathered all slots, and the key has a value
-  lacks_key : (merge : MergeState) → IsMerging stores merge → HasGathered (facts.content disk) stores merge → TakesKey (facts.content disk) (oldest_stores merge.stores stores.hashes) stores.sorted merge → Lacks (Some merge)
+  lacks_key : (merge : MergeState) → IsMerging stores merge → HasGathered (facts.content disk) stores merge
+      → TakesKey (facts.content disk) (oldest_stores merge.stores stores.hashes) stores.sorted merge → Lacks (Some merge)
   lacks_key merge merging merged takes =
       let all : merge.store * (4 * merge.shape.buckets) ≡ merge.stores * (4 * stores.manifest.shape.buckets) =
       ap (λ (n : ℕ). n * (4 * merge.shape.buckets)) takes.gathered ∙ ap (λ (s : Shape). merge.stores * (4 * s.buckets)) merging.has_shape in
@@ -234,15 +243,19 @@ module _ {D F : Type 0} (facts : Ghosts D F) (disk : D) (stores : EngineState) (
       → Does facts before (seen facts new after count) Merge (Refused NoMemory)
   step_no_memory new after same same_disk why sound = rw (same_disk, same) (refused facts disk stores count Merge NoMemory stands refl (refl, lacks why, none_seen sound))
 
-  pub step_damaged : (new : D) (after : EngineState) (place : Place) → after ≡ stores → new ≡ disk → damaged_in stores.merging ≡ Some place → is_work (merge_turn stores) ≡ true → (IsTrue (facts.content disk).honest → ⊥)
+  pub step_damaged : (new : D) (after : EngineState) (place : Place) → after ≡ stores → new ≡ disk → damaged_in stores.merging ≡ Some place
+      → is_work (merge_turn stores) ≡ true → (IsTrue (facts.content disk).honest → ⊥)
       → Does facts before (seen facts new after count) Merge (Refused (Damaged place))
   step_damaged new after place same same_disk found work never =
       rw (same_disk, same) (refused facts disk stores count Merge (Damaged place) stands refl (refl, work_same ∙ work, damage_seen stores.merging ∙ found, never))
 
   -- a write or a sync failed
-  pub step_broke : (new : D) (after : EngineState) (fault : F) → SameDisk (facts.content disk) (facts.content new) → is_work (merge_turn stores) ≡ true → Breaks (facts.content disk) (facts.content new) stores
-      → Remaps [] (facts.content disk) (facts.content new) stores after → after.manifest.shape ≡ stores.manifest.shape → GaveAny facts.gave new fault → facts.failures new ≡ (facts.failures disk + 1) % 2 ^ 64
-      → MakesAtMost facts.writes facts.syncs (step_writes (merge_turn stores)) (step_syncs (merge_turn stores)) disk new → IsSound → Does facts before (seen_failed facts (basis_of (facts.content disk) stores) new after count) Merge (Refused (Device fault))
+  pub step_broke : (new : D) (after : EngineState) (fault : F) → SameDisk (facts.content disk) (facts.content new)
+      → is_work (merge_turn stores) ≡ true → Breaks (facts.content disk) (facts.content new) stores
+      → Remaps [] (facts.content disk) (facts.content new) stores after → after.manifest.shape ≡ stores.manifest.shape
+      → GaveAny facts.gave new fault → facts.failures new ≡ (facts.failures disk + 1) % 2 ^ 64
+      → MakesAtMost facts.writes facts.syncs (step_writes (merge_turn stores)) (step_syncs (merge_turn stores)) disk new → IsSound
+      → Does facts before (seen_failed facts (basis_of (facts.content disk) stores) new after count) Merge (Refused (Device fault))
   step_broke new after fault same work breaks remaps shape given counted most sound =
       broke facts disk new stores after same stands count Merge fault breaks shape remaps
       (inr (work_same ∙ work, record { given = given; counted = counted; failed = refl }), none_seen sound) counted (few_made (merge_turn stores) new most)

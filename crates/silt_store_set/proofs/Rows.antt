@@ -1,5 +1,6 @@
 -- What a put or a delete does, from what taking its row does.
-use Rattle.std.proofs.Common.{◌≡◌, ◌≢◌, ◌<◌, ◌≤◌, ℕ, ◌*◌, ◌==◌, Bool, true, if◌then◌else◌, Option, Some, None, ◌+◌, ◌%◌, ◌^◌, inl, inr, false, IsTrue, List, [], ◌∷◌, length, refl, ap, sym, ◌∙◌, subst, arith}
+use Rattle.std.proofs.Common.{◌≡◌, ◌≢◌, ◌<◌, ◌≤◌, ℕ, ◌*◌, ◌==◌, Bool, true, if◌then◌else◌, Option, Some, None, ◌+◌, ◌%◌, ◌^◌, inl, inr, false, IsTrue, List, []}
+use Rattle.std.proofs.Common.{◌∷◌, length, refl, ap, sym, ◌∙◌, subst, arith}
 use Rattle.std.proofs.lemmas.Bool.{ne_eqb}
 use Rattle.std.proofs.lemmas.List.{length-map}
 use Rattle.silt_disk.specs.Disk.{GaveAny, Makes, MakesAtMost}
@@ -31,7 +32,8 @@ use Rattle.silt_engine.specs.Conversion.{progress_due}
 use Rattle.silt_event.specs.declared.progress.Progress.{Progress as ProgressOf}
 use Rattle.silt_event.specs.declared.progress.Progress.TheVariants.{Idle, Waiting, Moved, Finished}
 use Rattle.silt_disk.specs.Layout.{InLimits, Shape}
-use Rattle.silt_store_set.specs.CoreState.{CoreState, AreAllInUse, Cause, convert_due, convert_work, written_of, Does, FailsBy, FailsRead, Freezes, HasFreeLog, IsStuck, MakesRow, MayWrite, Takes, most_syncs, most_writes, row_event, some_wait}
+use Rattle.silt_store_set.specs.CoreState.{CoreState, AreAllInUse, Cause, convert_due, convert_work, written_of, Does, FailsBy, FailsRead, Freezes, HasFreeLog}
+use Rattle.silt_store_set.specs.CoreState.{IsStuck, MakesRow, MayWrite, Takes, most_syncs, most_writes, row_event, some_wait}
 use Rattle.silt_store_set.proofs.Waits.{waits_same}
 use Rattle.silt_store_set.proofs.Calls.{seen, seen_failed, advanced, broke, refused}
 
@@ -72,7 +74,8 @@ module _ {D F : Type 0} (facts : Ghosts D F) (disk : D) (stores : EngineState) (
   before = seen facts disk stores count
 
   -- the rows of the active log are the same in memory and in the full image
-  rows_are : IsTrue (facts.content disk).honest → all_rows (facts.content disk) stores.active.log ≡ log_rows stores.manifest.shape stores.manifest.current.active (full_image (facts.content disk) stores)
+  rows_are : IsTrue (facts.content disk).honest → all_rows (facts.content disk) stores.active.log ≡ log_rows stores.manifest.shape
+      stores.manifest.current.active (full_image (facts.content disk) stores)
   rows_are h = sym ((meaning (facts.content disk) stores stands).rows h)
 
   stopped : (next : CoreState D) (key : List ℕ) → NeedsNext (facts.content disk) stores key → IsStuck facts before next key
@@ -127,32 +130,40 @@ module _ {D F : Type 0} (facts : Ghosts D F) (disk : D) (stores : EngineState) (
   -- ---- the row was taken
 
   pub row_taken : (new : D) (after : EngineState) (k : Kind) (key : Key) (value : List ℕ) → MayWrite k before → SameDisk (facts.content disk) (facts.content new)
-      → Advances (command_of (stored_row k key value) ∷ []) (facts.content disk) (facts.content new) stores after → WritesKey (facts.content disk) (facts.content new) stores after key.0 (command_of (stored_row k key value)) → after.converting ≡ stores.converting → after.merging ≡ stores.merging → facts.failures new ≡ facts.failures disk
+      → Advances (command_of (stored_row k key value) ∷ []) (facts.content disk) (facts.content new) stores after
+      → WritesKey (facts.content disk) (facts.content new) stores after key.0 (command_of (stored_row k key value))
+      → after.converting ≡ stores.converting → after.merging ≡ stores.merging → facts.failures new ≡ facts.failures disk
       → engine.RowMakes facts disk new stores after → Does facts before (seen facts new after (count + 1)) (row_event k key value) (Accepted (count + 1))
   row_taken new after kind.Put key value may same goes taken converting merging counted made =
       advanced facts disk new stores after same stands (command_of (stored_row kind.Put key value) ∷ []) count (count + 1) (Put key value) (Accepted (count + 1)) goes (refl, refl) refl refl refl
-      (may, (takes new after (count + 1) key.0 _ same goes.stands taken, counted)) (λ m to e. e) (λ none. absurd (cc)) (λ _. converting) (λ _. merging) (λ _. tt) counted (row_made new after (count + 1) made)
+      (may, (takes new after (count + 1) key.0 _ same goes.stands taken, counted)) (λ m to e. e) (λ none. absurd (cc)) (λ _. converting)
+      (λ _. merging) (λ _. tt) counted (row_made new after (count + 1) made)
   row_taken new after kind.Delete key value may same goes taken converting merging counted made =
       advanced facts disk new stores after same stands (command_of (stored_row kind.Delete key value) ∷ []) count (count + 1) (Delete key) (Accepted (count + 1)) goes (refl, refl) refl refl refl
-      (may, (takes new after (count + 1) key.0 _ same goes.stands taken, counted)) (λ m to e. e) (λ none. absurd (cc)) (λ _. converting) (λ _. merging) (λ _. tt) counted (row_made new after (count + 1) made)
+      (may, (takes new after (count + 1) key.0 _ same goes.stands taken, counted)) (λ m to e. e) (λ none. absurd (cc)) (λ _. converting)
+      (λ _. merging) (λ _. tt) counted (row_made new after (count + 1) made)
 
   -- ---- a call failed
 
-  broke_cause : (next : CoreState D) (k : Kind) (key : Key) (value : List ℕ) (fault : F) → MayWrite k before → FailsBy facts before next fault → Cause facts before next (row_event k key value) (Refused (Device fault))
+  broke_cause : (next : CoreState D) (k : Kind) (key : Key) (value : List ℕ) (fault : F) → MayWrite k before → FailsBy facts before next fault
+      → Cause facts before next (row_event k key value) (Refused (Device fault))
   broke_cause next kind.Put key value fault may fails = (may, inr fails)
   broke_cause next kind.Delete key value fault may fails = (may, inr fails)
 
-  read_cause : (next : CoreState D) (k : Kind) (key : Key) (value : List ℕ) (fault : F) → MayWrite k before → FailsRead facts before next fault → Cause facts before next (row_event k key value) (Refused (Device fault))
+  read_cause : (next : CoreState D) (k : Kind) (key : Key) (value : List ℕ) (fault : F) → MayWrite k before → FailsRead facts before next fault
+      → Cause facts before next (row_event k key value) (Refused (Device fault))
   read_cause next kind.Put key value fault may fails = (may, inl fails)
   read_cause next kind.Delete key value fault may fails = (may, inl fails)
 
   pub row_broke : (new : D) (after : EngineState) (k : Kind) (key : Key) (value : List ℕ) (fault : F) → MayWrite k before → SameDisk (facts.content disk) (facts.content new)
       → Breaks (facts.content disk) (facts.content new) stores → Remaps [] (facts.content disk) (facts.content new) stores after → after.manifest.shape ≡ stores.manifest.shape
       → GaveAny facts.gave new fault → facts.failures new ≡ (facts.failures disk + 1) % 2 ^ 64
-      → MakesAtMost facts.writes facts.syncs (engine.freeze_writes stores) (engine.freeze_syncs stores) disk new → Does facts before (seen_failed facts (basis_of (facts.content disk) stores) new after count) (row_event k key value) (Refused (Device fault))
+      → MakesAtMost facts.writes facts.syncs (engine.freeze_writes stores) (engine.freeze_syncs stores) disk new
+      → Does facts before (seen_failed facts (basis_of (facts.content disk) stores) new after count) (row_event k key value) (Refused (Device fault))
   row_broke new after k key value fault may same breaks remaps shape given counted most =
       broke facts disk new stores after same stands count (row_event k key value) fault breaks shape remaps
-      (broke_cause (seen_failed facts (basis_of (facts.content disk) stores) new after count) k key value fault may (record { given = given; counted = counted; failed = refl })) counted (row_most new k key value most)
+      (broke_cause (seen_failed facts (basis_of (facts.content disk) stores) new after count) k key value fault may
+      (record { given = given; counted = counted; failed = refl })) counted (row_most new k key value most)
 
   -- ---- the row was refused
 
@@ -173,26 +184,32 @@ module _ {D F : Type 0} (facts : Ghosts D F) (disk : D) (stores : EngineState) (
   frozen_due least all = not_idle (length stores.manifest.current.frozen) (length stores.manifest.current.hashed) stores.manifest.shape.hashes (4 * stores.manifest.shape.buckets)
       (written_of (convert_work stores.converting)) (omega (arith, all, least, frozen_count))
 
-  no_room_cause : (k : Kind) (key : Key) (value : List ℕ) → 2 ≤ stores.manifest.shape.logs → MayWrite k before → NeedsNext (facts.content disk) stores key.0 → AllInUse stores → Cause facts before before (row_event k key value) (Refused NoRoom)
+  no_room_cause : (k : Kind) (key : Key) (value : List ℕ) → 2 ≤ stores.manifest.shape.logs → MayWrite k before
+      → NeedsNext (facts.content disk) stores key.0 → AllInUse stores → Cause facts before before (row_event k key value) (Refused NoRoom)
   no_room_cause kind.Put key value least may needs all = (may, (stopped before key.0 needs, all_in_use all, frozen_due least all))
   no_room_cause kind.Delete key value least may needs all = (may, (stopped before key.0 needs, all_in_use all, frozen_due least all))
 
-  pub row_no_room : (new : D) (after : EngineState) (k : Kind) (key : Key) (value : List ℕ) → 2 ≤ stores.manifest.shape.logs → MayWrite k before → after ≡ stores → new ≡ disk → NeedsNext (facts.content disk) stores key.0 → AllInUse stores
+  pub row_no_room : (new : D) (after : EngineState) (k : Kind) (key : Key) (value : List ℕ) → 2 ≤ stores.manifest.shape.logs
+      → MayWrite k before → after ≡ stores → new ≡ disk → NeedsNext (facts.content disk) stores key.0 → AllInUse stores
       → Does facts before (seen facts new after count) (row_event k key value) (Refused NoRoom)
   row_no_room new after k key value least may same_stores same_disk needs all = kept new after k key value NoRoom same_stores same_disk refl (no_room_cause k key value least may needs all)
 
-  spent_cause : (k : Kind) (key : Key) (value : List ℕ) → MayWrite k before → NeedsNext (facts.content disk) stores key.0 → (AllInUse stores → ⊥) → IsLastGeneration stores → Cause facts before before (row_event k key value) (Refused Spent)
+  spent_cause : (k : Kind) (key : Key) (value : List ℕ) → MayWrite k before → NeedsNext (facts.content disk) stores key.0
+      → (AllInUse stores → ⊥) → IsLastGeneration stores → Cause facts before before (row_event k key value) (Refused Spent)
   spent_cause kind.Put key value may needs free last = (refl, inr (may, (stopped before key.0 needs, has_free free, last)))
   spent_cause kind.Delete key value may needs free last = (refl, inr (may, (stopped before key.0 needs, has_free free, last)))
 
-  pub row_spent : (new : D) (after : EngineState) (k : Kind) (key : Key) (value : List ℕ) → MayWrite k before → after ≡ stores → new ≡ disk → NeedsNext (facts.content disk) stores key.0 → (AllInUse stores → ⊥) → IsLastGeneration stores
+  pub row_spent : (new : D) (after : EngineState) (k : Kind) (key : Key) (value : List ℕ) → MayWrite k before → after ≡ stores
+      → new ≡ disk → NeedsNext (facts.content disk) stores key.0 → (AllInUse stores → ⊥) → IsLastGeneration stores
       → Does facts before (seen facts new after count) (row_event k key value) (Refused Spent)
   row_spent new after k key value may same_stores same_disk needs free last = kept new after k key value Spent same_stores same_disk refl (spent_cause k key value may needs free last)
 
-  memory_cause : (k : Kind) (key : Key) (value : List ℕ) → MayWrite k before → NeedsNext (facts.content disk) stores key.0 → (AllInUse stores → ⊥) → (IsLastGeneration stores → ⊥) → Cause facts before before (row_event k key value) (Refused NoMemory)
+  memory_cause : (k : Kind) (key : Key) (value : List ℕ) → MayWrite k before → NeedsNext (facts.content disk) stores key.0
+      → (AllInUse stores → ⊥) → (IsLastGeneration stores → ⊥) → Cause facts before before (row_event k key value) (Refused NoMemory)
   memory_cause kind.Put key value may needs free more = (may, (stopped before key.0 needs, has_free free, more))
   memory_cause kind.Delete key value may needs free more = (may, (stopped before key.0 needs, has_free free, more))
 
-  pub row_no_memory : (new : D) (after : EngineState) (k : Kind) (key : Key) (value : List ℕ) → MayWrite k before → after ≡ stores → new ≡ disk → NeedsNext (facts.content disk) stores key.0 → (AllInUse stores → ⊥) → (IsLastGeneration stores → ⊥)
+  pub row_no_memory : (new : D) (after : EngineState) (k : Kind) (key : Key) (value : List ℕ) → MayWrite k before → after ≡ stores
+      → new ≡ disk → NeedsNext (facts.content disk) stores key.0 → (AllInUse stores → ⊥) → (IsLastGeneration stores → ⊥)
       → Does facts before (seen facts new after count) (row_event k key value) (Refused NoMemory)
   row_no_memory new after k key value may same_stores same_disk needs free more = kept new after k key value NoMemory same_stores same_disk refl (memory_cause k key value may needs free more)

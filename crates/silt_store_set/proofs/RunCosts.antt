@@ -1,5 +1,6 @@
 -- How many writes and syncs runs make, from what each call makes.
-use Rattle.std.proofs.Common.{◌≡◌, ◌≢◌, ◌≤◌, ℕ, zero, suc, ◌+◌, ◌*◌, ◌==◌, Bool, true, false, if◌then◌else◌, IsTrue, List, [], ◌∷◌, ◌++◌, length, Option, Some, None, inl, inr, refl, ap, sym, ◌∙◌, subst, arith}
+use Rattle.std.proofs.Common.{◌≡◌, ◌≢◌, ◌≤◌, ℕ, zero, suc, ◌+◌, ◌*◌, ◌==◌, Bool, true, false, if◌then◌else◌, IsTrue, List, [], ◌∷◌, ◌++◌, length, Option, Some}
+use Rattle.std.proofs.Common.{None, inl, inr, refl, ap, sym, ◌∙◌, subst, arith}
 use Rattle.std.specs.Prelude.{◌&&◌}
 use Rattle.std.specs.List.{list_all}
 use Rattle.silt_disk.specs.declared.disk.Disk.{Ghosts}
@@ -209,7 +210,8 @@ module _ {D F : Type 0} (facts : Ghosts D F) where
       let rest = rows_made next new events replies there fronts.1 is runs.2 in
       let after : HasMade facts next new (2 * length (accepted_commands events replies) + settling (waits_after (some_wait old.waiting) reply) replies + 4 * rest.freezes + rest.waited)
       (2 * settling (waits_after (some_wait old.waiting) reply) replies + 4 * rest.freezes + 2 * rest.waited)
-      = subst (λ (n : ℕ). HasMade facts next new (2 * length (accepted_commands events replies) + settling n replies + 4 * rest.freezes + rest.waited) (2 * settling n replies + 4 * rest.freezes + 2 * rest.waited))
+      = subst (λ (n : ℕ). HasMade facts next new (2 * length (accepted_commands events replies) + settling n replies + 4 * rest.freezes + rest.waited)
+      (2 * settling n replies + 4 * rest.freezes + 2 * rest.waited))
       one.waits rest.made in
       let long : length (accepted_command event reply ++ accepted_commands events replies) ≡ length (accepted_command event reply) + length (accepted_commands events replies)
       = length-append (accepted_command event reply) (accepted_commands events replies) in

@@ -33,7 +33,8 @@ module _ {D F : Type 0} (facts : Ghosts D F) (disk : D) (stores : EngineState) (
   left_in honest (Some merge) merging merged =
       let decided : merge.decided ≤ key_count (sources (facts.content disk).shown (oldest_stores merge.stores stores.hashes) stores.sorted) =
       (merged.0.merged honest (taken_sound (facts.content disk) stores stands honest merge.stores)).gathered.most in
-      let keys : key_count (merge_sources merge.stores (full_stores (facts.content disk) stores)) ≡ key_count (sources (facts.content disk).shown (oldest_stores merge.stores stores.hashes) stores.sorted) =
+      let keys : key_count (merge_sources merge.stores (full_stores (facts.content disk) stores)) ≡ key_count
+      (sources (facts.content disk).shown (oldest_stores merge.stores stores.hashes) stores.sorted) =
       ap key_count (sources_full (facts.content disk) stores stands honest merge.stores) in
       let slots : merge.stores * (4 * merge.shape.buckets) ≡ merge.stores * (4 * stores.manifest.shape.buckets) = ap (λ (s : Shape). merge.stores * (4 * s.buckets)) merging.has_shape in
       omega (arith, decided, keys, slots, few_gathered merge merging.held)
@@ -42,7 +43,8 @@ module _ {D F : Type 0} (facts : Ghosts D F) (disk : D) (stores : EngineState) (
   left honest = left_in honest stores.merging stands.whole.merging stands.merged
 
 -- of the store that contracts see
-pub left_seen : {D F : Type 0} (facts : Ghosts D F) (disk : D) (stores : EngineState) (count : ℕ) (failed : Bool) (basis : BasisState) (core : CoreState D) → seen_core facts disk stores count failed basis ≡ core
+pub left_seen : {D F : Type 0} (facts : Ghosts D F) (disk : D) (stores : EngineState) (count : ℕ) (failed : Bool) (basis : BasisState) (core : CoreState D)
+    → seen_core facts disk stores count failed basis ≡ core
     → IsCore (facts.content disk) stores count failed basis → core.failed ≡ false → IsTrue (facts.content core.disk).honest → IfSome core.merging (IsWithinSteps core)
 left_seen facts disk stores count failed basis core is holds =
     subst (λ (c : CoreState _). c.failed ≡ false → IsTrue (facts.content c.disk).honest → IfSome c.merging (IsWithinSteps c)) is

@@ -32,7 +32,8 @@ steps_nothing key (Some value) = (refl, refl)
 steps_nothing key None = (refl, refl)
 
 -- a map's step of that event is that of a swap of the value that the key has
-step_swapped : {F : Type 0} (m to : Map) (key : Key) (expected value : Option (List ℕ)) (reply : Reply F) → get m key.0 ≡ expected → Step m (setting_event key value) reply to → Step m (Swap key expected value) reply to
+step_swapped : {F : Type 0} (m to : Map) (key : Key) (expected value : Option (List ℕ)) (reply : Reply F) → get m key.0 ≡ expected
+    → Step m (setting_event key value) reply to → Step m (Swap key expected value) reply to
 step_swapped m to key expected (Some value) (Accepted n) has step = (has, step)
 step_swapped m to key expected (Some value) (Refused refusal) has step = step
 step_swapped m to key expected (Some value) reply has step = absurd step
@@ -103,7 +104,8 @@ module _ {D F : Type 0} (facts : Ghosts D F) where
 
   module _ (disk : D) (stores : EngineState) (count : ℕ) (key : Key) (stands : Stands (facts.content disk) stores) where
     -- a value was found, and one is expected: the key has that one exactly if both are equal
-    pub holds_found : (expected : List ℕ) (same : Bool) (out : List ℕ) → (IsTrue (facts.content disk).honest → get (current_map (facts.content disk) stores) key.0 ≡ Some out) → IsTrue same ↔ (out ≡ expected)
+    pub holds_found : (expected : List ℕ) (same : Bool) (out : List ℕ)
+        → (IsTrue (facts.content disk).honest → get (current_map (facts.content disk) stores) key.0 ≡ Some out) → IsTrue same ↔ (out ≡ expected)
         → IsTrue (facts.content disk).honest → IsTrue same ↔ (get (image_map (full_image (facts.content disk) stores)) key.0 ≡ Some expected)
     holds_found expected same out there is h =
         let has_out = looked_up facts disk stores count key stands (Some out) there h in

@@ -1,5 +1,6 @@
 -- What contracts see of a store, and what its calls do.
-use Rattle.std.specs.Prelude.{◌≡◌, ◌≢◌, ◌≤◌, ◌<◌, ◌-◌, ◌*◌, ◌^◌, ◌%◌, ◌/◌, ◌==◌, ◌&&◌, ◌⊎◌, ℕ, ◌+◌, not, nat_lt, if◌then◌else◌, Option, Some, None, Bool, true, false, IsTrue, IsSomeAnd, List, [], ◌∷◌, ◌++◌, drop, filter, flat_map, get_or, length, slice_get, take, is_some, nat_le, ◌||◌}
+use Rattle.std.specs.Prelude.{◌≡◌, ◌≢◌, ◌≤◌, ◌<◌, ◌-◌, ◌*◌, ◌^◌, ◌%◌, ◌/◌, ◌==◌, ◌&&◌, ◌⊎◌, ℕ, ◌+◌, not, nat_lt, if◌then◌else◌, Option, Some, None, Bool, true}
+use Rattle.std.specs.Prelude.{false, IsTrue, IsSomeAnd, List, [], ◌∷◌, ◌++◌, drop, filter, flat_map, get_or, length, slice_get, take, is_some, nat_le, ◌||◌}
 use Rattle.std.specs.FinMap.{get}
 use Rattle.std.specs.Option.{option_map}
 use Rattle.silt_disk.specs.Disk.{Content, GaveAny, LeavesOnly, Makes, MakesAtMost}
@@ -394,7 +395,8 @@ module _ {D F : Type 0} (facts : Ghosts D F) (old new : CoreState D) where
   -- a step of merging does the next thing that is due, and only the last one writes the manifest. A merge that has found a store damaged is
   -- refused at each step, with that store, and no other merge is. On an honest disk none is.
   abbrev pub MergeCause : Reply F → Type 0
-  MergeCause (Progress progress) = (old.failed ≡ false) × IsMergeDue facts old progress × AnswersMerge progress × (facts.failures new.disk ≡ facts.failures old.disk) × (found_damaged old.merging ≡ None)
+  MergeCause (Progress progress) = (old.failed ≡ false) × IsMergeDue facts old progress × AnswersMerge progress
+      × (facts.failures new.disk ≡ facts.failures old.disk) × (found_damaged old.merging ≡ None)
   MergeCause (Refused Failed) = old.failed ≡ true
   MergeCause (Refused Spent) = (old.failed ≡ false) × IsMergeDue facts old Finished × (old.body.generation ≡ last_generation) × (found_damaged old.merging ≡ None)
   MergeCause (Refused NoMemory) = (old.failed ≡ false) × MergeLacksMemory × (found_damaged old.merging ≡ None)

@@ -1,5 +1,6 @@
 -- Lemmas on keys in rising order.
-use Rattle.std.proofs.Common.{◌≡◌, ℕ, ◌+◌, ◌-◌, ◌^◌, ◌<◌, ◌≤◌, true, List, [], ◌∷◌, ◌++◌, length, take, get_or, inl, inr, ◌*◌, Option, Some, None, refl, sym, ap, ◌∙◌, subst, arith, Ordering, nat_cmp, is_lt, Less, Equal, Greater}
+use Rattle.std.proofs.Common.{◌≡◌, ℕ, ◌+◌, ◌-◌, ◌^◌, ◌<◌, ◌≤◌, true, List, [], ◌∷◌, ◌++◌, length, take, get_or, inl, inr, ◌*◌, Option, Some, None, refl, sym}
+use Rattle.std.proofs.Common.{ap, ◌∙◌, subst, arith, Ordering, nat_cmp, is_lt, Less, Equal, Greater}
 use Rattle.std.proofs.lemmas.List.{append_assoc, get_or_push, length_push, map-append}
 use Rattle.std.proofs.lemmas.List.Elements.{All-push}
 use Rattle.std.specs.Cmp.Lexicographic.{slice_cmp}
@@ -52,9 +53,11 @@ last_key keys last end =
     ap (λ (ks : List (List ℕ)). get_or ks (length keys - 1) []) end.1 ∙ get_or_push front last.0 [] (length keys - 1) (omega arith)
 
 -- keys with one more can be coded
-pub codable_next : (keys : List (List ℕ)) (o : Option Key) (key : List ℕ) → IsCodable keys 0 → length keys + 2 < 2 ^ 32 → EndWith keys o → ((before : Key) → o ≡ Some before → MayFollow before.0 key) → IsCodable (keys ++ key ∷ []) 0
+pub codable_next : (keys : List (List ℕ)) (o : Option Key) (key : List ℕ) → IsCodable keys 0 → length keys + 2 < 2 ^ 32 → EndWith keys o
+    → ((before : Key) → o ≡ Some before → MayFollow before.0 key) → IsCodable (keys ++ key ∷ []) 0
 codable_next keys None key codable few end next = let none = ap length end in codable_push 0 keys key codable few (λ some. absurd (omega arith))
-codable_next keys (Some last) key codable few end next = codable_push 0 keys key codable few (λ some. subst (λ (before : List ℕ). Follows 0 before key) (sym (last_key keys last end)) (next last refl).above)
+codable_next keys (Some last) key codable few end next =
+    codable_push 0 keys key codable few (λ some. subst (λ (before : List ℕ). Follows 0 before key) (sym (last_key keys last end)) (next last refl).above)
 
 -- the group of a key that may come next is no earlier one
 pub group_later : (o : Option Key) (key : List ℕ) → ((before : Key) → o ≡ Some before → MayFollow before.0 key) → group_under_way o ≤ group_of key
@@ -62,7 +65,8 @@ group_later None key next = omega arith
 group_later (Some last) key next = (next last refl).later
 
 -- the present group with one more key
-pub group_push : (n : ℕ) (keys : List (List ℕ)) (key : Key) (old new : Building) → HasGroups n keys old → group_of key.0 ≡ n → new.code ≡ old.code → new.marks ≡ old.marks → new.levels ≡ old.levels → new.group ≡ old.group ++ key ∷ [] → new.count ≡ old.count + 1 → HasGroups n (keys ++ key.0 ∷ []) new
+pub group_push : (n : ℕ) (keys : List (List ℕ)) (key : Key) (old new : Building) → HasGroups n keys old → group_of key.0 ≡ n
+    → new.code ≡ old.code → new.marks ≡ old.marks → new.levels ≡ old.levels → new.group ≡ old.group ++ key ∷ [] → new.count ≡ old.count + 1 → HasGroups n (keys ++ key.0 ∷ []) new
 group_push n keys key old new has here code marks levels group count =
     let more : bytes_of new.group ≡ bytes_of old.group ++ key.0 ∷ [] = ap bytes_of group ∙ bytes_push old.group key in
     let counted = has.count_is in
@@ -117,14 +121,16 @@ waiting_push n old now key new held comes group few next new_is =
       | inr upto ↦ omega arith
     ] in
     let place : length (bytes_of now.group) - 1 ≡ length now.group - 1 = omega arith in
-    let bytes : get_or (bytes_of now.group) (length (bytes_of now.group) - 1) [] ≡ before.0 = ap (λ (i : ℕ). get_or (bytes_of now.group) i []) place ∙ bytes_at now.group (length now.group - 1) key (omega arith) in
+    let bytes : get_or (bytes_of now.group) (length (bytes_of now.group) - 1) [] ≡ before.0 =
+    ap (λ (i : ℕ). get_or (bytes_of now.group) i []) place ∙ bytes_at now.group (length now.group - 1) key (omega arith) in
     subst (λ (ks : List ℕ). Follows 8 ks key.0) (sym bytes) (above.grouped here) in
     let codable = codable_push 8 (bytes_of now.group) key.0 held.codable (omega arith) first in
     subst (λ (ks : List (List ℕ)). IsCodable ks 8) (sym (ap bytes_of new_is ∙ bytes_push now.group key)) codable
 
 -- what holds stays true with one more key
 pub held_push : (n : ℕ) (old now new : Building) (key : Key) → IsHeldBuilding old → ComesTo n old now → n ≡ group_of key.0 → old.count + 2 < 2 ^ 32
-    → ((before : Key) → old.last ≡ Some before → MayFollow before.0 key.0) → new.group ≡ now.group ++ key ∷ [] → new.count ≡ now.count + 1 → new.last ≡ Some key → new.levels ≡ now.levels → IsHeldBuilding new
+    → ((before : Key) → old.last ≡ Some before → MayFollow before.0 key.0) → new.group ≡ now.group ++ key ∷ [] → new.count ≡ now.count + 1
+    → new.last ≡ Some key → new.levels ≡ now.levels → IsHeldBuilding new
 held_push n old now new key held comes group few next group_is count last levels =
     let held_now = held_next n old now held comes in
     let most = held_now.levels in
@@ -135,12 +141,14 @@ held_push n old now new key held comes group few next group_is count last levels
       levels = (omega arith, omega arith);
       few = (omega arith, omega arith);
       codable = waiting_push n old now key new.group held_now comes group (omega arith) next group_is;
-      last_is = λ other some. last ∙ ap (λ (k : Key). Some k) (sym (ap (λ (ks : List Key). get_or ks (length new.group - 1) other) group_is ∙ get_or_push now.group key other (length new.group - 1) (omega arith)));
+      last_is = λ other some. last ∙ ap (λ (k : Key). Some k)
+          (sym (ap (λ (ks : List Key). get_or ks (length new.group - 1) other) group_is ∙ get_or_push now.group key other (length new.group - 1) (omega arith)));
     }
 
 -- and the trie is built with it
 pub built_push : (n : ℕ) (old now new : Building) (key : Key) (keys : List (List ℕ)) → IsBuildingOf keys old → ComesTo n old now → n ≡ group_of key.0 → old.count + 2 < 2 ^ 32
-    → ((before : Key) → old.last ≡ Some before → MayFollow before.0 key.0) → new.group ≡ now.group ++ key ∷ [] → new.count ≡ now.count + 1 → new.last ≡ Some key → new.levels ≡ now.levels → new.code ≡ now.code → new.marks ≡ now.marks → IsBuildingOf (keys ++ key.0 ∷ []) new
+    → ((before : Key) → old.last ≡ Some before → MayFollow before.0 key.0) → new.group ≡ now.group ++ key ∷ [] → new.count ≡ now.count + 1
+    → new.last ≡ Some key → new.levels ≡ now.levels → new.code ≡ now.code → new.marks ≡ now.marks → IsBuildingOf (keys ++ key.0 ∷ []) new
 built_push n old now new key keys building comes group few next group_is count last levels code marks =
     let later = group_later old.last key.0 next in
     let counted = building.groups.count_is in

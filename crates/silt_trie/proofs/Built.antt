@@ -1,5 +1,6 @@
 -- Lemmas on a trie that is built from keys one after the other.
-use Rattle.std.proofs.Common.{◌≡◌, ℕ, ◌+◌, ◌-◌, ◌*◌, ◌^◌, ◌<◌, ◌≤◌, List, [], ◌∷◌, ◌++◌, length, take, Option, None, Result, IfOk, refl, sym, ap, ◌∙◌, subst, arith, append-nil, length-append, take_all}
+use Rattle.std.proofs.Common.{◌≡◌, ℕ, ◌+◌, ◌-◌, ◌*◌, ◌^◌, ◌<◌, ◌≤◌, List, [], ◌∷◌, ◌++◌, length, take, Option, None, Result, IfOk, refl, sym, ap, ◌∙◌, subst}
+use Rattle.std.proofs.Common.{arith, append-nil, length-append, take_all}
 use Rattle.std.proofs.lemmas.List.Elements.{All-append}
 use Rattle.std.proofs.lemmas.Result.{IfOk-weaker}
 use Rattle.silt_frame.specs.declared.key.Key.{Key}
@@ -38,7 +39,8 @@ built_none b code marks group count last =
     }
 
 -- the present group is coded
-pub coded_group : (n : ℕ) (keys : List (List ℕ)) (old new : Building) (place : ℕ) → n < 256 → HasGroups n keys old → 8 ≤ old.levels → old.levels ≡ new.levels → old.count ≡ new.count → new.group ≡ [] → place ≡ old.count - length old.group
+pub coded_group : (n : ℕ) (keys : List (List ℕ)) (old new : Building) (place : ℕ) → n < 256 → HasGroups n keys old → 8 ≤ old.levels
+    → old.levels ≡ new.levels → old.count ≡ new.count → new.group ≡ [] → place ≡ old.count - length old.group
     → new.code ≡ old.code ++ trie_code (bytes_of old.group) 8 → new.marks ≡ old.marks ++ marks_of (old.levels - 8) 0 (bytes_of old.group) 8 (length old.code) place → HasGroups (n + 1) keys new
 coded_group n keys old new place small has most levels count none place_is code marks =
     let k = old.levels - 8 in
@@ -66,7 +68,8 @@ coded_group n keys old new place small has most levels count none place_is code 
     }
 
 -- once all groups are coded, it is made of all keys
-pub made_of : (keys : List (List ℕ)) (b : Building) (made : MarkedCode) → IsCodable keys 0 → HasGroups 256 keys b → 8 ≤ b.levels → made ≡ record { code = b.code; marks = b.marks ++ mark_behind b.code b.count ∷ []; count = b.count; depth = 0; groups = 8; levels = b.levels } → IsMadeOf keys made
+pub made_of : (keys : List (List ℕ)) (b : Building) (made : MarkedCode) → IsCodable keys 0 → HasGroups 256 keys b → 8 ≤ b.levels
+    → made ≡ record { code = b.code; marks = b.marks ++ mark_behind b.code b.count ∷ []; count = b.count; depth = 0; groups = 8; levels = b.levels } → IsMadeOf keys made
 made_of keys b made codable has most made_is =
     let done = has.done in
     let none : bytes_of b.group ≡ [] = none_below (λ key. group_of key ≡ 256) (bytes_of b.group) (λ key is. let small = number_below 8 0 key in omega arith) has.alike in
@@ -94,7 +97,8 @@ pub record CodesGroups (first at count levels : ℕ) (keys waiting : List Key) (
   pub grown : Grows old code × Grows before marks
 
 -- no group is coded yet
-pub codes_none : (first count levels : ℕ) (keys : List Key) (old : List ℕ) (before : List Mark) → IsCodable (bytes_of keys) 8 → length keys ≤ count → CodesGroups first first count levels keys keys old old before before
+pub codes_none : (first count levels : ℕ) (keys : List Key) (old : List ℕ) (before : List Mark) → IsCodable (bytes_of keys) 8
+    → length keys ≤ count → CodesGroups first first count levels keys keys old old before before
 codes_none first count levels keys old before codable few = record {
   from = omega arith;
   coded = λ all last has. has;
@@ -105,7 +109,8 @@ codes_none first count levels keys old before codable few = record {
 }
 
 -- one group more
-pub codes_more : (first at count levels place : ℕ) (keys waiting : List Key) (old code new_code : List ℕ) (before marks new_marks : List Mark) → at < 256 → 8 ≤ levels → CodesGroups first at count levels keys waiting old code before marks
+pub codes_more : (first at count levels place : ℕ) (keys waiting : List Key) (old code new_code : List ℕ) (before marks new_marks : List Mark)
+    → at < 256 → 8 ≤ levels → CodesGroups first at count levels keys waiting old code before marks
     → place ≡ count - length waiting → new_code ≡ code ++ trie_code (bytes_of waiting) 8 → new_marks ≡ marks ++ marks_of (levels - 8) 0 (bytes_of waiting) 8 (length code) place
     → CodesGroups first (at + 1) count levels keys [] old new_code before new_marks
 codes_more first at count levels place keys waiting old code new_code before marks new_marks small most codes place_is code_is marks_is =
@@ -113,7 +118,8 @@ codes_more first at count levels place keys waiting old code new_code before mar
     record {
       from = omega arith;
       coded = λ all last has.
-          coded_group at all (record { code = code; marks = marks; group = waiting; count = count; last = last; levels = levels }) (record { code = new_code; marks = new_marks; group = []; count = count; last = last; levels = levels })
+          coded_group at all (record { code = code; marks = marks; group = waiting; count = count; last = last; levels = levels })
+          (record { code = new_code; marks = new_marks; group = []; count = count; last = last; levels = levels })
           place small (codes.coded all last has) most refl refl refl place_is code_is marks_is;
       empty = λ h. refl;
       codable = codable_none 8;
@@ -140,7 +146,8 @@ comes_no_further n from b now start upto is = subst (λ (x : Building). ComesTo 
 })
 
 -- the groups before are coded
-pub comes_to : (n from : ℕ) (b now : Building) (code : List ℕ) (marks : List Mark) (keys none : List Key) → from ≡ group_under_way b.last → from < n → keys ≡ b.group → none ≡ [] → now ≡ record { code = code; marks = marks; group = none; count = b.count; last = b.last; levels = b.levels }
+pub comes_to : (n from : ℕ) (b now : Building) (code : List ℕ) (marks : List Mark) (keys none : List Key) → from ≡ group_under_way b.last
+    → from < n → keys ≡ b.group → none ≡ [] → now ≡ record { code = code; marks = marks; group = none; count = b.count; last = b.last; levels = b.levels }
     → ((all : List (List ℕ)) (last : Option Key) → HasGroups from all (record { code = b.code; marks = b.marks; group = keys; count = b.count; last = last; levels = b.levels })
     → HasGroups n all (record { code = code; marks = marks; group = []; count = b.count; last = last; levels = b.levels })) → ComesTo n b now
 comes_to n from b now code marks keys none start later keys_are none_is is coded =

@@ -99,12 +99,14 @@ deep_few d keys codable deep = elim (cases_lt (length keys) 2) [
 ]
 
 -- the two parts of a slice of keys are the two sides
-pub bytes_lefts : (d left : ℕ) (keys lefts : List Key) → IsCodable (bytes_of keys) d → left ≡ length (with_bit 0 d (bytes_of keys)) → lefts ≡ take left keys → bytes_of lefts ≡ with_bit 0 d (bytes_of keys)
+pub bytes_lefts : (d left : ℕ) (keys lefts : List Key) → IsCodable (bytes_of keys) d → left ≡ length (with_bit 0 d (bytes_of keys))
+    → lefts ≡ take left keys → bytes_of lefts ≡ with_bit 0 d (bytes_of keys)
 bytes_lefts d left keys lefts codable count is =
     ap bytes_of is ∙ sym (take-map (λ (key : Key). key.0) left keys) ∙ ap (λ (n : ℕ). take n (bytes_of keys)) count ∙ sym ((divides d (bytes_of keys) codable).lefts)
 
 -- the second part of a slice of keys is the right side
-pub bytes_rights : (d left : ℕ) (keys rights : List Key) → IsCodable (bytes_of keys) d → left ≡ length (with_bit 0 d (bytes_of keys)) → rights ≡ drop left keys → bytes_of rights ≡ with_bit 1 d (bytes_of keys)
+pub bytes_rights : (d left : ℕ) (keys rights : List Key) → IsCodable (bytes_of keys) d → left ≡ length (with_bit 0 d (bytes_of keys))
+    → rights ≡ drop left keys → bytes_of rights ≡ with_bit 1 d (bytes_of keys)
 bytes_rights d left keys rights codable count is =
     ap bytes_of is ∙ sym (drop-map (λ (key : Key). key.0) left keys) ∙ ap (λ (n : ℕ). drop n (bytes_of keys)) count ∙ sym ((divides d (bytes_of keys) codable).rights)
 
@@ -117,8 +119,10 @@ pub length-bytes_of : (keys : List Key) → length (bytes_of keys) ≡ length ke
 length-bytes_of keys = length-map keys (λ (key : Key). key.0)
 
 -- the code of keys, written part by part
-pub written : (d left : ℕ) (keys : List Key) (lefts rights : List Key) (old first second third : List ℕ) → IsCodable (bytes_of keys) d → 2 ≤ length keys → d < 160 → left ≡ length (with_bit 0 d (bytes_of keys))
-    → lefts ≡ take left keys → rights ≡ drop left keys → first ≡ old ++ gamma_code (left + 1) → second ≡ first ++ trie_code (bytes_of lefts) (d + 1) → third ≡ second ++ trie_code (bytes_of rights) (d + 1)
+pub written : (d left : ℕ) (keys : List Key) (lefts rights : List Key) (old first second third : List ℕ) → IsCodable (bytes_of keys) d
+    → 2 ≤ length keys → d < 160 → left ≡ length (with_bit 0 d (bytes_of keys))
+    → lefts ≡ take left keys → rights ≡ drop left keys → first ≡ old ++ gamma_code (left + 1) → second ≡ first ++ trie_code (bytes_of lefts) (d + 1)
+    → third ≡ second ++ trie_code (bytes_of rights) (d + 1)
     → third ≡ old ++ trie_code (bytes_of keys) d
 written d left keys lefts rights old first second third codable many within count front back one two three =
     let size = length-bytes_of keys in
@@ -130,7 +134,8 @@ written d left keys lefts rights old first second third codable many within coun
     ∙ ap (λ (ks : List (List ℕ)). gamma_code (left + 1) ++ trie_code ks (d + 1) ++ trie_code (with_bit 1 d (bytes_of keys)) (d + 1)) (sym (bytes_lefts d left keys lefts codable count front))
     ∙ ap (λ (ks : List (List ℕ)). gamma_code (left + 1) ++ ls ++ trie_code ks (d + 1)) (sym (bytes_rights d left keys rights codable count back))
     in
-    three ∙ ap (λ (xs : List ℕ). xs ++ rs) (two ∙ ap (λ (xs : List ℕ). xs ++ ls) one ∙ append_assoc old (gamma_code (left + 1)) ls) ∙ append_assoc old (gamma_code (left + 1) ++ ls) rs ∙ ap (λ (xs : List ℕ). old ++ xs) (sym whole)
+    three ∙ ap (λ (xs : List ℕ). xs ++ rs) (two ∙ ap (λ (xs : List ℕ). xs ++ ls) one ∙ append_assoc old (gamma_code (left + 1)) ls)
+    ∙ append_assoc old (gamma_code (left + 1) ++ ls) rs ∙ ap (λ (xs : List ℕ). old ++ xs) (sym whole)
 
 -- bits behind a code that is empty
 pub after_none : (keys : List (List ℕ)) (d : ℕ) (bits rest : List ℕ) → IsCodable keys d → (length keys < 2) ⊎ (160 ≤ d) → bits ≡ trie_code keys d ++ rest → bits ≡ rest
@@ -143,7 +148,8 @@ only_place keys d i key codable (inl few) stands = let within = stands.0 in omeg
 only_place keys d i key codable (inr deep) stands = let few = deep_few d keys codable deep in let within = stands.0 in omega arith
 
 -- neighbours among keys are neighbours among their bytes
-pub follows_at : (d i : ℕ) (keys : List Key) (key : Key) → 1 ≤ i → i < length keys → Follows d (get_or keys (i - 1) key).0 (get_or keys i key).0 → Follows d (get_or (bytes_of keys) (i - 1) []) (get_or (bytes_of keys) (i - 1 + 1) [])
+pub follows_at : (d i : ℕ) (keys : List Key) (key : Key) → 1 ≤ i → i < length keys → Follows d (get_or keys (i - 1) key).0 (get_or keys i key).0
+    → Follows d (get_or (bytes_of keys) (i - 1) []) (get_or (bytes_of keys) (i - 1 + 1) [])
 follows_at d i keys key some within next =
     let e : i - 1 + 1 ≡ i = omega arith in
     rw (e, bytes_at keys (i - 1) key (omega arith), bytes_at keys i key within) next

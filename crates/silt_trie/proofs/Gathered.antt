@@ -9,7 +9,8 @@ pub codable_none : (d : ℕ) → IsCodable [] d
 codable_none d = record { few = omega arith; rising = λ i h. absurd (omega arith) }
 
 -- and so can one key more that follows the last one
-pub codable_push : (d : ℕ) (keys : List (List ℕ)) (key : List ℕ) → IsCodable keys d → length keys + 2 < 2 ^ 32 → (0 < length keys → Follows d (get_or keys (length keys - 1) []) key) → IsCodable (keys ++ key ∷ []) d
+pub codable_push : (d : ℕ) (keys : List (List ℕ)) (key : List ℕ) → IsCodable keys d → length keys + 2 < 2 ^ 32
+    → (0 < length keys → Follows d (get_or keys (length keys - 1) []) key) → IsCodable (keys ++ key ∷ []) d
 codable_push d keys key codable few next =
     let count = length_push keys key in
     let n = length keys in

@@ -52,7 +52,8 @@ high_half g d key high =
 -- keys that all have this bit stay
 all_kept : (bit d : ℕ) (keys : List (List ℕ)) → All (λ key. bit_of d key ≡ bit) keys → with_bit bit d keys ≡ keys
 all_kept bit d [] all = refl
-all_kept bit d (key ∷ keys) all = kept bit d key keys (All-head (λ key. bit_of d key ≡ bit) key keys all) ∙ ap (λ (ks : List (List ℕ)). key ∷ ks) (all_kept bit d keys (All-tail (λ key. bit_of d key ≡ bit) key keys all))
+all_kept bit d (key ∷ keys) all = kept bit d key keys (All-head (λ key. bit_of d key ≡ bit) key keys all)
+    ∙ ap (λ (ks : List (List ℕ)). key ∷ ks) (all_kept bit d keys (All-tail (λ key. bit_of d key ≡ bit) key keys all))
 
 -- of keys that all have another bit none stays
 none_kept : (bit other d : ℕ) (keys : List (List ℕ)) → (other ≡ bit → ⊥) → All (λ key. bit_of d key ≡ other) keys → with_bit bit d keys ≡ []
@@ -92,7 +93,8 @@ highs_lower g n d keys high all k other h =
 
 -- keys with bit 1 behind others change nothing on the left
 lefts_stay : (d : ℕ) (xs ys : List (List ℕ)) → All (λ key. bit_of d key ≡ 1) ys → with_bit 0 d (xs ++ ys) ≡ with_bit 0 d xs
-lefts_stay d xs ys high = filter-append (λ key. bit_of d key == 0) xs ys ∙ ap (λ (ks : List (List ℕ)). with_bit 0 d xs ++ ks) (none_kept 0 1 d ys (λ e. absurd (omega arith)) high) ∙ append-nil (with_bit 0 d xs)
+lefts_stay d xs ys high = filter-append (λ key. bit_of d key == 0) xs ys
+    ∙ ap (λ (ks : List (List ℕ)). with_bit 0 d xs ++ ks) (none_kept 0 1 d ys (λ e. absurd (omega arith)) high) ∙ append-nil (with_bit 0 d xs)
 
 -- and come last on the right
 rights_grow : (d : ℕ) (xs ys : List (List ℕ)) → All (λ key. bit_of d key ≡ 1) ys → with_bit 1 d (xs ++ ys) ≡ with_bit 1 d xs ++ ys
@@ -125,7 +127,8 @@ pub code_grows : (g n d e : ℕ) (xs ys : List (List ℕ)) → d + g ≡ e → A
 code_grows zero n d e xs ys deep lower alike small =
     let none : xs ≡ [] = none_below (λ key. number_at zero d key < n) xs (λ key below. omega arith) lower in
     let same : d ≡ e = omega arith in
-    ap (λ (ks : List (List ℕ)). trie_code (ks ++ ys) d) none ∙ ap (λ (x : ℕ). trie_code ys x) same ∙ sym (ap (λ (ks : List (List ℕ)). trie_code ks d ++ trie_code ys e) none ∙ ap (λ (xs : List ℕ). xs ++ trie_code ys e) (short_code [] d (omega arith)))
+    ap (λ (ks : List (List ℕ)). trie_code (ks ++ ys) d) none ∙ ap (λ (x : ℕ). trie_code ys x) same
+    ∙ sym (ap (λ (ks : List (List ℕ)). trie_code ks d ++ trie_code ys e) none ∙ ap (λ (xs : List ℕ). xs ++ trie_code ys e) (short_code [] d (omega arith)))
 code_grows (suc g) n d e xs ys deep lower alike small = elim (cases_lt n (2 ^ g)) [
   | inl low ↦
       let xs_low : All (λ key. bit_of d key ≡ 0) xs = λ k other h. let below = lower k other h in (low_half g d (get_or xs k other) (omega arith)).0 in
@@ -148,7 +151,8 @@ code_grows (suc g) n d e xs ys deep lower alike small = elim (cases_lt n (2 ^ g)
 
 -- marks of both halves
 halves : (m g d start place : ℕ) (keys : List (List ℕ)) → marks_of (suc m) (suc g) keys d start place
-    ≡ marks_of m g (with_bit 0 d keys) (d + 1) start place ++ marks_of m g (with_bit 1 d keys) (d + 1) (start + length (grouped_code g (with_bit 0 d keys) (d + 1))) (place + length (with_bit 0 d keys))
+    ≡ marks_of m g (with_bit 0 d keys) (d + 1) start place
+    ++ marks_of m g (with_bit 1 d keys) (d + 1) (start + length (grouped_code g (with_bit 0 d keys) (d + 1))) (place + length (with_bit 0 d keys))
 halves m g d start place keys =
     let less : suc g - 1 ≡ g = omega arith in
     let none : start + 0 ≡ start = omega arith in
@@ -175,7 +179,8 @@ front_marks m g k j d start place keys deep few =
 -- the marks behind the left half are those of the right one
 back_marks : (m g k j d start place : ℕ) (keys : List (List ℕ)) → m ≡ g + k
     → take ((2 ^ g + j) * 2 ^ k) (marks_of (suc m) (suc g) keys d start place)
-    ≡ marks_of m g (with_bit 0 d keys) (d + 1) start place ++ take (j * 2 ^ k) (marks_of m g (with_bit 1 d keys) (d + 1) (start + length (grouped_code g (with_bit 0 d keys) (d + 1))) (place + length (with_bit 0 d keys)))
+    ≡ marks_of m g (with_bit 0 d keys) (d + 1) start place
+    ++ take (j * 2 ^ k) (marks_of m g (with_bit 1 d keys) (d + 1) (start + length (grouped_code g (with_bit 0 d keys) (d + 1))) (place + length (with_bit 0 d keys)))
 back_marks m g k j d start place keys deep =
     let lefts = marks_of m g (with_bit 0 d keys) (d + 1) start place in
     let rights = marks_of m g (with_bit 1 d keys) (d + 1) (start + length (grouped_code g (with_bit 0 d keys) (d + 1))) (place + length (with_bit 0 d keys)) in
@@ -240,11 +245,13 @@ marks_grow (suc g) n (suc m) k d e start place xs ys deep more lower alike small
       let here : n ≡ 2 ^ g + j = omega arith in
       ap (λ (x : ℕ). take (x * 2 ^ k) (marks_of (suc m) (suc g) (xs ++ ys) d start place)) next
       ∙ back_marks m g k (j + 1) d start place (xs ++ ys) (omega arith)
-      ∙ ap (λ (ks : List (List ℕ)). marks_of m g ks (d + 1) start place ++ take ((j + 1) * 2 ^ k) (marks_of m g (with_bit 1 d (xs ++ ys)) (d + 1) (start + length (grouped_code g ks (d + 1))) (place + length ks))) (lefts_stay d xs ys ys_high)
+      ∙ ap (λ (ks : List (List ℕ)). marks_of m g ks (d + 1) start place
+      ++ take ((j + 1) * 2 ^ k) (marks_of m g (with_bit 1 d (xs ++ ys)) (d + 1) (start + length (grouped_code g ks (d + 1))) (place + length ks))) (lefts_stay d xs ys ys_high)
       ∙ ap (λ (ks : List (List ℕ)). front ++ take ((j + 1) * 2 ^ k) (marks_of m g ks (d + 1) behind past)) (rights_grow d xs ys ys_high)
       ∙ ap (λ (ms : List Mark). front ++ ms) (marks_grow g j m k (d + 1) e behind past rights ys (omega arith) (omega arith) (highs_lower g n d xs high lower) same (omega arith))
       ∙ sym (append_assoc front old _)
       ∙ ap (λ (s : ℕ). front ++ old ++ marks_of k 0 ys e s (past + length rights)) start_is
       ∙ ap (λ (p : ℕ). front ++ old ++ marks_of k 0 ys e (start + length (grouped_code (suc g) xs d)) p) place_is
-      ∙ sym (ap (λ (ms : List Mark). ms ++ marks_of k 0 ys e (start + length (grouped_code (suc g) xs d)) (place + length xs)) (ap (λ (x : ℕ). take (x * 2 ^ k) (marks_of (suc m) (suc g) xs d start place)) here ∙ back_marks m g k j d start place xs (omega arith)))
+      ∙ sym (ap (λ (ms : List Mark). ms ++ marks_of k 0 ys e (start + length (grouped_code (suc g) xs d)) (place + length xs))
+      (ap (λ (x : ℕ). take (x * 2 ^ k) (marks_of (suc m) (suc g) xs d start place)) here ∙ back_marks m g k j d start place xs (omega arith)))
 ]

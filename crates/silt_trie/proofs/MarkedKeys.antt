@@ -1,5 +1,6 @@
 -- Lemmas on marks.
-use Rattle.std.proofs.Common.{◌≡◌, ℕ, zero, suc, ◌+◌, ◌-◌, ◌*◌, ◌^◌, ◌<◌, ◌≤◌, min, max, Bool, cond, List, [], ◌∷◌, ◌++◌, length, map, take, drop, get_or, Option, Some, refl, sym, ap, ◌∙◌, inl, inr, subst, arith, flat_map, length-drop}
+use Rattle.std.proofs.Common.{◌≡◌, ℕ, zero, suc, ◌+◌, ◌-◌, ◌*◌, ◌^◌, ◌<◌, ◌≤◌, min, max, Bool, cond, List, [], ◌∷◌, ◌++◌, length, map, take, drop, get_or}
+use Rattle.std.proofs.Common.{Option, Some, refl, sym, ap, ◌∙◌, inl, inr, subst, arith, flat_map, length-drop}
 use Rattle.std.proofs.lemmas.List.{append_assoc, append-nil, length-append, get_or-append-add, get_or_default, get_or-take, get_or-drop}
 use Rattle.std.proofs.lemmas.Grind.{flat_map-append}
 use Rattle.std.proofs.lemmas.List.Folds.{flat_map-map}
@@ -10,7 +11,8 @@ use Rattle.std.proofs.Math.Nat.{pow-succ'}
 use Rattle.std.proofs.Math.Pow.{pow_mono}
 use Rattle.silt_gamma.specs.Gamma.{gamma_code}
 use Rattle.silt_trie.specs.Code.{bit_of, with_bit, trie_code, IsCodable, StandsAt}
-use Rattle.silt_trie.specs.Marks.{prefix_of, number_of_bits, AreBits, GroupsLaw, prefixes, sub_keys, grouped_code, head_code, marks_of, mark_behind, skip_levels, skips_of, MarkLaw, MarkedCode, IsMadeOf, IsPlaceBetween}
+use Rattle.silt_trie.specs.Marks.{prefix_of, number_of_bits, AreBits, GroupsLaw, prefixes, sub_keys, grouped_code, head_code, marks_of, mark_behind}
+use Rattle.silt_trie.specs.Marks.{skip_levels, skips_of, MarkLaw, MarkedCode, IsMadeOf, IsPlaceBetween}
 use Rattle.silt_trie.specs.Coded.{bytes_of}
 use Rattle.silt_frame.specs.declared.key.Key.{Key}
 use Rattle.silt_trie.proofs.KeyBits.{bit_small}
@@ -66,7 +68,8 @@ first_place (suc m) g keys d start place more other =
     let behind = start + length (head_code g keys d) in
     let lefts = with_bit 0 d keys in
     let rights = marks_of m (g - 1) (with_bit 1 d keys) (d + 1) (behind + length (grouped_code (g - 1) lefts (d + 1))) (place + length lefts) in
-    ap (λ (ms : List Mark). (get_or ms 0 other).place) (append_assoc (marks_of m (g - 1) lefts (d + 1) behind place) rights more) ∙ first_place m (g - 1) lefts (d + 1) behind place (rights ++ more) other
+    ap (λ (ms : List Mark). (get_or ms 0 other).place) (append_assoc (marks_of m (g - 1) lefts (d + 1) behind place) rights more)
+    ∙ first_place m (g - 1) lefts (d + 1) behind place (rights ++ more) other
 
 -- and does not begin before the code of the keys
 first_start : (m g : ℕ) (keys : List (List ℕ)) (d start place : ℕ) (more : List Mark) (other : Mark) → start ≤ (get_or (marks_of m g keys d start place ++ more) 0 other).start
@@ -91,7 +94,8 @@ pub record Marked (p : List ℕ) (d e start place : ℕ) (bits : List ℕ) (keys
   pub count : next.place ≡ mark.place + length (sub_keys keys d p)
   pub stands : (i : ℕ) (key : List ℕ) → StandsAt keys i key → prefix_of (length p) d key ≡ p → (mark.place ≤ place + i) × StandsAt (sub_keys keys d p) (place + i - mark.place) key
   pub skips : mark.skips ≡ skips_of skip_levels (sub_keys keys d p) e
-  pub from : (i : ℕ) → i < length (sub_keys keys d p) → (place ≤ mark.place + i) × StandsAt keys (mark.place + i - place) (get_or (sub_keys keys d p) i []) × (prefix_of (length p) d (get_or (sub_keys keys d p) i []) ≡ p)
+  pub from : (i : ℕ) → i < length (sub_keys keys d p) → (place ≤ mark.place + i) × StandsAt keys (mark.place + i - place) (get_or (sub_keys keys d p) i [])
+      × (prefix_of (length p) d (get_or (sub_keys keys d p) i []) ≡ p)
 
 -- a key on the left is one of all keys
 from_left : (d i : ℕ) (key : List ℕ) (keys : List (List ℕ)) → IsCodable keys d → StandsAt (with_bit 0 d keys) i key → StandsAt keys i key × (bit_of d key ≡ 0)
@@ -177,7 +181,9 @@ marked_right p d e start place bits head lefts rights keys mark next codable par
 -- each mark is one, if the marks that follow begin behind all keys
 pub marked : (p : List ℕ) (g d e start place : ℕ) (keys : List (List ℕ)) (more : List Mark) (other : Mark) → AreBits p → IsCodable keys d → g ≤ length p → d + length p ≡ e → e ≤ 160
     → (get_or more 0 other).place ≡ place + length keys
-    → start + length (grouped_code g keys d) ≤ (get_or more 0 other).start → Marked p d e start place (grouped_code g keys d) keys (get_or (marks_of (length p) g keys d start place ++ more) (number_of_bits p) other) (get_or (marks_of (length p) g keys d start place ++ more) (number_of_bits p + 1) other)
+    → start + length (grouped_code g keys d) ≤ (get_or more 0 other).start
+    → Marked p d e start place (grouped_code g keys d) keys (get_or (marks_of (length p) g keys d start place ++ more) (number_of_bits p) other)
+    (get_or (marks_of (length p) g keys d start place ++ more) (number_of_bits p + 1) other)
 marked [] g d e start place keys more other bits codable groups deep within last behind_all =
     let same : d ≡ e = omega arith in
     let none : g ≡ 0 = omega arith in
@@ -223,9 +229,11 @@ marked (suc zero ∷ p) g d e start place keys more other bits codable groups de
     let number : number_of_bits (1 ∷ p) ≡ length one + number_of_bits p = omega arith in
     let next : number_of_bits (1 ∷ p) + 1 ≡ length one + (number_of_bits p + 1) = omega arith in
     let here : get_or (one ++ two ++ more) (number_of_bits (1 ∷ p)) other ≡ get_or (two ++ more) (number_of_bits p) other =
-    ap (λ (ms : List Mark). get_or ms (number_of_bits (1 ∷ p)) other) all ∙ ap (λ (j : ℕ). get_or (one ++ (two ++ more)) j other) number ∙ get_or-append-add one (two ++ more) (number_of_bits p) other in
+    ap (λ (ms : List Mark). get_or ms (number_of_bits (1 ∷ p)) other) all ∙ ap (λ (j : ℕ). get_or (one ++ (two ++ more)) j other) number
+    ∙ get_or-append-add one (two ++ more) (number_of_bits p) other in
     let there : get_or (one ++ two ++ more) (number_of_bits (1 ∷ p) + 1) other ≡ get_or (two ++ more) (number_of_bits p + 1) other =
-    ap (λ (ms : List Mark). get_or ms (number_of_bits (1 ∷ p) + 1) other) all ∙ ap (λ (j : ℕ). get_or (one ++ (two ++ more)) j other) next ∙ get_or-append-add one (two ++ more) (number_of_bits p + 1) other in
+    ap (λ (ms : List Mark). get_or ms (number_of_bits (1 ∷ p) + 1) other) all ∙ ap (λ (j : ℕ). get_or (one ++ (two ++ more)) j other) next
+    ∙ get_or-append-add one (two ++ more) (number_of_bits p + 1) other in
     rw (here, there) (marked_right p d e start place _ _ _ _ keys _ _ codable (grouped_split g keys d codable (omega arith)) inside)
 marked (suc (suc b) ∷ p) g d e start place keys more other bits codable groups deep within last behind_all = let small = bits 0 in absurd (omega arith)
 
@@ -290,8 +298,10 @@ in_range made keys at key is at_is =
     omega arith
 
 -- between a key's mark and the next one is the key's place
-pub located : (made : MarkedCode) (keys : List (List ℕ)) (i at : ℕ) (key : List ℕ) (mark next : Mark) (found : Option ℕ) → IsMadeOf keys made → StandsAt keys i key → made.depth + made.levels ≤ 160 → made.groups ≤ made.levels
-    → at ≡ number_of_bits (prefix_of made.levels made.depth key) → mark ≡ get_or made.marks at mark → next ≡ get_or made.marks (at + 1) next → IsPlaceBetween made.code mark next (made.depth + made.levels) key found → found ≡ Some i
+pub located : (made : MarkedCode) (keys : List (List ℕ)) (i at : ℕ) (key : List ℕ) (mark next : Mark) (found : Option ℕ)
+    → IsMadeOf keys made → StandsAt keys i key → made.depth + made.levels ≤ 160 → made.groups ≤ made.levels
+    → at ≡ number_of_bits (prefix_of made.levels made.depth key) → mark ≡ get_or made.marks at mark → next ≡ get_or made.marks (at + 1) next
+    → IsPlaceBetween made.code mark next (made.depth + made.levels) key found → found ≡ Some i
 located made keys i at key mark next found is stands within groups at_is mark_is next_is place =
     let d = made.depth in
     let g = made.groups in
@@ -302,30 +312,38 @@ located made keys i at key mark next found is stands within groups at_is mark_is
     let marks_is : marks ≡ made.marks = ap (λ (n : ℕ). marks_of n g keys d 0 0 ++ last ∷ []) size ∙ sym is.marks_are in
     let one : get_or marks (number_of_bits p) mark ≡ mark = ap (λ (ms : List Mark). get_or ms (number_of_bits p) mark) marks_is ∙ ap (λ (j : ℕ). get_or made.marks j mark) (sym at_is) ∙ sym mark_is in
     let two : get_or marks (number_of_bits p + 1) mark ≡ next =
-    ap (λ (ms : List Mark). get_or ms (number_of_bits p + 1) mark) marks_is ∙ ap (λ (j : ℕ). get_or made.marks (j + 1) mark) (sym at_is) ∙ get_or_default made.marks (at + 1) mark next (in_range made keys at key is at_is) ∙ sym next_is in
-    let all = marked p g d (d + made.levels) 0 0 keys (last ∷ []) mark (prefix_bits made.levels d key) is.codable (omega arith) (omega arith) within (omega arith) (let size = ap length is.code_is in omega arith) in
+    ap (λ (ms : List Mark). get_or ms (number_of_bits p + 1) mark) marks_is ∙ ap (λ (j : ℕ). get_or made.marks (j + 1) mark) (sym at_is)
+    ∙ get_or_default made.marks (at + 1) mark next (in_range made keys at key is at_is) ∙ sym next_is in
+    let all = marked p g d (d + made.levels) 0 0 keys (last ∷ []) mark (prefix_bits made.levels d key) is.codable (omega arith)
+    (omega arith) within (omega arith) (let size = ap length is.code_is in omega arith) in
     let here : Marked p d (d + made.levels) 0 0 (grouped_code g keys d) keys mark next = rw (one, two) at all in
     let inside = here.stands i key stands (ap (λ (n : ℕ). prefix_of n d key) size) in
     let from = inside.0 in
     let begins = here.begins in
     let e : mark.place + (0 + i - mark.place) ≡ i = omega arith in
-    place (sub_keys keys d p) (0 + i - mark.place) here.back here.codable here.count here.upto (drop_front mark.start here.front _ made.code (omega arith) (is.code_is ∙ here.code)) here.skips inside.1 ∙ ap (λ (j : ℕ). Some j) e
+    place (sub_keys keys d p) (0 + i - mark.place) here.back here.codable here.count here.upto
+    (drop_front mark.start here.front _ made.code (omega arith) (is.code_is ∙ here.code)) here.skips inside.1 ∙ ap (λ (j : ℕ). Some j) e
 
 -- the code of keys, written part by part
-pub code_marked : (g h d left : ℕ) (keys lefts rights : List Key) (old first second third : List ℕ) → IsCodable (bytes_of keys) d → d < 160 → h ≡ g - 1 → left ≡ length (with_bit 0 d (bytes_of keys)) → lefts ≡ take left keys → rights ≡ drop left keys
-    → first ≡ old ++ head_code g (bytes_of keys) d → second ≡ first ++ grouped_code h (bytes_of lefts) (d + 1) → third ≡ second ++ grouped_code h (bytes_of rights) (d + 1) → third ≡ old ++ grouped_code g (bytes_of keys) d
+pub code_marked : (g h d left : ℕ) (keys lefts rights : List Key) (old first second third : List ℕ) → IsCodable (bytes_of keys) d
+    → d < 160 → h ≡ g - 1 → left ≡ length (with_bit 0 d (bytes_of keys)) → lefts ≡ take left keys → rights ≡ drop left keys
+    → first ≡ old ++ head_code g (bytes_of keys) d → second ≡ first ++ grouped_code h (bytes_of lefts) (d + 1) → third ≡ second
+    ++ grouped_code h (bytes_of rights) (d + 1) → third ≡ old ++ grouped_code g (bytes_of keys) d
 code_marked g h d left keys lefts rights old first second third codable within next count front back one two three =
     let head = head_code g (bytes_of keys) d in
     let ls = grouped_code (g - 1) (with_bit 0 d (bytes_of keys)) (d + 1) in
     let rs = grouped_code (g - 1) (with_bit 1 d (bytes_of keys)) (d + 1) in
-    let l : grouped_code h (bytes_of lefts) (d + 1) ≡ ls = ap (λ (n : ℕ). grouped_code n (bytes_of lefts) (d + 1)) next ∙ ap (λ (ks : List (List ℕ)). grouped_code (g - 1) ks (d + 1)) (bytes_lefts d left keys lefts codable count front) in
-    let r : grouped_code h (bytes_of rights) (d + 1) ≡ rs = ap (λ (n : ℕ). grouped_code n (bytes_of rights) (d + 1)) next ∙ ap (λ (ks : List (List ℕ)). grouped_code (g - 1) ks (d + 1)) (bytes_rights d left keys rights codable count back) in
+    let l : grouped_code h (bytes_of lefts) (d + 1) ≡ ls = ap (λ (n : ℕ). grouped_code n (bytes_of lefts) (d + 1)) next
+    ∙ ap (λ (ks : List (List ℕ)). grouped_code (g - 1) ks (d + 1)) (bytes_lefts d left keys lefts codable count front) in
+    let r : grouped_code h (bytes_of rights) (d + 1) ≡ rs = ap (λ (n : ℕ). grouped_code n (bytes_of rights) (d + 1)) next
+    ∙ ap (λ (ks : List (List ℕ)). grouped_code (g - 1) ks (d + 1)) (bytes_rights d left keys rights codable count back) in
     three ∙ ap (λ (xs : List ℕ). second ++ xs) r
     ∙ ap (λ (xs : List ℕ). xs ++ rs) (two ∙ ap (λ (xs : List ℕ). first ++ xs) l ∙ ap (λ (xs : List ℕ). xs ++ ls) one ∙ append_assoc old head ls)
     ∙ append_assoc old (head ++ ls) rs ∙ ap (λ (xs : List ℕ). old ++ xs) (sym (grouped_split g (bytes_of keys) d codable within))
 
 -- and their marks
-pub marks_marked : (m g h d left place : ℕ) (keys lefts rights : List Key) (old first second : List ℕ) (marks one two : List Mark) → IsCodable (bytes_of keys) d → 0 < m → h ≡ g - 1 → left ≡ length (with_bit 0 d (bytes_of keys)) → lefts ≡ take left keys → rights ≡ drop left keys
+pub marks_marked : (m g h d left place : ℕ) (keys lefts rights : List Key) (old first second : List ℕ) (marks one two : List Mark)
+    → IsCodable (bytes_of keys) d → 0 < m → h ≡ g - 1 → left ≡ length (with_bit 0 d (bytes_of keys)) → lefts ≡ take left keys → rights ≡ drop left keys
     → first ≡ old ++ head_code g (bytes_of keys) d → second ≡ first ++ grouped_code h (bytes_of lefts) (d + 1)
     → one ≡ marks ++ marks_of (m - 1) h (bytes_of lefts) (d + 1) (length first) place → two ≡ one ++ marks_of (m - 1) h (bytes_of rights) (d + 1) (length second) (place + left)
     → two ≡ marks ++ marks_of m g (bytes_of keys) d (length old) place
@@ -338,22 +356,28 @@ marks_marked m g h d left place keys lefts rights old first second marks one two
     let l = bytes_lefts d left keys lefts codable count front in
     let r = bytes_rights d left keys rights codable count back in
     let behind : length first ≡ length old + length head = ap length first_is ∙ length-append old head in
-    let code : grouped_code h (bytes_of lefts) (d + 1) ≡ grouped_code (g - 1) ls (d + 1) = ap (λ (k : ℕ). grouped_code k (bytes_of lefts) (d + 1)) next ∙ ap (λ (xs : List (List ℕ)). grouped_code (g - 1) xs (d + 1)) l in
+    let code : grouped_code h (bytes_of lefts) (d + 1) ≡ grouped_code (g - 1) ls (d + 1) =
+    ap (λ (k : ℕ). grouped_code k (bytes_of lefts) (d + 1)) next ∙ ap (λ (xs : List (List ℕ)). grouped_code (g - 1) xs (d + 1)) l in
     let sum = ap length second_is ∙ length-append first (grouped_code h (bytes_of lefts) (d + 1)) in
     let size = ap length code in
     let deeper : length second ≡ length old + length head + length (grouped_code (g - 1) ls (d + 1)) = omega arith in
     let on_left : marks_of n h (bytes_of lefts) (d + 1) (length first) place ≡ marks_of n (g - 1) ls (d + 1) (length old + length head) place =
-    ap (λ (k : ℕ). marks_of n k (bytes_of lefts) (d + 1) (length first) place) next ∙ ap (λ (xs : List (List ℕ)). marks_of n (g - 1) xs (d + 1) (length first) place) l ∙ ap (λ (s : ℕ). marks_of n (g - 1) ls (d + 1) s place) behind in
-    let on_right : marks_of n h (bytes_of rights) (d + 1) (length second) (place + left) ≡ marks_of n (g - 1) rs (d + 1) (length old + length head + length (grouped_code (g - 1) ls (d + 1))) (place + length ls) =
+    ap (λ (k : ℕ). marks_of n k (bytes_of lefts) (d + 1) (length first) place) next
+    ∙ ap (λ (xs : List (List ℕ)). marks_of n (g - 1) xs (d + 1) (length first) place) l ∙ ap (λ (s : ℕ). marks_of n (g - 1) ls (d + 1) s place) behind in
+    let on_right : marks_of n h (bytes_of rights) (d + 1) (length second) (place + left) ≡ marks_of n (g - 1) rs (d + 1)
+    (length old + length head + length (grouped_code (g - 1) ls (d + 1))) (place + length ls) =
     ap (λ (k : ℕ). marks_of n k (bytes_of rights) (d + 1) (length second) (place + left)) next ∙ ap (λ (xs : List (List ℕ)). marks_of n (g - 1) xs (d + 1) (length second) (place + left)) r
-    ∙ ap (λ (s : ℕ). marks_of n (g - 1) rs (d + 1) s (place + left)) deeper ∙ ap (λ (k : ℕ). marks_of n (g - 1) rs (d + 1) (length old + length head + length (grouped_code (g - 1) ls (d + 1))) (place + k)) count in
+    ∙ ap (λ (s : ℕ). marks_of n (g - 1) rs (d + 1) s (place + left)) deeper
+    ∙ ap (λ (k : ℕ). marks_of n (g - 1) rs (d + 1) (length old + length head + length (grouped_code (g - 1) ls (d + 1))) (place + k)) count in
     let whole : suc n ≡ m = omega arith in
     two_is ∙ ap (λ (xs : List Mark). one ++ xs) on_right
-    ∙ ap (λ (xs : List Mark). xs ++ marks_of n (g - 1) rs (d + 1) (length old + length head + length (grouped_code (g - 1) ls (d + 1))) (place + length ls)) (one_is ∙ ap (λ (xs : List Mark). marks ++ xs) on_left)
+    ∙ ap (λ (xs : List Mark). xs ++ marks_of n (g - 1) rs (d + 1) (length old + length head + length (grouped_code (g - 1) ls (d + 1))) (place + length ls))
+    (one_is ∙ ap (λ (xs : List Mark). marks ++ xs) on_left)
     ∙ append_assoc marks _ _ ∙ ap (λ (k : ℕ). marks ++ marks_of k g ks d (length old) place) whole
 
 -- one bit more of a number
-pub number_step : (n rest less at bit : ℕ) (key : List ℕ) (all : ℕ) → bit ≡ bit_of at key → rest ≡ suc less → all ≡ n * 2 ^ rest + number_of_bits (prefix_of rest at key) → all ≡ (2 * n + bit) * 2 ^ less + number_of_bits (prefix_of less (at + 1) key)
+pub number_step : (n rest less at bit : ℕ) (key : List ℕ) (all : ℕ) → bit ≡ bit_of at key → rest ≡ suc less
+    → all ≡ n * 2 ^ rest + number_of_bits (prefix_of rest at key) → all ≡ (2 * n + bit) * 2 ^ less + number_of_bits (prefix_of less (at + 1) key)
 number_step n rest less at bit key all bit_is e is =
     let size = length-prefix_of less (at + 1) key in
     let split : number_of_bits (prefix_of rest at key) ≡ bit_of at key * 2 ^ less + number_of_bits (prefix_of less (at + 1) key) =
@@ -374,8 +398,10 @@ groups_at (suc g) d e keys deep =
     let code : List ℕ → List ℕ = λ prefix. trie_code (sub_keys keys d prefix) e in
     let lefts = map (λ (prefix : List ℕ). 0 ∷ prefix) (prefixes g) in
     let rights = map (λ (prefix : List ℕ). 1 ∷ prefix) (prefixes g) in
-    let one : grouped_code g (with_bit 0 d keys) (d + 1) ≡ flat_map code lefts = groups_at g (d + 1) e (with_bit 0 d keys) (omega arith) ∙ sym (flat_map-map code (λ (prefix : List ℕ). 0 ∷ prefix) (prefixes g)) in
-    let two : grouped_code g (with_bit 1 d keys) (d + 1) ≡ flat_map code rights = groups_at g (d + 1) e (with_bit 1 d keys) (omega arith) ∙ sym (flat_map-map code (λ (prefix : List ℕ). 1 ∷ prefix) (prefixes g)) in
+    let one : grouped_code g (with_bit 0 d keys) (d + 1) ≡ flat_map code lefts =
+    groups_at g (d + 1) e (with_bit 0 d keys) (omega arith) ∙ sym (flat_map-map code (λ (prefix : List ℕ). 0 ∷ prefix) (prefixes g)) in
+    let two : grouped_code g (with_bit 1 d keys) (d + 1) ≡ flat_map code rights =
+    groups_at g (d + 1) e (with_bit 1 d keys) (omega arith) ∙ sym (flat_map-map code (λ (prefix : List ℕ). 1 ∷ prefix) (prefixes g)) in
     ap (λ (xs : List ℕ). xs ++ grouped_code g (with_bit 1 d keys) (d + 1)) one ∙ ap (λ (xs : List ℕ). flat_map code lefts ++ xs) two ∙ sym (flat_map-append code lefts rights)
 
 -- the law of groups
@@ -383,7 +409,8 @@ pub groups_law : GroupsLaw
 groups_law g d keys = groups_at g d (d + g) keys refl
 
 -- bits cut at two places, which may lie past their end, have all of a code between these
-pub cut : (s e start end : ℕ) (bits part code rest : List ℕ) → part ≡ take (end - start) (drop start bits) → start ≡ min s (length bits) → end ≡ max (min e (length bits)) start → drop s bits ≡ code ++ rest → s + length code ≤ e
+pub cut : (s e start end : ℕ) (bits part code rest : List ℕ) → part ≡ take (end - start) (drop start bits) → start ≡ min s (length bits)
+    → end ≡ max (min e (length bits)) start → drop s bits ≡ code ++ rest → s + length code ≤ e
     → (more : List ℕ) × (part ≡ code ++ more)
 cut s e start end bits part code rest part_is start_is end_is is upto =
     let size = sym (length-drop s bits) ∙ ap length is ∙ length-append code rest in
@@ -391,5 +418,8 @@ cut s e start end bits part code rest part_is start_is end_is is upto =
       | inl inside ↦ let same : start ≡ s = omega arith in ap (λ (k : ℕ). drop k bits) same
       | inr past ↦ drop_of_length-le bits (omega arith) ∙ sym (drop_of_length-le bits past)
     ] in
-    let size_is : end - start ≡ length code + (end - start - length code) = omega arith in
-    (take (end - start - length code) rest, part_is ∙ ap (λ (xs : List ℕ). take (end - start) xs) (from ∙ is) ∙ ap (λ (k : ℕ). take k (code ++ rest)) size_is ∙ take-append-add code rest (end - start - length code))
+    let size_is : end - start ≡ length code + (end - start - length code) = omega arith in (
+      take (end - start - length code) rest,
+      part_is ∙ ap (λ (xs : List ℕ). take (end - start) xs) (from ∙ is)
+          ∙ ap (λ (k : ℕ). take k (code ++ rest)) size_is ∙ take-append-add code rest (end - start - length code),
+    )

@@ -1,5 +1,6 @@
 -- Lemmas on the order of keys, by bytes and by bits.
-use Rattle.std.proofs.Common.{◌≡◌, ℕ, zero, suc, ◌*◌, ◌/◌, ◌%◌, ◌^◌, ◌<◌, ◌≤◌, Bool, true, cond, eqb, ltb, List, [], ◌∷◌, ◌++◌, length, get_or, replicate, refl, sym, ap, ◌∙◌, inl, inr, arith, Ordering, Less, Equal, Greater}
+use Rattle.std.proofs.Common.{◌≡◌, ℕ, zero, suc, ◌*◌, ◌/◌, ◌%◌, ◌^◌, ◌<◌, ◌≤◌, Bool, true, cond, eqb, ltb, List, [], ◌∷◌, ◌++◌, length, get_or, replicate, refl}
+use Rattle.std.proofs.Common.{sym, ap, ◌∙◌, inl, inr, arith, Ordering, Less, Equal, Greater}
 use Rattle.std.proofs.lemmas.List.{ext_get_or, get_or_append_left}
 use Rattle.std.proofs.lemmas.Bool.{cases_lt, cases_order, lt-ltb, le-ltb, ltb-true, ne_eqb}
 use Rattle.std.proofs.lemmas.Cmp.{tied_itself, nat_cmp_total, nat_list_cmp_total}
@@ -80,7 +81,8 @@ word_order (suc w) x y xs ys p q =
     let hx : x / 2 ^ w % 2 ≡ x / 2 ^ w = mod-eq_of_lt (div_below x (2 ^ w) 2 some (omega arith)) in
     let hy : y / 2 ^ w % 2 ≡ y / 2 ^ w = mod-eq_of_lt (div_below y (2 ^ w) 2 some (omega arith)) in
     let rest : slice_cmp nat_cmp (low_bits w x ++ xs) (low_bits w y ++ ys) ≡ ordering_then (nat_cmp (x % 2 ^ w) (y % 2 ^ w)) (slice_cmp nat_cmp xs ys) =
-    ap (λ (ls : List ℕ). slice_cmp nat_cmp (ls ++ xs) (low_bits w y ++ ys)) (sym (low_bits_mod w x)) ∙ ap (λ (ls : List ℕ). slice_cmp nat_cmp (low_bits w (x % 2 ^ w) ++ xs) (ls ++ ys)) (sym (low_bits_mod w y))
+    ap (λ (ls : List ℕ). slice_cmp nat_cmp (ls ++ xs) (low_bits w y ++ ys)) (sym (low_bits_mod w x))
+    ∙ ap (λ (ls : List ℕ). slice_cmp nat_cmp (low_bits w (x % 2 ^ w) ++ xs) (ls ++ ys)) (sym (low_bits_mod w y))
     ∙ word_order w (x % 2 ^ w) (y % 2 ^ w) xs ys (mod_below x (2 ^ w) some) (mod_below y (2 ^ w) some)
     in
     ap (λ (c : Ordering). ordering_then (nat_cmp (x / 2 ^ w % 2) (y / 2 ^ w % 2)) c) rest

@@ -76,8 +76,10 @@ next_begins d t counts bits rest pending =
     (length (with_bit 0 pending.1 pending.0), _, node pending.0 pending.1 bits pending.2 waits.codable waits.many (inside pending.0 pending.1 waits.codable waits.many) pending.4)
 
 -- one code taken off the front: both sides of its keys are pending in their place
-pub turn : (d t next left right r s : ℕ) (counts bits after rest : List ℕ) → Pending d counts (suc t) bits rest → length counts ≡ 161 → t < 160 → ((m : ℕ) (tail : List ℕ) → BeginsWithCode bits m tail → (next ≡ m) × (after ≡ tail))
-    → left ≡ min (next - 1) (get_or counts t 0) → right ≡ get_or counts t 0 - left → r ≡ from_bool (leb 2 right) → s ≡ from_bool (leb 2 left) → Pending d (set (set counts t right) (t + r) left) (t + r + s) after rest
+pub turn : (d t next left right r s : ℕ) (counts bits after rest : List ℕ) → Pending d counts (suc t) bits rest → length counts ≡ 161
+    → t < 160 → ((m : ℕ) (tail : List ℕ) → BeginsWithCode bits m tail → (next ≡ m) × (after ≡ tail))
+    → left ≡ min (next - 1) (get_or counts t 0) → right ≡ get_or counts t 0 - left → r ≡ from_bool (leb 2 right) → s ≡ from_bool (leb 2 left)
+    → Pending d (set (set counts t right) (t + r) left) (t + r + s) after rest
 turn d t next left right r s counts bits after rest pending size within reads left_is right_is r_is s_is =
     let keys = pending.0 in
     let e = pending.1 in
@@ -98,9 +100,11 @@ turn d t next left right r s counts bits after rest pending size within reads le
     let s_long = (counted left s s_is).0 in
     let s_short = (counted left s s_is).1 in
     let r_small : r ≤ 1 = elim (cases_lt right 2) [ inl few ↦ let one = r_short few in omega arith | inr many ↦ let one = r_long many in omega arith ] in
-    let one = push_one d t (e + 1) right (t + r) counts (trie_code (with_bit 1 e keys) (e + 1) ++ more) more rest (with_bit 1 e keys) (rights_codable e keys codable) right_count (omega arith) (omega arith) refl
+    let one = push_one d t (e + 1) right (t + r) counts (trie_code (with_bit 1 e keys) (e + 1) ++ more) more rest (with_bit 1 e keys)
+    (rights_codable e keys codable) right_count (omega arith) (omega arith) refl
     (λ many. let h = r_long many in omega arith) (λ few. let h = r_short few in omega arith) pending.5
     in
     let sized = length-set counts t right in
-    push_one d (t + r) (e + 1) left (t + r + s) (set counts t right) after (trie_code (with_bit 1 e keys) (e + 1) ++ more) rest (with_bit 0 e keys) (lefts_codable e keys codable) left_count (omega arith) (omega arith) read.1
+    push_one d (t + r) (e + 1) left (t + r + s) (set counts t right) after (trie_code (with_bit 1 e keys) (e + 1) ++ more) rest
+    (with_bit 0 e keys) (lefts_codable e keys codable) left_count (omega arith) (omega arith) read.1
     (λ many. let h = s_long many in omega arith) (λ few. let h = s_short few in omega arith) one

@@ -1,5 +1,6 @@
 -- Lemmas on the two sides of keys at a bit.
-use Rattle.std.proofs.Common.{◌≡◌, ℕ, zero, suc, ◌+◌, ◌<◌, ◌≤◌, Bool, cond, List, [], ◌∷◌, length, take, drop, get_or, refl, sym, ap, ◌∙◌, inl, inr, add-one, arith, length-drop, get_or-take, get_or-drop, length-take-le}
+use Rattle.std.proofs.Common.{◌≡◌, ℕ, zero, suc, ◌+◌, ◌<◌, ◌≤◌, Bool, cond, List, [], ◌∷◌, length, take, drop, get_or, refl, sym, ap, ◌∙◌, inl, inr, add-one}
+use Rattle.std.proofs.Common.{arith, length-drop, get_or-take, get_or-drop, length-take-le}
 use Rattle.std.proofs.lemmas.Bool.{cases_eq, cases_lt, cases_order, eq-eqb, ne_eqb}
 use Rattle.silt_trie.specs.Code.{bit_of, with_bit, AgreeIn, Follows, IsCodable}
 use Rattle.silt_trie.proofs.KeyBits.{bit_small}
@@ -145,7 +146,8 @@ rights_codable d keys codable =
     let limit = codable.few in
     let part : IsCodable (drop m keys) (d + 1) = record {
       few = omega arith;
-      rising = λ i h. rw (key i, next i) (step d _ _ (codable.rising (m + i) (omega arith)) (split.ones (m + i) (omega arith) (omega arith) ∙ sym (split.ones (m + i + 1) (omega arith) (omega arith))));
+      rising = λ i h. rw (key i, next i) (step d _ _ (codable.rising (m + i) (omega arith))
+          (split.ones (m + i) (omega arith) (omega arith) ∙ sym (split.ones (m + i + 1) (omega arith) (omega arith))));
     } in
     rw split.rights part
 
@@ -166,7 +168,8 @@ bounds_up d low high middle keys codable bounds below low_bit =
     record { ordered = omega arith; within = within; zeros = λ i h. split.zeros i (omega arith); ones = bounds.ones }
 
 -- a key with bit 1 lowers the upper one
-pub bounds_down : (d low high middle : ℕ) (keys : List (List ℕ)) → IsCodable keys d → Bounds d keys low high → low ≤ middle → middle < high → (bit_of d (get_or keys middle []) ≡ 0 → ⊥) → Bounds d keys low middle
+pub bounds_down : (d low high middle : ℕ) (keys : List (List ℕ)) → IsCodable keys d → Bounds d keys low high → low ≤ middle
+    → middle < high → (bit_of d (get_or keys middle []) ≡ 0 → ⊥) → Bounds d keys low middle
 bounds_down d low high middle keys codable bounds from below high_bit =
     let split = divides d keys codable in
     let within = bounds.within in

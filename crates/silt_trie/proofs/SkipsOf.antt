@@ -76,7 +76,8 @@ few_skips (suc m) n keys d few count =
     let over : skip_over lefts (d + 1) ≡ 0 = ap (λ (xs : List ℕ). min (length xs) 65535) (short_code lefts (d + 1) (omega arith)) in
     let one : replicate half 0 ≡ skips_of m lefts (d + 1) = few_skips m half lefts (d + 1) (omega arith) (omega arith) in
     let two : replicate half 0 ≡ skips_of m rights (d + 1) = few_skips m half rights (d + 1) (omega arith) (omega arith) in
-    ap (λ (k : ℕ). replicate k 0) (halved m n count) ∙ parted_zeros half ∙ same_skips 0 (skip_over lefts (d + 1)) (replicate half 0) (replicate half 0) (skips_of m lefts (d + 1)) (skips_of m rights (d + 1)) (sym over) one two ∙ sym (skips_split m keys d)
+    ap (λ (k : ℕ). replicate k 0) (halved m n count) ∙ parted_zeros half
+    ∙ same_skips 0 (skip_over lefts (d + 1)) (replicate half 0) (replicate half 0) (skips_of m lefts (d + 1)) (skips_of m rights (d + 1)) (sym over) one two ∙ sym (skips_split m keys d)
 
 -- zeros are the skips of fewer than two keys
 pub zeros_few : (m : ℕ) (keys : List (List ℕ)) (d : ℕ) (skips : List ℕ) → length keys < 2 → skips ≡ replicate (2 ^ m - 1) 0 → skips ≡ skips_of m keys d
@@ -109,7 +110,8 @@ divided_none (suc m) keys d skips none is =
     absurd (omega arith)
 
 -- the first skip is the one over the left side, and both halves of the others are those into the two sides
-pub divided_some : (m : ℕ) (keys : List (List ℕ)) (d skip half : ℕ) (skips parts lefts rights : List ℕ) → skips ≡ skip ∷ parts → half ≡ length parts / 2 → lefts ≡ take half parts → rights ≡ drop half parts → skips ≡ skips_of m keys d
+pub divided_some : (m : ℕ) (keys : List (List ℕ)) (d skip half : ℕ) (skips parts lefts rights : List ℕ) → skips ≡ skip ∷ parts
+    → half ≡ length parts / 2 → lefts ≡ take half parts → rights ≡ drop half parts → skips ≡ skips_of m keys d
     → AreSkipsInto m keys d (Some skip) lefts rights
 divided_some zero keys d skip half skips parts lefts rights all half_is left right is =
     let size = ap length all in
@@ -132,14 +134,19 @@ divided_some (suc m) keys d skip half skips parts lefts rights all half_is left 
     }
 
 -- zeros that are overwritten by the skip over the left side, and then by both sides' skips
-pub skips_written : (m d left half first skip : ℕ) (keys lefts rights : List Key) (zeros parts zeros_left zeros_right new_left new_right new before after : List ℕ) → IsCodable (bytes_of keys) d → left ≡ length (with_bit 0 d (bytes_of keys)) → lefts ≡ take left keys → rights ≡ drop left keys
+pub skips_written : (m d left half first skip : ℕ) (keys lefts rights : List Key) (zeros parts zeros_left zeros_right new_left new_right new before after : List ℕ)
+    → IsCodable (bytes_of keys) d → left ≡ length (with_bit 0 d (bytes_of keys)) → lefts ≡ take left keys → rights ≡ drop left keys
     → zeros ≡ first ∷ parts → half ≡ length parts / 2 → zeros_left ≡ take half parts → zeros_right ≡ drop half parts
-    → ((k : ℕ) → zeros_left ≡ replicate (2 ^ k - 1) 0 → new_left ≡ skips_of k (bytes_of lefts) (d + 1)) → ((k : ℕ) → zeros_right ≡ replicate (2 ^ k - 1) 0 → new_right ≡ skips_of k (bytes_of rights) (d + 1))
-    → after ≡ before ++ trie_code (bytes_of lefts) (d + 1) → skip ≡ min (length after - length before) 65535 → new ≡ skip ∷ (new_left ++ new_right) → zeros ≡ replicate (2 ^ m - 1) 0 → new ≡ skips_of m (bytes_of keys) d
-skips_written zero d left half first skip keys lefts rights zeros parts zeros_left zeros_right new_left new_right new before after codable count front back all half_is one two on_left on_right code skip_is new_is is =
+    → ((k : ℕ) → zeros_left ≡ replicate (2 ^ k - 1) 0 → new_left ≡ skips_of k (bytes_of lefts) (d + 1))
+    → ((k : ℕ) → zeros_right ≡ replicate (2 ^ k - 1) 0 → new_right ≡ skips_of k (bytes_of rights) (d + 1))
+    → after ≡ before ++ trie_code (bytes_of lefts) (d + 1) → skip ≡ min (length after - length before) 65535 → new ≡ skip
+    ∷ (new_left ++ new_right) → zeros ≡ replicate (2 ^ m - 1) 0 → new ≡ skips_of m (bytes_of keys) d
+skips_written zero d left half first skip keys lefts rights zeros parts zeros_left zeros_right new_left new_right new before after
+    codable count front back all half_is one two on_left on_right code skip_is new_is is =
     let size = ap length (sym is ∙ all) in
     absurd (omega arith)
-skips_written (suc m) d left half first skip keys lefts rights zeros parts zeros_left zeros_right new_left new_right new before after codable count front back all half_is one two on_left on_right code skip_is new_is is =
+skips_written (suc m) d left half first skip keys lefts rights zeros parts zeros_left zeros_right new_left new_right new before
+    after codable count front back all half_is one two on_left on_right code skip_is new_is is =
     let n = 2 ^ m - 1 in
     let ls = with_bit 0 d (bytes_of keys) in
     let rs = with_bit 1 d (bytes_of keys) in

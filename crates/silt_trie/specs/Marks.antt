@@ -1,5 +1,6 @@
 -- Marks into the codes of groups of keys: they give where the codes of parts of the keys begin.
-use Rattle.std.specs.Prelude.{◌≡◌, ℕ, zero, suc, ◌+◌, ◌-◌, ◌*◌, ◌^◌, ◌<◌, ◌≤◌, nat_le, min, if◌then◌else◌, List, [], ◌∷◌, ◌++◌, length, map, drop, replicate, slice_index, slice_index_or, Option, Some, IfSome}
+use Rattle.std.specs.Prelude.{◌≡◌, ℕ, zero, suc, ◌+◌, ◌-◌, ◌*◌, ◌^◌, ◌<◌, ◌≤◌, nat_le, min, if◌then◌else◌, List, [], ◌∷◌, ◌++◌, length, map, drop, replicate}
+use Rattle.std.specs.Prelude.{slice_index, slice_index_or, Option, Some, IfSome}
 use Rattle.std.specs.List.{flat_map}
 use Rattle.silt_gamma.specs.Gamma.{gamma_code}
 use Rattle.silt_trie.specs.Code.{IsCodable, StandsAt, bit_of, trie_code, with_bit}
@@ -85,7 +86,8 @@ pub record IsMark (bits : List ℕ) (keys : List (List ℕ)) (d : ℕ) (prefix :
   pub codable : IsCodable (sub_keys keys d prefix) (d + length prefix)
   pub count : next.place ≡ mark.place + length (sub_keys keys d prefix)
   pub stands : (i : ℕ) (key : List ℕ) → StandsAt keys i key → prefix_of (length prefix) d key ≡ prefix → (mark.place ≤ i) × StandsAt (sub_keys keys d prefix) (i - mark.place) key
-  pub from : (i : ℕ) → i < length (sub_keys keys d prefix) → StandsAt keys (mark.place + i) (slice_index_or (sub_keys keys d prefix) i []) × (prefix_of (length prefix) d (slice_index_or (sub_keys keys d prefix) i []) ≡ prefix)
+  pub from : (i : ℕ) → i < length (sub_keys keys d prefix) → StandsAt keys (mark.place + i) (slice_index_or (sub_keys keys d prefix) i [])
+      × (prefix_of (length prefix) d (slice_index_or (sub_keys keys d prefix) i []) ≡ prefix)
   pub code : (rest : List ℕ) × (drop mark.start bits ≡ trie_code (sub_keys keys d prefix) (d + length prefix) ++ rest)
   pub upto : mark.start + length (trie_code (sub_keys keys d prefix) (d + length prefix)) ≤ next.start
   pub skips : mark.skips ≡ skips_of skip_levels (sub_keys keys d prefix) (d + length prefix)

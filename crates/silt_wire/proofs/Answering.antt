@@ -1,5 +1,6 @@
 -- Answering lines in two parts is answering them at once, and a beginning of a part is a beginning of the whole.
-use Rattle.std.proofs.Common.{map, IfOk, OnErr, ◌≡◌, ◌-◌, arith, ◌+◌, ◌≤◌, take, drop, take-append-drop, flat_map, inl, inr, ℕ, true, false, cond, Result, Ok, Err, List, [], ◌∷◌, ◌++◌, length, refl, sym, ap, ◌∙◌, append_assoc, Option, Some, None, is_some, subst}
+use Rattle.std.proofs.Common.{map, IfOk, OnErr, ◌≡◌, ◌-◌, arith, ◌+◌, ◌≤◌, take, drop, take-append-drop, flat_map, inl, inr, ℕ, true, false, cond, Result, Ok}
+use Rattle.std.proofs.Common.{Err, List, [], ◌∷◌, ◌++◌, length, refl, sym, ap, ◌∙◌, append_assoc, Option, Some, None, is_some, subst}
 use Rattle.std.proofs.lemmas.Grind.{flat_map-append}
 use Rattle.std.proofs.lemmas.List.{append-nil, length-drop, map-append, take_all}
 use Rattle.std.proofs.Math.Seq.{take-add}

@@ -68,7 +68,8 @@ plan_app = with_option (with_option (with_value (with_value (new_app (codes "pla
 abbrev pub serve_app : App
 serve_app =
     with_option (with_option (with_option (with_option (with_flag
-    (with_option (with_option (with_option (with_option (with_option (with_flag (with_flag (with_option (with_option (with_option (with_option (with_option (with_value (with_file (new_app (codes "serve"))) (codes "PORT"))
+    (with_option (with_option
+    (with_option (with_option (with_option (with_flag (with_flag (with_option (with_option (with_option (with_option (with_option (with_value (with_file (new_app (codes "serve"))) (codes "PORT"))
     (codes "audit")) (codes "sessions")) (codes "idle")) (codes "wait")) (codes "merge-at")) (codes "pipeline")) (codes "resp"))
     (codes "bind")) (codes "password-file")) (codes "clients")) (codes "shards")) (codes "mergers"))
     (codes "stay")) (codes "scrub")) (codes "scrub-rate")) (codes "metrics")) (codes "backup")
@@ -283,7 +284,11 @@ access_in rows =
 -- how a file is to be served
 abbrev pub service_in : List Row → Option NamedService
 service_in rows =
-    option_and_then (λ file. option_and_then (λ port. option_and_then (λ access. option_and_then (λ audit. option_and_then (λ sessions. option_and_then (λ idle. option_and_then (λ wait. option_and_then (λ shards. option_and_then (λ mergers. option_and_then (λ merge_at. option_and_then (λ scrub. option_and_then (λ scrub_rate. option_and_then (λ metrics. option_map (λ backup.
+    option_and_then (λ file. option_and_then
+    (λ port. option_and_then (λ access. option_and_then
+    (λ audit. option_and_then (λ sessions. option_and_then
+    (λ idle. option_and_then (λ wait. option_and_then
+    (λ shards. option_and_then (λ mergers. option_and_then (λ merge_at. option_and_then (λ scrub. option_and_then (λ scrub_rate. option_and_then (λ metrics. option_map (λ backup.
     record {
       file = file;
       shards = shards;
@@ -303,7 +308,8 @@ service_in rows =
       metrics = metrics;
       backup = backup;
     })
-    (backup_in rows)) (metrics_in rows)) (scrub_rate_in rows)) (scrub_in rows)) (count_in rows (codes "merge-at"))) (mergers_in rows)) (shards_in rows)) (option_in rows (codes "wait"))) (limit_in rows (codes "idle"))) (limit_in rows (codes "sessions"))) (audit_in rows)) (access_in rows)) (port_in rows)) (file_in rows)
+    (backup_in rows)) (metrics_in rows)) (scrub_rate_in rows)) (scrub_in rows)) (count_in rows (codes "merge-at"))) (mergers_in rows)) (shards_in rows))
+    (option_in rows (codes "wait"))) (limit_in rows (codes "idle"))) (limit_in rows (codes "sessions"))) (audit_in rows)) (access_in rows)) (port_in rows)) (file_in rows)
 
 -- what a store is to be planned for
 abbrev pub request_in : List Row → Option PlanRequest

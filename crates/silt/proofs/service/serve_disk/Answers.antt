@@ -7,7 +7,10 @@ pub returns-in-Ok : goal.returns-in-Ok
 returns-in-Ok g c = (
   is_some c.entrance_of-entrance.result,
   c.entrance_of-entrance.ensures.told,
-  inr (rw c.report_at_once.ensures.disk at c.in-Ok.ensures.alone, (c.in-Ok.core, rw c.report_at_once.ensures.disk at c.in-Ok.ensures.opened, (c.serve_opened-disk.ensures.served, c.serve_opened-disk.ensures.led))),
+  inr (
+    rw c.report_at_once.ensures.disk at c.in-Ok.ensures.alone,
+    (c.in-Ok.core, rw c.report_at_once.ensures.disk at c.in-Ok.ensures.opened, (c.serve_opened-disk.ensures.served, c.serve_opened-disk.ensures.led)),
+  ),
 )
 
 pub returns-in-Err : goal.returns-in-Err

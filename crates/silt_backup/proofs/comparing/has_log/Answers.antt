@@ -15,7 +15,8 @@ returns-in-Ok-read-clause-same g c =
           let wide : length c.as_mut_slice.result.now ≡ log_size c.args.geometry.now = c.as_mut_slice.ensures.len ∙ c.in-Ok.ensures.len ∙ c.requires in
           let is_read : c.as_slice.result.now ≡ c.read.new.buf =
           c.as_slice.ensures.value
-          ∙ whole_buffer c.in-Ok.bytes.len c.read.new.buf c.in-Ok.bytes.items (c.read.auto.buf ∙ ap length c.as_mut_slice.ensures.value) (sym c.as_mut_slice.ensures.len ∙ ap length c.as_mut_slice.ensures.value) in
+          ∙ whole_buffer c.in-Ok.bytes.len c.read.new.buf c.in-Ok.bytes.items (c.read.auto.buf ∙ ap length c.as_mut_slice.ensures.value)
+          (sym c.as_mut_slice.ensures.len ∙ ap length c.as_mut_slice.ensures.value) in
           let bytes : c.read.new.buf ≡ slice_range shown at (at + length c.as_mut_slice.result.now) = c.in-Ok-read.ensures.bytes honest in
           sym whole ∙ is_read ∙ bytes ∙ ap (λ n. slice_range shown at (at + n)) wide ∙ ap (λ n. slice_range shown n (n + log_size c.args.geometry.now)) c.gates_at-at.ensures.value;
     }

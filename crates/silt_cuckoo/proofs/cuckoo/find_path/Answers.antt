@@ -9,8 +9,14 @@ returns-in-Some c = rw (plan_first (unpacked_all c.args.slots.now) c.args.first 
 
 pub returns-in-Some-lowest_free : goal.returns-in-Some-lowest_free
 returns-in-Some-lowest_free c =
-    rw (plan_second (unpacked_all c.args.slots.now) c.args.first c.args.second c.in-Some-lowest_free.free (sym c.lowest_free.ensures ∙ c.in_default.is) (sym c.lowest_free-2.ensures ∙ c.in-Some-lowest_free.is), c.push-in-Some-lowest_free.ensures, c.new-path.ensures) refl
+    rw (
+      plan_second (unpacked_all c.args.slots.now) c.args.first c.args.second c.in-Some-lowest_free.free (sym c.lowest_free.ensures ∙ c.in_default.is)
+          (sym c.lowest_free-2.ensures ∙ c.in-Some-lowest_free.is),
+      c.push-in-Some-lowest_free.ensures,
+      c.new-path.ensures,
+    ) refl
 
 pub returns : goal.returns
 returns c =
-    rw (plan_walk (unpacked_all c.args.slots.now) c.args.first c.args.second (sym c.lowest_free.ensures ∙ c.in_default.is) (sym c.lowest_free-2.ensures ∙ c.in_default-lowest_free.is)) (rw c.new-path.ensures at c.walk.ensures)
+    rw (plan_walk (unpacked_all c.args.slots.now) c.args.first c.args.second (sym c.lowest_free.ensures ∙ c.in_default.is)
+    (sym c.lowest_free-2.ensures ∙ c.in_default-lowest_free.is)) (rw c.new-path.ensures at c.walk.ensures)

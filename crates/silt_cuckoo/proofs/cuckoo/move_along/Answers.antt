@@ -17,6 +17,7 @@ loop-k-preserved c =
     let so_far : unpacked_all c.loop-k.slots ≡ moved_along (unpacked_all c.args.slots.now) (drop (m + 1) c.args.path.now) = rw step c.loop-k.invariant in
     let there = c.requires.there m (omega arith) in
     let is : unpacked c.with_tag.result ≡ moved_entry (unpacked_all c.loop-k.slots) (slice_index c.args.path.now m) =
-    c.with_tag.ensures ∙ ap (option_map (λ (e : Entry). (slice_index c.args.path.now m / 4, e.1))) (sym (entry_of_stored c.loop-k.slots (slice_index c.args.path.now m) _ (omega (arith, c.loop-k.auto.slots)))) in
+    c.with_tag.ensures ∙ ap (option_map (λ (e : Entry). (slice_index c.args.path.now m / 4, e.1)))
+    (sym (entry_of_stored c.loop-k.slots (slice_index c.args.path.now m) _ (omega (arith, c.loop-k.auto.slots)))) in
     let turn = moved_turn (unpacked_all c.args.slots.now) (unpacked_all c.loop-k.slots) c.args.path.now m (unpacked c.with_tag.result) so_far (omega arith) c.requires.apart is in
     unpacked_all_set c.loop-k.slots (slice_index c.args.path.now (c.loop-k.k - 1)) c.with_tag.result ∙ (rw step at turn)

@@ -25,5 +25,12 @@ returns-clause-notes g c =
     let store : HashState = hash_store_at s c.args.number in
     let same : store.shape ≡ s.manifest.shape = (c.requires.holds.whole.hashed c.args.number _ c.requires.number).has_shape in
     notes_slots (g.D.Disk.content c.args.disk.now) s store.shape store.region (g.D.Disk.content c.args.disk.now).shown c.loop-slot.slot c.args.spots.now c.loop-slot.spots
-    (omega (arith, c.loop-slot-test.false, c.loop-slot.auto.slot-end, c.buckets-slot-end.ensures.value, ap (λ (shape : Shape). shape.buckets) c.geometry.ensures.value, ap (λ (shape : Shape). shape.buckets) same))
+    (omega (
+      arith,
+      c.loop-slot-test.false,
+      c.loop-slot.auto.slot-end,
+      c.buckets-slot-end.ensures.value,
+      ap (λ (shape : Shape). shape.buckets) c.geometry.ensures.value,
+      ap (λ (shape : Shape). shape.buckets) same,
+    ))
     c.loop-slot.invariant

@@ -30,5 +30,8 @@ below_all spots next first q least below some = go (compared first q)
 pub returns-in-Some : goal.returns-in-Some
 returns-in-Some c =
     let lower : is_lt (key_cmp c.in-Some.next c.in_ok-first.first.now) ≡ true = ap is_lt (sym c.cmp.ensures) ∙ sym c.is_lt.ensures ∙ c.if-is_lt.true in
-    let below : IsBelow c.in-Some.next c.in_ok-first.first.now = below_lt _ lower in
-    (refl, subst (λ (e : Option Key). AreAllAbove e c.args.spots.now) (sym c.in-Some.is) (λ q some. below_all c.args.spots.now c.in-Some.next c.in_ok-first.first.now q c.in_ok-first.ensures.least below some))
+    let below : IsBelow c.in-Some.next c.in_ok-first.first.now = below_lt _ lower in (
+      refl,
+      subst (λ (e : Option Key). AreAllAbove e c.args.spots.now) (sym c.in-Some.is)
+          (λ q some. below_all c.args.spots.now c.in-Some.next c.in_ok-first.first.now q c.in_ok-first.ensures.least below some),
+    )

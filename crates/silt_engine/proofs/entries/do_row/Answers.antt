@@ -8,7 +8,8 @@ use Rattle.silt_engine.proofs.entries.do_row.Goals as goal
 pub returns-in_ok-put_value : goal.returns-in_ok-put_value
 returns-in_ok-put_value c =
     let key : Key = record { 0 = c.copy_from_slice.new.self } in
-    does_row (row_of c.args.bytes.now) key _ c.args.entries.now c.put_value.new.entries c.if-bytes-eq-PUT.true c.copy_from_slice.ensures.after (bytes_from c.args.bytes.now 21) c.in_ok-put_value.ensures
+    does_row (row_of c.args.bytes.now) key _ c.args.entries.now c.put_value.new.entries c.if-bytes-eq-PUT.true c.copy_from_slice.ensures.after
+    (bytes_from c.args.bytes.now 21) c.in_ok-put_value.ensures
 
 pub returns-else-bytes-eq-PUT : goal.returns-else-bytes-eq-PUT
 returns-else-bytes-eq-PUT c =

@@ -19,5 +19,6 @@ returns-clause-ok c =
     let q = c.args.len / 8 in
     let b = c.index_mut.result.now in
     let items = c.in_ok-extend_from_slice-2.ensures.items in
-    append_partly c.args.width c.args.word c.args.len ((c.args.len % 8 + c.args.width - 1) / 8) b _ _ _ c.requires.filled.filled c.requires.filled.within (omega arith) c.requires.some c.requires.word (omega (arith, c.ranges.word)) c.requires.alone
+    append_partly c.args.width c.args.word c.args.len ((c.args.len % 8 + c.args.width - 1) / 8) b _ _ _ c.requires.filled.filled
+    c.requires.filled.within (omega arith) c.requires.some c.requires.word (omega (arith, c.ranges.word)) c.requires.alone
     c.to_be_bytes-more-2.ensures refl (c.index_mut.ensures.value ∙ ap (λ xs. get_or xs q b) items) (ap (λ xs. set xs q (bit_or b (c.args.word / 2 ^ (56 + c.args.len % 8)))) items)

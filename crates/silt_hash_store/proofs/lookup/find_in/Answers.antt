@@ -10,7 +10,8 @@ loop-slot-preserved g c = record {
     | inl before ↦ c.loop-slot.invariant.lack honest slot low before tagged
     | inr here ↦
         let same : c.loop-slot.slot ≡ slot = omega arith in
-        subst (λ (n : ℕ). slot_tag c.args.tags.now n ≡ Some c.args.sought.tag → is_row_of c.args.sought.key.0 (slot_row c.args.region.now.geometry c.args.region.now.number (g.D.Disk.content c.args.disk.now).shown n) ≡ false)
+        subst (λ (n : ℕ). slot_tag c.args.tags.now n ≡ Some c.args.sought.tag
+        → is_row_of c.args.sought.key.0 (slot_row c.args.region.now.geometry c.args.region.now.number (g.D.Disk.content c.args.disk.now).shown n) ≡ false)
         same (rw c.in_default.is at (c.in_ok-kind.ensures.matches honest)) tagged
   ];
 }

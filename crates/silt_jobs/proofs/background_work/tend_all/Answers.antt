@@ -14,13 +14,15 @@ loop-turn-init g c = none_counted g.D.Disk c.args.least c.args.core.now
 pub returns-in_err-convert-clause-refused : goal.returns-in_err-convert-clause-refused
 returns-in_err-convert-clause-refused g c =
     on_error c.from_residual.result c.in_err-convert.field-0.0 _ c.from_residual.ensures.1
-    (stops_more g.D.Disk (due_at_once c.args.least) c.args.core.now c.loop-turn.core c.convert.new.self Convert c.in_err-convert.field-0.0 (sym c.wants_convert.ensures ∙ c.if-wants_convert.true) c.loop-turn.invariant.taken c.loop-turn.invariant.fine
+    (stops_more g.D.Disk (due_at_once c.args.least) c.args.core.now c.loop-turn.core c.convert.new.self Convert c.in_err-convert.field-0.0
+    (sym c.wants_convert.ensures ∙ c.if-wants_convert.true) c.loop-turn.invariant.taken c.loop-turn.invariant.fine
     (rw c.in_err-convert.was at c.convert.ensures))
 
 pub returns-in_err-merge-clause-refused : goal.returns-in_err-merge-clause-refused
 returns-in_err-merge-clause-refused g c =
     on_error c.from_residual-in_err-merge.result c.in_err-merge.field-0.0 _ c.from_residual-in_err-merge.ensures.1
-    (stops_more g.D.Disk (due_at_once c.args.least) c.args.core.now c.loop-turn.core c.merge.new.self Merge c.in_err-merge.field-0.0 (sym c.merges.ensures ∙ c.if-merges.true) c.loop-turn.invariant.taken c.loop-turn.invariant.fine
+    (stops_more g.D.Disk (due_at_once c.args.least) c.args.core.now c.loop-turn.core c.merge.new.self Merge c.in_err-merge.field-0.0
+    (sym c.merges.ensures ∙ c.if-merges.true) c.loop-turn.invariant.taken c.loop-turn.invariant.fine
     (rw c.in_err-merge.was at c.merge.ensures))
 
 pub returns-else-merges-clause-done : goal.returns-else-merges-clause-done
@@ -32,10 +34,12 @@ pub loop-turn-preserved : goal.loop-turn-preserved
 loop-turn-preserved g c =
     elim c.if-wants_convert.branch [
       | then-wants_convert+in_ok-convert w ↦
-          rw (w.core-is, w.steps-is) (convert_counted g.D.Disk c.args.least c.args.core.now c.loop-turn.core w.convert.new.self (progress_reply w.convert.result) c.loop-turn.steps.converted c.loop-turn.steps.merged
+          rw (w.core-is, w.steps-is) (convert_counted g.D.Disk c.args.least c.args.core.now c.loop-turn.core w.convert.new.self
+          (progress_reply w.convert.result) c.loop-turn.steps.converted c.loop-turn.steps.merged
           c.loop-turn.turn c.loop-turn.invariant (sym c.wants_convert.ensures ∙ w.if-wants_convert.true) (ap (λ result. is_refused (progress_reply result)) w.in_ok-convert.was) w.convert.ensures)
       | else-wants_convert+then-merges+in_ok-merge w ↦
-          rw (w.core-is, w.steps-is) (merge_counted g.D.Disk c.args.least c.args.core.now c.loop-turn.core w.merge.new.self (progress_reply w.merge.result) c.loop-turn.steps.converted c.loop-turn.steps.merged
+          rw (w.core-is, w.steps-is) (merge_counted g.D.Disk c.args.least c.args.core.now c.loop-turn.core w.merge.new.self
+          (progress_reply w.merge.result) c.loop-turn.steps.converted c.loop-turn.steps.merged
           c.loop-turn.turn c.loop-turn.invariant (sym w.merges.ensures ∙ w.if-merges.true) (ap (λ result. is_refused (progress_reply result)) w.in_ok-merge.was) w.merge.ensures)
     ]
 

@@ -7,4 +7,9 @@ returns-then-has_few_regions g c = inl (c.refuse_few_regions.ensures.disk, c.has
 
 pub returns : goal.returns
 returns g c =
-    inr (refl, c.of-failures.ensures, IfOk-weaker c.answer_reader-core.result.1 _ _ (λ status answered. (c.answer_reader-core.result.0, answered, c.close-disk.ensures.disk)) c.answer_reader-core.ensures)
+    inr (
+      refl,
+      c.of-failures.ensures,
+      IfOk-weaker c.answer_reader-core.result.1 _ _
+          (λ status answered. (c.answer_reader-core.result.0, answered, c.close-disk.ensures.disk)) c.answer_reader-core.ensures,
+    )

@@ -18,7 +18,8 @@ loop-buckets-preserved c =
       }
       | else-is_needed w ↦ record {
         items = refl;
-        rest = not_needed c.args.request.now bucket_counts bucket_counts c.loop-buckets.buckets-index c.loop-buckets-test.true c.loop-buckets.invariant.rest (sym c.is_needed.ensures ∙ w.if-is_needed.false);
+        rest = not_needed c.args.request.now bucket_counts bucket_counts c.loop-buckets.buckets-index c.loop-buckets-test.true
+            c.loop-buckets.invariant.rest (sym c.is_needed.ensures ∙ w.if-is_needed.false);
       }
     ]
 

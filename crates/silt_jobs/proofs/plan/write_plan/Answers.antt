@@ -6,7 +6,8 @@ use Rattle.silt_jobs.proofs.plan.write_plan.Goals as goal
 pub returns-in-Some : goal.returns-in-Some
 returns-in-Some g c =
     let r = c.args.request.now in
-    plans_here r (first_planned r bucket_counts) c.in-Some.geometry _ _ _ (sym c.in-Some.is ∙ c.plan.ensures) (rw (c.cost_of-cost.ensures, c.buckets.ensures.value) refl) (refl, c.write_planned.ensures)
+    plans_here r (first_planned r bucket_counts) c.in-Some.geometry _ _ _ (sym c.in-Some.is ∙ c.plan.ensures)
+    (rw (c.cost_of-cost.ensures, c.buckets.ensures.value) refl) (refl, c.write_planned.ensures)
 
 pub returns-in-None : goal.returns-in-None
 returns-in-None g c =

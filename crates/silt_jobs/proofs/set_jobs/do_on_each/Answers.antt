@@ -58,5 +58,6 @@ returns g c =
     let given = c.into_iter-disk-iterator.ensures.into_iter_gives in
     let none : length (into_iter_items c.loop-disk.disk-iterator) ≡ 0 = omega (arith, c.in-None.ensures.steps.0, c.loop-disk.disk-iterator.rest.ok) in
     all_done g.D.Disk (HasFailed g.D.Watched.kept_read g.D.Watched.last_failure) c.args.job (into_iter_items c.into_iter-disk-iterator.result) c.args.disks.items (vec_len c.loop-disk.parts)
-    (vec_len c.args.disks) c.loop-disk.worst (record { parts = c.loop-disk.parts; whole = c.plain.result }) _ _ given.0 (omega (arith, none, before.count, ap length given.0, c.args.disks.ok)) before.does
+    (vec_len c.args.disks) c.loop-disk.worst (record { parts = c.loop-disk.parts; whole = c.plain.result }) _ _ given.0
+    (omega (arith, none, before.count, ap length given.0, c.args.disks.ok)) before.does
     before.worst c.plain.ensures

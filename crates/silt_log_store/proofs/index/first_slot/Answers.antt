@@ -10,8 +10,12 @@ returns-then-eq c =
     let default : Candidate = record { slot = 0; place = 0 } in
     let candidate : Candidate = get_or c.args.candidates.now at default in
     let passes : bytes_eq (get_or c.args.keys.now candidate.place []) c.args.key.now ≡ true = sym c.if-eq.ensures in
-    ap (option_map (λ (k : Candidate). k.slot)) (sym (find_first (λ (k : Candidate). bytes_eq (get_or c.args.keys.now k.place []) c.args.key.now) c.args.candidates.now at candidate default c.loop-candidate.invariant (omega arith) refl passes))
+    ap (option_map (λ (k : Candidate). k.slot))
+    (sym (find_first (λ (k : Candidate). bytes_eq (get_or c.args.keys.now k.place []) c.args.key.now) c.args.candidates.now at
+    candidate default c.loop-candidate.invariant (omega arith) refl passes))
 
 pub returns : goal.returns
 returns c =
-    ap (option_map (λ (k : Candidate). k.slot)) (sym (find_nothing (λ (k : Candidate). bytes_eq (get_or c.args.keys.now k.place []) c.args.key.now) c.args.candidates.now (λ k d least below. c.loop-candidate.invariant k d least (omega arith))))
+    ap (option_map (λ (k : Candidate). k.slot))
+    (sym (find_nothing (λ (k : Candidate). bytes_eq (get_or c.args.keys.now k.place []) c.args.key.now) c.args.candidates.now
+    (λ k d least below. c.loop-candidate.invariant k d least (omega arith))))

@@ -10,7 +10,8 @@ pub record_bytes-requires : goal.record_bytes-requires
 record_bytes-requires g c = subst FitsSlot (sym c.first.ensures) first_fits
 
 pub returns-in_err-write_gate-clause-wrote : goal.returns-in_err-write_gate-clause-wrote
-returns-in_err-write_gate-clause-wrote g c = wrote_err c.in_err-write_gate.was c.from_residual.ensures.1 (omega arith) (omega arith) (wrote_wider _ _ (omega arith) (omega arith) c.write_gate.ensures.wrote)
+returns-in_err-write_gate-clause-wrote g c = wrote_err c.in_err-write_gate.was c.from_residual.ensures.1 (omega arith) (omega arith)
+    (wrote_wider _ _ (omega arith) (omega arith) c.write_gate.ensures.wrote)
 
 pub returns-in_err-write_record-clause-wrote : goal.returns-in_err-write_record-clause-wrote
 returns-in_err-write_record-clause-wrote g c =

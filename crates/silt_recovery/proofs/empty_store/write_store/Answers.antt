@@ -18,7 +18,8 @@ returns-in_err-write-clause-stopped g c =
     let c1 = g.D.Disk.content c.write_synced.new.disk in
     let c2 = g.D.Disk.content c.write.new.self in
     let closed1 = gate_closed c0 c1 (omega (arith, c.requires.size)) c.in_ok-write_synced.ensures.written c.in_ok-write_synced.ensures.rests in
-    on_err c.from_residual-in_err-write.result (left_closed c.args.geometry.now c0 c2 (gate_kept_by_write c.slot_start.result 1 c1 c2 (omega (arith, c.slot_start.ensures)) c.write.ensures.torn closed1))
+    on_err c.from_residual-in_err-write.result (left_closed c.args.geometry.now c0 c2
+    (gate_kept_by_write c.slot_start.result 1 c1 c2 (omega (arith, c.slot_start.ensures)) c.write.ensures.torn closed1))
 
 pub returns-in_err-prepare-clause-stopped : goal.returns-in_err-prepare-clause-stopped
 returns-in_err-prepare-clause-stopped g c =
@@ -48,7 +49,9 @@ returns-in_err-write_header-clause-stopped g c =
     let rows = subst (λ (l : LogState). LeavesOnly c3 (λ image. log_rows l.shape l.region image ≡ [])) c.requires.log c.in_ok-prepare.ensures.ok.images in
     let size3 = c.prepare.ensures.wrote.size ∙ c.write.ensures.size ∙ c.write_synced.ensures.wrote.size ∙ c.requires.size in
     let size4 = c.write_first.ensures.wrote.size ∙ size3 in
-    on_err c.from_residual-in_err-write_header.result (left_at_last c.args.geometry.now c.empty_digests-digests.result (g.D.Disk.content c.args.disk.now) c3 (g.D.Disk.content c.write_first.new.disk) (g.D.Disk.content c.write_header.new.disk) c.requires.limits c.empty_digests-digests.ensures size3 size4 (c.write_header.ensures.wrote.size ∙ size4)
+    on_err c.from_residual-in_err-write_header.result
+    (left_at_last c.args.geometry.now c.empty_digests-digests.result (g.D.Disk.content c.args.disk.now) c3 (g.D.Disk.content c.write_first.new.disk)
+    (g.D.Disk.content c.write_header.new.disk) c.requires.limits c.empty_digests-digests.ensures size3 size4 (c.write_header.ensures.wrote.size ∙ size4)
     rows c.write_first.ensures.wrote.changes c.in_ok-write_first.ensures.current c.write_header.ensures.wrote.changes c.write_header.ensures.stopped)
 
 pub write_header-requires-clause-closed : goal.write_header-requires-clause-closed
@@ -69,7 +72,8 @@ write_first-requires-clause-closed g c κs within =
     let c2 = g.D.Disk.content c.write.new.self in
     let c3 = g.D.Disk.content c.prepare.new.disk in
     let prepared = subst (λ (l : LogState). ChangesWithin (gates_at l.shape l.region) l.shape.log_capacity c2 c3) c.requires.log c.prepare.ensures.wrote.changes in
-    second_closed c.args.geometry.now c.requires.limits c1 c2 c3 (c.write_synced.ensures.wrote.size ∙ c.requires.size) c.write.ensures.size (subst (λ (at : ℕ). Writes at (0 ∷ []) c1 c2) c.slot_start.ensures c.in_ok-write.ensures.written) prepared c.in_ok-prepare.ensures.rests
+    second_closed c.args.geometry.now c.requires.limits c1 c2 c3 (c.write_synced.ensures.wrote.size ∙ c.requires.size) c.write.ensures.size
+    (subst (λ (at : ℕ). Writes at (0 ∷ []) c1 c2) c.slot_start.ensures c.in_ok-write.ensures.written) prepared c.in_ok-prepare.ensures.rests
 
 pub returns-clause-images : goal.returns-clause-images
 returns-clause-images g c =
@@ -77,7 +81,8 @@ returns-clause-images g c =
     let rows = subst (λ (l : LogState). LeavesOnly c3 (λ image. log_rows l.shape l.region image ≡ [])) c.requires.log c.in_ok-prepare.ensures.ok.images in
     let size3 = c.prepare.ensures.wrote.size ∙ c.write.ensures.size ∙ c.write_synced.ensures.wrote.size ∙ c.requires.size in
     let size4 = c.write_first.ensures.wrote.size ∙ size3 in
-    formatted c.args.geometry.now c.empty_digests-digests.result c3 (g.D.Disk.content c.write_first.new.disk) (g.D.Disk.content c.write_header.new.disk) c.requires.limits c.empty_digests-digests.ensures size3 size4 (c.write_header.ensures.wrote.size ∙ size4)
+    formatted c.args.geometry.now c.empty_digests-digests.result c3 (g.D.Disk.content c.write_first.new.disk)
+    (g.D.Disk.content c.write_header.new.disk) c.requires.limits c.empty_digests-digests.ensures size3 size4 (c.write_header.ensures.wrote.size ∙ size4)
     rows c.write_first.ensures.wrote.changes c.in_ok-write_first.ensures.current c.write_header.ensures.wrote.changes c.in_ok-write_header.ensures.header c.in_ok-write_header.ensures.rests
 
 pub returns-in_err-write_synced-clause-made : goal.returns-in_err-write_synced-clause-made
@@ -88,7 +93,8 @@ returns-in_err-write_synced-clause-made g c =
 pub returns-in_err-write-clause-made : goal.returns-in_err-write-clause-made
 returns-in_err-write-clause-made g c =
     let one : Makes g.D.Disk.writes g.D.Disk.syncs 1 1 c.args.disk.now c.write_synced.new.disk = c.in_ok-write_synced.ensures.wrote.made in
-    let most : MakesAtMost g.D.Disk.writes g.D.Disk.syncs 8 7 c.args.disk.now c.write.new.self = most_made (made_both c.write_synced.new.disk one c.write.ensures.made refl refl) (omega arith) (omega arith) in
+    let most : MakesAtMost g.D.Disk.writes g.D.Disk.syncs 8 7 c.args.disk.now c.write.new.self =
+    most_made (made_both c.write_synced.new.disk one c.write.ensures.made refl refl) (omega arith) (omega arith) in
     search (rules, most)
 
 pub returns-in_err-prepare-clause-made : goal.returns-in_err-prepare-clause-made
@@ -103,7 +109,8 @@ returns-in_err-write_first-clause-made g c =
     let one : Makes g.D.Disk.writes g.D.Disk.syncs 1 1 c.args.disk.now c.write_synced.new.disk = c.in_ok-write_synced.ensures.wrote.made in
     let two : Makes g.D.Disk.writes g.D.Disk.syncs 2 1 c.args.disk.now c.write.new.self = made_both c.write_synced.new.disk one c.write.ensures.made refl refl in
     let three : Makes g.D.Disk.writes g.D.Disk.syncs 3 2 c.args.disk.now c.prepare.new.disk = made_both c.write.new.self two c.in_ok-prepare.ensures.wrote.made refl refl in
-    let most : MakesAtMost g.D.Disk.writes g.D.Disk.syncs 8 7 c.args.disk.now c.write_first.new.disk = most_both c.prepare.new.disk three c.in_err-write_first.ensures.wrote.made (omega arith) (omega arith) in
+    let most : MakesAtMost g.D.Disk.writes g.D.Disk.syncs 8 7 c.args.disk.now c.write_first.new.disk =
+    most_both c.prepare.new.disk three c.in_err-write_first.ensures.wrote.made (omega arith) (omega arith) in
     search (rules, most)
 
 pub returns-in_err-write_header-clause-made : goal.returns-in_err-write_header-clause-made
@@ -112,7 +119,8 @@ returns-in_err-write_header-clause-made g c =
     let two : Makes g.D.Disk.writes g.D.Disk.syncs 2 1 c.args.disk.now c.write.new.self = made_both c.write_synced.new.disk one c.write.ensures.made refl refl in
     let three : Makes g.D.Disk.writes g.D.Disk.syncs 3 2 c.args.disk.now c.prepare.new.disk = made_both c.write.new.self two c.in_ok-prepare.ensures.wrote.made refl refl in
     let four : Makes g.D.Disk.writes g.D.Disk.syncs 6 5 c.args.disk.now c.write_first.new.disk = made_both c.prepare.new.disk three c.in_ok-write_first.ensures.wrote.made refl refl in
-    let most : MakesAtMost g.D.Disk.writes g.D.Disk.syncs 8 7 c.args.disk.now c.write_header.new.disk = most_both c.write_first.new.disk four c.in_err-write_header.ensures.wrote.made (omega arith) (omega arith) in
+    let most : MakesAtMost g.D.Disk.writes g.D.Disk.syncs 8 7 c.args.disk.now c.write_header.new.disk =
+    most_both c.write_first.new.disk four c.in_err-write_header.ensures.wrote.made (omega arith) (omega arith) in
     search (rules, most)
 
 pub returns-clause-made : goal.returns-clause-made

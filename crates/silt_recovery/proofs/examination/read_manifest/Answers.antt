@@ -12,7 +12,8 @@ returns-in-Err-Damaged-clause-cause g c =
     let content = g.D.Disk.content c.args.disk.now in
     let gave = GaveAny g.D.Disk.gave c.args.disk.now in
     let refused = subst (IsNotRead content c.args.geometry gave) c.in-Err-Damaged.field-0-is c.in-Err-Damaged.ensures.refused in
-    let found : IsTrue content.honest → IsFound content.shown (damage_finding c.in-Err-Damaged.damage) = λ h. damage_verdict c.args.geometry content.shown c.in-Err-Damaged.damage (c.requires.shape h) (refused.holds h) in
+    let found : IsTrue content.honest → IsFound content.shown (damage_finding c.in-Err-Damaged.damage) =
+    λ h. damage_verdict c.args.geometry content.shown c.in-Err-Damaged.damage (c.requires.shape h) (refused.holds h) in
     subst (IsRefusedLook (λ finding. IsTrue content.honest → IsFound content.shown finding) gave)
     (ap refusal_of (sym c.finding_of.ensures) ∙ sym c.from.ensures)
     (look_refused (λ finding. IsTrue content.honest → IsFound content.shown finding) gave (damage_finding c.in-Err-Damaged.damage) found)
@@ -24,5 +25,6 @@ returns-in-Ok-clause-named g c = λ h.
 pub returns-in-Ok-clause-says : goal.returns-in-Ok-clause-says
 returns-in-Ok-clause-says g c = λ h.
     let image = (g.D.Disk.content c.args.disk.now).shown in
-    current_digests_of c.args.geometry image c.in-Ok.manifest (current_stores c.args.geometry image c.in-Ok.manifest (c.requires.shape h) c.in-Ok.ensures.shape.0 (c.in-Ok.ensures.shown.holds h)) c.in-Ok.ensures.shape.0
+    current_digests_of c.args.geometry image c.in-Ok.manifest
+    (current_stores c.args.geometry image c.in-Ok.manifest (c.requires.shape h) c.in-Ok.ensures.shape.0 (c.in-Ok.ensures.shown.holds h)) c.in-Ok.ensures.shape.0
     (c.in-Ok.ensures.shown.holds h)

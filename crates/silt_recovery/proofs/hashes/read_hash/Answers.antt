@@ -12,12 +12,14 @@ returns-in-Err-Damaged-clause-cause g c = λ h.
 pub returns-then-is_other-clause-cause : goal.returns-then-is_other-clause-cause
 returns-then-is_other-clause-cause g c = λ h.
     other_digest (g.D.Disk.content c.args.disk.now) c.args.geometry c.args.region (bytes_said c.args.said) c.in-Ok.rebuilt.store c.in-Ok.ensures.region.0 c.in-Ok.ensures.region.1
-    (let rebuilt = c.in-Ok.ensures.rebuilt h in rebuilt.stands) c.is_other.result (λ place. ap (λ (d : List ℕ). digest_findings place (bytes_said c.args.said) d) (sym c.digest.ensures) ∙ c.is_other.ensures place) c.if-is_other.true h
+    (let rebuilt = c.in-Ok.ensures.rebuilt h in rebuilt.stands) c.is_other.result
+    (λ place. ap (λ (d : List ℕ). digest_findings place (bytes_said c.args.said) d) (sym c.digest.ensures) ∙ c.is_other.ensures place) c.if-is_other.true h
 
 pub returns-else-is_other-clause-sound : goal.returns-else-is_other-clause-sound
 returns-else-is_other-clause-sound g c = λ h.
     sound_hash (g.D.Disk.content c.args.disk.now) c.args.geometry c.args.region (bytes_said c.args.said) c.in-Ok.rebuilt.store c.in-Ok.ensures.region.0 c.in-Ok.ensures.region.1
-    (let rebuilt = c.in-Ok.ensures.rebuilt h in rebuilt.stands) c.is_other.result (λ place. ap (λ (d : List ℕ). digest_findings place (bytes_said c.args.said) d) (sym c.digest.ensures) ∙ c.is_other.ensures place) c.if-is_other.false h
+    (let rebuilt = c.in-Ok.ensures.rebuilt h in rebuilt.stands) c.is_other.result
+    (λ place. ap (λ (d : List ℕ). digest_findings place (bytes_said c.args.said) d) (sym c.digest.ensures) ∙ c.is_other.ensures place) c.if-is_other.false h
 
 pub returns-else-is_other-clause-read : goal.returns-else-is_other-clause-read
 returns-else-is_other-clause-read g c = record {

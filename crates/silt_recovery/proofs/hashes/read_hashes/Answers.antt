@@ -24,10 +24,13 @@ pub loop-place-preserved : goal.loop-place-preserved
 loop-place-preserved g c =
     let content = g.D.Disk.content c.args.disk.now in
     let next = c.in_ok-rebuilt.ensures in
-    let read = one_more_hash content c.args.geometry c.args.said.now c.args.regions.now c.loop-place.place c.loop-place.stores.items c.loop-place.puts c.loop-place.rows c.loop-place-test.true c.loop-place.invariant.read
-    (bytes_said c.hash_said.result) c.hash_said.ensures c.in_ok-rebuilt.rebuilt.store c.from-puts.result c.in_ok-rebuilt.rebuilt.rows next.region next.read next.sound (c.from-puts.ensures ∙ c.puts.ensures.value) next.counted in
+    let read = one_more_hash content c.args.geometry c.args.said.now c.args.regions.now c.loop-place.place c.loop-place.stores.items
+    c.loop-place.puts c.loop-place.rows c.loop-place-test.true c.loop-place.invariant.read
+    (bytes_said c.hash_said.result) c.hash_said.ensures c.in_ok-rebuilt.rebuilt.store c.from-puts.result c.in_ok-rebuilt.rebuilt.rows
+    next.region next.read next.sound (c.from-puts.ensures ∙ c.puts.ensures.value) next.counted in
     record {
-      read = subst (λ (stores : List HashState). AreReadHashes content c.args.geometry c.args.said.now (take (c.loop-place.place + 1) c.args.regions.now) stores (c.loop-place.puts + c.from-puts.result) (c.loop-place.rows + c.in_ok-rebuilt.rebuilt.rows)) (sym {A = List HashState} c.in-Ok-push.ensures.items) read;
+      read = subst (λ (stores : List HashState). AreReadHashes content c.args.geometry c.args.said.now (take (c.loop-place.place + 1) c.args.regions.now)
+          stores (c.loop-place.puts + c.from-puts.result) (c.loop-place.rows + c.in_ok-rebuilt.rebuilt.rows)) (sym {A = List HashState} c.in-Ok-push.ensures.items) read;
       most_puts = omega (arith, next.most.0, c.from-puts.ensures, c.puts.ensures.value, c.loop-place.invariant.most_puts);
       most_rows = omega (arith, next.most.1, c.loop-place.invariant.most_rows);
       room = omega (arith, c.in-Ok-push.ensures.capacity, c.loop-place.invariant.room);
@@ -36,4 +39,5 @@ loop-place-preserved g c =
 pub returns-clause-read : goal.returns-clause-read
 returns-clause-read g c =
     let all = take_all c.loop-place.place c.args.regions.now c.loop-place-test.false in
-    subst (λ (regions : List ℕ). AreReadHashes (g.D.Disk.content c.args.disk.now) c.args.geometry c.args.said.now regions c.loop-place.stores.items c.loop-place.puts c.loop-place.rows) all c.loop-place.invariant.read
+    subst (λ (regions : List ℕ). AreReadHashes (g.D.Disk.content c.args.disk.now) c.args.geometry c.args.said.now regions
+    c.loop-place.stores.items c.loop-place.puts c.loop-place.rows) all c.loop-place.invariant.read

@@ -15,14 +15,16 @@ returns-in_err-write_synced-2-clause-stopped g c =
     let old = g.D.Disk.content c.args.disk.now in
     let between = g.D.Disk.content c.write_synced.new.disk in
     let written = subst (λ (bytes : List ℕ). Writes 1 bytes old between) c.header_bytes-header.ensures c.in_ok-write_synced.ensures.written in
-    header_gated c.args.geometry.now old between (g.D.Disk.content c.write_synced-2.new.disk) (omega (arith, c.requires.size)) written c.in_ok-write_synced.ensures.rests c.write_synced.ensures.wrote.size c.write_synced-2.ensures.wrote.changes
+    header_gated c.args.geometry.now old between (g.D.Disk.content c.write_synced-2.new.disk) (omega (arith, c.requires.size))
+    written c.in_ok-write_synced.ensures.rests c.write_synced.ensures.wrote.size c.write_synced-2.ensures.wrote.changes
 
 pub returns-clause-stopped : goal.returns-clause-stopped
 returns-clause-stopped g c =
     let old = g.D.Disk.content c.args.disk.now in
     let between = g.D.Disk.content c.write_synced.new.disk in
     let written = subst (λ (bytes : List ℕ). Writes 1 bytes old between) c.header_bytes-header.ensures c.in_ok-write_synced.ensures.written in
-    header_gated c.args.geometry.now old between (g.D.Disk.content c.write_synced-2.new.disk) (omega (arith, c.requires.size)) written c.in_ok-write_synced.ensures.rests c.write_synced.ensures.wrote.size c.write_synced-2.ensures.wrote.changes
+    header_gated c.args.geometry.now old between (g.D.Disk.content c.write_synced-2.new.disk) (omega (arith, c.requires.size))
+    written c.in_ok-write_synced.ensures.rests c.write_synced.ensures.wrote.size c.write_synced-2.ensures.wrote.changes
 
 pub returns-clause-header : goal.returns-clause-header
 returns-clause-header g c = λ h.
@@ -34,7 +36,8 @@ returns-clause-header g c = λ h.
     (omega (arith, c.requires.size)) (first.shown h0 ∙ ap (λ (bytes : List ℕ). splice 1 bytes (g.D.Disk.content c.args.disk.now).shown) c.header_bytes-header.ensures) (second.shown h1)
 
 pub returns-in_err-write_synced-clause-wrote : goal.returns-in_err-write_synced-clause-wrote
-returns-in_err-write_synced-clause-wrote g c = wrote_err c.in_err-write_synced.was c.from_residual.ensures.1 (omega arith) (omega arith) (wrote_wider 0 37 (omega arith) (omega arith) c.write_synced.ensures.wrote)
+returns-in_err-write_synced-clause-wrote g c = wrote_err c.in_err-write_synced.was c.from_residual.ensures.1 (omega arith) (omega arith)
+    (wrote_wider 0 37 (omega arith) (omega arith) c.write_synced.ensures.wrote)
 
 pub returns-in_err-write_synced-2-clause-wrote : goal.returns-in_err-write_synced-2-clause-wrote
 returns-in_err-write_synced-2-clause-wrote g c =

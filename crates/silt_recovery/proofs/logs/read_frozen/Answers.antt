@@ -22,10 +22,12 @@ pub loop-region-preserved : goal.loop-region-preserved
 loop-region-preserved g c =
     let content = g.D.Disk.content c.args.disk.now in
     let next = c.in_ok-store.ensures in
-    let read = one_more_read content c.args.geometry c.args.regions.now c.loop-region.region-index c.loop-region.stores.items c.loop-region.puts c.in_ok-store.store c.from-puts.result c.loop-region-test.true c.loop-region.invariant.read
+    let read = one_more_read content c.args.geometry c.args.regions.now c.loop-region.region-index c.loop-region.stores.items
+    c.loop-region.puts c.in_ok-store.store c.from-puts.result c.loop-region-test.true c.loop-region.invariant.read
     next.region next.read next.sound (λ h. c.from-puts.ensures ∙ c.puts.ensures.value ∙ next.counted h) in
     record {
-      read = subst (λ (stores : List LogStoreState). AreReadLogs content c.args.geometry (take (c.loop-region.region-index + 1) c.args.regions.now) stores (c.loop-region.puts + c.from-puts.result)) (sym {A = List LogStoreState} c.in-Ok-push.ensures.items) read;
+      read = subst (λ (stores : List LogStoreState). AreReadLogs content c.args.geometry (take (c.loop-region.region-index + 1) c.args.regions.now)
+          stores (c.loop-region.puts + c.from-puts.result)) (sym {A = List LogStoreState} c.in-Ok-push.ensures.items) read;
       most = omega (arith, next.most, c.from-puts.ensures, c.puts.ensures.value, c.loop-region.invariant.most);
       room = omega (arith, c.in-Ok-push.ensures.capacity, c.loop-region.invariant.room);
     }

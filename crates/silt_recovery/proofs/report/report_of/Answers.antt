@@ -10,7 +10,8 @@ use Rattle.silt_recovery.proofs.report.report_of.Goals as goal
 pub row_count-requires-clause-few : goal.row_count-requires-clause-few
 row_count-requires-clause-few g c =
     let held : EngineState = held_stores c.args.held.now in
-    subst (λ (stores : List LogStoreState). length stores ≤ 7) (sym c.deref.ensures.value) (few_frozen (g.D.Disk.content c.args.disk.now) held (current_slot c.args.held.now.manifest) c.requires.holds c.current-body.ensures.sound)
+    subst (λ (stores : List LogStoreState). length stores ≤ 7) (sym c.deref.ensures.value)
+    (few_frozen (g.D.Disk.content c.args.disk.now) held (current_slot c.args.held.now.manifest) c.requires.holds c.current-body.ensures.sound)
 
 pub row_count-requires-clause-most : goal.row_count-requires-clause-most
 row_count-requires-clause-most g c =
@@ -20,5 +21,6 @@ row_count-requires-clause-most g c =
 pub returns : goal.returns
 returns g c =
     let held : EngineState = held_stores c.args.held.now in
-    reported_so (g.D.Disk.content c.args.disk.now) held c.current-body.result c.len.result c.len-2.result c.row_count.result c.len-3.result c.args.held.now.hash_rows c.layout_of.result c.requires.holds c.requires.hash_rows c.current-body.ensures.value c.len.ensures.value c.len-2.ensures.value
+    reported_so (g.D.Disk.content c.args.disk.now) held c.current-body.result c.len.result c.len-2.result c.row_count.result c.len-3.result
+    c.args.held.now.hash_rows c.layout_of.result c.requires.holds c.requires.hash_rows c.current-body.ensures.value c.len.ensures.value c.len-2.ensures.value
     (c.row_count.ensures ∙ ap (λ (stores : List LogStoreState). sum_by used_rows stores) c.deref.ensures.value) c.len-3.ensures.value (c.layout_of.ensures ∙ ap layout_of c.digests-said.ensures.value)

@@ -7,12 +7,14 @@ use Rattle.silt_recovery.proofs.report.row_count.Goals as goal
 
 pub overflow_add-count : goal.overflow_add-count
 overflow_add-count c =
-    let most : c.store-item.result.log.used ≤ 131072 = subst (λ (s : LogStoreState). s.log.used ≤ 131072) (sym c.store-item.is) (c.requires.most c.loop-store.store-index c.store-item.result c.loop-store-test.true) in
+    let most : c.store-item.result.log.used ≤ 131072 =
+    subst (λ (s : LogStoreState). s.log.used ≤ 131072) (sym c.store-item.is) (c.requires.most c.loop-store.store-index c.store-item.result c.loop-store-test.true) in
     omega (arith, most, c.len-count.ensures.value, c.loop-store.invariant.most, c.loop-store-test.true, c.requires.few)
 
 pub loop-store-preserved : goal.loop-store-preserved
 loop-store-preserved c =
-    let most : c.store-item.result.log.used ≤ 131072 = subst (λ (s : LogStoreState). s.log.used ≤ 131072) (sym c.store-item.is) (c.requires.most c.loop-store.store-index c.store-item.result c.loop-store-test.true) in
+    let most : c.store-item.result.log.used ≤ 131072 =
+    subst (λ (s : LogStoreState). s.log.used ≤ 131072) (sym c.store-item.is) (c.requires.most c.loop-store.store-index c.store-item.result c.loop-store-test.true) in
     let before : ℕ = sum_by used_rows (take c.loop-store.store-index c.args.stores.now) in
     record {
       counted =

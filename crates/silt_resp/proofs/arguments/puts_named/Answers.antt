@@ -34,6 +34,7 @@ pub loop-at-preserved : goal.loop-at-preserved
 loop-at-preserved c =
     let len = c.args.settings.now.value_len in
     record {
-      puts = rw c.in_ok-push.ensures.items (puts_more len c.args.args.now c.loop-at.at c.in_ok-key.key c.in_ok-value.value c.loop-at.puts.items (sym c.in_ok-key.ensures) c.in_ok-value.ensures.value c.loop-at.invariant.puts);
+      puts = rw c.in_ok-push.ensures.items (puts_more len c.args.args.now c.loop-at.at c.in_ok-key.key c.in_ok-value.value
+          c.loop-at.puts.items (sym c.in_ok-key.ensures) c.in_ok-value.ensures.value c.loop-at.invariant.puts);
       fits = rw c.in_ok-push.ensures.items (All-push (HasValueOf len) c.loop-at.puts.items (Put c.in_ok-key.key c.in_ok-value.value) c.loop-at.invariant.fits c.in_ok-value.ensures.len);
     }

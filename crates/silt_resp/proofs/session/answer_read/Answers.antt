@@ -36,7 +36,8 @@ loop-done-preserved g c =
       stays = c.answer_part.ensures.stays;
       told = λ client h.
           let before = c.loop-done.invariant.told client h in
-          let P = λ (r : List ℕ). ServesCommands answers s (client_after s client (take done bytes)) (take count r) c.loop-done.answerer c.answer_part.new.answerer (g.W.Write.contents c.loop-done.writer) (g.W.Write.contents c.answer_part.new.writer) in
+          let P = λ (r : List ℕ). ServesCommands answers s (client_after s client (take done bytes)) (take count r) c.loop-done.answerer
+          c.answer_part.new.answerer (g.W.Write.contents c.loop-done.writer) (g.W.Write.contents c.answer_part.new.writer) in
           record {
             holds = client_part s client bytes _ done count c.answer_part.new.talk c.split_at.ensures.back (c.in_ok-done.ensures.holds _ before.holds);
             all = all-part answers s client bytes done count _ _ _ _ _ _ before.all (subst P c.split_at.ensures.back (c.in_ok-done.ensures.all _ before.holds));

@@ -11,7 +11,8 @@ invariant-loop-done g l =
       stays : g.A.Answerer.value_len l.answerer ≡ l.settings.value_len;
       told : (client : Client) → HoldsClient l.initial.talk client → record {
         holds : HoldsClient l.talk (client_after l.settings client (take l.done l.bytes));
-        all : ServesCommands (AnswersQuery g.A.Answerer.answers g.A.Answerer.administers) l.settings client (take l.done l.bytes) l.initial.answerer l.answerer (g.W.Write.contents l.initial.writer) (g.W.Write.contents l.writer);
+        all : ServesCommands (AnswersQuery g.A.Answerer.answers g.A.Answerer.administers) l.settings client (take l.done l.bytes)
+            l.initial.answerer l.answerer (g.W.Write.contents l.initial.writer) (g.W.Write.contents l.writer);
       };
     }
 

@@ -15,7 +15,8 @@ returns-in-Err-answer_read g c =
       i.1 ++ more,
       Consumes-append _ _ _ i.1 more i.2 c.in-Ok.ensures.bytes.0,
       last_cut end _ c.in-Err-answer_read.ensures.cut,
-      ends-bytes (AnswersQuery g.A.Answerer.answers g.A.Answerer.administers) end c.args.settings.now (new_client c.args.settings.now) i.1 more _ _ _ _ _ _ i.4 (c.in-Err-answer_read.ensures.ends _ i.3),
+      ends-bytes (AnswersQuery g.A.Answerer.answers g.A.Answerer.administers) end c.args.settings.now (new_client c.args.settings.now)
+          i.1 more _ _ _ _ _ _ i.4 (c.in-Err-answer_read.ensures.ends _ i.3),
     )
 
 pub loop-preserved : goal.loop-preserved

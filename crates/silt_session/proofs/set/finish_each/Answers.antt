@@ -16,7 +16,8 @@ loop-shard-preserved g c =
       left = c.pop_front.ensures.rest ∙ ap (drop 1) before.left ∙ drop-drop 1 i asked;
       count = omega (arith, before.count, c.push_reserved.ensures.len);
       room = omega (arith, before.room, c.push_reserved.ensures.capacity);
-      told = told_next g.A.AskingAhead.gives g.A.AskingAhead.are_asked (λ (list : VecDeque _ _). list.items) c.args.shards.now asked c.loop-shard.asked.items c.pop_front.new.self.items c.loop-shard.told.items
+      told = told_next g.A.AskingAhead.gives g.A.AskingAhead.are_asked (λ (list : VecDeque _ _). list.items) c.args.shards.now asked
+          c.loop-shard.asked.items c.pop_front.new.self.items c.loop-shard.told.items
           c.push_reserved.new.self.items i c.shard-item.result c.in-Some.one c.from.result c.in-Ok.replies.items c.loop-shard-test.true c.shard-item.is
           (omega (arith, before.count, c.loop-shard.told.ok.0)) before.left c.in-Some.ensures.items c.push_reserved.ensures.items c.from.ensures.0 before.told c.in-Ok.ensures;
     }
@@ -25,5 +26,6 @@ pub returns-clause-told : goal.returns-clause-told
 returns-clause-told g c =
     rw (← c.from-asked.ensures.0)
     (each_all c.args.shards.now c.loop-shard.told.items
-    (λ i shard list. IsSomeAnd (slice_get c.from-asked.result.items i) (λ one. (events : List EventOf) → g.A.AskingAhead.are_asked shard events one → AllZip (g.A.AskingAhead.gives shard) events list.items))
+    (λ i shard list. IsSomeAnd (slice_get c.from-asked.result.items i) (λ one. (events : List EventOf) → g.A.AskingAhead.are_asked shard events one
+    → AllZip (g.A.AskingAhead.gives shard) events list.items))
     c.loop-shard.shard-index c.loop-shard-test.false c.loop-shard.invariant.told)

@@ -11,7 +11,8 @@ loop-part-preserved c =
     let now = c.loop-part.part-items in
     let i = c.loop-part.part-index in
     record {
-      done = zip_next (λ (old new : Vec _ _). new.items ≡ old.items ++ Flush ∷ []) old now i c.part-item.result _ (omega (arith, c.loop-part-test.true, before.same_length)) before.same_length before.rest before.done
+      done = zip_next (λ (old new : Vec _ _). new.items ≡ old.items ++ Flush ∷ []) old now i c.part-item.result _
+          (omega (arith, c.loop-part-test.true, before.same_length)) before.same_length before.rest before.done
           c.in_ok-push.ensures.items;
       rest = rest_next old now i _ before.rest;
       same_length = length-set now i _ ∙ before.same_length;

@@ -15,7 +15,8 @@ loop-shard-preserved g c =
     let within : i < length shards = omega arith in
     λ facts h.
     c.loop-shard.invariant facts
-    (adds_one (λ shard (given : Option Facts). IsSomeAnd given (g.A.AskingAhead.informs shard)) shards i c.shard-item.result c.loop-shard.sum c.facts.result facts within c.shard-item.is c.facts.ensures
+    (adds_one (λ shard (given : Option Facts). IsSomeAnd given (g.A.AskingAhead.informs shard)) shards i c.shard-item.result
+    c.loop-shard.sum c.facts.result facts within c.shard-item.is c.facts.ensures
     (subst (λ (s : Facts). AddsFacts (λ shard given. IsSomeAnd given (g.A.AskingAhead.informs shard)) s (drop (i + 1) shards) facts) c.plus-sum.ensures h))
 
 pub returns : goal.returns

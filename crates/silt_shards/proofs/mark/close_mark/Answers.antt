@@ -4,7 +4,8 @@ use Rattle.silt_shards.proofs.Marks.{closed_unmarked, gate_closed, stands_stays}
 use Rattle.silt_shards.proofs.mark.close_mark.Goals as goal
 
 pub returns-in_err-write_synced-clause-stands : goal.returns-in_err-write_synced-clause-stands
-returns-in_err-write_synced-clause-stands g c = stands_stays 2048 1 (g.D.Disk.content c.args.disk.now) (g.D.Disk.content c.write_synced.new.disk) c.write_synced.ensures.wrote.changes (omega arith) (omega arith)
+returns-in_err-write_synced-clause-stands g c = stands_stays 2048 1 (g.D.Disk.content c.args.disk.now) (g.D.Disk.content c.write_synced.new.disk)
+    c.write_synced.ensures.wrote.changes (omega arith) (omega arith)
 
 pub returns-clause-closed : goal.returns-clause-closed
 returns-clause-closed g c =
@@ -12,7 +13,8 @@ returns-clause-closed g c =
 
 pub returns-clause-unmarked : goal.returns-clause-unmarked
 returns-clause-unmarked g c =
-    weaker_leaves (gate_closed (g.D.Disk.content c.args.disk.now) (g.D.Disk.content c.write_synced.new.disk) c.requires c.in_ok-write_synced.ensures.written c.in_ok-write_synced.ensures.rests) closed_unmarked
+    weaker_leaves (gate_closed (g.D.Disk.content c.args.disk.now) (g.D.Disk.content c.write_synced.new.disk) c.requires
+    c.in_ok-write_synced.ensures.written c.in_ok-write_synced.ensures.rests) closed_unmarked
 
 pub returns-clause-stands : goal.returns-clause-stands
 returns-clause-stands g c = stands_stays 2048 1 (g.D.Disk.content c.args.disk.now) (g.D.Disk.content c.write_synced.new.disk) c.write_synced.ensures.wrote.changes (omega arith) (omega arith)

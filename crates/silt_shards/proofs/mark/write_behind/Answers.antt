@@ -13,7 +13,8 @@ returns-in_err-write_synced-2-clause-stopped g c =
     let old = g.D.Disk.content c.args.disk.now in
     let between = g.D.Disk.content c.write_synced.new.disk in
     let written = subst (λ (bytes : List ℕ). Writes 2049 bytes old between) c.mark_bytes-bytes.ensures c.in_ok-write_synced.ensures.written in
-    mark_gated c.args.mark.now old between (g.D.Disk.content c.write_synced-2.new.disk) c.requires.mark c.requires.size written c.in_ok-write_synced.ensures.rests c.write_synced.ensures.wrote.size c.write_synced-2.ensures.wrote.changes
+    mark_gated c.args.mark.now old between (g.D.Disk.content c.write_synced-2.new.disk) c.requires.mark c.requires.size written
+    c.in_ok-write_synced.ensures.rests c.write_synced.ensures.wrote.size c.write_synced-2.ensures.wrote.changes
 
 pub returns-clause-marked : goal.returns-clause-marked
 returns-clause-marked g c =
@@ -28,10 +29,12 @@ returns-clause-stopped g c =
     let old = g.D.Disk.content c.args.disk.now in
     let between = g.D.Disk.content c.write_synced.new.disk in
     let written = subst (λ (bytes : List ℕ). Writes 2049 bytes old between) c.mark_bytes-bytes.ensures c.in_ok-write_synced.ensures.written in
-    mark_gated c.args.mark.now old between (g.D.Disk.content c.write_synced-2.new.disk) c.requires.mark c.requires.size written c.in_ok-write_synced.ensures.rests c.write_synced.ensures.wrote.size c.write_synced-2.ensures.wrote.changes
+    mark_gated c.args.mark.now old between (g.D.Disk.content c.write_synced-2.new.disk) c.requires.mark c.requires.size written
+    c.in_ok-write_synced.ensures.rests c.write_synced.ensures.wrote.size c.write_synced-2.ensures.wrote.changes
 
 pub returns-in_err-write_synced-clause-wrote : goal.returns-in_err-write_synced-clause-wrote
-returns-in_err-write_synced-clause-wrote g c = wrote_err c.in_err-write_synced.was c.from_residual.ensures.1 (omega arith) (omega arith) (wrote_wider 2048 37 (omega arith) (omega arith) c.write_synced.ensures.wrote)
+returns-in_err-write_synced-clause-wrote g c = wrote_err c.in_err-write_synced.was c.from_residual.ensures.1 (omega arith) (omega arith)
+    (wrote_wider 2048 37 (omega arith) (omega arith) c.write_synced.ensures.wrote)
 
 pub returns-in_err-write_synced-2-clause-wrote : goal.returns-in_err-write_synced-2-clause-wrote
 returns-in_err-write_synced-2-clause-wrote g c =

@@ -25,7 +25,8 @@ returns-clause-stands g c = λ shape map stands.
     (c.close_mark.ensures.stands shape map stands)
 
 pub returns-in_err-close_mark-clause-wrote : goal.returns-in_err-close_mark-clause-wrote
-returns-in_err-close_mark-clause-wrote g c = wrote_err c.in_err-close_mark.was c.from_residual.ensures.1 (omega arith) (omega arith) (wrote_wider 2048 37 (omega arith) (omega arith) c.close_mark.ensures.wrote)
+returns-in_err-close_mark-clause-wrote g c = wrote_err c.in_err-close_mark.was c.from_residual.ensures.1 (omega arith) (omega arith)
+    (wrote_wider 2048 37 (omega arith) (omega arith) c.close_mark.ensures.wrote)
 
 pub returns-in_err-write_behind-clause-wrote : goal.returns-in_err-write_behind-clause-wrote
 returns-in_err-write_behind-clause-wrote g c =

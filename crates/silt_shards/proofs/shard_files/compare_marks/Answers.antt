@@ -37,7 +37,13 @@ returns-then-not-are_of_one_set-clause-cause g c =
         disk = c.index-disks-shard.result;
         at_first = first;
         at_shard = there;
-        caused = (c.in-Ok-due_mark.mark, c.in-Ok.mark, c.in-Ok-due_mark.ensures.mark.2, c.in-Ok.ensures.mark.2, λ same. absurd (let shown = c.are_of_one_set.ensures.1 same in let hidden = c.if-not-are_of_one_set.true in cc));
+        caused = (
+          c.in-Ok-due_mark.mark,
+          c.in-Ok.mark,
+          c.in-Ok-due_mark.ensures.mark.2,
+          c.in-Ok.ensures.mark.2,
+          λ same. absurd (let shown = c.are_of_one_set.ensures.1 same in let hidden = c.if-not-are_of_one_set.true in cc),
+        );
         images = no_other (g.D.Disk.content c.index-disks-shard.result);
       };
     }

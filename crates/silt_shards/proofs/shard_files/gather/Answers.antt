@@ -26,7 +26,8 @@ outcome-requires-after_bounds g c κs within =
     let given = c.into_iter-attempt-iterator.ensures.into_iter_gives in
     let on = c.requires.on in
     let every = subst (λ (l : List (Attempt g.row.D.Denot g.row.D-Fault.Denot)). AllZip (IsAttemptOn g.D.Disk) on.0 l) (sym given.0) on.1 in
-    let now = subst (λ (l : List (Attempt g.row.D.Denot g.row.D-Fault.Denot)). Gathers g.D.Disk on.0 c.loop-attempt.cores.items l) c.in-Some.ensures.steps.0 (c.loop-attempt.invariant.gathered on.0 every) in
+    let now = subst (λ (l : List (Attempt g.row.D.Denot g.row.D-Fault.Denot)). Gathers g.D.Disk on.0 c.loop-attempt.cores.items l)
+    c.in-Some.ensures.steps.0 (c.loop-attempt.invariant.gathered on.0 every) in
     gathers_next g.D.Disk on.0 c.loop-attempt.cores.items c.in-Some.attempt (into_iter_items c.next.new.self) now
 
 pub next_store-requires-after_bounds : goal.next_store-requires-after_bounds
@@ -53,7 +54,8 @@ returns-in-Err-clause-cause g c = λ disks every.
     let given = c.into_iter-attempt-iterator.ensures.into_iter_gives in
     let first = subst (λ (l : List (Attempt g.row.D.Denot g.row.D-Fault.Denot)). AllZip (IsAttemptOn g.D.Disk) disks l) (sym given.0) every in
     let left = c.in-Some.attempt ∷ into_iter_items c.next.new.self in
-    let at = subst (λ (l : List (Attempt g.row.D.Denot g.row.D-Fault.Denot)). Gathers g.D.Disk disks c.loop-attempt.cores.items l) c.in-Some.ensures.steps.0 (c.loop-attempt.invariant.gathered disks first) in
+    let at = subst (λ (l : List (Attempt g.row.D.Denot g.row.D-Fault.Denot)). Gathers g.D.Disk disks c.loop-attempt.cores.items l)
+    c.in-Some.ensures.steps.0 (c.loop-attempt.invariant.gathered disks first) in
     let now = subst (λ (l : List (CoreState g.row.D.Denot)). Gathers g.D.Disk disks l left) (sym c.as_slice.ensures.value) at in
     gathers_refused g.D.Disk disks c.as_slice.result.now c.in-Some.attempt (into_iter_items c.next.new.self) c.in-Err.fault.shard c.in-Err.fault.disk c.in-Err.fault.cause now c.in-Err.ensures.shard
     (λ disk on. c.in-Err.ensures.cause disk (c.outcome.ensures disk on)) (λ disk on. c.in-Err.ensures.images disk (c.outcome.ensures disk on))
@@ -70,7 +72,8 @@ loop-attempt-preserved g c =
       gathered = λ disks every.
           let now = subst (λ (l : List (Attempt g.row.D.Denot g.row.D-Fault.Denot)). Gathers g.D.Disk disks c.loop-attempt.cores.items l) steps.0 (before.gathered disks every) in
           subst (λ (l : List (CoreState g.row.D.Denot)). Gathers g.D.Disk disks l (into_iter_items c.next.new.self)) (sym c.push_reserved.ensures.items)
-          (gathers_more g.D.Disk disks c.loop-attempt.cores.items c.in-Some.attempt (into_iter_items c.next.new.self) c.in-Ok.core now (λ disk on. c.in-Ok.ensures.opens disk (c.outcome.ensures disk on)));
+          (gathers_more g.D.Disk disks c.loop-attempt.cores.items c.in-Some.attempt (into_iter_items c.next.new.self) c.in-Ok.core
+          now (λ disk on. c.in-Ok.ensures.opens disk (c.outcome.ensures disk on)));
       shape = subst (λ (l : List (CoreState g.row.D.Denot)). AreOfOneShape l) (sym c.push_reserved.ensures.items)
           (shape_more c.loop-attempt.cores.items c.in-Ok.core before.shape (subst (λ (l : List (CoreState g.row.D.Denot)). IsLike l c.in-Ok.core) c.as_slice.ensures.value c.in-Ok.ensures.like));
     }

@@ -21,12 +21,14 @@ loop-place-init g c = record {
 }
 
 pub slice_bounds-chunk-end : goal.slice_bounds-chunk-end
-slice_bounds-chunk-end g c = chunk_fits c.args.entries.now.shape c.min-next.result c.args.most c.entry_len-len.result (length c.loop-place.buffer) (omega (arith, c.min-next.ensures)) (c.entry_len-len.ensures.value ∙ ap entry_len c.geometry.ensures)
+slice_bounds-chunk-end g c = chunk_fits c.args.entries.now.shape c.min-next.result c.args.most c.entry_len-len.result
+    (length c.loop-place.buffer) (omega (arith, c.min-next.ensures)) (c.entry_len-len.ensures.value ∙ ap entry_len c.geometry.ensures)
     (omega (arith, c.requires.buffer, c.loop-place.invariant.room))
 
 pub slice_bounds-chunk-end-in-loop-place : goal.slice_bounds-chunk-end-in-loop-place
 slice_bounds-chunk-end-in-loop-place g c = sym (length-take-le _ c.loop-place.buffer
-    (chunk_fits c.args.entries.now.shape c.min-next.result c.args.most c.entry_len-len.result (length c.loop-place.buffer) (omega (arith, c.min-next.ensures)) (c.entry_len-len.ensures.value ∙ ap entry_len c.geometry.ensures)
+    (chunk_fits c.args.entries.now.shape c.min-next.result c.args.most c.entry_len-len.result (length c.loop-place.buffer)
+    (omega (arith, c.min-next.ensures)) (c.entry_len-len.ensures.value ∙ ap entry_len c.geometry.ensures)
     (omega (arith, c.requires.buffer, c.loop-place.invariant.room))))
 
 pub read_entries-requires-clause-some : goal.read_entries-requires-clause-some
@@ -37,13 +39,15 @@ read_entries-requires-clause-some g c = λ lifetimes outlive.
 pub read_entries-requires-clause-out : goal.read_entries-requires-clause-out
 read_entries-requires-clause-out g c = λ lifetimes outlive.
     let len_is = c.entry_len-len.ensures.value ∙ ap entry_len c.geometry.ensures in
-    let fits = chunk_fits c.args.entries.now.shape c.min-next.result c.args.most c.entry_len-len.result (length c.loop-place.buffer) (omega (arith, c.min-next.ensures)) len_is (omega (arith, c.requires.buffer, c.loop-place.invariant.room)) in
+    let fits = chunk_fits c.args.entries.now.shape c.min-next.result c.args.most c.entry_len-len.result (length c.loop-place.buffer)
+    (omega (arith, c.min-next.ensures)) len_is (omega (arith, c.requires.buffer, c.loop-place.invariant.room)) in
     length-take-le _ c.loop-place.buffer fits ∙ ap (λ (n : ℕ). c.min-next.result * n) len_is
 
 pub take_keys-requires-clause-bytes : goal.take_keys-requires-clause-bytes
 take_keys-requires-clause-bytes g c =
     let len_is = c.entry_len-len.ensures.value ∙ ap entry_len c.geometry.ensures in
-    let fits = chunk_fits c.args.entries.now.shape c.min-next.result c.args.most c.entry_len-len.result (length c.loop-place.buffer) (omega (arith, c.min-next.ensures)) len_is (omega (arith, c.requires.buffer, c.loop-place.invariant.room)) in
+    let fits = chunk_fits c.args.entries.now.shape c.min-next.result c.args.most c.entry_len-len.result (length c.loop-place.buffer)
+    (omega (arith, c.min-next.ensures)) len_is (omega (arith, c.requires.buffer, c.loop-place.invariant.room)) in
     c.read_entries.auto.out ∙ length-take-le _ c.loop-place.buffer fits
 
 pub loop-place-smaller : goal.loop-place-smaller
@@ -71,12 +75,16 @@ loop-place-preserved g c =
       counted = c.in-Ok-None.ensures.counted (ap Ok c.in-Ok-None.field-0-is);
       hashed = λ honest.
           let len_is = c.entry_len-len.ensures.value ∙ ap entry_len c.geometry.ensures in
-          let fits = chunk_fits store.shape next c.args.most c.entry_len-len.result (length c.loop-place.buffer) (omega (arith, c.min-next.ensures)) len_is (omega (arith, c.requires.buffer, c.loop-place.invariant.room)) in
+          let fits = chunk_fits store.shape next c.args.most c.entry_len-len.result (length c.loop-place.buffer)
+          (omega (arith, c.min-next.ensures)) len_is (omega (arith, c.requires.buffer, c.loop-place.invariant.room)) in
           let long : length c.read_entries.new.out ≡ next * entry_len store.shape = c.read_entries.auto.out ∙ length-take-le _ c.loop-place.buffer fits ∙ ap (λ (n : ℕ). next * n) len_is in
-          subst (Holds c.update.new.self) (sym (bytes_of_chunk rows place next (entry_len store.shape) c.read_entries.new.out (c.in_default.ensures.entries honest) long)) (c.update.ensures _ (c.loop-place.invariant.hashed honest));
+          subst (Holds c.update.new.self) (sym (bytes_of_chunk rows place next (entry_len store.shape) c.read_entries.new.out (c.in_default.ensures.entries honest) long))
+          (c.update.ensures _ (c.loop-place.invariant.hashed honest));
       taken = λ honest.
-          let holds = subst (λ (n : ℕ). HoldsKeys rows place next n c.read_entries.new.out) (sym (c.entry_len-len.ensures.value ∙ ap entry_len c.geometry.ensures)) (c.in_default.ensures.keys honest) in
-          subst (TakesKeys rows (place + next) c.take_keys.new.builder.building) c.in-Ok-None.field-0-is (c.in-Ok-None.ensures.taken rows (omega (arith, within, long)) holds (c.loop-place.invariant.taken honest));
+          let holds = subst (λ (n : ℕ). HoldsKeys rows place next n c.read_entries.new.out)
+          (sym (c.entry_len-len.ensures.value ∙ ap entry_len c.geometry.ensures)) (c.in_default.ensures.keys honest) in
+          subst (TakesKeys rows (place + next) c.take_keys.new.builder.building) c.in-Ok-None.field-0-is
+          (c.in-Ok-None.ensures.taken rows (omega (arith, within, long)) holds (c.loop-place.invariant.taken honest));
     }
 
 pub returns-in-Ok-Some-clause-err : goal.returns-in-Ok-Some-clause-err
@@ -91,8 +99,10 @@ returns-in-Ok-Some-clause-err g c =
     let below = subst (λ (found : Option ℕ). IfSome found (λ damaged. damaged < place + next)) c.in-Ok-Some.field-0-is c.in-Ok-Some.ensures.place in (
       omega (arith, within, below),
       λ honest.
-          let holds = subst (λ (n : ℕ). HoldsKeys rows place next n c.read_entries.new.out) (sym (c.entry_len-len.ensures.value ∙ ap entry_len c.geometry.ensures)) (c.in_default.ensures.keys honest) in
-          subst (TakesKeys rows (place + next) c.take_keys.new.builder.building) c.in-Ok-Some.field-0-is (c.in-Ok-Some.ensures.taken rows (omega (arith, within, long)) holds (c.loop-place.invariant.taken honest)),
+          let holds = subst (λ (n : ℕ). HoldsKeys rows place next n c.read_entries.new.out)
+          (sym (c.entry_len-len.ensures.value ∙ ap entry_len c.geometry.ensures)) (c.in_default.ensures.keys honest) in
+          subst (TakesKeys rows (place + next) c.take_keys.new.builder.building) c.in-Ok-Some.field-0-is
+          (c.in-Ok-Some.ensures.taken rows (omega (arith, within, long)) holds (c.loop-place.invariant.taken honest)),
     )
 
 pub returns-clause-hashed : goal.returns-clause-hashed

@@ -38,6 +38,7 @@ loop-i-preserved c =
           let key = ap (λ (p : Key × List ℕ). p.0.0) c.entry_of.ensures in
           let at = key_in_part rows c.args.first c.args.count c.args.len i c.args.bytes.now c.entry_of.result.0.0 c.requires.len c.requires.bytes c.loop-i-test.true holds key in
           subst (λ (n : ℕ). IsIndexing rows n c.push.new.self.building) next
-          (indexing_more rows (c.args.first + i) c.loop-i.builder.building c.push.new.self.building c.entry_of.result.0 (omega (arith, room, c.loop-i-test.true)) (c.loop-i.invariant.taken rows room holds so_far) at
+          (indexing_more rows (c.args.first + i) c.loop-i.builder.building c.push.new.self.building c.entry_of.result.0
+          (omega (arith, room, c.loop-i-test.true)) (c.loop-i.invariant.taken rows room holds so_far) at
           (sym c.in_ok-push.ensures.taken ∙ c.if-not-branch.false) (c.in_ok-push.ensures.built yes) last.0);
     }

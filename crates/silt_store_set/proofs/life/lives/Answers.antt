@@ -19,7 +19,8 @@ loop-events-preserved g c = record {
   ran =
       let life = rw c.deref.ensures.value at c.live-reply.ensures.ran in
       let taken : take (c.loop-events.events-index + 1) c.args.lives.now ≡ take c.loop-events.events-index c.args.lives.now ++ c.events-item.result ∷ [] =
-      take_more c.args.lives.now c.loop-events.events-index c.events-item.result c.loop-events-test.true ∙ ap (λ (x : Vec Event Global). take c.loop-events.events-index c.args.lives.now ++ x ∷ []) (sym c.events-item.is) in
+      take_more c.args.lives.now c.loop-events.events-index c.events-item.result c.loop-events-test.true
+      ∙ ap (λ (x : Vec Event Global). take c.loop-events.events-index c.args.lives.now ++ x ∷ []) (sym c.events-item.is) in
       rw (taken, c.in_ok-push.ensures.items) (lives_on g.D.Disk c.args.value_len (take c.loop-events.events-index c.args.lives.now) c.loop-events.replies.items
       c.args.disk c.loop-events.disk c.live-reply.result.1 c.events-item.result c.live-reply.result.0 c.loop-events.invariant.ran life);
   so_far = λ m starts.
@@ -28,9 +29,11 @@ loop-events-preserved g c = record {
       let now = c.live-reply.ensures.life before.0 (record { honest = here; safe = before.2 }) in
       let life = rw c.deref.ensures.value at now.1 in
       let taken : take (c.loop-events.events-index + 1) c.args.lives.now ≡ take c.loop-events.events-index c.args.lives.now ++ c.events-item.result ∷ [] =
-      take_more c.args.lives.now c.loop-events.events-index c.events-item.result c.loop-events-test.true ∙ ap (λ (x : Vec Event Global). take c.loop-events.events-index c.args.lives.now ++ x ∷ []) (sym c.events-item.is) in (
+      take_more c.args.lives.now c.loop-events.events-index c.events-item.result c.loop-events-test.true
+      ∙ ap (λ (x : Vec Event Global). take c.loop-events.events-index c.args.lives.now ++ x ∷ []) (sym c.events-item.is) in (
         now.0,
-        rw (taken, c.in_ok-push.ensures.items) (lives_more m (take c.loop-events.events-index c.args.lives.now) c.loop-events.replies.items before.0 now.0 c.events-item.result c.live-reply.result.0 before.1 life),
+        rw (taken, c.in_ok-push.ensures.items) (lives_more m (take c.loop-events.events-index c.args.lives.now) c.loop-events.replies.items
+            before.0 now.0 c.events-item.result c.live-reply.result.0 before.1 life),
         now.2,
       );
 }

@@ -39,5 +39,6 @@ write_code-requires-2 t c =
 
 pub returns-clause-ok : goal.returns-clause-ok
 returns-clause-ok t c =
-    let code = written c.args.depth _ _ _ _ c.args.bits.now _ _ _ c.requires c.if-keys-lt2.false (omega arith) c.count_left-left.ensures c.split_at.ensures.front c.split_at.ensures.back c.in_ok-write_gamma.ensures.ok c.in_ok-write_code.ensures.ok in
+    let code = written c.args.depth _ _ _ _ c.args.bits.now _ _ _ c.requires c.if-keys-lt2.false (omega arith) c.count_left-left.ensures
+    c.split_at.ensures.front c.split_at.ensures.back c.in_ok-write_gamma.ensures.ok c.in_ok-write_code.ensures.ok in
     on_ok_weaker _ code c.write_code-2.ensures.ok

@@ -9,7 +9,8 @@ returns c =
     let a = c.args.a.now.0 in
     let b = c.args.b.now.0 in
     let common = c.common_bits-common.ensures in
-    follows_test c.args.depth c.common_bits-common.result _ _ a b c.key_bit.ensures.sized c.key_bit-2.ensures.sized (omega arith) (omega arith) common.alike (common.differ (omega arith)) c.key_bit.ensures.bit c.key_bit-2.ensures.bit
+    follows_test c.args.depth c.common_bits-common.result _ _ a b c.key_bit.ensures.sized c.key_bit-2.ensures.sized (omega arith)
+    (omega arith) common.alike (common.differ (omega arith)) c.key_bit.ensures.bit c.key_bit-2.ensures.bit
 
 pub returns-then-common-ge-KEY_BITS : goal.returns-then-common-ge-KEY_BITS
 returns-then-common-ge-KEY_BITS c =

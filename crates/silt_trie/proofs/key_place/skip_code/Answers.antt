@@ -13,7 +13,8 @@ pub loop-top-init : goal.loop-top-init
 loop-top-init c = (
   refl,
   λ keys rest codable count is.
-      push_one c.args.depth 0 c.args.depth c.args.count 1 (replicate 161 0) c.args.bits.now rest rest keys codable (sym count) (omega arith) (omega arith) is (λ many. refl) (λ few. absurd (omega arith)) refl,
+      push_one c.args.depth 0 c.args.depth c.args.count 1 (replicate 161 0) c.args.bits.now rest rest keys codable (sym count)
+      (omega arith) (omega arith) is (λ many. refl) (λ few. absurd (omega arith)) refl,
 )
 
 pub returns-in_default : goal.returns-in_default

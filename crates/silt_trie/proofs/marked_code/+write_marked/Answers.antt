@@ -15,7 +15,8 @@ split_at-requires t c =
 
 pub write_marked-requires : goal.write_marked-requires
 write_marked-requires t c =
-    let part : IsCodable (bytes_of c.split_at.result.0.now) (c.args.depth + 1) = rw (bytes_lefts c.args.depth _ _ _ c.requires.codable c.in_ok-left.ensures.left c.split_at.ensures.front) (lefts_codable c.args.depth _ c.requires.codable) in
+    let part : IsCodable (bytes_of c.split_at.result.0.now) (c.args.depth + 1) =
+    rw (bytes_lefts c.args.depth _ _ _ c.requires.codable c.in_ok-left.ensures.left c.split_at.ensures.front) (lefts_codable c.args.depth _ c.requires.codable) in
     let counted = c.requires.counted in
     let within = c.requires.within in
     let front = c.split_at.ensures.front_len in
@@ -24,7 +25,8 @@ write_marked-requires t c =
 
 pub write_marked-requires-2 : goal.write_marked-requires-2
 write_marked-requires-2 t c =
-    let part : IsCodable (bytes_of c.split_at.result.1.now) (c.args.depth + 1) = rw (bytes_rights c.args.depth _ _ _ c.requires.codable c.in_ok-left.ensures.left c.split_at.ensures.back) (rights_codable c.args.depth _ c.requires.codable) in
+    let part : IsCodable (bytes_of c.split_at.result.1.now) (c.args.depth + 1) =
+    rw (bytes_rights c.args.depth _ _ _ c.requires.codable c.in_ok-left.ensures.left c.split_at.ensures.back) (rights_codable c.args.depth _ c.requires.codable) in
     let counted = c.requires.counted in
     let within = c.requires.within in
     let front = c.split_at.ensures.front_len in
@@ -33,8 +35,11 @@ write_marked-requires-2 t c =
 
 pub returns-clause-code : goal.returns-clause-code
 returns-clause-code t c =
-    on_ok_weaker _ (code_marked 0 0 c.args.depth _ _ _ _ c.args.bits.now _ _ _ c.requires.codable (omega arith) refl c.in_ok-left.ensures.left c.split_at.ensures.front c.split_at.ensures.back c.in_ok-left.ensures.code c.in_ok-write_marked.ensures.code) c.write_marked-2.ensures.code
+    on_ok_weaker _ (code_marked 0 0 c.args.depth _ _ _ _ c.args.bits.now _ _ _ c.requires.codable (omega arith) refl c.in_ok-left.ensures.left
+    c.split_at.ensures.front c.split_at.ensures.back c.in_ok-left.ensures.code c.in_ok-write_marked.ensures.code) c.write_marked-2.ensures.code
 
 pub returns-clause-marks : goal.returns-clause-marks
 returns-clause-marks t c =
-    on_ok_weaker _ (marks_marked c.args.levels 0 0 c.args.depth _ c.args.place _ _ _ c.args.bits.now _ _ _ _ _ c.requires.codable (omega arith) refl c.in_ok-left.ensures.left c.split_at.ensures.front c.split_at.ensures.back c.in_ok-left.ensures.code c.in_ok-write_marked.ensures.code c.in_ok-write_marked.ensures.marks) c.write_marked-2.ensures.marks
+    on_ok_weaker _ (marks_marked c.args.levels 0 0 c.args.depth _ c.args.place _ _ _ c.args.bits.now _ _ _ _ _ c.requires.codable (omega arith)
+    refl c.in_ok-left.ensures.left c.split_at.ensures.front c.split_at.ensures.back c.in_ok-left.ensures.code
+    c.in_ok-write_marked.ensures.code c.in_ok-write_marked.ensures.marks) c.write_marked-2.ensures.marks

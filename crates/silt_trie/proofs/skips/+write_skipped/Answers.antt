@@ -47,7 +47,8 @@ write_skipped-requires-2 t c =
 
 pub returns-clause-code : goal.returns-clause-code
 returns-clause-code t c =
-    let code = written c.args.depth _ _ _ _ c.args.bits.now _ _ _ c.requires c.if-keys-lt2.false (omega arith) c.count_left-left.ensures c.split_at.ensures.front c.split_at.ensures.back c.in_ok-write_gamma.ensures.ok c.in_ok-write_skipped.ensures.code in
+    let code = written c.args.depth _ _ _ _ c.args.bits.now _ _ _ c.requires c.if-keys-lt2.false (omega arith) c.count_left-left.ensures
+    c.split_at.ensures.front c.split_at.ensures.back c.in_ok-write_gamma.ensures.ok c.in_ok-write_skipped.ensures.code in
     on_ok_weaker _ code c.write_skipped-2.ensures.code
 
 pub returns-clause-skips : goal.returns-clause-skips
@@ -58,7 +59,8 @@ returns-clause-skips t c =
     let whole : ((m : ℕ) → c.split_at_mut-left_skips.result.1.now ≡ replicate (2 ^ m - 1) 0 → c.write_skipped-2.new.skips ≡ skips_of m rights (c.args.depth + 1))
     → (m : ℕ) → c.args.skips.now ≡ replicate (2 ^ m - 1) 0 → new ≡ skips_of m (bytes_of c.args.keys.now) c.args.depth =
     λ on_right m zeros.
-    skips_written m c.args.depth _ _ _ _ _ _ _ _ _ _ _ _ _ _ _ _ c.requires c.count_left-left.ensures c.split_at.ensures.front c.split_at.ensures.back c.in-Some.ensures.cases.0 refl c.split_at_mut-left_skips.ensures.front c.split_at_mut-left_skips.ensures.back
+    skips_written m c.args.depth _ _ _ _ _ _ _ _ _ _ _ _ _ _ _ _ c.requires c.count_left-left.ensures c.split_at.ensures.front
+    c.split_at.ensures.back c.in-Some.ensures.cases.0 refl c.split_at_mut-left_skips.ensures.front c.split_at_mut-left_skips.ensures.back
     c.in_ok-write_skipped.ensures.skips on_right c.in_ok-write_skipped.ensures.code size refl zeros
     in
     on_ok_weaker _ whole c.write_skipped-2.ensures.skips

@@ -12,7 +12,8 @@ returns-in_err-write_marked-clause-grows c =
 
 pub loop-group-preserved : goal.loop-group-preserved
 loop-group-preserved c =
-    codes_more _ _ _ _ _ c.args.keys.now c.loop-group.waiting.now _ _ _ _ _ _ (omega arith) c.requires.levels.0 c.loop-group.invariant (omega arith) c.in_ok-write_marked.ensures.code c.in_ok-write_marked.ensures.marks
+    codes_more _ _ _ _ _ c.args.keys.now c.loop-group.waiting.now _ _ _ _ _ _ (omega arith) c.requires.levels.0 c.loop-group.invariant
+    (omega arith) c.in_ok-write_marked.ensures.code c.in_ok-write_marked.ensures.marks
 
 pub returns-clause-coded : goal.returns-clause-coded
 returns-clause-coded c = λ all last has.

@@ -15,4 +15,5 @@ returns-in-Admin-clause-ok g c =
     let P = λ (tail : Tail). OnOk c.push_admin.result
     (AnswersAll (AnswersQuery g.A.Answerer.answers g.A.Answerer.administers) (tail_asked tail ∷ []) answerer answerer (Some before) (Some after)) in
     subst P (sym c.in-Admin.is)
-    (on_ok_weaker c.push_admin.result (λ told. all-admin g.A.Answerer.answers g.A.Answerer.administers answerer c.in-Admin.admin c.administer.result before after c.administer.ensures told) c.push_admin.ensures.ok)
+    (on_ok_weaker c.push_admin.result (λ told. all-admin g.A.Answerer.answers g.A.Answerer.administers answerer c.in-Admin.admin
+    c.administer.result before after c.administer.ensures told) c.push_admin.ensures.ok)

@@ -11,7 +11,8 @@ invariant-loop-done g l =
       stays : g.A.Answerer.value_len l.answerer ≡ l.value_len;
       told : (p : List ℕ) → HoldsBytes l.initial.pending p → record {
         holds : HoldsBytes l.pending (rest_after p (take l.done l.bytes));
-        all : ServesAll (AnswersQuery g.A.Answerer.answers g.A.Answerer.administers) l.value_len p (take l.done l.bytes) l.initial.answerer l.answerer (g.W.Write.contents l.initial.writer) (g.W.Write.contents l.writer);
+        all : ServesAll (AnswersQuery g.A.Answerer.answers g.A.Answerer.administers) l.value_len p (take l.done l.bytes) l.initial.answerer
+            l.answerer (g.W.Write.contents l.initial.writer) (g.W.Write.contents l.writer);
       };
     }
 

@@ -23,16 +23,19 @@ returns-in_err-gathered-clause-some g c =
 
 pub returns-in_err-push_tail-clause-some : goal.returns-in_err-push_tail-clause-some
 returns-in_err-push_tail-clause-some g c =
-    let answered = subst (λ t. AnswersAll (AnswersQuery g.A.Answerer.answers g.A.Answerer.administers) (requests c.gather-gathered.new.batch) c.args.answerer.now c.answer.new.answerer (Some (string_bytes c.args.texts.now)) (Some t))
+    let answered = subst (λ t. AnswersAll (AnswersQuery g.A.Answerer.answers g.A.Answerer.administers) (requests c.gather-gathered.new.batch)
+    c.args.answerer.now c.answer.new.answerer (Some (string_bytes c.args.texts.now)) (Some t))
     (sym c.in_err-push_tail.ensures.err) c.in_ok-answer.ensures.all in
     on-err c.from_residual-in_err-push_tail.result (λ p h.
-    some-begun (AnswersQuery g.A.Answerer.answers g.A.Answerer.administers) (requests c.gather-gathered.new.batch) _ _ _ (Some (string_bytes c.args.texts.now)) (Some (string_bytes c.push_tail.new.texts))
+    some-begun (AnswersQuery g.A.Answerer.answers g.A.Answerer.administers) (requests c.gather-gathered.new.batch) _ _ _
+    (Some (string_bytes c.args.texts.now)) (Some (string_bytes c.push_tail.new.texts))
     (begins-only c.new-batch.result.events.items _ _ c.new-batch.ensures.empty (c.gather-gathered.ensures.some p h))
     (some-from_all (AnswersQuery g.A.Answerer.answers g.A.Answerer.administers) _ _ _ (Some (string_bytes c.args.texts.now)) (Some (string_bytes c.push_tail.new.texts)) answered))
 
 pub returns-in_ok-push_tail-clause-all : goal.returns-in_ok-push_tail-clause-all
 returns-in_ok-push_tail-clause-all g c = λ p h.
-    all-tail (AnswersQuery g.A.Answerer.answers g.A.Answerer.administers) _ (requests c.gather-gathered.new.batch) c.in-Some.tail _ _ (string_bytes c.args.texts.now) (string_bytes c.answer.new.texts) (string_bytes c.push_tail.new.texts)
+    all-tail (AnswersQuery g.A.Answerer.answers g.A.Answerer.administers) _ (requests c.gather-gathered.new.batch) c.in-Some.tail
+    _ _ (string_bytes c.args.texts.now) (string_bytes c.answer.new.texts) (string_bytes c.push_tail.new.texts)
     (gathered-only c.new-batch.result.events.items _ _ c.new-batch.ensures.empty (c.in_ok-gathered.ensures.all p h)
     ∙ ap (λ f. requests c.gather-gathered.new.batch ++ tail_after f) c.in-Some.is)
     c.in_ok-answer.ensures.all c.in_ok-push_tail.ensures.ok

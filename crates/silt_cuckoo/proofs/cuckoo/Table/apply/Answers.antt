@@ -15,7 +15,8 @@ stored : (c : After-self-1) → (with_items c.self.inside.slots c.put_along.new.
 stored c = with_items_is c.self.inside.slots c.put_along.new.slots (omega (arith, c.put_along.auto.slots, c.as_mut_slice.ensures.len))
 
 -- what was placed
-after : (c : After-self-1) → placed (unpacked_all c.self.inside.slots.items) c.args.path.now.first c.args.path.now.second c.args.place ≡ Some (unpacked_all (with_items c.self.inside.slots c.put_along.new.slots).items)
+after : (c : After-self-1) → placed (unpacked_all c.self.inside.slots.items) c.args.path.now.first c.args.path.now.second
+    c.args.place ≡ Some (unpacked_all (with_items c.self.inside.slots c.put_along.new.slots).items)
 after c = rw (stored c, ← c.as_mut_slice.ensures.value) (sym c.put_along.ensures)
 
 -- what the laws say of it

@@ -13,7 +13,8 @@ use Rattle.silt_cuckoo.proofs.cuckoo.Table.replace.Goals.{After-self-1}
 after : (c : After-self-1) → unpacked_all (slice_set c.self.inside.slots.items c.args.slot c.new.result) ≡ replaced (unpacked_all c.self.inside.slots.items) c.args.slot c.args.place
 after c =
     unpacked_all_set c.self.inside.slots.items c.args.slot c.new.result
-    ∙ ap (slice_set (unpacked_all c.self.inside.slots.items) c.args.slot) (c.new.ensures ∙ ap (λ (tag : ℕ). Some (tag, c.args.place)) (c.tag_at-tag.ensures ∙ ap (λ s. tag_at (unpacked_all s) c.args.slot) c.as_slice.ensures.value))
+    ∙ ap (slice_set (unpacked_all c.self.inside.slots.items) c.args.slot)
+    (c.new.ensures ∙ ap (λ (tag : ℕ). Some (tag, c.args.place)) (c.tag_at-tag.ensures ∙ ap (λ s. tag_at (unpacked_all s) c.args.slot) c.as_slice.ensures.value))
 
 pub invariant_of-self : goal.invariant_of-self
 invariant_of-self c =

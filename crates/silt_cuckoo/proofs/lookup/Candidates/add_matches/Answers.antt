@@ -27,13 +27,17 @@ loop-slot-preserved c =
           }
     ]
   where
-    turn : (found : List Candidate) → cons_option (match_at (unpacked_all c.args.slots.now) c.args.tag c.loop-slot.slot) [] ≡ found → c.loop-slot.self ++ found ≡ c.args.self.now ++ filter_map (match_at (unpacked_all c.args.slots.now) c.args.tag) (range_with_len (4 * c.args.bucket) (c.loop-slot.slot + 1 - 4 * c.args.bucket))
+    turn : (found : List Candidate) → cons_option (match_at (unpacked_all c.args.slots.now) c.args.tag c.loop-slot.slot) [] ≡ found
+        → c.loop-slot.self ++ found ≡ c.args.self.now ++ filter_map (match_at (unpacked_all c.args.slots.now) c.args.tag)
+        (range_with_len (4 * c.args.bucket) (c.loop-slot.slot + 1 - 4 * c.args.bucket))
     turn found same =
         let n : ℕ = c.loop-slot.slot - 4 * c.args.bucket in
         let count : c.loop-slot.slot + 1 - 4 * c.args.bucket ≡ n + 1 = omega arith in
         ap (λ (xs : List Candidate). xs ++ found) c.loop-slot.invariant.added
         ∙ append_assoc c.args.self.now (filter_map (match_at (unpacked_all c.args.slots.now) c.args.tag) (range_with_len (4 * c.args.bucket) n)) found
-        ∙ ap (λ (xs : List Candidate). c.args.self.now ++ xs) (ap (λ (xs : List Candidate). filter_map (match_at (unpacked_all c.args.slots.now) c.args.tag) (range_with_len (4 * c.args.bucket) n) ++ xs) (sym same) ∙ sym (rw (← count) at (filter_map_more (match_at (unpacked_all c.args.slots.now) c.args.tag) (4 * c.args.bucket) n c.loop-slot.slot (omega arith))))
+        ∙ ap (λ (xs : List Candidate). c.args.self.now ++ xs)
+        (ap (λ (xs : List Candidate). filter_map (match_at (unpacked_all c.args.slots.now) c.args.tag) (range_with_len (4 * c.args.bucket) n) ++ xs) (sym same)
+        ∙ sym (rw (← count) at (filter_map_more (match_at (unpacked_all c.args.slots.now) c.args.tag) (4 * c.args.bucket) n c.loop-slot.slot (omega arith))))
 
 pub returns-clause-added : goal.returns-clause-added
 returns-clause-added c =

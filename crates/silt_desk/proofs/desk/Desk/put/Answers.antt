@@ -14,7 +14,8 @@ pub invariant_of-self : goal.invariant_of-self
 invariant_of-self g c = (
   keeps_agreeing g.D.Disk g.T.Trace
       c.self.inside.core c.put-answer.new.self c.self.inside.trace c.note.new.trace c.self.inside.ledgers c.note.new.ledgers c.args.seat.now c.note.new.seat (Put c.args.key.now c.args.value.now)
-      g.T.Trace.agrees (λ held call more step. g.met.T.Trace.agrees_after c.self.inside.trace c.note.new.trace call (seen g.D.Disk c.self.inside.core) (seen g.D.Disk c.put-answer.new.self) held more step)
+      g.T.Trace.agrees (λ held call more step. g.met.T.Trace.agrees_after c.self.inside.trace c.note.new.trace call
+      (seen g.D.Disk c.self.inside.core) (seen g.D.Disk c.put-answer.new.self) held more step)
       (change_reply c.put-answer.result) (change_reply c.plain.result) (ap change_reply c.plain.ensures ∙ change_plain c.put-answer.result) c.put-answer.ensures c.note.ensures c.self.invariant.0,
   keeps_counting g.T.Trace.counts g.T.Trace c.self.inside.trace c.note.new.trace c.self.inside.ledgers c.note.new.ledgers c.args.seat.now c.note.new.seat (Put c.args.key.now c.args.value.now)
       (λ call n m k l held more calls accepted. g.met.T.Trace.counts_after c.self.inside.trace c.note.new.trace call n m k l held more calls accepted)

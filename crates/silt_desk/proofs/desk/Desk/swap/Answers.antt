@@ -20,7 +20,8 @@ invariant_of-self g c =
     let notes = rw (c.is_some.ensures, c.is_some-2.ensures, c.or_none-value.ensures, c.or_none-second.ensures) at c.note_both.ensures in (
       keeps_agreeing g.D.Disk g.T.Trace
           c.self.inside.core c.swap-answer.new.self c.self.inside.trace c.note_both.new.trace c.self.inside.ledgers c.note_both.new.ledgers c.args.seat.now c.note_both.new.seat event
-          g.T.Trace.agrees (λ held call more step. g.met.T.Trace.agrees_after c.self.inside.trace c.note_both.new.trace call (seen g.D.Disk c.self.inside.core) (seen g.D.Disk c.swap-answer.new.self) held more step)
+          g.T.Trace.agrees (λ held call more step. g.met.T.Trace.agrees_after c.self.inside.trace c.note_both.new.trace call
+          (seen g.D.Disk c.self.inside.core) (seen g.D.Disk c.swap-answer.new.self) held more step)
           (swap_reply c.swap-answer.result) (swap_reply c.plain.result) (ap swap_reply c.plain.ensures ∙ swap_plain c.swap-answer.result) c.swap-answer.ensures notes c.self.invariant.0,
       keeps_counting g.T.Trace.counts g.T.Trace c.self.inside.trace c.note_both.new.trace c.self.inside.ledgers c.note_both.new.ledgers c.args.seat.now c.note_both.new.seat event
           (λ call n m k l held more calls accepted. g.met.T.Trace.counts_after c.self.inside.trace c.note_both.new.trace call n m k l held more calls accepted)

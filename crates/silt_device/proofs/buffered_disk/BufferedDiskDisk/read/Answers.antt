@@ -25,7 +25,8 @@ read-requires g c =
 pub lay_over-requires-in-Ok : goal.lay_over-requires-in-Ok
 lay_over-requires-in-Ok g c =
     let now = subst (λ s. c.args.at + length c.args.buf.now ≤ size (buffered_content g.D.Disk.content s)) (sym c.self.view_is) c.requires in
-    let below : c.args.at + length c.read.new.buf ≤ c.len-known.result = omega (arith, now, c.read.auto.buf, size_over_all c.self.inside.buffers (g.D.Disk.content c.self.inside.inner), c.len-known.ensures) in
+    let below : c.args.at + length c.read.new.buf ≤ c.len-known.result =
+    omega (arith, now, c.read.auto.buf, size_over_all c.self.inside.buffers (g.D.Disk.content c.self.inside.inner), c.len-known.ensures) in
     search (rules, below)
 
 pub returns-in-Ok-clause-bytes : goal.returns-in-Ok-clause-bytes

@@ -16,7 +16,8 @@ loop-turn-preserved g c =
     let so_far = c.loop-turn.invariant.frees in
     elim c.if-not-is_last_empty.branch [
       | then-not-is_last_empty+in_default w ↦ record {
-        frees = rw (c.free.ensures, w.self-inside-is) (frees_out _ _ _ _ _ _ _ _ so_far (search rules) w.last_at.ensures w.last_bytes.ensures w.write.ensures.torn w.in_default.ensures.written w.write.ensures.made w.write.ensures.size);
+        frees = rw (c.free.ensures, w.self-inside-is)
+            (frees_out _ _ _ _ _ _ _ _ so_far (search rules) w.last_at.ensures w.last_bytes.ensures w.write.ensures.torn w.in_default.ensures.written w.write.ensures.made w.write.ensures.size);
         upto = search rules;
         calls = rw (w.self-inside-is) c.loop-turn.invariant.calls;
       }

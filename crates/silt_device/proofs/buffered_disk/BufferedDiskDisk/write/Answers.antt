@@ -2,7 +2,9 @@ use Rattle.std.proofs.Common.{◌≡◌, ◌≤◌, ◌+◌, IsTrue, length, rul
 use Rattle.silt_disk.specs.Disk.{size}
 use Rattle.silt_disk.proofs.Costs.{made_both}
 use Rattle.silt_device.specs.Buffered.{buffered_content, takes, to_free}
-use Rattle.silt_device.proofs.Freeing.{appended_owes, appended_places, appended_tears, appended_writes, brought_places, freed_makes, frees_empty, frees_none, frees_out, sizes_over_all, tears_over_all, way_made, way_none, way_owes, way_passed, way_stays, way_unwritten, passes_appended, passes_written, writes_over_all}
+use Rattle.silt_device.proofs.Freeing.{appended_owes, appended_places, appended_tears, appended_writes, brought_places, freed_makes, frees_empty, frees_none}
+use Rattle.silt_device.proofs.Freeing.{frees_out, sizes_over_all, tears_over_all, way_made, way_none, way_owes, way_passed, way_stays, way_unwritten}
+use Rattle.silt_device.proofs.Freeing.{passes_appended, passes_written, writes_over_all}
 use Rattle.silt_device.proofs.Gathering.{gathers_so}
 use Rattle.silt_device.proofs.Waiting.{size_over_all, stays_tears, stays_writes}
 use Rattle.silt_device.proofs.buffered_disk.BufferedDiskDisk.write.Goals as goal
@@ -20,7 +22,8 @@ loop-turn-preserved g c =
     let so_far = c.loop-turn.invariant.frees in
     elim c.if-not-is_last_empty.branch [
       | then-not-is_last_empty+in_default w ↦ record {
-        frees = rw (c.free.ensures, w.self-inside-is) (frees_out _ _ _ _ _ _ _ _ so_far (search rules) w.last_at.ensures w.last_bytes.ensures w.write.ensures.torn w.in_default.ensures.written w.write.ensures.made w.write.ensures.size);
+        frees = rw (c.free.ensures, w.self-inside-is)
+            (frees_out _ _ _ _ _ _ _ _ so_far (search rules) w.last_at.ensures w.last_bytes.ensures w.write.ensures.torn w.in_default.ensures.written w.write.ensures.made w.write.ensures.size);
         upto = search rules;
         calls = rw (w.self-inside-is) c.loop-turn.invariant.calls;
       }
@@ -40,12 +43,15 @@ write-requires-in-Err g c =
 
 pub returns-in-Err-clause-size : goal.returns-in-Err-clause-size
 returns-in-Err-clause-size g c =
-    rw (← c.self.view_is) (sizes_over_all c.self.inside.buffers c.loop-turn.self-inside.buffers (g.D.Disk.content c.self.inside.inner) (g.D.Disk.content c.write-in-Err.new.self) (c.write-in-Err.ensures.size ∙ c.write.ensures.size ∙ c.loop-turn.invariant.frees.size))
+    rw (← c.self.view_is) (sizes_over_all c.self.inside.buffers c.loop-turn.self-inside.buffers (g.D.Disk.content c.self.inside.inner)
+    (g.D.Disk.content c.write-in-Err.new.self) (c.write-in-Err.ensures.size ∙ c.write.ensures.size ∙ c.loop-turn.invariant.frees.size))
 
 pub returns-in-Err-clause-torn : goal.returns-in-Err-clause-torn
 returns-in-Err-clause-torn g c =
-    let stays = way_unwritten c.loop-turn.invariant.frees c.self.inside.buffers c.args.at (length c.args.buf.now) c.make_way-turn-end.ensures.order c.write.new.self _ _ c.last_at.ensures c.last_bytes.ensures c.write.ensures.torn in
-    rw (← c.self.view_is) (stays_tears _ _ _ _ _ stays (tears_over_all c.loop-turn.self-inside.buffers _ _ (g.D.Disk.content c.write.new.self) (g.D.Disk.content c.write-in-Err.new.self) c.write-in-Err.ensures.torn))
+    let stays = way_unwritten c.loop-turn.invariant.frees c.self.inside.buffers c.args.at (length c.args.buf.now)
+    c.make_way-turn-end.ensures.order c.write.new.self _ _ c.last_at.ensures c.last_bytes.ensures c.write.ensures.torn in
+    rw (← c.self.view_is) (stays_tears _ _ _ _ _ stays
+    (tears_over_all c.loop-turn.self-inside.buffers _ _ (g.D.Disk.content c.write.new.self) (g.D.Disk.content c.write-in-Err.new.self) c.write-in-Err.ensures.torn))
 
 pub returns-in-Err-clause-gathers : goal.returns-in-Err-clause-gathers
 returns-in-Err-clause-gathers g c =
@@ -71,7 +77,8 @@ invariant_of-self-then-takes g c =
     (omega (arith, now, size_over_all c.self.inside.buffers (g.D.Disk.content c.self.inside.inner), frees.size)))
 
 pub returns-then-takes-clause-size : goal.returns-then-takes-clause-size
-returns-then-takes-clause-size g c = rw (← c.self.view_is) (sizes_over_all c.self.inside.buffers c.append.new.self (g.D.Disk.content c.self.inside.inner) (g.D.Disk.content c.loop-turn.self-inside.inner) c.loop-turn.invariant.frees.size)
+returns-then-takes-clause-size g c = rw (← c.self.view_is)
+    (sizes_over_all c.self.inside.buffers c.append.new.self (g.D.Disk.content c.self.inside.inner) (g.D.Disk.content c.loop-turn.self-inside.inner) c.loop-turn.invariant.frees.size)
 
 pub returns-then-takes-clause-torn : goal.returns-then-takes-clause-torn
 returns-then-takes-clause-torn g c =
@@ -90,7 +97,8 @@ returns-then-takes-clause-written g c =
     let room : IsTrue (takes c.loop-turn.self-inside.buffers.first c.args.at (length c.args.buf.now)) = sym c.takes.ensures ∙ c.if-takes.true in
     let frees = c.loop-turn.invariant.frees in
     let stays = way_stays frees c.self.inside.buffers c.args.at (length c.args.buf.now) c.make_way-turn-end.ensures.order in
-    rw (← c.self.view_is, c.append.ensures) (stays_writes _ _ _ _ _ stays (appended_writes c.loop-turn.self-inside.buffers c.args.at c.args.buf.now (g.D.Disk.content c.loop-turn.self-inside.inner) room
+    rw (← c.self.view_is, c.append.ensures) (stays_writes _ _ _ _ _ stays
+    (appended_writes c.loop-turn.self-inside.buffers c.args.at c.args.buf.now (g.D.Disk.content c.loop-turn.self-inside.inner) room
     (omega (arith, now, size_over_all c.self.inside.buffers (g.D.Disk.content c.self.inside.inner), frees.size))))
 
 pub returns-then-takes-clause-gathers : goal.returns-then-takes-clause-gathers
@@ -106,28 +114,36 @@ write-requires-2 g c =
     omega (arith, now, size_over_all c.self.inside.buffers (g.D.Disk.content c.self.inside.inner), c.loop-turn.invariant.frees.size)
 
 pub returns-in-Ok-clause-size : goal.returns-in-Ok-clause-size
-returns-in-Ok-clause-size g c = rw (← c.self.view_is) (sizes_over_all c.self.inside.buffers c.loop-turn.self-inside.buffers (g.D.Disk.content c.self.inside.inner) (g.D.Disk.content c.write-2.new.self) (c.write-2.ensures.size ∙ c.loop-turn.invariant.frees.size))
+returns-in-Ok-clause-size g c = rw (← c.self.view_is)
+    (sizes_over_all c.self.inside.buffers c.loop-turn.self-inside.buffers (g.D.Disk.content c.self.inside.inner)
+    (g.D.Disk.content c.write-2.new.self) (c.write-2.ensures.size ∙ c.loop-turn.invariant.frees.size))
 
 pub returns-in-Err-write-clause-size : goal.returns-in-Err-write-clause-size
-returns-in-Err-write-clause-size g c = rw (← c.self.view_is) (sizes_over_all c.self.inside.buffers c.loop-turn.self-inside.buffers (g.D.Disk.content c.self.inside.inner) (g.D.Disk.content c.write-2.new.self) (c.write-2.ensures.size ∙ c.loop-turn.invariant.frees.size))
+returns-in-Err-write-clause-size g c = rw (← c.self.view_is)
+    (sizes_over_all c.self.inside.buffers c.loop-turn.self-inside.buffers (g.D.Disk.content c.self.inside.inner)
+    (g.D.Disk.content c.write-2.new.self) (c.write-2.ensures.size ∙ c.loop-turn.invariant.frees.size))
 
 pub returns-in-Ok-clause-torn : goal.returns-in-Ok-clause-torn
 returns-in-Ok-clause-torn g c =
     let stays = way_stays c.loop-turn.invariant.frees c.self.inside.buffers c.args.at (length c.args.buf.now) c.make_way-turn-end.ensures.order in
-    rw (← c.self.view_is) (stays_tears _ _ _ _ _ stays (tears_over_all c.loop-turn.self-inside.buffers _ _ (g.D.Disk.content c.loop-turn.self-inside.inner) (g.D.Disk.content c.write-2.new.self) c.write-2.ensures.torn))
+    rw (← c.self.view_is) (stays_tears _ _ _ _ _ stays
+    (tears_over_all c.loop-turn.self-inside.buffers _ _ (g.D.Disk.content c.loop-turn.self-inside.inner) (g.D.Disk.content c.write-2.new.self) c.write-2.ensures.torn))
 
 pub returns-in-Err-write-clause-torn : goal.returns-in-Err-write-clause-torn
 returns-in-Err-write-clause-torn g c =
     let stays = way_stays c.loop-turn.invariant.frees c.self.inside.buffers c.args.at (length c.args.buf.now) c.make_way-turn-end.ensures.order in
-    rw (← c.self.view_is) (stays_tears _ _ _ _ _ stays (tears_over_all c.loop-turn.self-inside.buffers _ _ (g.D.Disk.content c.loop-turn.self-inside.inner) (g.D.Disk.content c.write-2.new.self) c.write-2.ensures.torn))
+    rw (← c.self.view_is) (stays_tears _ _ _ _ _ stays
+    (tears_over_all c.loop-turn.self-inside.buffers _ _ (g.D.Disk.content c.loop-turn.self-inside.inner) (g.D.Disk.content c.write-2.new.self) c.write-2.ensures.torn))
 
 pub returns-in-Ok-clause-written : goal.returns-in-Ok-clause-written
 returns-in-Ok-clause-written g c =
     let frees = c.loop-turn.invariant.frees in
     let stays = way_stays frees c.self.inside.buffers c.args.at (length c.args.buf.now) c.make_way-turn-end.ensures.order in
-    let all : c.loop-turn._turn ≡ to_free c.make_way-turn-end.new.self c.args.at (length c.args.buf.now) = omega (arith, c.loop-turn-test.false, c.loop-turn.invariant.upto, c.make_way-turn-end.ensures.frees) in
+    let all : c.loop-turn._turn ≡ to_free c.make_way-turn-end.new.self c.args.at (length c.args.buf.now) =
+    omega (arith, c.loop-turn-test.false, c.loop-turn.invariant.upto, c.make_way-turn-end.ensures.frees) in
     let none = way_none frees c.self.inside.buffers c.args.at (length c.args.buf.now) c.make_way-turn-end.ensures.order all (sym c.takes.ensures ∙ c.if-takes.false) in
-    rw (← c.self.view_is) (stays_writes _ _ _ _ _ stays (writes_over_all c.loop-turn.self-inside.buffers _ _ (g.D.Disk.content c.loop-turn.self-inside.inner) (g.D.Disk.content c.write-2.new.self) none c.in-Ok.ensures.written))
+    rw (← c.self.view_is) (stays_writes _ _ _ _ _ stays
+    (writes_over_all c.loop-turn.self-inside.buffers _ _ (g.D.Disk.content c.loop-turn.self-inside.inner) (g.D.Disk.content c.write-2.new.self) none c.in-Ok.ensures.written))
 
 pub returns-in-Ok-clause-gathers : goal.returns-in-Ok-clause-gathers
 returns-in-Ok-clause-gathers g c =
@@ -145,16 +161,20 @@ pub returns-then-takes-clause-passes : goal.returns-then-takes-clause-passes
 returns-then-takes-clause-passes g c =
     let frees = c.loop-turn.invariant.frees in
     let is = c.make_way-turn-end.ensures.order in
-    let all : c.loop-turn._turn ≡ to_free c.make_way-turn-end.new.self c.args.at (length c.args.buf.now) = omega (arith, c.loop-turn-test.false, c.loop-turn.invariant.upto, c.make_way-turn-end.ensures.frees) in
+    let all : c.loop-turn._turn ≡ to_free c.make_way-turn-end.new.self c.args.at (length c.args.buf.now) =
+    omega (arith, c.loop-turn-test.false, c.loop-turn.invariant.upto, c.make_way-turn-end.ensures.frees) in
     let b = c.self.inside.buffers in
-    rw (← c.self.view_is) (passes_appended _ _ c.args.at c.args.buf.now c.loop-turn.self-inside.buffers _ (way_made frees b c.args.at (length c.args.buf.now) is all) (sym c.takes.ensures ∙ c.if-takes.true) c.append.ensures
+    rw (← c.self.view_is) (passes_appended _ _ c.args.at c.args.buf.now c.loop-turn.self-inside.buffers _
+    (way_made frees b c.args.at (length c.args.buf.now) is all) (sym c.takes.ensures ∙ c.if-takes.true) c.append.ensures
     (way_passed frees b c.args.at (length c.args.buf.now) is all) frees.made)
 
 pub returns-in-Ok-clause-passes : goal.returns-in-Ok-clause-passes
 returns-in-Ok-clause-passes g c =
     let frees = c.loop-turn.invariant.frees in
     let is = c.make_way-turn-end.ensures.order in
-    let all : c.loop-turn._turn ≡ to_free c.make_way-turn-end.new.self c.args.at (length c.args.buf.now) = omega (arith, c.loop-turn-test.false, c.loop-turn.invariant.upto, c.make_way-turn-end.ensures.frees) in
+    let all : c.loop-turn._turn ≡ to_free c.make_way-turn-end.new.self c.args.at (length c.args.buf.now) =
+    omega (arith, c.loop-turn-test.false, c.loop-turn.invariant.upto, c.make_way-turn-end.ensures.frees) in
     let b = c.self.inside.buffers in
-    rw (← c.self.view_is) (passes_written _ _ c.args.at c.args.buf.now c.loop-turn.self-inside.buffers _ (way_made frees b c.args.at (length c.args.buf.now) is all) (sym c.takes.ensures ∙ c.if-takes.false) refl
+    rw (← c.self.view_is) (passes_written _ _ c.args.at c.args.buf.now c.loop-turn.self-inside.buffers _
+    (way_made frees b c.args.at (length c.args.buf.now) is all) (sym c.takes.ensures ∙ c.if-takes.false) refl
     (ap (λ k. k + 1) (way_passed frees b c.args.at (length c.args.buf.now) is all)) (freed_makes frees c.write-2.new.self 1 0 c.write-2.ensures.made))

@@ -39,7 +39,8 @@ returns-in-Ok-clause-next g c = λ honest.
     let is : IsEntry content old piece c.in_ok-entry.entry =
     is_entry content old c.entries-entries.result.now piece c.in_ok-entry.entry c.entries-entries.ensures c.requires.streams c.in_ok-entry.ensures.at
     (λ none. c.next_key.ensures.none (c.in_ok-entry.was ∙ ap (λ (e : Option Key). Ok e) none)) c.in_ok-entry.ensures.there c.in_ok-entry.ensures.holds c.in_ok-entry.ensures.key in
-    row_next content old c.requires.streams piece c.in_ok-entry.entry is c.take_lowest.new.spots c.in-Some-default.key c.in-Some-default.spot c.in-Some-default.ensures honest c.in-Ok.found c.pass_row.new.value
+    row_next content old c.requires.streams piece c.in_ok-entry.entry is c.take_lowest.new.spots c.in-Some-default.key c.in-Some-default.spot
+    c.in-Some-default.ensures honest c.in-Ok.found c.pass_row.new.value
     (λ yes. c.pass_row.ensures.found honest (c.in-Ok.is ∙ ap Ok yes)) (λ no. c.pass_row.ensures.none honest (c.in-Ok.is ∙ ap Ok no))
 
 pub returns-in-None-Some-clause-passes : goal.returns-in-None-Some-clause-passes

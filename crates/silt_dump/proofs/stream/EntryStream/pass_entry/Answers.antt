@@ -9,7 +9,8 @@ use Rattle.silt_dump.specs.declared.piece.Piece.{Piece}
 use Rattle.silt_dump.proofs.stream.EntryStream.pass_entry.Goals as goal
 
 -- the bytes of an entry that a piece has are as long as an entry
-entry_long : (entries : SortedState) (piece : Piece) (place : ℕ) → IsAtPlace entries piece place → place < piece.first + piece.count → length (bytes_at (entry_len entries.shape) piece place) ≡ entry_len entries.shape
+entry_long : (entries : SortedState) (piece : Piece) (place : ℕ) → IsAtPlace entries piece place → place < piece.first + piece.count
+    → length (bytes_at (entry_len entries.shape) piece place) ≡ entry_len entries.shape
 entry_long entries piece place at there =
     let len = entry_len entries.shape in
     let below : place - piece.first < piece.most = omega (arith, there, at.from, at.fits.most) in
@@ -18,7 +19,8 @@ entry_long entries piece place at there =
     omega (arith, length-between piece.bytes.items ((place - piece.first) * len) ((place - piece.first) * len + len) (omega (arith, inside)))
 
 -- what is behind its key
-behind_key : (entries other : SortedState) (piece : Piece) (place : ℕ) (bytes : List ℕ) → other ≡ entries → IsAtPlace entries piece place → place < piece.first + piece.count → bytes ≡ bytes_at (entry_len other.shape) piece place
+behind_key : (entries other : SortedState) (piece : Piece) (place : ℕ) (bytes : List ℕ) → other ≡ entries → IsAtPlace entries piece place
+    → place < piece.first + piece.count → bytes ≡ bytes_at (entry_len other.shape) piece place
     → (length (take (length bytes - 20) (drop 20 bytes)) ≡ entries.shape.value_len) × (take (length bytes - 20) (drop 20 bytes) ≡ drop 20 (bytes_at (entry_len entries.shape) piece place))
 behind_key entries other piece place bytes same at there is =
     let its : bytes ≡ bytes_at (entry_len entries.shape) piece place = is ∙ ap (λ (e : SortedState). bytes_at (entry_len e.shape) piece place) same in
@@ -29,7 +31,8 @@ behind_key entries other piece place bytes same at there is =
 pub copy_from_slice-requires : goal.copy_from_slice-requires
 copy_from_slice-requires c =
     let self = c.args.self.now in
-    c.requires.value ∙ sym (behind_key self.held.sorted.sorted c.entries.result.now self.piece self.place c.entry-entry.result.now c.entries.ensures c.requires.at c.requires.there c.entry-entry.ensures).0
+    c.requires.value ∙ sym (behind_key self.held.sorted.sorted c.entries.result.now self.piece self.place c.entry-entry.result.now
+    c.entries.ensures c.requires.at c.requires.there c.entry-entry.ensures).0
 
 pub returns-clause-value : goal.returns-clause-value
 returns-clause-value c =

@@ -24,7 +24,8 @@ returns-in_default-lowest_free_hash-clause-converts g c =
     let none : stores.converting ≡ None = subst (λ (v : EngineState). v.converting ≡ None) (sym c.self.view_is) c.requires.none in
     let read = sym (ap option_copied c.in-Some.is) ∙ c.last.ensures.value ∙ ap (λ (l : List LogStoreState). slice_get l (length l - 1)) c.deref.ensures.value in
     let hashes = c.hashes.ensures.value ∙ ap (λ (sh : Shape). sh.hashes) c.geometry-geometry.ensures.value in
-    rw (← c.self.view_is) (begin_waits stores c.in-Some.oldest.now c.current.result c.hashes.result 0 read none c.self.invariant.whole c.current.ensures.sound c.current.ensures.value hashes c.in_default-lowest_free_hash.ensures.none)
+    rw (← c.self.view_is) (begin_waits stores c.in-Some.oldest.now c.current.result c.hashes.result 0 read none c.self.invariant.whole
+    c.current.ensures.sound c.current.ensures.value hashes c.in_default-lowest_free_hash.ensures.none)
 
 pub returns-in_default-start-clause-err : goal.returns-in_default-start-clause-err
 returns-in_default-start-clause-err g c =
@@ -32,7 +33,8 @@ returns-in_default-start-clause-err g c =
     let none : stores.converting ≡ None = subst (λ (v : EngineState). v.converting ≡ None) (sym c.self.view_is) c.requires.none in
     let read = sym (ap option_copied c.in-Some.is) ∙ c.last.ensures.value ∙ ap (λ (l : List LogStoreState). slice_get l (length l - 1)) c.deref.ensures.value in
     let hashes = c.hashes.ensures.value ∙ ap (λ (sh : Shape). sh.hashes) c.geometry-geometry.ensures.value in
-    let turn = begin_turn stores c.in-Some.oldest.now c.current.result c.hashes.result c.in-Some-lowest_free_hash.region read none c.self.invariant.whole c.current.ensures.sound c.current.ensures.value hashes c.in-Some-lowest_free_hash.ensures.some in
+    let turn = begin_turn stores c.in-Some.oldest.now c.current.result c.hashes.result c.in-Some-lowest_free_hash.region read none
+    c.self.invariant.whole c.current.ensures.sound c.current.ensures.value hashes c.in-Some-lowest_free_hash.ensures.some in
     (refl, refl, subst (λ (v : EngineState). convert_turn v ≡ Moved) c.self.view_is turn, c.requires.none)
 
 pub step-requires-clause-size : goal.step-requires-clause-size
@@ -42,7 +44,8 @@ step-requires-clause-size g c κs within =
     let read = sym (ap option_copied c.in-Some.is) ∙ c.last.ensures.value ∙ ap (λ (l : List LogStoreState). slice_get l (length l - 1)) c.deref.ensures.value in
     let hashes = c.hashes.ensures.value ∙ ap (λ (sh : Shape). sh.hashes) c.geometry-geometry.ensures.value in
     let stands = subst (λ (v : EngineState). Stands (g.D.Disk.content c.args.disk.now) v) (sym c.self.view_is) c.requires.stands in
-    let same = started_shape stores c.in-Some.oldest.now c.current.result c.hashes.result c.in-Some-lowest_free_hash.region read none c.self.invariant.whole c.current.ensures.sound c.current.ensures.value hashes c.in-Some-lowest_free_hash.ensures.some
+    let same = started_shape stores c.in-Some.oldest.now c.current.result c.hashes.result c.in-Some-lowest_free_hash.region read
+    none c.self.invariant.whole c.current.ensures.sound c.current.ensures.value hashes c.in-Some-lowest_free_hash.ensures.some
     c.in-Ok.conversion c.in-Ok.ensures.start (subst InLimits c.geometry-geometry.ensures.value c.hashes.ensures.limits) in
     omega (arith, ap device_size same, stands.has_size)
 
@@ -54,10 +57,13 @@ returns-in_err-step-clause-err g c =
     let hashes = c.hashes.ensures.value ∙ ap (λ (sh : Shape). sh.hashes) c.geometry-geometry.ensures.value in
     let limits = subst InLimits c.geometry-geometry.ensures.value c.hashes.ensures.limits in
     let stands = subst (λ (v : EngineState). Stands (g.D.Disk.content c.args.disk.now) v) (sym c.self.view_is) c.requires.stands in
-    let turn = begin_turn stores c.in-Some.oldest.now c.current.result c.hashes.result c.in-Some-lowest_free_hash.region read none c.self.invariant.whole c.current.ensures.sound c.current.ensures.value hashes c.in-Some-lowest_free_hash.ensures.some in
-    let breaks = first_failed_breaks stores c.in-Some.oldest.now c.current.result c.hashes.result c.in-Some-lowest_free_hash.region read none c.self.invariant.whole c.current.ensures.sound c.current.ensures.value hashes c.in-Some-lowest_free_hash.ensures.some
+    let turn = begin_turn stores c.in-Some.oldest.now c.current.result c.hashes.result c.in-Some-lowest_free_hash.region read none
+    c.self.invariant.whole c.current.ensures.sound c.current.ensures.value hashes c.in-Some-lowest_free_hash.ensures.some in
+    let breaks = first_failed_breaks stores c.in-Some.oldest.now c.current.result c.hashes.result c.in-Some-lowest_free_hash.region
+    read none c.self.invariant.whole c.current.ensures.sound c.current.ensures.value hashes c.in-Some-lowest_free_hash.ensures.some
     c.in-Ok.conversion c.in-Ok.ensures.start limits _ _ c.step.new.self stands (c.in-Ok.ensures.written (g.D.Disk.content c.args.disk.now)) c.step.ensures.wrote.size c.step.ensures.wrote.changes in
-    let remaps = first_failed_map stores c.in-Some.oldest.now c.current.result c.hashes.result c.in-Some-lowest_free_hash.region read none c.self.invariant.whole c.current.ensures.sound c.current.ensures.value hashes c.in-Some-lowest_free_hash.ensures.some
+    let remaps = first_failed_map stores c.in-Some.oldest.now c.current.result c.hashes.result c.in-Some-lowest_free_hash.region
+    read none c.self.invariant.whole c.current.ensures.sound c.current.ensures.value hashes c.in-Some-lowest_free_hash.ensures.some
     c.in-Ok.conversion c.in-Ok.ensures.start limits _ _ c.step.new.self stands (c.in-Ok.ensures.written (g.D.Disk.content c.args.disk.now)) c.step.ensures.wrote.size c.step.ensures.wrote.changes in
     rw (← c.self.view_is) (on_error c.from_residual.result (refusal_of_step c.in_err-step.field-0.0) _ c.from_residual.ensures.1
     (step_cause g.D.Disk c.args.disk.now c.step.new.disk stores stores c.in_err-step.field-0.0 c.in_err-step.ensures.wrote.failures refl turn breaks remaps))
@@ -70,8 +76,10 @@ invariant_of-self g c =
     let hashes = c.hashes.ensures.value ∙ ap (λ (sh : Shape). sh.hashes) c.geometry-geometry.ensures.value in
     let limits = subst InLimits c.geometry-geometry.ensures.value c.hashes.ensures.limits in
     let stands = subst (λ (v : EngineState). Stands (g.D.Disk.content c.args.disk.now) v) (sym c.self.view_is) c.requires.stands in
-    let goes = first_advances stores c.in-Some.oldest.now c.current.result c.hashes.result c.in-Some-lowest_free_hash.region read none c.self.invariant.whole c.current.ensures.sound c.current.ensures.value hashes c.in-Some-lowest_free_hash.ensures.some
-    c.in-Ok.conversion c.in-Ok.ensures.start limits _ _ c.step.new.self stands (c.in-Ok.ensures.written (g.D.Disk.content c.args.disk.now)) c.step.ensures.wrote.size c.step.ensures.wrote.changes c.in_ok-step.ensures.ok c.step.ensures.written in
+    let goes = first_advances stores c.in-Some.oldest.now c.current.result c.hashes.result c.in-Some-lowest_free_hash.region read
+    none c.self.invariant.whole c.current.ensures.sound c.current.ensures.value hashes c.in-Some-lowest_free_hash.ensures.some
+    c.in-Ok.conversion c.in-Ok.ensures.start limits _ _ c.step.new.self stands (c.in-Ok.ensures.written (g.D.Disk.content c.args.disk.now))
+    c.step.ensures.wrote.size c.step.ensures.wrote.changes c.in_ok-step.ensures.ok c.step.ensures.written in
     record { whole = goes.stands.whole; enough = c.self.invariant.enough; enough_hashes = c.self.invariant.enough_hashes }
 
 pub returns-clause-works : goal.returns-clause-works
@@ -82,9 +90,12 @@ returns-clause-works g c =
     let hashes = c.hashes.ensures.value ∙ ap (λ (sh : Shape). sh.hashes) c.geometry-geometry.ensures.value in
     let limits = subst InLimits c.geometry-geometry.ensures.value c.hashes.ensures.limits in
     let stands = subst (λ (v : EngineState). Stands (g.D.Disk.content c.args.disk.now) v) (sym c.self.view_is) c.requires.stands in
-    rw (← c.self.view_is) (went g.D.Disk [] c.args.disk.now c.step.new.disk stores _ _ (record { size = c.step.ensures.wrote.size; honest = c.step.ensures.wrote.changes.honest }) stands c.in_ok-step.ensures.wrote.failures
-    (first_advances stores c.in-Some.oldest.now c.current.result c.hashes.result c.in-Some-lowest_free_hash.region read none c.self.invariant.whole c.current.ensures.sound c.current.ensures.value hashes c.in-Some-lowest_free_hash.ensures.some
-    c.in-Ok.conversion c.in-Ok.ensures.start limits _ _ c.step.new.self stands (c.in-Ok.ensures.written (g.D.Disk.content c.args.disk.now)) c.step.ensures.wrote.size c.step.ensures.wrote.changes c.in_ok-step.ensures.ok c.step.ensures.written))
+    rw (← c.self.view_is) (went g.D.Disk [] c.args.disk.now c.step.new.disk stores _ _
+    (record { size = c.step.ensures.wrote.size; honest = c.step.ensures.wrote.changes.honest }) stands c.in_ok-step.ensures.wrote.failures
+    (first_advances stores c.in-Some.oldest.now c.current.result c.hashes.result c.in-Some-lowest_free_hash.region read none
+    c.self.invariant.whole c.current.ensures.sound c.current.ensures.value hashes c.in-Some-lowest_free_hash.ensures.some
+    c.in-Ok.conversion c.in-Ok.ensures.start limits _ _ c.step.new.self stands (c.in-Ok.ensures.written (g.D.Disk.content c.args.disk.now))
+    c.step.ensures.wrote.size c.step.ensures.wrote.changes c.in_ok-step.ensures.ok c.step.ensures.written))
 
 pub returns-clause-converts : goal.returns-clause-converts
 returns-clause-converts g c =
@@ -93,7 +104,8 @@ returns-clause-converts g c =
     let read = sym (ap option_copied c.in-Some.is) ∙ c.last.ensures.value ∙ ap (λ (l : List LogStoreState). slice_get l (length l - 1)) c.deref.ensures.value in
     let hashes = c.hashes.ensures.value ∙ ap (λ (sh : Shape). sh.hashes) c.geometry-geometry.ensures.value in
     let limits = subst InLimits c.geometry-geometry.ensures.value c.hashes.ensures.limits in
-    rw (← c.self.view_is) (begin_converts stores c.in-Some.oldest.now c.current.result c.hashes.result c.in-Some-lowest_free_hash.region read none c.self.invariant.whole c.current.ensures.sound c.current.ensures.value hashes c.in-Some-lowest_free_hash.ensures.some
+    rw (← c.self.view_is) (begin_converts stores c.in-Some.oldest.now c.current.result c.hashes.result c.in-Some-lowest_free_hash.region
+    read none c.self.invariant.whole c.current.ensures.sound c.current.ensures.value hashes c.in-Some-lowest_free_hash.ensures.some
     c.in-Ok.conversion c.in-Ok.ensures.start limits c.step.new.self _ c.in_ok-step.ensures.ok.next)
 
 pub returns-in_default-clause-works : goal.returns-in_default-clause-works
@@ -107,7 +119,8 @@ returns-clause-moves g c = λ is. let no : Moved ≡ Finished = is in cc
 
 pub returns-in_default-lowest_free_hash-clause-made : goal.returns-in_default-lowest_free_hash-clause-made
 returns-in_default-lowest_free_hash-clause-made g c =
-    subst (λ (p : Progress). Makes g.D.Disk.writes g.D.Disk.syncs (step_writes p) (step_syncs p) c.args.disk.now c.args.disk.now) (returns-in_default-lowest_free_hash-clause-converts g c).due none_made
+    subst (λ (p : Progress). Makes g.D.Disk.writes g.D.Disk.syncs (step_writes p) (step_syncs p) c.args.disk.now c.args.disk.now)
+    (returns-in_default-lowest_free_hash-clause-converts g c).due none_made
 
 pub returns-in_default-start-clause-made : goal.returns-in_default-start-clause-made
 returns-in_default-start-clause-made g c = most_none
@@ -118,7 +131,8 @@ returns-in_err-step-clause-made g c =
     let none : stores.converting ≡ None = subst (λ (v : EngineState). v.converting ≡ None) (sym c.self.view_is) c.requires.none in
     let read = sym (ap option_copied c.in-Some.is) ∙ c.last.ensures.value ∙ ap (λ (l : List LogStoreState). slice_get l (length l - 1)) c.deref.ensures.value in
     let hashes = c.hashes.ensures.value ∙ ap (λ (sh : Shape). sh.hashes) c.geometry-geometry.ensures.value in
-    let turn = begin_turn stores c.in-Some.oldest.now c.current.result c.hashes.result c.in-Some-lowest_free_hash.region read none c.self.invariant.whole c.current.ensures.sound c.current.ensures.value hashes c.in-Some-lowest_free_hash.ensures.some in
+    let turn = begin_turn stores c.in-Some.oldest.now c.current.result c.hashes.result c.in-Some-lowest_free_hash.region read none
+    c.self.invariant.whole c.current.ensures.sound c.current.ensures.value hashes c.in-Some-lowest_free_hash.ensures.some in
     let due : convert_turn c.args.self.now ≡ Moved = subst (λ (v : EngineState). convert_turn v ≡ Moved) c.self.view_is turn in
     let most : MakesAtMost g.D.Disk.writes g.D.Disk.syncs (step_writes (convert_turn c.args.self.now)) (step_syncs (convert_turn c.args.self.now)) c.args.disk.now c.step.new.disk
     = subst (λ (p : Progress). MakesAtMost g.D.Disk.writes g.D.Disk.syncs (step_writes p) (step_syncs p) c.args.disk.now c.step.new.disk) (sym due) c.in_err-step.ensures.wrote.made in

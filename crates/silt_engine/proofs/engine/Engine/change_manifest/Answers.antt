@@ -21,8 +21,12 @@ returns-in_err-prepare_next-clause-err g c =
     let may = subst (λ (v : EngineState). MayBecomeCurrent (g.D.Disk.content c.args.disk.now) v c.args.next.now c.args.digests.now) (sym c.self.view_is) c.requires.next in
     on_error c.from_residual.result c.in_err-prepare_next.field-0.0 _ c.from_residual.ensures.1 (rw (← c.self.view_is) (record {
       counted = c.in_err-prepare_next.ensures.wrote.failures;
-      breaks = manifest_breaks (g.D.Disk.content c.args.disk.now) (g.D.Disk.content c.prepare_next.new.disk) stores c.args.next.now c.args.digests.now stands may c.prepare_next.ensures.wrote.size c.prepare_next.ensures.wrote.changes (before_gate (g.D.Disk.content c.prepare_next.new.disk) stores c.args.next.now c.args.digests.now c.prepare_next.ensures.each);
-      map = manifest_map (g.D.Disk.content c.args.disk.now) (g.D.Disk.content c.prepare_next.new.disk) stores c.args.next.now c.args.digests.now stands may c.prepare_next.ensures.wrote.size c.prepare_next.ensures.wrote.changes (before_gate (g.D.Disk.content c.prepare_next.new.disk) stores c.args.next.now c.args.digests.now c.prepare_next.ensures.each);
+      breaks = manifest_breaks (g.D.Disk.content c.args.disk.now) (g.D.Disk.content c.prepare_next.new.disk) stores c.args.next.now
+          c.args.digests.now stands may c.prepare_next.ensures.wrote.size c.prepare_next.ensures.wrote.changes
+          (before_gate (g.D.Disk.content c.prepare_next.new.disk) stores c.args.next.now c.args.digests.now c.prepare_next.ensures.each);
+      map = manifest_map (g.D.Disk.content c.args.disk.now) (g.D.Disk.content c.prepare_next.new.disk) stores c.args.next.now c.args.digests.now
+          stands may c.prepare_next.ensures.wrote.size c.prepare_next.ensures.wrote.changes
+          (before_gate (g.D.Disk.content c.prepare_next.new.disk) stores c.args.next.now c.args.digests.now c.prepare_next.ensures.each);
     }))
 
 pub returns-in_err-commit_next-clause-err : goal.returns-in_err-commit_next-clause-err
@@ -32,16 +36,28 @@ returns-in_err-commit_next-clause-err g c =
     let may = subst (λ (v : EngineState). MayBecomeCurrent (g.D.Disk.content c.args.disk.now) v c.args.next.now c.args.digests.now) (sym c.self.view_is) c.requires.next in
     on_error c.from_residual-in_err-commit_next.result c.in_err-commit_next.field-0.0 _ c.from_residual-in_err-commit_next.ensures.1 (rw (← c.self.view_is) (record {
       counted = (c.in_err-commit_next.ensures.wrote.failures.0 ∙ ap (λ (n : ℕ). (n + 1) % 2 ^ 64) c.in_ok-prepare_next.ensures.wrote.failures, c.in_err-commit_next.ensures.wrote.failures.1);
-      breaks = manifest_breaks (g.D.Disk.content c.args.disk.now) (g.D.Disk.content c.commit_next.new.disk) stores c.args.next.now c.args.digests.now stands may (c.commit_next.ensures.wrote.size ∙ c.prepare_next.ensures.wrote.size)
-          (both_steps stores c.args.next.now c.args.digests.now c.prepare_next.new.self c.in_ok-prepare_next.ensures.state (g.D.Disk.content c.args.disk.now) (g.D.Disk.content c.prepare_next.new.disk) (g.D.Disk.content c.commit_next.new.disk) c.prepare_next.ensures.wrote.changes c.commit_next.ensures.wrote.changes) (at_gate stores c.args.next.now c.args.digests.now c.prepare_next.new.self c.in_ok-prepare_next.ensures.state (g.D.Disk.content c.commit_next.new.disk) c.commit_next.ensures.each);
-      map = manifest_map (g.D.Disk.content c.args.disk.now) (g.D.Disk.content c.commit_next.new.disk) stores c.args.next.now c.args.digests.now stands may (c.commit_next.ensures.wrote.size ∙ c.prepare_next.ensures.wrote.size)
-          (both_steps stores c.args.next.now c.args.digests.now c.prepare_next.new.self c.in_ok-prepare_next.ensures.state (g.D.Disk.content c.args.disk.now) (g.D.Disk.content c.prepare_next.new.disk) (g.D.Disk.content c.commit_next.new.disk) c.prepare_next.ensures.wrote.changes c.commit_next.ensures.wrote.changes) (at_gate stores c.args.next.now c.args.digests.now c.prepare_next.new.self c.in_ok-prepare_next.ensures.state (g.D.Disk.content c.commit_next.new.disk) c.commit_next.ensures.each);
+      breaks = manifest_breaks (g.D.Disk.content c.args.disk.now) (g.D.Disk.content c.commit_next.new.disk) stores c.args.next.now
+          c.args.digests.now stands may (c.commit_next.ensures.wrote.size ∙ c.prepare_next.ensures.wrote.size)
+          (both_steps stores c.args.next.now c.args.digests.now c.prepare_next.new.self c.in_ok-prepare_next.ensures.state (g.D.Disk.content c.args.disk.now)
+          (g.D.Disk.content c.prepare_next.new.disk) (g.D.Disk.content c.commit_next.new.disk) c.prepare_next.ensures.wrote.changes
+          c.commit_next.ensures.wrote.changes)
+          (at_gate stores c.args.next.now c.args.digests.now c.prepare_next.new.self c.in_ok-prepare_next.ensures.state
+          (g.D.Disk.content c.commit_next.new.disk) c.commit_next.ensures.each);
+      map = manifest_map (g.D.Disk.content c.args.disk.now) (g.D.Disk.content c.commit_next.new.disk) stores c.args.next.now
+          c.args.digests.now stands may (c.commit_next.ensures.wrote.size ∙ c.prepare_next.ensures.wrote.size)
+          (both_steps stores c.args.next.now c.args.digests.now c.prepare_next.new.self c.in_ok-prepare_next.ensures.state (g.D.Disk.content c.args.disk.now)
+          (g.D.Disk.content c.prepare_next.new.disk) (g.D.Disk.content c.commit_next.new.disk) c.prepare_next.ensures.wrote.changes
+          c.commit_next.ensures.wrote.changes)
+          (at_gate stores c.args.next.now c.args.digests.now c.prepare_next.new.self c.in_ok-prepare_next.ensures.state
+          (g.D.Disk.content c.commit_next.new.disk) c.commit_next.ensures.each);
     }))
 
 pub returns-clause-ok : goal.returns-clause-ok
 returns-clause-ok g c =
     let stores : EngineState = state_of c.self.inside in
-    rw (← c.self.view_is) (becomes_current stores c.args.next.now c.args.digests.now c.prepare_next.new.self c.in_ok-prepare_next.ensures.state (g.D.Disk.content c.args.disk.now) (g.D.Disk.content c.prepare_next.new.disk) (g.D.Disk.content c.commit_next.new.disk) c.commit_next.new.self c.prepare_next.ensures.wrote.changes c.commit_next.ensures.wrote.changes
+    rw (← c.self.view_is) (becomes_current stores c.args.next.now c.args.digests.now c.prepare_next.new.self c.in_ok-prepare_next.ensures.state
+    (g.D.Disk.content c.args.disk.now) (g.D.Disk.content c.prepare_next.new.disk) (g.D.Disk.content c.commit_next.new.disk)
+    c.commit_next.new.self c.prepare_next.ensures.wrote.changes c.commit_next.ensures.wrote.changes
     c.in_ok-commit_next.ensures.current c.in_ok-commit_next.ensures.state.0 c.in_ok-commit_next.ensures.new c.in_ok-commit_next.ensures.state.2)
 
 pub returns-clause-map : goal.returns-clause-map
@@ -49,10 +65,14 @@ returns-clause-map g c =
     let stores : EngineState = state_of c.self.inside in
     let stands = subst (λ (v : EngineState). Stands (g.D.Disk.content c.args.disk.now) v) (sym c.self.view_is) c.requires.stands in
     let may = subst (λ (v : EngineState). MayBecomeCurrent (g.D.Disk.content c.args.disk.now) v c.args.next.now c.args.digests.now) (sym c.self.view_is) c.requires.next in
-    rw (← c.self.view_is) (manifest_map (g.D.Disk.content c.args.disk.now) (g.D.Disk.content c.commit_next.new.disk) stores c.args.next.now c.args.digests.now stands may (c.commit_next.ensures.wrote.size ∙ c.prepare_next.ensures.wrote.size)
-    (both_steps stores c.args.next.now c.args.digests.now c.prepare_next.new.self c.in_ok-prepare_next.ensures.state (g.D.Disk.content c.args.disk.now) (g.D.Disk.content c.prepare_next.new.disk) (g.D.Disk.content c.commit_next.new.disk) c.prepare_next.ensures.wrote.changes c.commit_next.ensures.wrote.changes) (at_gate stores c.args.next.now c.args.digests.now c.prepare_next.new.self c.in_ok-prepare_next.ensures.state (g.D.Disk.content c.commit_next.new.disk) c.commit_next.ensures.each))
+    rw (← c.self.view_is) (manifest_map (g.D.Disk.content c.args.disk.now) (g.D.Disk.content c.commit_next.new.disk) stores
+    c.args.next.now c.args.digests.now stands may (c.commit_next.ensures.wrote.size ∙ c.prepare_next.ensures.wrote.size)
+    (both_steps stores c.args.next.now c.args.digests.now c.prepare_next.new.self c.in_ok-prepare_next.ensures.state (g.D.Disk.content c.args.disk.now)
+    (g.D.Disk.content c.prepare_next.new.disk) (g.D.Disk.content c.commit_next.new.disk) c.prepare_next.ensures.wrote.changes c.commit_next.ensures.wrote.changes)
+    (at_gate stores c.args.next.now c.args.digests.now c.prepare_next.new.self c.in_ok-prepare_next.ensures.state (g.D.Disk.content c.commit_next.new.disk) c.commit_next.ensures.each))
 
 pub returns-in_err-commit_next-clause-made : goal.returns-in_err-commit_next-clause-made
 returns-in_err-commit_next-clause-made g c =
-    let most : MakesAtMost g.D.Disk.writes g.D.Disk.syncs 3 3 c.args.disk.now c.commit_next.new.disk = most_both c.prepare_next.new.disk c.in_ok-prepare_next.ensures.wrote.made c.in_err-commit_next.ensures.wrote.made (omega arith) (omega arith) in
+    let most : MakesAtMost g.D.Disk.writes g.D.Disk.syncs 3 3 c.args.disk.now c.commit_next.new.disk =
+    most_both c.prepare_next.new.disk c.in_ok-prepare_next.ensures.wrote.made c.in_err-commit_next.ensures.wrote.made (omega arith) (omega arith) in
     search (rules, most)

@@ -14,7 +14,8 @@ use Rattle.silt_engine.proofs.engine.Engine.entries.Goals as goal
 
 pub loop-index-preserved : goal.loop-index-preserved
 loop-index-preserved g c = λ honest.
-    does_log (rows_in (g.D.Disk.content c.args.disk.now)) c.self.inside.frozen.items (c.loop-index.index - 1) c.loop-index.index c.index.result.now c.do_hash_stores.new.entries c.loop-index.entries c.do_log.new.entries
+    does_log (rows_in (g.D.Disk.content c.args.disk.now)) c.self.inside.frozen.items (c.loop-index.index - 1) c.loop-index.index
+    c.index.result.now c.do_hash_stores.new.entries c.loop-index.entries c.do_log.new.entries
     (omega (arith, c.loop-index-test.true)) (omega (arith, c.loop-index-test.true, c.loop-index.auto.index, c.len-index.ensures, c.self.inside.frozen.ok)) (sym c.index.ensures)
     (c.loop-index.invariant honest) (c.in_ok-do_log.ensures.ok honest)
 
@@ -33,6 +34,7 @@ returns-clause-entries g c = rw (← c.self.view_is) (λ shows honest.
     let older : DoesRows logs c.do_hash_stores.new.entries c.loop-index.entries =
     subst (λ (n : ℕ). DoesRows (oldest_first (map (rows_in content) (drop n c.self.inside.frozen.items))) c.do_hash_stores.new.entries c.loop-index.entries) none (c.loop-index.invariant honest) in
     let both = does_more (entries ++ hashed) logs c.new-entries.result c.do_hash_stores.new.entries c.loop-index.entries behind older in
-    let all = does_more (entries ++ hashed ++ logs) (all_rows content c.self.inside.active.log) c.new-entries.result c.loop-index.entries c.do_log-2.new.entries both (c.in_ok-do_log-2.ensures.ok honest) in
+    let all = does_more (entries ++ hashed ++ logs) (all_rows content c.self.inside.active.log) c.new-entries.result c.loop-index.entries
+    c.do_log-2.new.entries both (c.in_ok-do_log-2.ensures.ok honest) in
     subst (λ (m : Map). AreEntriesOf m c.do_log-2.new.entries) (sym (current_is content _ shows honest))
     (does_all (entries ++ hashed ++ logs ++ all_rows content c.self.inside.active.log) c.new-entries.result c.do_log-2.new.entries c.new-entries.ensures.empty all))

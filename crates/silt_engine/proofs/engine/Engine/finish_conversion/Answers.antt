@@ -18,30 +18,36 @@ pub converted_body-body-requires-clause-hashed : goal.converted_body-body-requir
 converted_body-body-requires-clause-hashed g c =
     let stores : EngineState = state_of c.self.inside in
     room_for_hash stores c.current-current.result c.in-Some.conversion c.hashes-known.result c.self.invariant.whole c.current-current.ensures.sound c.in-Some.is
-    (c.hashes-known.ensures.value ∙ ap (λ (sh : Shape). sh.hashes) c.geometry.ensures.value) (omega (arith, c.hashes-known.ensures.value, c.hashes-known.ensures.limits.hashes_most)) c.current-current.ensures.value
+    (c.hashes-known.ensures.value ∙ ap (λ (sh : Shape). sh.hashes) c.geometry.ensures.value)
+    (omega (arith, c.hashes-known.ensures.value, c.hashes-known.ensures.limits.hashes_most)) c.current-current.ensures.value
 
 pub converted_body-body-requires-clause-frozen : goal.converted_body-body-requires-clause-frozen
 converted_body-body-requires-clause-frozen g c =
     let stores : EngineState = state_of c.self.inside in
     let going = subst (λ (o : Option ConversionState). IfSome o (IsUnderWay stores)) c.in-Some.is c.self.invariant.whole.under_way in
     let some : 0 < length stores.frozen = going.some_frozen in
-    let count : length c.current-current.result.frozen ≡ length stores.frozen = ap (λ (b : Body). length b.frozen) c.current-current.ensures.value ∙ ap length (sym c.self.invariant.whole.frozen_regions) ∙ length-map stores.frozen region_of in
+    let count : length c.current-current.result.frozen ≡ length stores.frozen =
+    ap (λ (b : Body). length b.frozen) c.current-current.ensures.value ∙ ap length (sym c.self.invariant.whole.frozen_regions) ∙ length-map stores.frozen region_of in
     omega (arith, some, count)
 
 pub digests_with-digests-requires : goal.digests_with-digests-requires
 digests_with-digests-requires g c =
     let stores : EngineState = state_of c.self.inside in
     let room = room_for_hash stores c.current-current.result c.in-Some.conversion c.hashes-known.result c.self.invariant.whole c.current-current.ensures.sound c.in-Some.is
-    (c.hashes-known.ensures.value ∙ ap (λ (sh : Shape). sh.hashes) c.geometry.ensures.value) (omega (arith, c.hashes-known.ensures.value, c.hashes-known.ensures.limits.hashes_most)) c.current-current.ensures.value in
+    (c.hashes-known.ensures.value ∙ ap (λ (sh : Shape). sh.hashes) c.geometry.ensures.value)
+    (omega (arith, c.hashes-known.ensures.value, c.hashes-known.ensures.limits.hashes_most)) c.current-current.ensures.value in
     omega (arith, room, hash_count stores c.self.invariant.whole, ap (λ (b : Body). length b.hashed) c.current-current.ensures.value, ap length c.deref.ensures.value)
 
 pub end_conversion-requires-clause-ends : goal.end_conversion-requires-clause-ends
 end_conversion-requires-clause-ends g c κs within =
     let stores : EngineState = state_of c.self.inside in
     let turn = subst (λ (v : EngineState). convert_turn v ≡ Finished) (sym c.self.view_is) c.requires.turn in
-    let unspent = before_last stores.manifest.shape _ stores.manifest.current c.current-current.ensures.sound (λ e. c.if-current-eq-LAST_GENERATION.false (ap (λ (b : Body). b.generation) c.current-current.ensures.value ∙ e)) in
-    let body = c.converted_body-body.ensures ∙ ap (λ (b : Body). converted_body b c.region.result) c.current-current.ensures.value ∙ ap (converted_body stores.manifest.current) c.region.ensures.value in
-    rw (← c.self.view_is) (may_finish stores c.converted_body-body.result c.digests_with-digests.result c.in-Some.conversion c.digest.result c.digest-sorted.result.now c.deref.result.now c.self.invariant.whole c.in-Some.is turn unspent body
+    let unspent = before_last stores.manifest.shape _ stores.manifest.current c.current-current.ensures.sound
+    (λ e. c.if-current-eq-LAST_GENERATION.false (ap (λ (b : Body). b.generation) c.current-current.ensures.value ∙ e)) in
+    let body = c.converted_body-body.ensures ∙ ap (λ (b : Body). converted_body b c.region.result) c.current-current.ensures.value
+    ∙ ap (converted_body stores.manifest.current) c.region.ensures.value in
+    rw (← c.self.view_is) (may_finish stores c.converted_body-body.result c.digests_with-digests.result c.in-Some.conversion
+    c.digest.result c.digest-sorted.result.now c.deref.result.now c.self.invariant.whole c.in-Some.is turn unspent body
     c.digest.ensures c.deref.ensures.value c.digest-sorted.ensures c.digests_with-digests.ensures)
 
 pub returns-then-current-eq-LAST_GENERATION-clause-made : goal.returns-then-current-eq-LAST_GENERATION-clause-made

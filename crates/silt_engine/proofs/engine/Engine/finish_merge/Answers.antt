@@ -18,10 +18,11 @@ returns-in-Ok-finish_sealed-clause-merges g c = merges_before _ _ c.in-Ok.ensure
 
 pub returns-in-Err-clause-err : goal.returns-in-Err-clause-err
 returns-in-Err-clause-err g c =
-    let sealed = sealed_works c.args.self.now c.seal_merge.new.self c.in-Ok.ensures.made {E = g.row.D-Fault.Denot} g.D.Disk c.args.disk.now c.requires.stands in
-    (ap is_work c.requires.turn,
-    then_broke_off g.D.Disk c.args.disk.now c.args.disk.now c.finish_sealed.new.disk c.args.self.now c.seal_merge.new.self c.finish_sealed.new.self _ _ sealed
-    c.finish_sealed.ensures.works.same c.in-Err.ensures.err)
+    let sealed = sealed_works c.args.self.now c.seal_merge.new.self c.in-Ok.ensures.made {E = g.row.D-Fault.Denot} g.D.Disk c.args.disk.now c.requires.stands in (
+      ap is_work c.requires.turn,
+      then_broke_off g.D.Disk c.args.disk.now c.args.disk.now c.finish_sealed.new.disk c.args.self.now c.seal_merge.new.self c.finish_sealed.new.self _ _ sealed
+          c.finish_sealed.ensures.works.same c.in-Err.ensures.err,
+    )
 
 pub returns-in_default-clause-made : goal.returns-in_default-clause-made
 returns-in_default-clause-made g c = most_none

@@ -21,11 +21,11 @@ end_merge-requires-clause-ends g c κs within =
     let region = c.region.ensures.value ∙ ap (λ t. t.region) c.entries-entries.ensures in
     let written = c.len.ensures.value ∙ ap (λ t. t.count) c.entries-entries.ensures in
     let body = c.merged_body-body.ensures ∙ ap (λ (b : Body). merged_body b c.stores-count.result c.region.result c.len.result) c.current-current.ensures.value
-        ∙ ap (λ n. merged_body stores.manifest.current n c.region.result c.len.result) c.stores-count.ensures.value
-        ∙ ap (λ n. merged_body stores.manifest.current c.in-Some.merge.stores n c.len.result) region
-        ∙ ap (λ n. merged_body stores.manifest.current c.in-Some.merge.stores c.in-Some.merge.region n) written in
+    ∙ ap (λ n. merged_body stores.manifest.current n c.region.result c.len.result) c.stores-count.ensures.value
+    ∙ ap (λ n. merged_body stores.manifest.current c.in-Some.merge.stores n c.len.result) region
+    ∙ ap (λ n. merged_body stores.manifest.current c.in-Some.merge.stores c.in-Some.merge.region n) written in
     let digests = subst (λ (v : EngineState). c.merged_digests-digests.result ≡ merged_digests v c.stores-count.result c.digest-digest.result.0) (sym c.self.view_is) c.merged_digests-digests.ensures
-        ∙ ap (λ n. merged_digests stores n c.digest-digest.result.0) c.stores-count.ensures.value in
+    ∙ ap (λ n. merged_digests stores n c.digest-digest.result.0) c.stores-count.ensures.value in
     rw (← c.self.view_is) (may_end_now c.requires.sealed.0 stores c.merged_body-body.result c.merged_digests-digests.result c.digest-digest.result.0 seals c.in-Some.merge c.in-Some.is
     (is_finished stores c.in-Some.merge c.in-Some.is turn) sound unspent body digests c.digest-digest.ensures)
 
@@ -33,7 +33,8 @@ pub merged_body-body-requires-clause-count : goal.merged_body-body-requires-clau
 merged_body-body-requires-clause-count g c =
     let stores : EngineState = state_of c.self.inside in
     let most = (merging_of stores c.in-Some.merge c.self.invariant.whole c.in-Some.is).most in
-    let ids : length c.current-current.result.hashed ≡ length stores.hashes = ap (λ (b : Body). length b.hashed) c.current-current.ensures.value ∙ ap length (sym c.self.invariant.whole.hash_regions) ∙ length-map stores.hashes hash_region_of in
+    let ids : length c.current-current.result.hashed ≡ length stores.hashes =
+    ap (λ (b : Body). length b.hashed) c.current-current.ensures.value ∙ ap length (sym c.self.invariant.whole.hash_regions) ∙ length-map stores.hashes hash_region_of in
     omega (arith, most, ids, c.stores-count.ensures.value)
 
 pub merged_body-body-requires-clause-unspent : goal.merged_body-body-requires-clause-unspent

@@ -20,7 +20,10 @@ returns-then-current-eq-LAST_GENERATION-clause-err c =
     let stores : EngineState = state_of c.self.inside in
     let logs = c.logs.ensures.value ∙ ap (λ (sh : Shape). sh.logs) c.geometry-geometry.ensures.value in
     let lowest = subst (λ (b : Body). IsLowestFree c.logs.result b c.in-Some.region) c.current-current.ensures.value c.in-Some.ensures.some in
-    rw (← c.self.view_is) (not_all stores (has_room stores _ c.logs.result c.in-Some.region logs c.self.invariant.whole c.current-current.ensures.sound lowest), ap (λ (b : Body). b.generation) (sym c.current-current.ensures.value) ∙ c.if-current-eq-LAST_GENERATION.true)
+    rw (← c.self.view_is) (
+      not_all stores (has_room stores _ c.logs.result c.in-Some.region logs c.self.invariant.whole c.current-current.ensures.sound lowest),
+      ap (λ (b : Body). b.generation) (sym c.current-current.ensures.value) ∙ c.if-current-eq-LAST_GENERATION.true,
+    )
 
 pub returns-in-Ok-clause-ok : goal.returns-in-Ok-clause-ok
 returns-in-Ok-clause-ok c =

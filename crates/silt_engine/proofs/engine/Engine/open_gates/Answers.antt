@@ -19,7 +19,8 @@ returns-in_err-open_gates-clause-err g c =
 pub returns-clause-works : goal.returns-clause-works
 returns-clause-works g c =
     let stands = subst (λ (v : EngineState). Stands (g.D.Disk.content c.args.disk.now) v) (sym c.self.view_is) c.requires.stands in
-    rw (← c.self.view_is) (went g.D.Disk [] c.args.disk.now c.open_gates.new.disk (state_of c.self.inside) _ _ (record { size = c.open_gates.ensures.wrote.size; honest = c.open_gates.ensures.wrote.changes.honest }) stands c.in_ok-open_gates.ensures.wrote.failures
+    rw (← c.self.view_is) (went g.D.Disk [] c.args.disk.now c.open_gates.new.disk (state_of c.self.inside) _ _
+    (record { size = c.open_gates.ensures.wrote.size; honest = c.open_gates.ensures.wrote.changes.honest }) stands c.in_ok-open_gates.ensures.wrote.failures
     (flushed _ _ _ c.open_gates.new.self stands c.open_gates.ensures.wrote.size c.open_gates.ensures.wrote.changes c.in_ok-open_gates.ensures.ok))
 
 pub returns-clause-quiet : goal.returns-clause-quiet

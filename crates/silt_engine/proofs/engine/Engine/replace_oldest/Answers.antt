@@ -8,9 +8,12 @@ pub invariant_of-self : goal.invariant_of-self
 invariant_of-self c =
     let may = subst (λ (v : EngineState). MayReplace v c.args.manifest) (sym c.self.view_is) c.requires in
     record {
-      whole = replaced_whole _ c.args.manifest may c.in-Some.conversion c.take.result c.take.ensures.value c.in-Some.is c.in-Some-pop.oldest c.pop.new.self.items c.pop.result c.pop.ensures.items c.in-Some-pop.is
-          c.into_store.result c.into_store.result.digest c.into_store.ensures.store c.into_store.ensures.digest c.into_store.ensures.held c.insert.new.self.items c.in-Ok.ensures.items c.take.new.self c.take.ensures.after
-          c.puts.result c.puts-2.result c.saturating_sub-dropped.result c.saturating_sub-self-inside.result c.puts.ensures.value c.puts-2.ensures.value c.saturating_sub-dropped.ensures c.saturating_sub-self-inside.ensures;
+      whole = replaced_whole _ c.args.manifest may c.in-Some.conversion c.take.result c.take.ensures.value c.in-Some.is c.in-Some-pop.oldest
+          c.pop.new.self.items c.pop.result c.pop.ensures.items c.in-Some-pop.is
+          c.into_store.result c.into_store.result.digest c.into_store.ensures.store c.into_store.ensures.digest c.into_store.ensures.held
+          c.insert.new.self.items c.in-Ok.ensures.items c.take.new.self c.take.ensures.after
+          c.puts.result c.puts-2.result c.saturating_sub-dropped.result c.saturating_sub-self-inside.result c.puts.ensures.value
+          c.puts-2.ensures.value c.saturating_sub-dropped.ensures c.saturating_sub-self-inside.ensures;
       enough = omega (arith, c.self.invariant.enough, c.pop.ensures.capacity);
       enough_hashes = omega (arith, c.self.invariant.enough_hashes, c.in-Ok.ensures.capacity);
     }
@@ -18,19 +21,26 @@ invariant_of-self c =
 pub returns-clause-whole : goal.returns-clause-whole
 returns-clause-whole c =
     let may = subst (λ (v : EngineState). MayReplace v c.args.manifest) (sym c.self.view_is) c.requires in
-    replaced_whole _ c.args.manifest may c.in-Some.conversion c.take.result c.take.ensures.value c.in-Some.is c.in-Some-pop.oldest c.pop.new.self.items c.pop.result c.pop.ensures.items c.in-Some-pop.is
-    c.into_store.result c.into_store.result.digest c.into_store.ensures.store c.into_store.ensures.digest c.into_store.ensures.held c.insert.new.self.items c.in-Ok.ensures.items c.take.new.self c.take.ensures.after
-    c.puts.result c.puts-2.result c.saturating_sub-dropped.result c.saturating_sub-self-inside.result c.puts.ensures.value c.puts-2.ensures.value c.saturating_sub-dropped.ensures c.saturating_sub-self-inside.ensures
+    replaced_whole _ c.args.manifest may c.in-Some.conversion c.take.result c.take.ensures.value c.in-Some.is c.in-Some-pop.oldest
+    c.pop.new.self.items c.pop.result c.pop.ensures.items c.in-Some-pop.is
+    c.into_store.result c.into_store.result.digest c.into_store.ensures.store c.into_store.ensures.digest c.into_store.ensures.held
+    c.insert.new.self.items c.in-Ok.ensures.items c.take.new.self c.take.ensures.after
+    c.puts.result c.puts-2.result c.saturating_sub-dropped.result c.saturating_sub-self-inside.result c.puts.ensures.value
+    c.puts-2.ensures.value c.saturating_sub-dropped.ensures c.saturating_sub-self-inside.ensures
 
 pub returns-clause-replaced : goal.returns-clause-replaced
 returns-clause-replaced c =
     let may = subst (λ (v : EngineState). MayReplace v c.args.manifest) (sym c.self.view_is) c.requires in
-    rw (← c.self.view_is) (replaces _ c.args.manifest may c.in-Some.conversion c.take.result c.take.ensures.value c.in-Some.is c.in-Some-pop.oldest c.pop.new.self.items c.pop.result c.pop.ensures.items c.in-Some-pop.is
-    c.into_store.result c.into_store.result.digest c.into_store.ensures.store c.into_store.ensures.digest c.into_store.ensures.held c.insert.new.self.items c.in-Ok.ensures.items c.take.new.self c.take.ensures.after
-    c.puts.result c.puts-2.result c.saturating_sub-dropped.result c.saturating_sub-self-inside.result c.puts.ensures.value c.puts-2.ensures.value c.saturating_sub-dropped.ensures c.saturating_sub-self-inside.ensures)
+    rw (← c.self.view_is) (replaces _ c.args.manifest may c.in-Some.conversion c.take.result c.take.ensures.value c.in-Some.is
+    c.in-Some-pop.oldest c.pop.new.self.items c.pop.result c.pop.ensures.items c.in-Some-pop.is
+    c.into_store.result c.into_store.result.digest c.into_store.ensures.store c.into_store.ensures.digest c.into_store.ensures.held
+    c.insert.new.self.items c.in-Ok.ensures.items c.take.new.self c.take.ensures.after
+    c.puts.result c.puts-2.result c.saturating_sub-dropped.result c.saturating_sub-self-inside.result c.puts.ensures.value
+    c.puts-2.ensures.value c.saturating_sub-dropped.ensures c.saturating_sub-self-inside.ensures)
 
 pub unreachable-requires-in_default-insert : goal.unreachable-requires-in_default-insert
 unreachable-requires-in_default-insert c =
     let may = subst (λ (v : EngineState). MayReplace v c.args.manifest) (sym c.self.view_is) c.requires in
-    let more = named_more _ c.args.manifest may c.in-Some.conversion c.take.result c.take.ensures.value c.in-Some.is c.into_store.result c.into_store.result.digest c.into_store.ensures.store c.into_store.ensures.held in
+    let more = named_more _ c.args.manifest may c.in-Some.conversion c.take.result c.take.ensures.value c.in-Some.is c.into_store.result
+    c.into_store.result.digest c.into_store.ensures.store c.into_store.ensures.held in
     search (rules, more)

@@ -9,11 +9,13 @@ use Rattle.silt_engine.proofs.engine.Engine.settle_work.Goals as goal
 pub returns-in_err-sync-clause-err : goal.returns-in_err-sync-clause-err
 returns-in_err-sync-clause-err g c =
     on_error c.from_residual.result c.in_err-sync.field-0.0 _ c.from_residual.ensures.1
-    (broke_off g.D.Disk c.args.disk.now c.sync.new.self c.args.self.now c.args.self.now c.in_err-sync.field-0.0 (record { size = c.sync.ensures.size; honest = c.in_err-sync.ensures.unchanged.honest }) c.requires.stands (c.in_err-sync.ensures.failures.0, (_, _, _, c.in_err-sync.ensures.failures.1))
+    (broke_off g.D.Disk c.args.disk.now c.sync.new.self c.args.self.now c.args.self.now c.in_err-sync.field-0.0
+    (record { size = c.sync.ensures.size; honest = c.in_err-sync.ensures.unchanged.honest }) c.requires.stands (c.in_err-sync.ensures.failures.0, (_, _, _, c.in_err-sync.ensures.failures.1))
     (failed_advances _ _ c.args.self.now c.requires.stands c.sync.ensures.size c.in_err-sync.ensures.unchanged))
 
 pub returns-clause-works : goal.returns-clause-works
-returns-clause-works g c = went g.D.Disk [] c.args.disk.now c.sync.new.self c.args.self.now c.args.self.now _ (record { size = c.sync.ensures.size; honest = c.in_ok-sync.ensures.settled.honest }) c.requires.stands c.in_ok-sync.ensures.failures
+returns-clause-works g c = went g.D.Disk [] c.args.disk.now c.sync.new.self c.args.self.now c.args.self.now _
+    (record { size = c.sync.ensures.size; honest = c.in_ok-sync.ensures.settled.honest }) c.requires.stands c.in_ok-sync.ensures.failures
     (sync_advances _ _ c.args.self.now c.requires.stands c.sync.ensures.size c.in_ok-sync.ensures.settled)
 
 pub returns-in_err-sync-clause-made : goal.returns-in_err-sync-clause-made

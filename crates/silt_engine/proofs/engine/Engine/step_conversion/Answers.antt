@@ -21,9 +21,11 @@ returns-in_err-step-clause-err g c =
     let stands = subst (λ (v : EngineState). Stands (g.D.Disk.content c.args.disk.now) v) (sym c.self.view_is) c.requires.stands in
     let turn = subst (λ (v : EngineState). convert_turn v ≡ Moved) (sym c.self.view_is) c.requires.turn in
     let read = sym (ap option_copied c.in-Some-last.is) ∙ c.last.ensures.value ∙ ap (λ (l : List LogStoreState). slice_get l (length l - 1)) c.deref.ensures.value in
-    let same : after ≡ stores = ap (λ (v : ConversionState). record stores { converting = Some v }) c.in_err-step.ensures.err ∙ ap (λ (o : Option ConversionState). record stores { converting = o }) (sym c.in-Some.is) in
+    let same : after ≡ stores = ap (λ (v : ConversionState). record stores { converting = Some v }) c.in_err-step.ensures.err
+    ∙ ap (λ (o : Option ConversionState). record stores { converting = o }) (sym c.in-Some.is) in
     let breaks = next_failed_breaks _ _ stores c.in-Some-last.log.now c.in-Some.conversion c.step.new.self stands read c.in-Some.is turn c.step.ensures.wrote.size c.step.ensures.wrote.changes in
-    let remaps = next_failed_map _ _ stores c.in-Some-last.log.now c.in-Some.conversion c.step.new.self stands read c.in-Some.is turn c.step.ensures.wrote.size c.step.ensures.wrote.changes (Some c.step.new.self) in
+    let remaps = next_failed_map _ _ stores c.in-Some-last.log.now c.in-Some.conversion c.step.new.self stands read c.in-Some.is
+    turn c.step.ensures.wrote.size c.step.ensures.wrote.changes (Some c.step.new.self) in
     rw (← c.self.view_is) (on_error c.from_residual.result (refusal_of_step c.in_err-step.field-0.0) _ c.from_residual.ensures.1
     (step_cause g.D.Disk c.args.disk.now c.step.new.disk stores after c.in_err-step.field-0.0 c.in_err-step.ensures.wrote.failures same turn breaks remaps))
 
@@ -33,8 +35,10 @@ returns-clause-works g c =
     let stands = subst (λ (v : EngineState). Stands (g.D.Disk.content c.args.disk.now) v) (sym c.self.view_is) c.requires.stands in
     let turn = subst (λ (v : EngineState). convert_turn v ≡ Moved) (sym c.self.view_is) c.requires.turn in
     let read = sym (ap option_copied c.in-Some-last.is) ∙ c.last.ensures.value ∙ ap (λ (l : List LogStoreState). slice_get l (length l - 1)) c.deref.ensures.value in
-    rw (← c.self.view_is) (went g.D.Disk [] c.args.disk.now c.step.new.disk stores _ _ (record { size = c.step.ensures.wrote.size; honest = c.step.ensures.wrote.changes.honest }) stands c.in_ok-step.ensures.wrote.failures
-    (next_advances _ _ stores c.in-Some-last.log.now c.in-Some.conversion c.step.new.self stands read c.in-Some.is turn c.step.ensures.wrote.size c.step.ensures.wrote.changes c.in_ok-step.ensures.ok c.step.ensures.written))
+    rw (← c.self.view_is) (went g.D.Disk [] c.args.disk.now c.step.new.disk stores _ _
+    (record { size = c.step.ensures.wrote.size; honest = c.step.ensures.wrote.changes.honest }) stands c.in_ok-step.ensures.wrote.failures
+    (next_advances _ _ stores c.in-Some-last.log.now c.in-Some.conversion c.step.new.self stands read c.in-Some.is turn
+    c.step.ensures.wrote.size c.step.ensures.wrote.changes c.in_ok-step.ensures.ok c.step.ensures.written))
 
 pub step-requires-clause-more : goal.step-requires-clause-more
 step-requires-clause-more g c κs within =
@@ -46,7 +50,8 @@ step-requires-clause-more g c κs within =
 pub invariant_of-self : goal.invariant_of-self
 invariant_of-self g c =
     let stores : EngineState = state_of c.self.inside in
-    let same = ap (λ (v : ConversionState). let s : EngineState = record stores { converting = Some v } in s) c.in_err-step.ensures.err ∙ ap (λ (o : Option ConversionState). let s : EngineState = record stores { converting = o } in s) (sym c.in-Some.is) in
+    let same = ap (λ (v : ConversionState). let s : EngineState = record stores { converting = Some v } in s) c.in_err-step.ensures.err
+    ∙ ap (λ (o : Option ConversionState). let s : EngineState = record stores { converting = o } in s) (sym c.in-Some.is) in
     record { whole = subst AreWhole (sym same) c.self.invariant.whole; enough = c.self.invariant.enough; enough_hashes = c.self.invariant.enough_hashes }
 
 pub invariant_of-self-2 : goal.invariant_of-self-2
@@ -55,7 +60,8 @@ invariant_of-self-2 g c =
     let stands = subst (λ (v : EngineState). Stands (g.D.Disk.content c.args.disk.now) v) (sym c.self.view_is) c.requires.stands in
     let turn = subst (λ (v : EngineState). convert_turn v ≡ Moved) (sym c.self.view_is) c.requires.turn in
     let read = sym (ap option_copied c.in-Some-last.is) ∙ c.last.ensures.value ∙ ap (λ (l : List LogStoreState). slice_get l (length l - 1)) c.deref.ensures.value in
-    let goes = next_advances _ _ stores c.in-Some-last.log.now c.in-Some.conversion c.step.new.self stands read c.in-Some.is turn c.step.ensures.wrote.size c.step.ensures.wrote.changes c.in_ok-step.ensures.ok c.step.ensures.written in
+    let goes = next_advances _ _ stores c.in-Some-last.log.now c.in-Some.conversion c.step.new.self stands read c.in-Some.is turn
+    c.step.ensures.wrote.size c.step.ensures.wrote.changes c.in_ok-step.ensures.ok c.step.ensures.written in
     record { whole = goes.stands.whole; enough = c.self.invariant.enough; enough_hashes = c.self.invariant.enough_hashes }
 
 pub returns-clause-converts : goal.returns-clause-converts

@@ -13,29 +13,35 @@ pub invariant_of-self-2 : goal.invariant_of-self-2
 invariant_of-self-2 g c =
     let stands = subst (λ (v : EngineState). Stands (g.D.Disk.content c.args.disk.now) v) (sym c.self.view_is) c.requires.stands in
     let most = subst (λ (v : EngineState). v.charge + puts_of c.args.kind ≤ v.manifest.shape.sorted_capacity) (sym c.self.view_is) c.requires.charge in
-    let goes = appended _ _ (state_of c.self.inside) c.take.new.self c.args.kind c.args.key.now c.args.value.now _ stands c.take.ensures.wrote.size c.in_ok-take.ensures.store.0.room c.take.ensures.wrote.changes c.take.ensures.images c.in_ok-take.ensures.store.1 (ap (λ (n : ℕ). c.self.inside.charge + n) c.puts.ensures.value) most in
+    let goes = appended _ _ (state_of c.self.inside) c.take.new.self c.args.kind c.args.key.now c.args.value.now _ stands c.take.ensures.wrote.size
+    c.in_ok-take.ensures.store.0.room c.take.ensures.wrote.changes c.take.ensures.images c.in_ok-take.ensures.store.1 (ap (λ (n : ℕ). c.self.inside.charge + n) c.puts.ensures.value) most in
     record { whole = goes.stands.whole; enough = c.self.invariant.enough; enough_hashes = c.self.invariant.enough_hashes }
 
 pub returns-in_err-take-clause-err : goal.returns-in_err-take-clause-err
 returns-in_err-take-clause-err g c =
     let stands = subst (λ (v : EngineState). Stands (g.D.Disk.content c.args.disk.now) v) (sym c.self.view_is) c.requires.stands in
-    on_error c.from_residual.result c.in_err-take.field-0.0 _ c.from_residual.ensures.1 (rw (← c.self.view_is) (not_taken g.D.Disk c.args.disk.now c.take.new.disk (state_of c.self.inside) c.take.new.self c.args.kind c.args.key.now c.args.value.now
+    on_error c.from_residual.result c.in_err-take.field-0.0 _ c.from_residual.ensures.1
+    (rw (← c.self.view_is) (not_taken g.D.Disk c.args.disk.now c.take.new.disk (state_of c.self.inside) c.take.new.self c.args.kind c.args.key.now c.args.value.now
     stands c.take.ensures.wrote.size c.take.ensures.wrote.changes c.take.ensures.images c.in_err-take.ensures.store c.in_err-take.field-0.0 c.in_err-take.ensures.wrote.failures))
 
 pub returns-in_err-take-clause-first : goal.returns-in_err-take-clause-first
-returns-in_err-take-clause-first g c = rw (← c.self.view_is) (λ (none : c.self.inside.active.log.used ≡ 0). on_error c.from_residual.result c.in_err-take.field-0.0 _ c.from_residual.ensures.1 (c.in_err-take.ensures.first none))
+returns-in_err-take-clause-first g c = rw (← c.self.view_is)
+    (λ (none : c.self.inside.active.log.used ≡ 0). on_error c.from_residual.result c.in_err-take.field-0.0 _ c.from_residual.ensures.1 (c.in_err-take.ensures.first none))
 
 pub returns-clause-works : goal.returns-clause-works
 returns-clause-works g c =
     let stands = subst (λ (v : EngineState). Stands (g.D.Disk.content c.args.disk.now) v) (sym c.self.view_is) c.requires.stands in
     let most = subst (λ (v : EngineState). v.charge + puts_of c.args.kind ≤ v.manifest.shape.sorted_capacity) (sym c.self.view_is) c.requires.charge in
-    rw (← c.self.view_is) (went g.D.Disk _ c.args.disk.now c.take.new.disk (state_of c.self.inside) _ _ (record { size = c.take.ensures.wrote.size; honest = c.take.ensures.wrote.changes.honest }) stands c.in_ok-take.ensures.wrote.failures
-    (appended _ _ _ c.take.new.self c.args.kind c.args.key.now c.args.value.now _ stands c.take.ensures.wrote.size c.in_ok-take.ensures.store.0.room c.take.ensures.wrote.changes c.take.ensures.images c.in_ok-take.ensures.store.1 (ap (λ (n : ℕ). c.self.inside.charge + n) c.puts.ensures.value) most))
+    rw (← c.self.view_is) (went g.D.Disk _ c.args.disk.now c.take.new.disk (state_of c.self.inside) _ _
+    (record { size = c.take.ensures.wrote.size; honest = c.take.ensures.wrote.changes.honest }) stands c.in_ok-take.ensures.wrote.failures
+    (appended _ _ _ c.take.new.self c.args.kind c.args.key.now c.args.value.now _ stands c.take.ensures.wrote.size c.in_ok-take.ensures.store.0.room
+    c.take.ensures.wrote.changes c.take.ensures.images c.in_ok-take.ensures.store.1 (ap (λ (n : ℕ). c.self.inside.charge + n) c.puts.ensures.value) most))
 
 pub returns-clause-row : goal.returns-clause-row
 returns-clause-row g c =
     let stands = subst (λ (v : EngineState). Stands (g.D.Disk.content c.args.disk.now) v) (sym c.self.view_is) c.requires.stands in
     let most = subst (λ (v : EngineState). v.charge + puts_of c.args.kind ≤ v.manifest.shape.sorted_capacity) (sym c.self.view_is) c.requires.charge in
     let place = has_place (g.D.Disk.content c.args.disk.now) (state_of c.self.inside) c.args.key.now.0 stands c.in_ok-take.ensures.store.0 in
-    let waits = appended_waits _ _ _ c.take.new.self c.args.kind c.args.key.now c.args.value.now _ stands c.take.ensures.wrote.size c.in_ok-take.ensures.store.0.room c.take.ensures.wrote.changes c.take.ensures.images c.in_ok-take.ensures.store.1 (ap (λ (n : ℕ). c.self.inside.charge + n) c.puts.ensures.value) most in
+    let waits = appended_waits _ _ _ c.take.new.self c.args.kind c.args.key.now c.args.value.now _ stands c.take.ensures.wrote.size
+    c.in_ok-take.ensures.store.0.room c.take.ensures.wrote.changes c.take.ensures.images c.in_ok-take.ensures.store.1 (ap (λ (n : ℕ). c.self.inside.charge + n) c.puts.ensures.value) most in
     rw (← c.self.view_is) (record { place = place; waits = waits; behind = search rules; charge = ap (λ (n : ℕ). c.self.inside.charge + n) c.puts.ensures.value })

@@ -8,13 +8,15 @@ use Rattle.silt_engine.proofs.engine.Engine.write_in_next.Goals as goal
 
 pub returns-in-Ok-write_active-clause-works : goal.returns-in-Ok-write_active-clause-works
 returns-in-Ok-write_active-clause-works g c =
-    both_went g.D.Disk [] (command_of (stored_row c.args.kind c.args.key.now c.args.value.now) ∷ []) c.args.disk.now c.freeze.new.disk c.write_active.new.disk c.args.self.now c.freeze.new.self c.write_active.new.self _ _ _
+    both_went g.D.Disk [] (command_of (stored_row c.args.kind c.args.key.now c.args.value.now) ∷ []) c.args.disk.now c.freeze.new.disk
+    c.write_active.new.disk c.args.self.now c.freeze.new.self c.write_active.new.self _ _ _
     c.in_default.ensures.works c.in-Ok-write_active.ensures.works
 
 pub returns-in-Ok-write_active-clause-current : goal.returns-in-Ok-write_active-clause-current
 returns-in-Ok-write_active-clause-current g c =
     turns_for (command_of (stored_row c.args.kind c.args.key.now c.args.value.now)) (g.D.Disk.content c.args.disk.now) (g.D.Disk.content c.freeze.new.disk) (g.D.Disk.content c.write_active.new.disk)
-    c.args.self.now c.freeze.new.self c.write_active.new.self c.in-Ok.next c.args.key.now.0 c.freeze.ensures.works.same c.requires.needs c.in-Ok.ensures.ok c.in_default.ensures.frozen c.in-Ok-write_active.ensures.row.behind.manifest
+    c.args.self.now c.freeze.new.self c.write_active.new.self c.in-Ok.next c.args.key.now.0 c.freeze.ensures.works.same c.requires.needs
+    c.in-Ok.ensures.ok c.in_default.ensures.frozen c.in-Ok-write_active.ensures.row.behind.manifest
     (returns-in-Ok-write_active-clause-works g c).advances c.in-Ok-write_active.ensures.row.waits
 
 pub returns-in-Err-Write-clause-err : goal.returns-in-Err-Write-clause-err

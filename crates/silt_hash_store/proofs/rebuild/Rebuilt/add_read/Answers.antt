@@ -18,10 +18,12 @@ pub returns-clause-err : goal.returns-clause-err
 returns-clause-err g c =
     let old = c.args.self.now in
     let content = g.D.Disk.content c.args.disk.now in
-    refused_read c.add_slots.result _ (IsTrue content.honest) (HoldsSlots old.store.shape old.store.region content.shown c.args.first c.args.count c.read_slots.new.out) (IsGrown old content.shown c.args.first)
+    refused_read c.add_slots.result _ (IsTrue content.honest)
+    (HoldsSlots old.store.shape old.store.region content.shown c.args.first c.args.count c.read_slots.new.out) (IsGrown old content.shown c.args.first)
     (IsFirstUnsound content old.store.shape old.store.region) (λ honest. c.in_default.ensures.slots honest) c.add_slots.ensures.err
 
 pub returns-clause-fed : goal.returns-clause-fed
 returns-clause-fed g c = λ honest fed.
-    ends_well c.add_slots.result _ (more_fed c.update.new.self c.args.self.now.store c.args.first c.args.count (g.D.Disk.content c.args.disk.now).shown c.read_slots.new.out (c.in_default.ensures.slots honest)
+    ends_well c.add_slots.result _ (more_fed c.update.new.self c.args.self.now.store c.args.first c.args.count
+    (g.D.Disk.content c.args.disk.now).shown c.read_slots.new.out (c.in_default.ensures.slots honest)
     (c.read_slots.auto.out ∙ c.requires.buffer) (c.update.ensures _ fed))

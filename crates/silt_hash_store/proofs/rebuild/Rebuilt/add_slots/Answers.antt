@@ -27,7 +27,8 @@ loop-i-preserved g c =
       puts = c.add_slot.ensures.counts.0;
       rows = omega (arith, c.add_slot.ensures.counts.1);
       grown = λ honest holds is.
-          let has = head_held old.store.shape old.store.region c.args.first c.args.count c.args.len i shown c.args.bytes.now c.loop-i.self.store c.head_in-head.result c.loop-i.invariant.shape c.loop-i.invariant.number c.requires.len c.loop-i-test.true holds c.head_in-head.ensures in
+          let has = head_held old.store.shape old.store.region c.args.first c.args.count c.args.len i shown c.args.bytes.now c.loop-i.self.store
+          c.head_in-head.result c.loop-i.invariant.shape c.loop-i.invariant.number c.requires.len c.loop-i-test.true holds c.head_in-head.ensures in
           subst (λ (n : ℕ). IsGrown c.add_slot.new.self shown n) next (c.in_ok-add_slot.ensures.ok honest has (c.loop-i.invariant.grown honest holds is));
     }
 
@@ -42,7 +43,9 @@ returns-in_err-add_slot-clause-err g c =
     let old = c.args.self.now in
     let content = g.D.Disk.content c.args.disk.now in
     let refused = err_from_is_err_and c.from_residual.result c.from_residual.ensures.1 in
-    rw (refused.1, refused.2) (refused_in content c.loop-i.self old.store.shape old.store.region (c.args.first + i) c.head_in-head.result _ _ _ c.in_err-add_slot.field-0.0 c.loop-i.invariant.shape c.loop-i.invariant.number
+    rw (refused.1, refused.2) (refused_in content c.loop-i.self old.store.shape old.store.region (c.args.first + i) c.head_in-head.result
+    _ _ _ c.in_err-add_slot.field-0.0 c.loop-i.invariant.shape c.loop-i.invariant.number
     (omega (arith, c.loop-i-test.true, c.requires.within.0))
-    (λ honest holds. head_held old.store.shape old.store.region c.args.first c.args.count c.args.len i content.shown c.args.bytes.now c.loop-i.self.store c.head_in-head.result c.loop-i.invariant.shape c.loop-i.invariant.number c.requires.len c.loop-i-test.true holds c.head_in-head.ensures)
+    (λ honest holds. head_held old.store.shape old.store.region c.args.first c.args.count c.args.len i content.shown c.args.bytes.now
+    c.loop-i.self.store c.head_in-head.result c.loop-i.invariant.shape c.loop-i.invariant.number c.requires.len c.loop-i-test.true holds c.head_in-head.ensures)
     c.loop-i.invariant.grown c.in_err-add_slot.ensures.err)

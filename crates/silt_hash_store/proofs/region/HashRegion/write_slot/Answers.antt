@@ -15,4 +15,5 @@ returns-clause-wrote g c =
 
 pub returns-clause-written : goal.returns-clause-written
 returns-clause-written g c = λ honest.
-    slot_written c.args.self.now.geometry c.args.self.now.number c.args.slot _ _ _ _ c.slot_at.ensures.value c.requires.row (omega (arith, c.slot_at.ensures.fits, c.requires.size)) c.in_ok-write.ensures.written honest
+    slot_written c.args.self.now.geometry c.args.self.now.number c.args.slot _ _ _ _ c.slot_at.ensures.value c.requires.row
+    (omega (arith, c.slot_at.ensures.fits, c.requires.size)) c.in_ok-write.ensures.written honest

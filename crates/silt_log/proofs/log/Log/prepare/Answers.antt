@@ -10,4 +10,5 @@ returns-clause-written g c =
 pub returns-clause-ok : goal.returns-clause-ok
 returns-clause-ok g c =
     let written = rw c.gates_at-at.ensures.value at c.in_ok-write_gates.ensures.written in
-    rw (← c.self.view_is) (prepare_done (g.D.Disk.content c.args.disk.now) _ _ _ c.self.invariant.bounds.region (rw (← c.self.view_is) at c.requires.size) c.write_gates.ensures.wrote.size (c.deref_mut.ensures.len ∙ c.self.invariant.buffer) written c.in_ok-write_gates.ensures.rests)
+    rw (← c.self.view_is) (prepare_done (g.D.Disk.content c.args.disk.now) _ _ _ c.self.invariant.bounds.region (rw (← c.self.view_is) at c.requires.size)
+    c.write_gates.ensures.wrote.size (c.deref_mut.ensures.len ∙ c.self.invariant.buffer) written c.in_ok-write_gates.ensures.rests)

@@ -22,5 +22,6 @@ returns-clause-ok g c = λ honest.
     let buffer : length c.deref_mut.result.now ≡ shape.log_capacity = c.deref_mut.ensures.len ∙ c.self.invariant.buffer in
     let counted = scan_count shape region shown _ _ _ _ _ c.gates_at-at.ensures.value buffer c.bodies_at-bodies.ensures.value c.row_len-row_len.ensures.value found.0 in
     let stale = scan_stale shape region shown _ _ _ _ _ c.gates_at-at.ensures.value buffer c.bodies_at-bodies.ensures.value c.row_len-row_len.ensures.value found.0 _ found.1 in
-    let rows = scan_rows shape region shown _ _ _ _ _ c.gates_at-at.ensures.value buffer c.bodies_at-bodies.ensures.value c.row_len-row_len.ensures.value found.0 _ (c.in_ok-rows.ensures.rows honest) in
+    let rows = scan_rows shape region shown _ _ _ _ _ c.gates_at-at.ensures.value buffer c.bodies_at-bodies.ensures.value
+    c.row_len-row_len.ensures.value found.0 _ (c.in_ok-rows.ensures.rows honest) in
     rw (← c.self.view_is) (record { settled = counted; used = counted; stale = stale }, rows)

@@ -11,7 +11,8 @@ returns-in_default c =
     let place = c.len-place.result in
     let at : place ≡ length old.keys.items = c.len-place.ensures ∙ old.keys.ok.0 in
     let none = c.in_default.ensures.rule place
-    ∙ under_buckets (bucket_count old.table) c.key_buckets-buckets.result.0 c.key_buckets-buckets.result.1 place old.table c.args.key.now.0 c.slot_of-standing.result (slot_of_key old.keys.items old.table c.args.key.now.0)
+    ∙ under_buckets (bucket_count old.table) c.key_buckets-buckets.result.0 c.key_buckets-buckets.result.1 place old.table
+    c.args.key.now.0 c.slot_of-standing.result (slot_of_key old.keys.items old.table c.args.key.now.0)
     (rw c.bucket_count.ensures.count at c.key_buckets-buckets.ensures.first) (rw c.bucket_count.ensures.count at c.key_buckets-buckets.ensures.second) c.slot_of-standing.ensures.slot in
     key_refused c.args.key.now.0 old place c.requires.index at (sym none)
 
@@ -21,7 +22,8 @@ returns c =
     let place = c.len-place.result in
     let at : place ≡ length old.keys.items = c.len-place.ensures ∙ old.keys.ok.0 in
     let planned = c.in-Some.ensures.rule place
-    ∙ under_buckets (bucket_count old.table) c.key_buckets-buckets.result.0 c.key_buckets-buckets.result.1 place old.table c.args.key.now.0 c.slot_of-standing.result (slot_of_key old.keys.items old.table c.args.key.now.0)
+    ∙ under_buckets (bucket_count old.table) c.key_buckets-buckets.result.0 c.key_buckets-buckets.result.1 place old.table
+    c.args.key.now.0 c.slot_of-standing.result (slot_of_key old.keys.items old.table c.args.key.now.0)
     (rw c.bucket_count.ensures.count at c.key_buckets-buckets.ensures.first) (rw c.bucket_count.ensures.count at c.key_buckets-buckets.ensures.second) c.slot_of-standing.ensures.slot in
     key_added c.args.kind c.args.key.now.0 old _ place c.requires.index at (sym planned ∙ c.enter.ensures.entered)
     c.enter.ensures.buckets c.in_ok-push.ensures.items (ap (λ n. old.puts + n) c.puts.ensures.value)

@@ -9,7 +9,8 @@ first_slot-requires c =
 pub returns : goal.returns
 returns c =
     let key = c.args.key.now.0 in
-    let slot = slot_is c.args.self.now key _ _ _ _ c.first_slot.result c.requires.table c.requires.index c.requires.first c.requires.second (c.as_slice-2.ensures ∙ c.candidates-candidates.ensures.in_order) c.as_slice.ensures.value c.first_slot.ensures in
+    let slot = slot_is c.args.self.now key _ _ _ _ c.first_slot.result c.requires.table c.requires.index c.requires.first
+    c.requires.second (c.as_slice-2.ensures ∙ c.candidates-candidates.ensures.in_order) c.as_slice.ensures.value c.first_slot.ensures in
     record {
       slot = slot;
       standing = slot_stands c.args.self.now.keys.items c.args.self.now.table key c.first_slot.result slot;

@@ -3,8 +3,10 @@ use Rattle.silt_log_store.proofs.log_store.LogStore.find.Goals as goal
 
 pub returns-in-Some-clause-last : goal.returns-in-Some-clause-last
 returns-in-Some-clause-last g c =
-    rw (← c.self.view_is) (λ honest index. find_some (g.D.Disk.content c.args.disk.now) _ c.args.key.now.0 c.self.invariant honest index c.in-Some.row (rw c.in-Some.is at (c.in_ok-row.ensures.first honest (index.known honest))))
+    rw (← c.self.view_is) (λ honest index. find_some (g.D.Disk.content c.args.disk.now) _ c.args.key.now.0 c.self.invariant honest
+    index c.in-Some.row (rw c.in-Some.is at (c.in_ok-row.ensures.first honest (index.known honest))))
 
 pub returns-in-None-clause-last : goal.returns-in-None-clause-last
 returns-in-None-clause-last g c =
-    rw (← c.self.view_is) (λ honest index. find_none (g.D.Disk.content c.args.disk.now) _ c.args.key.now.0 c.self.invariant honest index (rw c.in-None.is at (c.in_ok-row.ensures.first honest (index.known honest))))
+    rw (← c.self.view_is) (λ honest index. find_none (g.D.Disk.content c.args.disk.now) _ c.args.key.now.0 c.self.invariant honest
+    index (rw c.in-None.is at (c.in_ok-row.ensures.first honest (index.known honest))))

@@ -12,7 +12,9 @@ returns-in_err-table-clause-err g c =
     rw (refused.1, refused.2) (rebuild_refused (g.D.Disk.content c.args.disk.now) c.scan_gates.new.self _ _ _ c.in_err-table.field-0.0 shape region c.in_default.ensures.ok c.in_err-table.ensures.err)
 
 pub returns-clause-rebuilt : goal.returns-clause-rebuilt
-returns-clause-rebuilt g c = rebuilt_is (g.D.Disk.content c.args.disk.now) c.scan_gates.new.self c.in_ok-table.field-0 c.in_default.ensures.ok c.in_ok-table.ensures.index c.in_ok-table.ensures.buckets c.in_ok-table.ensures.rows
+returns-clause-rebuilt g c = rebuilt_is (g.D.Disk.content c.args.disk.now) c.scan_gates.new.self c.in_ok-table.field-0
+    c.in_default.ensures.ok c.in_ok-table.ensures.index c.in_ok-table.ensures.buckets c.in_ok-table.ensures.rows
 
 pub returns-clause-frozen : goal.returns-clause-frozen
-returns-clause-frozen g c = rebuilt_frozen (g.D.Disk.content c.args.disk.now) c.scan_gates.new.self c.in_ok-table.field-0 c.in_default.ensures.ok c.in_ok-table.ensures.index c.in_ok-table.ensures.buckets c.in_ok-table.ensures.rows
+returns-clause-frozen g c = rebuilt_frozen (g.D.Disk.content c.args.disk.now) c.scan_gates.new.self c.in_ok-table.field-0
+    c.in_default.ensures.ok c.in_ok-table.ensures.index c.in_ok-table.ensures.buckets c.in_ok-table.ensures.rows

@@ -6,7 +6,8 @@ use Rattle.silt_log_store.proofs.log_store.LogStore.take_at.Goals as goal
 pub invariant_of-self-2 : goal.invariant_of-self-2
 invariant_of-self-2 g c =
     let store : LogStoreState = record { log = c.self.inside.log; table = c.self.inside.table; puts = c.self.inside.puts } in
-    held_after store _ _ _ c.len-place.result c.self.invariant c.in_ok-append.ensures.log.stands.bounds c.in_ok-append.ensures.log.log c.enter.ensures.table c.enter.ensures.buckets c.len-place.ensures.value c.enter.ensures.below
+    held_after store _ _ _ c.len-place.result c.self.invariant c.in_ok-append.ensures.log.stands.bounds c.in_ok-append.ensures.log.log
+    c.enter.ensures.table c.enter.ensures.buckets c.len-place.ensures.value c.enter.ensures.below
     (omega (arith, c.puts.ensures.most))
 
 pub returns-clause-store : goal.returns-clause-store
@@ -15,4 +16,5 @@ returns-clause-store g c =
     let is : IsLogStore (g.D.Disk.content c.args.disk.now) store = rw (← c.self.view_is) at c.requires.store in
     let at = rw (← c.self.view_is) at c.requires.placing in
     let placed = rw c.len-place.ensures.value at c.enter.ensures.entered in
-    rw (← c.self.view_is) (takes_row _ _ store _ _ _ c.args.kind c.args.key.now c.args.value.now c.args.placing.now c.append.ensures.wrote.changes.honest is.index at (ap (λ n. c.self.inside.puts + n) c.puts.ensures.value) placed c.in_ok-append.ensures.log)
+    rw (← c.self.view_is) (takes_row _ _ store _ _ _ c.args.kind c.args.key.now c.args.value.now c.args.placing.now
+    c.append.ensures.wrote.changes.honest is.index at (ap (λ n. c.self.inside.puts + n) c.puts.ensures.value) placed c.in_ok-append.ensures.log)

@@ -8,7 +8,8 @@ pub loop-k-preserved : goal.loop-k-preserved
 loop-k-preserved c =
     let d = c.args.self.now in
     let count : length d.hashed ≡ 16 = search rules in
-    let same : (get_or d.hashed c.loop-k.k (record { 0 = [] })).0 ≡ (get_or d.hashed c.loop-k.k d.sorted).0 = ap (λ (digest : Digest). digest.0) (get_or_default d.hashed c.loop-k.k (record { 0 = [] }) d.sorted (omega arith)) in
+    let same : (get_or d.hashed c.loop-k.k (record { 0 = [] })).0 ≡ (get_or d.hashed c.loop-k.k d.sorted).0 =
+    ap (λ (digest : Digest). digest.0) (get_or_default d.hashed c.loop-k.k (record { 0 = [] }) d.sorted (omega arith)) in
     record {
       size = search rules;
       so_far = more_digests c.loop-k.bytes c.put_digest.new.bytes d.hashed d.sorted c.loop-k.k _ c.loop-k.invariant.so_far c.put_digest.ensures.written same (omega arith);

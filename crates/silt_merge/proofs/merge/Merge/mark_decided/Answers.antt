@@ -12,7 +12,8 @@ invariant_of-self c =
     let offered = rw (← c.self.view_is) at c.requires.offered in
     let room = rw (← c.self.view_is) at c.requires.room in
     rw (c.passed_after-self-inside.ensures, c.written_after-self-inside.ensures) (
-      decided_held merge c.args.choice.now c.args.is_written c.remove_waiting.new.waiting.entries _ _ c.self.invariant.0 all offered room c.remove_waiting.ensures.gone c.remove_waiting.ensures.len c.remove_waiting.ensures.less,
+      decided_held merge c.args.choice.now c.args.is_written c.remove_waiting.new.waiting.entries _ _ c.self.invariant.0 all offered
+          room c.remove_waiting.ensures.gone c.remove_waiting.ensures.len c.remove_waiting.ensures.less,
       c.self.invariant.1,
       ap (λ (p : PieceState). p.len) c.pass.ensures ∙ c.self.invariant.2,
       c.self.invariant.3,
@@ -26,4 +27,5 @@ returns-clause-held c =
     let offered = rw (← c.self.view_is) at c.requires.offered in
     let room = rw (← c.self.view_is) at c.requires.room in
     rw (c.passed_after-self-inside.ensures, c.written_after-self-inside.ensures)
-    (decided_held merge c.args.choice.now c.args.is_written c.remove_waiting.new.waiting.entries _ _ c.self.invariant.0 all offered room c.remove_waiting.ensures.gone c.remove_waiting.ensures.len c.remove_waiting.ensures.less)
+    (decided_held merge c.args.choice.now c.args.is_written c.remove_waiting.new.waiting.entries _ _ c.self.invariant.0 all offered
+    room c.remove_waiting.ensures.gone c.remove_waiting.ensures.len c.remove_waiting.ensures.less)

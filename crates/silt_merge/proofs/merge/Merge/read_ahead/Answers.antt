@@ -13,7 +13,8 @@ invariant_of-self g c =
 pub returns-in_err-read_entries-clause-state : goal.returns-in_err-read_entries-clause-state
 returns-in_err-read_entries-clause-state g c =
     let merge : MergeState = state_of c.self.inside in
-    rw (← c.self.view_is) (MatchResult-from_err _ _ _ c.from_residual.ensures.0 (λ _. ap (λ (a : List (List ℕ)). let m : MergeState = record merge { ahead = a } in m) (c.in_err-read_entries.ensures.err ∙ sym (c.is_empty.ensures.none c.if-not-is_empty.false))))
+    rw (← c.self.view_is) (MatchResult-from_err _ _ _ c.from_residual.ensures.0
+    (λ _. ap (λ (a : List (List ℕ)). let m : MergeState = record merge { ahead = a } in m) (c.in_err-read_entries.ensures.err ∙ sym (c.is_empty.ensures.none c.if-not-is_empty.false))))
 
 pub returns-clause-before : goal.returns-clause-before
 returns-clause-before g c = rw (← c.self.view_is) (sym (c.is_empty.ensures.none c.if-not-is_empty.false))

@@ -18,7 +18,8 @@ invariant_of-self g c =
 pub returns-in_err-read_slots-clause-state : goal.returns-in_err-read_slots-clause-state
 returns-in_err-read_slots-clause-state g c =
     let merge : MergeState = state_of c.self.inside in
-    rw (← c.self.view_is) (MatchResult-from_err _ _ _ c.from_residual.ensures.0 (λ _. ap (λ (a : List (List ℕ)). let m : MergeState = record merge { slots = a } in m) (c.in_err-read_slots.ensures.err ∙ sym (c.is_empty.ensures.none c.if-not-is_empty.false))))
+    rw (← c.self.view_is) (MatchResult-from_err _ _ _ c.from_residual.ensures.0
+    (λ _. ap (λ (a : List (List ℕ)). let m : MergeState = record merge { slots = a } in m) (c.in_err-read_slots.ensures.err ∙ sym (c.is_empty.ensures.none c.if-not-is_empty.false))))
 
 pub returns-clause-slots : goal.returns-clause-slots
 returns-clause-slots g c = rw (← c.self.view_is) (sym (c.is_empty.ensures.none c.if-not-is_empty.false), c.in_ok-read_slots.ensures.some)

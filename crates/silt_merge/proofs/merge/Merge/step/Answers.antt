@@ -8,12 +8,14 @@ use Rattle.silt_merge.proofs.merge.Merge.step.Goals as goal
 pub returns-then-self : goal.returns-then-self
 returns-then-self g c =
     let taken = c.split_at.ensures.back ∙ ap (λ (m : MergeState). oldest_stores m.stores c.args.stores.now) c.self.view_is in
-    subst (λ (l : List HashState). TakesStep g.D.Disk l c.args.sorted.now c.args.digest.now.0 c.args.disk.now c.args.disk.now c.args.self.now c.gather.new.self c.gather.result) taken (c.gather.ensures c.args.sorted.now c.args.digest.now.0)
+    subst (λ (l : List HashState). TakesStep g.D.Disk l c.args.sorted.now c.args.digest.now.0 c.args.disk.now c.args.disk.now
+    c.args.self.now c.gather.new.self c.gather.result) taken (c.gather.ensures c.args.sorted.now c.args.digest.now.0)
 
 pub returns : goal.returns
 returns g c =
     let taken = c.split_at.ensures.back ∙ ap (λ (m : MergeState). oldest_stores m.stores c.args.stores.now) c.self.view_is in
-    subst (λ (l : List HashState). TakesStep g.D.Disk l c.args.sorted.now c.args.digest.now.0 c.args.disk.now c.decide.new.disk c.args.self.now c.decide.new.self c.decide.result) taken c.decide.ensures
+    subst (λ (l : List HashState). TakesStep g.D.Disk l c.args.sorted.now c.args.digest.now.0 c.args.disk.now c.decide.new.disk
+    c.args.self.now c.decide.new.self c.decide.result) taken c.decide.ensures
 
 pub decide-requires-clause-shapes : goal.decide-requires-clause-shapes
 decide-requires-clause-shapes g c κs within =

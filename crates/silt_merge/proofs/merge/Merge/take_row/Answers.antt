@@ -9,7 +9,8 @@ pub invariant_of-self-2 : goal.invariant_of-self-2
 invariant_of-self-2 c =
     let merge : MergeState = state_of c.self.inside in
     let below = rw (← c.self.view_is) at c.requires.more in
-    let next : c.slot_after.result ≡ slot_after merge.store merge.slot (4 * merge.shape.buckets) = c.slot_after.ensures ∙ ap (slot_after merge.store merge.slot) (ap (λ n. 4 * n) c.buckets-slots.ensures.value) in (
+    let next : c.slot_after.result ≡ slot_after merge.store merge.slot (4 * merge.shape.buckets) =
+    c.slot_after.ensures ∙ ap (slot_after merge.store merge.slot) (ap (λ n. 4 * n) c.buckets-slots.ensures.value) in (
       gathered_held merge c.args.row c.keep.new.waiting.entries c.slot_after.result _ _ c.self.invariant.0 below c.in_default.ensures.ok c.in_default.ensures.len next,
       ap (λ (p : PieceState). p.len) c.pass.ensures ∙ c.self.invariant.1,
       c.self.invariant.2,
@@ -21,5 +22,6 @@ pub returns-clause-held : goal.returns-clause-held
 returns-clause-held c =
     let merge : MergeState = state_of c.self.inside in
     let below = rw (← c.self.view_is) at c.requires.more in
-    let next : c.slot_after.result ≡ slot_after merge.store merge.slot (4 * merge.shape.buckets) = c.slot_after.ensures ∙ ap (slot_after merge.store merge.slot) (ap (λ n. 4 * n) c.buckets-slots.ensures.value) in
+    let next : c.slot_after.result ≡ slot_after merge.store merge.slot (4 * merge.shape.buckets) =
+    c.slot_after.ensures ∙ ap (slot_after merge.store merge.slot) (ap (λ n. 4 * n) c.buckets-slots.ensures.value) in
     gathered_held merge c.args.row c.keep.new.waiting.entries c.slot_after.result _ _ c.self.invariant.0 below c.in_default.ensures.ok c.in_default.ensures.len next

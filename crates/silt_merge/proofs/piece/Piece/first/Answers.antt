@@ -5,7 +5,8 @@ use Rattle.silt_merge.proofs.piece.Piece.first.Goals as goal
 pub returns-clause-part : goal.returns-clause-part
 returns-clause-part c =
     let piece = c.self.inside in
-    rw (← c.self.view_is) (ap (λ (b : List ℕ). slice_range b (piece.at * piece.len) (piece.at * piece.len + piece.len)) c.deref-2.ensures.value ∙ sym (first_part piece.bytes.items piece.len piece.at piece.left (omega (arith, c.if-self-eq0.false))))
+    rw (← c.self.view_is) (ap (λ (b : List ℕ). slice_range b (piece.at * piece.len) (piece.at * piece.len + piece.len)) c.deref-2.ensures.value
+    ∙ sym (first_part piece.bytes.items piece.len piece.at piece.left (omega (arith, c.if-self-eq0.false))))
 
 pub returns-clause-len : goal.returns-clause-len
 returns-clause-len c =

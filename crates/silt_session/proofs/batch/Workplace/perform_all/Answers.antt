@@ -13,5 +13,7 @@ loop-job-preserved g c =
     record {
       within = c.hold.ensures.within;
       room = omega (arith, before.room, next.count.1, next.room, c.perform_job.ensures.left.fewer, c.perform_job.ensures.left.room, c.hold.ensures.count, c.hold.ensures.room);
-      so_far = jobs_more g.D.Disk g.T.Trace _ _ _ _ _ c.loop-job.batch c.next.new.self c.perform_job.new.batch c.hold.new.self _ old done c.in-Some.job (record { tasks = c.perform_job.new.tasks; replies = c.in-Some.job.replies }) is so_far next.jobs next.done c.perform_job.ensures.steps c.perform_job.ensures.ticket refl (c.hold.ensures.left.0 ∙ c.perform_job.ensures.left.left) c.hold.ensures.done;
+      so_far = jobs_more g.D.Disk g.T.Trace _ _ _ _ _ c.loop-job.batch c.next.new.self c.perform_job.new.batch c.hold.new.self _ old done
+          c.in-Some.job (record { tasks = c.perform_job.new.tasks; replies = c.in-Some.job.replies }) is so_far next.jobs next.done
+          c.perform_job.ensures.steps c.perform_job.ensures.ticket refl (c.hold.ensures.left.0 ∙ c.perform_job.ensures.left.left) c.hold.ensures.done;
     }

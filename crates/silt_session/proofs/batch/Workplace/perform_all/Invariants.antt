@@ -9,7 +9,8 @@ abbrev pub invariant-loop-job : goal.invariant-loop-job
 invariant-loop-job g l = record {
   within : IsBatch l.batch;
   room : vec_len l.batch.jobs ≤ vec_capacity l.batch.jobs;
-  so_far : (old : List (Job g.row.D.Denot g.row.T.Denot g.row.N.Denot g.row.D-Fault.Denot)) × (done : List (Job g.row.D.Denot g.row.T.Denot g.row.N.Denot g.row.D-Fault.Denot)) × (old ++ left_in l.batch ≡ left_in l.initial.batch)
+  so_far : (old : List (Job g.row.D.Denot g.row.T.Denot g.row.N.Denot g.row.D-Fault.Denot))
+      × (done : List (Job g.row.D.Denot g.row.T.Denot g.row.N.Denot g.row.D-Fault.Denot)) × (old ++ left_in l.batch ≡ left_in l.initial.batch)
       × PerformsAll g.D.Disk g.T.Trace l.self.room.now.seconds (g.H.HearsRoom.has_ended l.self.room.now.heard) (writer_at l.initial.seat l.initial.batch) old done (writer_at l.seat l.batch);
 }
 

@@ -13,7 +13,11 @@ pub loop-task-preserved : goal.loop-task-preserved
 loop-task-preserved g c =
     let before = c.loop-task.invariant in
     record {
-      done = steps_next (PerformsTask g.D.Disk g.T.Trace c.args.self.now.room.now.seconds (g.H.HearsRoom.has_ended c.args.self.now.room.now.heard)) _ _ _ c.deref_mut-task-items.result.now c.loop-task.task-items c.loop-task.task-index c.task-item.result c.finish.new.self c.loop-task-test.true before.same_length before.rest before.done (task_performed g.D.Disk g.T.Trace _ _ _ _ _ (get_or c.loop-task.task-items c.loop-task.task-index c.task-item.result) c.finish.new.self c.perform_request-answer.result c.request.ensures c.finish.ensures c.perform_request-answer.ensures.does);
+      done = steps_next (PerformsTask g.D.Disk g.T.Trace c.args.self.now.room.now.seconds (g.H.HearsRoom.has_ended c.args.self.now.room.now.heard))
+          _ _ _ c.deref_mut-task-items.result.now c.loop-task.task-items c.loop-task.task-index c.task-item.result c.finish.new.self
+          c.loop-task-test.true before.same_length before.rest before.done
+          (task_performed g.D.Disk g.T.Trace _ _ _ _ _ (get_or c.loop-task.task-items c.loop-task.task-index c.task-item.result)
+          c.finish.new.self c.perform_request-answer.result c.request.ensures c.finish.ensures c.perform_request-answer.ensures.does);
       rest = rest_next c.deref_mut-task-items.result.now c.loop-task.task-items c.loop-task.task-index _ before.rest;
       same_length = length-set c.loop-task.task-items c.loop-task.task-index _ ∙ before.same_length;
       left = keeps_both _ _ _ before.left c.perform_request-answer.ensures.left;
@@ -31,5 +35,7 @@ finish-requires g c =
 pub returns-clause-steps : goal.returns-clause-steps
 returns-clause-steps g c =
     let done = c.loop-task.invariant in
-    changed_all (λ xs ys. StepsThrough (PerformsTask g.D.Disk g.T.Trace c.args.self.now.room.now.seconds (g.H.HearsRoom.has_ended c.args.self.now.room.now.heard)) (writer_at c.args.seat.now c.args.batch.now) xs ys (writer_at c.loop-task.seat c.loop-task.batch))
-    c.deref_mut-task-items.result.now c.loop-task.task-items c.args.tasks.now.items c.loop-task.task-index c.args.tasks.now.len c.loop-task-test.false done.same_length c.deref_mut-task-items.ensures.value (sym c.deref_mut-task-items.ensures.len) done.done
+    changed_all (λ xs ys. StepsThrough (PerformsTask g.D.Disk g.T.Trace c.args.self.now.room.now.seconds (g.H.HearsRoom.has_ended c.args.self.now.room.now.heard))
+    (writer_at c.args.seat.now c.args.batch.now) xs ys (writer_at c.loop-task.seat c.loop-task.batch))
+    c.deref_mut-task-items.result.now c.loop-task.task-items c.args.tasks.now.items c.loop-task.task-index c.args.tasks.now.len
+    c.loop-task-test.false done.same_length c.deref_mut-task-items.ensures.value (sym c.deref_mut-task-items.ensures.len) done.done

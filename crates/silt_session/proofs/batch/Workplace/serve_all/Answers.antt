@@ -11,6 +11,7 @@ loop-preserved g c =
       number = c.serve_batch-left.ensures.number ∙ before.number;
       batches = (
         before.batches.0 ++ jobs.items ∷ [],
-        batches_more g.D.Disk g.T.Trace _ _ _ _ _ _ _ _ before.batches.0 _ _ c.serve_batch-left.result.1 before.batches.1 c.serve_batch-left.ensures.batch (c.in-Some-take_all.ensures ∙ ap (λ n. counted n c.loop.taker) jobs.ok.0),
+        batches_more g.D.Disk g.T.Trace _ _ _ _ _ _ _ _ before.batches.0 _ _ c.serve_batch-left.result.1 before.batches.1
+            c.serve_batch-left.ensures.batch (c.in-Some-take_all.ensures ∙ ap (λ n. counted n c.loop.taker) jobs.ok.0),
       );
     }

@@ -11,7 +11,8 @@ invariant-loop-self g l = record {
   count : l.self.left ≡ l.initial.self.left;
   fewer : vec_len l.self.jobs ≤ vec_len l.initial.self.jobs;
   room : vec_capacity l.self.jobs ≡ vec_capacity l.initial.self.jobs;
-  so_far : (sent : List (Job g.row.D.Denot g.row.T.Denot g.row.N.Denot g.row.D-Fault.Denot)) × (replied : List (Job g.row.D.Denot g.row.T.Denot g.row.N.Denot g.row.D-Fault.Denot)) × (l.self.jobs.items ++ sent ≡ l.initial.self.jobs.items) × RepliesToAll l.flushed sent replied;
+  so_far : (sent : List (Job g.row.D.Denot g.row.T.Denot g.row.N.Denot g.row.D-Fault.Denot))
+      × (replied : List (Job g.row.D.Denot g.row.T.Denot g.row.N.Denot g.row.D-Fault.Denot)) × (l.self.jobs.items ++ sent ≡ l.initial.self.jobs.items) × RepliesToAll l.flushed sent replied;
 }
 
 abbrev pub decreases-loop-self : goal.decreases-loop-self

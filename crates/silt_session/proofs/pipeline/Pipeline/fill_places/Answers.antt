@@ -27,6 +27,7 @@ loop-place-preserved g c =
         append_assoc done (place ∷ []) c.pop_front.new.self.items ∙ ap (λ (l : List Place). done ++ l) (sym c.in-Some.ensures.items) ∙ whole,
         c.push_reserved.ensures.items ∙ ap (λ l. l ++ reply ∷ []) was ∙ append_assoc _ given (reply ∷ []),
         fills_more g.D.Disk g.T.Trace _ _ _ _ _ done given place reply fills
-            (subst (λ (s : ToldState). FillsOne g.D.Disk g.T.Trace s c.args.flushed.now c.loop-place.tasks.items place reply c.given.new.tasks.items) (ap (λ (p : Pipeline _ _ _). p.told) before.same) c.in-Some-given.ensures),
+            (subst (λ (s : ToldState). FillsOne g.D.Disk g.T.Trace s c.args.flushed.now c.loop-place.tasks.items place reply c.given.new.tasks.items)
+            (ap (λ (p : Pipeline _ _ _). p.told) before.same) c.in-Some-given.ensures),
       );
     }

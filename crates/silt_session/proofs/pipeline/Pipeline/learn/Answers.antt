@@ -7,4 +7,5 @@ pub loop-task-init : goal.loop-task-init
 loop-task-init g c = record { told = more_none _; same = refl }
 
 pub loop-task-preserved : goal.loop-task-preserved
-loop-task-preserved g c = record { told = more_both _ _ _ c.loop-task.invariant.told c.learn.ensures; same = ap (λ (p : Pipeline _ _ _). record p { told = c.learn.new.self }) c.loop-task.invariant.same }
+loop-task-preserved g c =
+    record { told = more_both _ _ _ c.loop-task.invariant.told c.learn.ensures; same = ap (λ (p : Pipeline _ _ _). record p { told = c.learn.new.self }) c.loop-task.invariant.same }

@@ -16,7 +16,8 @@ returns-clause-answers g c =
     let same = c.push.ensures.same in
     λ events some.
     shows_one g.D.Disk _ g.T.Trace events c.args.event.now c.settle_for.new.pipeline c.push.new.self c.answer_here.result settled.free c.answer_here.ensures c.push.ensures.places
-    (ap (λ (p : Pipeline _ _ _). p.replies) same) (ap (λ (p : Pipeline _ _ _). p.told) same) (ap (λ (p : Pipeline _ _ _). p.marks) same) (ap (λ (p : Pipeline _ _ _). p.tasks) same) (ap (λ (p : Pipeline _ _ _). p.lacks_memory) same)
+    (ap (λ (p : Pipeline _ _ _). p.replies) same) (ap (λ (p : Pipeline _ _ _). p.told) same) (ap (λ (p : Pipeline _ _ _). p.marks) same)
+    (ap (λ (p : Pipeline _ _ _). p.tasks) same) (ap (λ (p : Pipeline _ _ _). p.lacks_memory) same)
     (settles_some g.D.Disk _ g.T.Trace events c.args.pipeline.now c.settle_for.new.pipeline settled.settled some)
 
 pub returns-clause-room : goal.returns-clause-room

@@ -28,7 +28,8 @@ loop-shard-preserved g c =
     record {
       flushed = (
         before.flushed.0 ++ c.answer.result ∷ [],
-        changed_next (λ us vs. FlushesEach g.A.Answerer.answers us (before.flushed.0 ++ c.answer.result ∷ []) vs) old now i item new (omega (arith, c.loop-shard-test.true, before.same_length)) before.same_length before.rest
+        changed_next (λ us vs. FlushesEach g.A.Answerer.answers us (before.flushed.0 ++ c.answer.result ∷ []) vs) old now i item
+            new (omega (arith, c.loop-shard-test.true, before.same_length)) before.same_length before.rest
             (λ is. flush_more g.A.Answerer.answers (take i old) before.flushed.0 (take i now) (get_or old i item) new c.answer.result before.flushed.1
             (subst (λ x. g.A.Answerer.answers x new Flush c.answer.result) is c.answer.ensures.answers)),
         c.join-joined.ensures before.flushed.0 before.flushed.2,

@@ -7,7 +7,8 @@ pub returns-then-not-is_due-clause-written : goal.returns-then-not-is_due-clause
 returns-then-not-is_due-clause-written g c = λ honest. none_due c.args.self.now.geometry c.args.self.now.number c.args.place _ c.args.entry.now c.args.is_due c.requires.place c.if-not-is_due.true
 
 pub returns-then-place-sorted_capacity-clause-written : goal.returns-then-place-sorted_capacity-clause-written
-returns-then-place-sorted_capacity-clause-written g c = λ honest. none_more c.args.self.now.geometry c.args.self.now.number c.args.place _ c.args.entry.now c.args.is_due (omega (arith, c.if-place-sorted_capacity.true, c.sorted_capacity.ensures.value))
+returns-then-place-sorted_capacity-clause-written g c =
+    λ honest. none_more c.args.self.now.geometry c.args.self.now.number c.args.place _ c.args.entry.now c.args.is_due (omega (arith, c.if-place-sorted_capacity.true, c.sorted_capacity.ensures.value))
 
 pub returns-in_err-write-clause-region : goal.returns-in_err-write-clause-region
 returns-in_err-write-clause-region g c =
@@ -17,7 +18,8 @@ returns-in_err-write-clause-region g c =
 pub returns-in_err-write-clause-kept : goal.returns-in_err-write-clause-kept
 returns-in_err-write-clause-kept g c =
     let below : c.args.place < c.args.self.now.geometry.sorted_capacity = omega (arith, c.requires.place, c.if-place-sorted_capacity.false, c.sorted_capacity.ensures.value) in
-    entries_kept c.args.self.now.geometry c.args.self.now.number c.args.place c.entry_at.result c.args.entry.now _ _ c.entry_at.ensures.value c.requires.entry c.write.ensures.torn c.args.self.now.there below c.requires.size
+    entries_kept c.args.self.now.geometry c.args.self.now.number c.args.place c.entry_at.result c.args.entry.now _ _ c.entry_at.ensures.value
+    c.requires.entry c.write.ensures.torn c.args.self.now.there below c.requires.size
 
 pub returns-clause-region : goal.returns-clause-region
 returns-clause-region g c =
@@ -27,12 +29,14 @@ returns-clause-region g c =
 pub returns-clause-kept : goal.returns-clause-kept
 returns-clause-kept g c =
     let below : c.args.place < c.args.self.now.geometry.sorted_capacity = omega (arith, c.requires.place, c.if-place-sorted_capacity.false, c.sorted_capacity.ensures.value) in
-    entries_kept c.args.self.now.geometry c.args.self.now.number c.args.place c.entry_at.result c.args.entry.now _ _ c.entry_at.ensures.value c.requires.entry c.write.ensures.torn c.args.self.now.there below c.requires.size
+    entries_kept c.args.self.now.geometry c.args.self.now.number c.args.place c.entry_at.result c.args.entry.now _ _ c.entry_at.ensures.value
+    c.requires.entry c.write.ensures.torn c.args.self.now.there below c.requires.size
 
 pub returns-clause-written : goal.returns-clause-written
 returns-clause-written g c =
     let below : c.args.place < c.args.self.now.geometry.sorted_capacity = omega (arith, c.requires.place, c.if-place-sorted_capacity.false, c.sorted_capacity.ensures.value) in
-    entry_written c.args.self.now.geometry c.args.self.now.number c.args.place c.entry_at.result c.args.entry.now _ _ c.entry_at.ensures.value c.requires.entry c.write.ensures.torn c.args.is_due c.if-not-is_due.false
+    entry_written c.args.self.now.geometry c.args.self.now.number c.args.place c.entry_at.result c.args.entry.now _ _ c.entry_at.ensures.value
+    c.requires.entry c.write.ensures.torn c.args.is_due c.if-not-is_due.false
     c.args.self.now.there below c.requires.size c.in_ok-write.ensures.written
 
 pub returns-then-not-is_due-clause-count : goal.returns-then-not-is_due-clause-count
@@ -40,7 +44,8 @@ returns-then-not-is_due-clause-count g c = none_counted _ c.args.place (not_due 
 
 pub returns-then-place-sorted_capacity-clause-count : goal.returns-then-place-sorted_capacity-clause-count
 returns-then-place-sorted_capacity-clause-count g c =
-    none_counted _ c.args.place (not_there c.args.is_due c.args.place c.args.self.now.geometry.sorted_capacity c.if-not-is_due.false (omega (arith, c.if-place-sorted_capacity.true, c.sorted_capacity.ensures.value)))
+    none_counted _ c.args.place (not_there c.args.is_due c.args.place c.args.self.now.geometry.sorted_capacity c.if-not-is_due.false
+    (omega (arith, c.if-place-sorted_capacity.true, c.sorted_capacity.ensures.value)))
 
 pub returns-clause-count : goal.returns-clause-count
 returns-clause-count g c =

@@ -14,4 +14,5 @@ pub returns-clause-found : goal.returns-clause-found
 returns-clause-found g c = λ honest was.
     let rows = entries_of (g.D.Disk.content c.args.disk.now) c.args.self.now in
     let has = keys_agree c.in_ok-standing.standing.0 c.args.key.now.0 c.ne.result c.ne.ensures c.if-ne.false in
-    entry_has rows c.args.place c.entry.new.out _ _ (c.in_ok-standing.ensures.entry honest) (sym c.in_ok-standing.ensures.key ∙ has) (c.copy_from_slice.ensures.after ∙ take_all _ _ (omega (arith, length-drop 20 c.entry.new.out)))
+    entry_has rows c.args.place c.entry.new.out _ _ (c.in_ok-standing.ensures.entry honest) (sym c.in_ok-standing.ensures.key ∙ has)
+    (c.copy_from_slice.ensures.after ∙ take_all _ _ (omega (arith, length-drop 20 c.entry.new.out)))

@@ -12,14 +12,16 @@ pub returns-in-Ok : goal.returns-in-Ok
 returns-in-Ok g c =
     let working = c.if-self.false in
     rw (← c.self.view_is, working) (stepped g.D.Disk c.self.inside.disk c.self.inside.engine c.self.inside.count
-    (c.self.invariant.stands working) c.in-Ok.progress c.convert.new.disk c.convert.new.self c.convert.ensures.works.same c.in-Ok.ensures.works.advances c.in-Ok.ensures.converts c.in-Ok.ensures.rows c.in-Ok.ensures.quiet c.in-Ok.ensures.works.failures c.in-Ok.ensures.made)
+    (c.self.invariant.stands working) c.in-Ok.progress c.convert.new.disk c.convert.new.self c.convert.ensures.works.same
+    c.in-Ok.ensures.works.advances c.in-Ok.ensures.converts c.in-Ok.ensures.rows c.in-Ok.ensures.quiet c.in-Ok.ensures.works.failures c.in-Ok.ensures.made)
 
 pub returns-in-Err-Write : goal.returns-in-Err-Write
 returns-in-Err-Write g c =
     let working = c.if-self.false in
     let err = rw c.in-Err-Write.field-0-is at c.in-Err-Write.ensures.err in
     rw (← c.self.view_is, working, c.of-basis.ensures) (step_broke g.D.Disk c.self.inside.disk c.self.inside.engine c.self.inside.count
-    (c.self.invariant.stands working) c.convert.new.disk c.convert.new.self c.in-Err-Write.fault c.convert.ensures.works.same err.0 err.1.breaks err.1.map c.convert.ensures.works.shape err.1.counted.1 err.1.counted.0 c.in-Err-Write.ensures.made)
+    (c.self.invariant.stands working) c.convert.new.disk c.convert.new.self c.in-Err-Write.fault c.convert.ensures.works.same err.0
+    err.1.breaks err.1.map c.convert.ensures.works.shape err.1.counted.1 err.1.counted.0 c.in-Err-Write.ensures.made)
 
 pub returns-in-Err-Read : goal.returns-in-Err-Read
 returns-in-Err-Read g c =
@@ -45,11 +47,14 @@ returns-in-Err-NoMemory g c =
 pub invariant_of-self-in-Err-Write : goal.invariant_of-self-in-Err-Write
 invariant_of-self-in-Err-Write g c =
     let err = rw c.in-Err-Write.field-0-is at c.in-Err-Write.ensures.err in
-    rw c.of-basis.ensures (core_broke (g.D.Disk.content c.self.inside.disk) (g.D.Disk.content c.convert.new.disk) c.self.inside.engine c.convert.new.self c.self.inside.count c.self.inside.failed c.self.inside.basis c.self.invariant c.if-self.false c.convert.ensures.works.same c.convert.ensures.works.shape err.1.breaks err.1.map)
+    rw c.of-basis.ensures (core_broke (g.D.Disk.content c.self.inside.disk) (g.D.Disk.content c.convert.new.disk) c.self.inside.engine
+    c.convert.new.self c.self.inside.count c.self.inside.failed c.self.inside.basis c.self.invariant c.if-self.false
+    c.convert.ensures.works.same c.convert.ensures.works.shape err.1.breaks err.1.map)
 
 pub invariant_of-self : goal.invariant_of-self
 invariant_of-self g c =
-    core_went [] (g.D.Disk.content c.self.inside.disk) (g.D.Disk.content c.convert.new.disk) c.self.inside.engine c.convert.new.self c.self.inside.count c.self.inside.count c.self.inside.failed c.self.inside.basis c.self.invariant
+    core_went [] (g.D.Disk.content c.self.inside.disk) (g.D.Disk.content c.convert.new.disk) c.self.inside.engine c.convert.new.self
+    c.self.inside.count c.self.inside.count c.self.inside.failed c.self.inside.basis c.self.invariant
     c.if-self.false c.convert.ensures.works.same c.in-Ok.ensures.works.advances (omega arith) c.self.invariant.count_most
 
 pub invariant_of-self-in-Err-Read : goal.invariant_of-self-in-Err-Read

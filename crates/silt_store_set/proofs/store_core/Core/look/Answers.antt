@@ -19,7 +19,8 @@ returns-in-Ok-clause-settled g c = rw (← c.self.view_is, c.if-self.false) (c.i
 pub returns-in-Ok-clause-kept : goal.returns-in-Ok-clause-kept
 returns-in-Ok-clause-kept g c =
     let stands = c.self.invariant.stands c.if-self.false in
-    rw (← c.self.view_is, c.if-self.false) (get_kept g.D.Disk c.self.inside.disk c.self.inside.engine c.self.inside.count c.args.key.now stands c.in-Ok.lookup.found c.in-Ok.lookup.is_settled c.look_up.new.out
+    rw (← c.self.view_is, c.if-self.false) (get_kept g.D.Disk c.self.inside.disk c.self.inside.engine c.self.inside.count c.args.key.now
+    stands c.in-Ok.lookup.found c.in-Ok.lookup.is_settled c.look_up.new.out
     (c.in-Ok.ensures.found stands) (c.in-Ok.ensures.none stands) (c.in-Ok.ensures.settled stands))
 
 pub returns-in-Err-clause-reply : goal.returns-in-Err-clause-reply

@@ -14,4 +14,5 @@ pub returns : goal.returns
 returns g c =
     let wants = rw (← c.self.view_is) at (sym c.wants_merge.ensures ∙ c.if-not-wants_merge.false) in
     rw (← c.self.view_is) (begins_if g.D.Disk c.self.inside.disk c.self.inside.engine c.self.inside.count c.self.inside.failed c.self.inside.basis c.args.least _ _ false c.awaits_region.result
-    c.self.invariant.stands wants c.is_merging.ensures c.if-is_merging.false c.hash_stores.ensures (lt-leb _ _ c.if-hash_stores-least.false) (c.awaits_region.ensures ∙ ap awaits_region c.convert_turn.ensures))
+    c.self.invariant.stands wants c.is_merging.ensures c.if-is_merging.false c.hash_stores.ensures (lt-leb _ _ c.if-hash_stores-least.false)
+    (c.awaits_region.ensures ∙ ap awaits_region c.convert_turn.ensures))

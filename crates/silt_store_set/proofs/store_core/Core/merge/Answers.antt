@@ -13,7 +13,8 @@ pub returns-in-Ok : goal.returns-in-Ok
 returns-in-Ok g c =
     let working = c.if-self.false in
     rw (← c.self.view_is, working) (stepped g.D.Disk c.self.inside.disk c.self.inside.engine c.self.inside.count
-    (c.self.invariant.stands working) c.in-Ok.merged c.merge.new.disk c.merge.new.self c.merge.ensures.works.same c.in-Ok.ensures.works.advances c.in-Ok.ensures.merges c.in-Ok.ensures.entries c.in-Ok.ensures.quiet c.in-Ok.ensures.works.failures c.in-Ok.ensures.made
+    (c.self.invariant.stands working) c.in-Ok.merged c.merge.new.disk c.merge.new.self c.merge.ensures.works.same c.in-Ok.ensures.works.advances
+    c.in-Ok.ensures.merges c.in-Ok.ensures.entries c.in-Ok.ensures.quiet c.in-Ok.ensures.works.failures c.in-Ok.ensures.made
     (none_found (damaged_in c.self.inside.engine.merging) (λ place found. let no = c.in-Ok.ensures.stuck place found in cc)))
 
 pub returns-in-Err-Write : goal.returns-in-Err-Write
@@ -21,7 +22,8 @@ returns-in-Err-Write g c =
     let working = c.if-self.false in
     let err = rw c.in-Err-Write.field-0-is at c.in-Err-Write.ensures.err in
     rw (← c.self.view_is, working, c.of-basis.ensures) (step_broke g.D.Disk c.self.inside.disk c.self.inside.engine c.self.inside.count
-    (c.self.invariant.stands working) c.merge.new.disk c.merge.new.self c.in-Err-Write.fault c.merge.ensures.works.same err.0 err.1.breaks err.1.map c.merge.ensures.works.shape err.1.counted.1 err.1.counted.0 c.in-Err-Write.ensures.made
+    (c.self.invariant.stands working) c.merge.new.disk c.merge.new.self c.in-Err-Write.fault c.merge.ensures.works.same err.0
+    err.1.breaks err.1.map c.merge.ensures.works.shape err.1.counted.1 err.1.counted.0 c.in-Err-Write.ensures.made
     (none_found (damaged_in c.self.inside.engine.merging) (λ place found. let no = rw c.in-Err-Write.field-0-is at (c.in-Err-Write.ensures.stuck place found) in cc)))
 
 pub returns-in-Err-Read : goal.returns-in-Err-Read
@@ -58,11 +60,13 @@ returns-in-Err-Damaged g c =
 pub invariant_of-self-in-Err-Write : goal.invariant_of-self-in-Err-Write
 invariant_of-self-in-Err-Write g c =
     let err = rw c.in-Err-Write.field-0-is at c.in-Err-Write.ensures.err in
-    rw c.of-basis.ensures (core_broke (g.D.Disk.content c.self.inside.disk) (g.D.Disk.content c.merge.new.disk) c.self.inside.engine c.merge.new.self c.self.inside.count c.self.inside.failed c.self.inside.basis c.self.invariant c.if-self.false c.merge.ensures.works.same c.merge.ensures.works.shape err.1.breaks err.1.map)
+    rw c.of-basis.ensures (core_broke (g.D.Disk.content c.self.inside.disk) (g.D.Disk.content c.merge.new.disk) c.self.inside.engine
+    c.merge.new.self c.self.inside.count c.self.inside.failed c.self.inside.basis c.self.invariant c.if-self.false c.merge.ensures.works.same c.merge.ensures.works.shape err.1.breaks err.1.map)
 
 pub invariant_of-self : goal.invariant_of-self
 invariant_of-self g c =
-    core_went [] (g.D.Disk.content c.self.inside.disk) (g.D.Disk.content c.merge.new.disk) c.self.inside.engine c.merge.new.self c.self.inside.count c.self.inside.count c.self.inside.failed c.self.inside.basis c.self.invariant
+    core_went [] (g.D.Disk.content c.self.inside.disk) (g.D.Disk.content c.merge.new.disk) c.self.inside.engine c.merge.new.self
+    c.self.inside.count c.self.inside.count c.self.inside.failed c.self.inside.basis c.self.invariant
     c.if-self.false c.merge.ensures.works.same c.in-Ok.ensures.works.advances (omega arith) c.self.invariant.count_most
 
 pub invariant_of-self-in-Err-Read : goal.invariant_of-self-in-Err-Read

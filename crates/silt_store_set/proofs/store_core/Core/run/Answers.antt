@@ -12,7 +12,8 @@ pub loop-event-preserved : goal.loop-event-preserved
 loop-event-preserved g c = record {
   runs =
       let taken : take (c.loop-event.event-index + 1) c.args.events.now ≡ take c.loop-event.event-index c.args.events.now ++ c.event-item.result ∷ [] =
-      take_more c.args.events.now c.loop-event.event-index c.event-item.result c.loop-event-test.true ∙ ap (λ (e : Event). take c.loop-event.event-index c.args.events.now ++ e ∷ []) (sym c.event-item.is) in
+      take_more c.args.events.now c.loop-event.event-index c.event-item.result c.loop-event-test.true
+      ∙ ap (λ (e : Event). take c.loop-event.event-index c.args.events.now ++ e ∷ []) (sym c.event-item.is) in
       rw (taken, c.in_ok-push.ensures.items) (runs_more g.D.Disk c.args.self.now c.loop-event.self c.answer-reply.new.self
       (take c.loop-event.event-index c.args.events.now) c.loop-event.replies.items c.event-item.result c.answer-reply.result c.loop-event.invariant.runs c.answer-reply.ensures);
   same_disk = record {
@@ -34,7 +35,8 @@ pub returns-clause-kept : goal.returns-clause-kept
 returns-clause-kept g c = λ working.
     let all = take_all c.loop-event.event-index c.args.events.now c.loop-event-test.false in
     let runs = subst (λ (events : List Event). Runs g.D.Disk c.args.self.now events c.loop-event.replies.items c.loop-event.self) all c.loop-event.invariant.runs in
-    let safe = (endures_seen g.D.Disk c.self.inside.disk c.self.inside.engine c.self.inside.count c.self.inside.failed c.self.inside.basis c.args.self.now c.self.view_is c.self.invariant).safe working in
+    let safe = (endures_seen g.D.Disk c.self.inside.disk c.self.inside.engine c.self.inside.count c.self.inside.failed c.self.inside.basis
+    c.args.self.now c.self.view_is c.self.invariant).safe working in
     record {
       each = λ h image left.
           keeps_runs g.D.Disk c.args.self.now c.loop-event.self c.args.events.now c.loop-event.replies.items working safe runs

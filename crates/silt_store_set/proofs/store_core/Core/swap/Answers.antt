@@ -15,7 +15,8 @@ pub returns-in_err-holds : goal.returns-in_err-holds
 returns-in_err-holds g c =
     let refused = err_from_is_err_and c.from_residual.result c.from_residual.ensures.1 in
     let fault = rw (← c.self.view_is, c.if-self.false) at c.in_err-holds.ensures.fault in
-    rw (refused.1, refused.2, ← c.self.view_is, c.if-self.false) (swap_unread g.D.Disk c.self.inside.disk c.self.inside.engine c.self.inside.count c.args.key.now (c.self.invariant.stands c.if-self.false)
+    rw (refused.1, refused.2, ← c.self.view_is, c.if-self.false)
+    (swap_unread g.D.Disk c.self.inside.disk c.self.inside.engine c.self.inside.count c.args.key.now (c.self.invariant.stands c.if-self.false)
     (option_map (λ v. v.now) c.args.old) (option_map (λ v. v.now) c.args.new) c.in_err-holds.field-0.0 fault)
 
 pub returns-then-not-branch : goal.returns-then-not-branch

@@ -8,7 +8,9 @@ returns-in-Ok g c =
     let may = rw (← c.self.view_is) at c.requires.may in
     let working = may_working c.args.kind (seen_core g.D.Disk c.self.inside.disk c.self.inside.engine c.self.inside.count c.self.inside.failed c.self.inside.basis) may in
     rw (← c.self.view_is, working) (row_taken g.D.Disk c.self.inside.disk c.self.inside.engine c.self.inside.count
-    (c.self.invariant.stands working) c.write.new.disk c.write.new.self c.args.kind c.args.key.now c.args.value.now (rw working at may) c.write.ensures.works.same c.in-Ok.ensures.works.advances c.in-Ok.ensures.current c.in-Ok.ensures.row.converting c.in-Ok.ensures.row.merging c.in-Ok.ensures.works.failures c.in-Ok.ensures.made)
+    (c.self.invariant.stands working) c.write.new.disk c.write.new.self c.args.kind c.args.key.now c.args.value.now (rw working at may)
+    c.write.ensures.works.same c.in-Ok.ensures.works.advances c.in-Ok.ensures.current c.in-Ok.ensures.row.converting
+    c.in-Ok.ensures.row.merging c.in-Ok.ensures.works.failures c.in-Ok.ensures.made)
 
 pub returns-in-Err-Write : goal.returns-in-Err-Write
 returns-in-Err-Write g c =
@@ -16,7 +18,8 @@ returns-in-Err-Write g c =
     let may = rw (← c.self.view_is) at c.requires.may in
     let working = may_working c.args.kind (seen_core g.D.Disk c.self.inside.disk c.self.inside.engine c.self.inside.count c.self.inside.failed c.self.inside.basis) may in
     rw (← c.self.view_is, working, c.of-basis.ensures) (row_broke g.D.Disk c.self.inside.disk c.self.inside.engine c.self.inside.count
-    (c.self.invariant.stands working) c.write.new.disk c.write.new.self c.args.kind c.args.key.now c.args.value.now c.in-Err-Write.fault (rw working at may) c.write.ensures.works.same err.breaks err.map c.write.ensures.works.shape err.counted.1 err.counted.0 c.in-Err-Write.ensures.made)
+    (c.self.invariant.stands working) c.write.new.disk c.write.new.self c.args.kind c.args.key.now c.args.value.now c.in-Err-Write.fault
+    (rw working at may) c.write.ensures.works.same err.breaks err.map c.write.ensures.works.shape err.counted.1 err.counted.0 c.in-Err-Write.ensures.made)
 
 pub returns-in-Err-Read : goal.returns-in-Err-Read
 returns-in-Err-Read g c =
@@ -32,7 +35,8 @@ returns-in-Err-NoRoom g c =
     let may = rw (← c.self.view_is) at c.requires.may in
     let working = may_working c.args.kind (seen_core g.D.Disk c.self.inside.disk c.self.inside.engine c.self.inside.count c.self.inside.failed c.self.inside.basis) may in
     rw (← c.self.view_is, working) (row_no_room g.D.Disk c.self.inside.disk c.self.inside.engine c.self.inside.count
-    (c.self.invariant.stands working) c.write.new.disk c.write.new.self c.args.kind c.args.key.now c.args.value.now (least_logs c.self.inside.engine.manifest.shape (rw c.geometry.ensures.value at c.logs-known.ensures.limits)) (rw working at may) err.0.0 err.0.1 err.1 err.2)
+    (c.self.invariant.stands working) c.write.new.disk c.write.new.self c.args.kind c.args.key.now c.args.value.now
+    (least_logs c.self.inside.engine.manifest.shape (rw c.geometry.ensures.value at c.logs-known.ensures.limits)) (rw working at may) err.0.0 err.0.1 err.1 err.2)
 
 pub returns-in-Err-Spent : goal.returns-in-Err-Spent
 returns-in-Err-Spent g c =
@@ -55,13 +59,16 @@ invariant_of-self-in-Err-Write g c =
     let err = rw c.in-Err-Write.field-0-is at c.in-Err-Write.ensures.err in
     let may = rw (← c.self.view_is) at c.requires.may in
     let before = seen_core g.D.Disk c.self.inside.disk c.self.inside.engine c.self.inside.count c.self.inside.failed c.self.inside.basis in
-    rw c.of-basis.ensures (core_broke (g.D.Disk.content c.self.inside.disk) (g.D.Disk.content c.write.new.disk) c.self.inside.engine c.write.new.self c.self.inside.count c.self.inside.failed c.self.inside.basis c.self.invariant (may_working c.args.kind before may) c.write.ensures.works.same c.write.ensures.works.shape err.breaks err.map)
+    rw c.of-basis.ensures (core_broke (g.D.Disk.content c.self.inside.disk) (g.D.Disk.content c.write.new.disk) c.self.inside.engine
+    c.write.new.self c.self.inside.count c.self.inside.failed c.self.inside.basis c.self.invariant (may_working c.args.kind before may)
+    c.write.ensures.works.same c.write.ensures.works.shape err.breaks err.map)
 
 pub invariant_of-self : goal.invariant_of-self
 invariant_of-self g c =
     let may = rw (← c.self.view_is) at c.requires.may in
     let before = seen_core g.D.Disk c.self.inside.disk c.self.inside.engine c.self.inside.count c.self.inside.failed c.self.inside.basis in
-    core_went (_ ∷ []) (g.D.Disk.content c.self.inside.disk) (g.D.Disk.content c.write.new.disk) c.self.inside.engine c.write.new.self c.self.inside.count (c.self.inside.count + 1) c.self.inside.failed c.self.inside.basis
+    core_went (_ ∷ []) (g.D.Disk.content c.self.inside.disk) (g.D.Disk.content c.write.new.disk) c.self.inside.engine c.write.new.self
+    c.self.inside.count (c.self.inside.count + 1) c.self.inside.failed c.self.inside.basis
     c.self.invariant (may_working c.args.kind before may) c.write.ensures.works.same c.in-Ok.ensures.works.advances (omega arith) (may_count c.args.kind before may)
 
 pub invariant_of-self-in-Err-Read : goal.invariant_of-self-in-Err-Read

@@ -13,11 +13,13 @@ returns-then-at-len-clause-place c = rw (← c.self.view_is) λ keys i is stands
 
 pub returns-in-Some-clause-place : goal.returns-in-Some-clause-place
 returns-in-Some-clause-place c = rw (← c.self.view_is) λ keys i is stands.
-    sym c.in-Some.is ∙ located _ keys i c.prefix_number-at.result _ _ _ c.locate_between-found.result is stands c.self.invariant.0 c.self.invariant.2 c.prefix_number-at.ensures c.index.ensures c.index-2.ensures c.locate_between-found.ensures.place
+    sym c.in-Some.is ∙ located _ keys i c.prefix_number-at.result _ _ _ c.locate_between-found.result is stands c.self.invariant.0
+    c.self.invariant.2 c.prefix_number-at.ensures c.index.ensures c.index-2.ensures c.locate_between-found.ensures.place
 
 pub returns-in_default-clause-place : goal.returns-in_default-clause-place
 returns-in_default-clause-place c = rw (← c.self.view_is) λ keys i is stands.
-    let there = sym c.in-Some.is ∙ located _ keys i c.prefix_number-at.result _ _ _ c.locate_between-found.result is stands c.self.invariant.0 c.self.invariant.2 c.prefix_number-at.ensures c.index.ensures c.index-2.ensures c.locate_between-found.ensures.place in
+    let there = sym c.in-Some.is ∙ located _ keys i c.prefix_number-at.result _ _ _ c.locate_between-found.result is stands
+    c.self.invariant.0 c.self.invariant.2 c.prefix_number-at.ensures c.index.ensures c.index-2.ensures c.locate_between-found.ensures.place in
     let same = same_Some _ _ there in
     let count = is.count_is in
     let within = stands.0 in
@@ -25,4 +27,5 @@ returns-in_default-clause-place c = rw (← c.self.view_is) λ keys i is stands.
 
 pub returns-in_default-2-clause-place : goal.returns-in_default-2-clause-place
 returns-in_default-2-clause-place c = rw (← c.self.view_is) λ keys i is stands.
-    sym c.in_default.is ∙ located _ keys i c.prefix_number-at.result _ _ _ c.locate_between-found.result is stands c.self.invariant.0 c.self.invariant.2 c.prefix_number-at.ensures c.index.ensures c.index-2.ensures c.locate_between-found.ensures.place
+    sym c.in_default.is ∙ located _ keys i c.prefix_number-at.result _ _ _ c.locate_between-found.result is stands c.self.invariant.0
+    c.self.invariant.2 c.prefix_number-at.ensures c.index.ensures c.index-2.ensures c.locate_between-found.ensures.place

@@ -14,7 +14,8 @@ invariant_of-self-2 c =
     let few : old.count + 2 < 2 ^ 32 = omega (arith, c.requires.few, ap (λ (b : Building). b.count) c.self.view_is) in
     let comes : ComesTo c.group_of-next.result old now = elim c.if-first-next.branch [
       | then-first-next+in_ok-code_groups w ↦
-          comes_to _ _ old now _ _ _ _ c.group_under_way-first.ensures.group w.if-first-next.true (w.deref.ensures.value ∙ items) w.clear.ensures.items (ap building_of w.self-inside-is) w.in_ok-code_groups.ensures.coded
+          comes_to _ _ old now _ _ _ _ c.group_under_way-first.ensures.group w.if-first-next.true (w.deref.ensures.value ∙ items)
+          w.clear.ensures.items (ap building_of w.self-inside-is) w.in_ok-code_groups.ensures.coded
       | else-first-next w ↦
           let same = ap (λ (group : List Key). record { code = old.code; marks = old.marks; group = group; count = old.count; last = old.last; levels = old.levels }) items in
           comes_no_further _ _ old now c.group_under_way-first.ensures.group w.if-first-next.false (ap building_of w.self-inside-is ∙ same)
@@ -29,7 +30,8 @@ returns-clause-built c =
     let few : old.count + 2 < 2 ^ 32 = omega (arith, c.requires.few, ap (λ (b : Building). b.count) c.self.view_is) in
     let comes : ComesTo c.group_of-next.result old now = elim c.if-first-next.branch [
       | then-first-next+in_ok-code_groups w ↦
-          comes_to _ _ old now _ _ _ _ c.group_under_way-first.ensures.group w.if-first-next.true (w.deref.ensures.value ∙ items) w.clear.ensures.items (ap building_of w.self-inside-is) w.in_ok-code_groups.ensures.coded
+          comes_to _ _ old now _ _ _ _ c.group_under_way-first.ensures.group w.if-first-next.true (w.deref.ensures.value ∙ items)
+          w.clear.ensures.items (ap building_of w.self-inside-is) w.in_ok-code_groups.ensures.coded
       | else-first-next w ↦
           let same = ap (λ (group : List Key). record { code = old.code; marks = old.marks; group = group; count = old.count; last = old.last; levels = old.levels }) items in
           comes_no_further _ _ old now c.group_under_way-first.ensures.group w.if-first-next.false (ap building_of w.self-inside-is ∙ same)
