@@ -1,15 +1,8 @@
 -- One call after another.
-use Rattle.std.proofs.Common.{IsTrue, List, [], ◌++◌, refl, ap, sym, ◌∙◌, subst, append_assoc}
+use Rattle.silt_engine.proofs.Common.{IsTrue, List, [], ◌++◌, refl, ap, sym, ◌∙◌, subst, append_assoc, Content, Shape, Command, Map, map_after, StandsFor}
+use Rattle.silt_engine.proofs.Common.{image_map, map_after-append, EngineState, Stands, base_map, full_image, waiting_commands, Advances, Breaks, HasBegun}
+use Rattle.silt_engine.proofs.Common.{MovesIntoBase, Remaps, SameDisk}
 use Rattle.std.proofs.lemmas.List.{append-nil}
-use Rattle.silt_disk.specs.Disk.{Content}
-use Rattle.silt_disk.specs.Layout.{Shape}
-use Rattle.silt_event.specs.Commands.{Command, Map, map_after}
-use Rattle.silt_image.specs.Meaning.{StandsFor, image_map}
-use Rattle.silt_event.proofs.Rows.{map_after-append}
-use Rattle.silt_standing.specs.State.{EngineState}
-use Rattle.silt_standing.specs.Standing.{Stands, base_map, full_image, waiting_commands}
-use Rattle.silt_engine.specs.Calls.{Advances, Breaks, HasBegun, MovesIntoBase, Remaps}
-use Rattle.silt_standing.specs.Standing.{SameDisk}
 use Rattle.silt_engine.proofs.Facts.{base_safe, full_map}
 
 -- the disk after two calls

@@ -1,45 +1,22 @@
 -- A freeze: the record that names the new log, and the stores once it is current.
-use Rattle.std.proofs.Common.{inl, ◌≡◌, ◌≤◌, ◌<◌, ℕ, ◌+◌, IsTrue, List, [], ◌∷◌, ◌++◌, length, map, Option, Some, refl, ap, sym, ◌∙◌, subst, arith}
-use Rattle.std.specs.Prelude.{All, IfSome}
-use Rattle.std.proofs.lemmas.List.Elements.{All-cons}
-use Rattle.silt_disk.specs.Disk.{Content, LeavesOnly, size}
-use Rattle.silt_disk.specs.Layout.{Shape, device_size, slot_at}
-use Rattle.silt_disk.proofs.Images.{shown_left}
-use Rattle.silt_log.specs.Rows.{first_rows, log_rows, rows_from}
-use Rattle.silt_frame.specs.Rows.{StoredRow, put_count}
-use Rattle.silt_log.specs.State.{all_rows, waiting_rows}
-use Rattle.silt_log.proofs.Elsewhere.{all_count}
-use Rattle.silt_log.proofs.Waiting.{none_waiting}
-use Rattle.silt_log_store.specs.State.{IsLogStore, LogStoreState}
-use Rattle.silt_conversion.specs.Conversion.{HasWritten}
-use Rattle.silt_manifest.specs.Standing.{ManifestState, spare_slot}
-use Rattle.silt_manifest.specs.declared.body.Body.{Body}
-use Rattle.silt_manifest.specs.declared.digests.Digests.{Digests}
-use Rattle.silt_image.specs.Stores.{Stores, stores_named}
-use Rattle.silt_image.specs.Meaning.{AreDigestsOf, HasActive, IsSound, rows_of, with_log_rows, with_new_log}
-use Rattle.silt_event.specs.Rows.{command_of, map_of_rows}
-use Rattle.silt_image.specs.Laws.{FreezesActive}
-use Rattle.silt_image.proofs.Frame.{freeze_law}
-use Rattle.silt_image.proofs.Named.{whole_law}
-use Rattle.silt_image.proofs.Rows.{new_active_law, new_log_law}
-use Rattle.silt_image.proofs.Sound.{frozen_law}
-use Rattle.silt_engine.specs.declared.next_log.NextLog.{NextLog}
-use Rattle.silt_sorted_store.specs.State.{SortedState}
-use Rattle.silt_standing.specs.State.{AreWhole, IsHashOf, IsSettled, EngineState, oldest_log, region_of, sorted_named}
-use Rattle.silt_standing.specs.Standing.{IsFrozen, Stands, shown_stores}
-use Rattle.silt_engine.specs.Calls.{Advances}
-use Rattle.silt_standing.specs.Standing.{IsQuiet}
-use Rattle.silt_engine.specs.Digests.{own_digests}
-use Rattle.silt_engine.specs.NextLog.{HasFrozen, IsEmptied, active_replaced, names_region}
-use Rattle.silt_engine.specs.Succession.{MayBecomeCurrent, BecomesCurrent}
+use Rattle.silt_engine.proofs.Common.{inl, ◌≡◌, ◌≤◌, ◌<◌, ℕ, ◌+◌, IsTrue, List, [], ◌∷◌, ◌++◌, length, map, Option, Some, refl, ap, sym, ◌∙◌, subst, arith, All}
+use Rattle.silt_engine.proofs.Common.{IfSome, All-cons, Content, LeavesOnly, size, Shape, device_size, slot_at, shown_left, first_rows, log_rows, StoredRow}
+use Rattle.silt_engine.proofs.Common.{put_count, all_rows, waiting_rows, all_count, none_waiting, IsLogStore, LogStoreState, HasWritten, ManifestState}
+use Rattle.silt_engine.proofs.Common.{spare_slot, Body, Digests, Stores, stores_named, AreDigestsOf, HasActive, IsSound, rows_of, with_log_rows, command_of}
+use Rattle.silt_engine.proofs.Common.{map_of_rows, whole_law, NextLog, SortedState, AreWhole, IsHashOf, IsSettled, EngineState, oldest_log, region_of}
+use Rattle.silt_engine.proofs.Common.{sorted_named, IsFrozen, Stands, shown_stores, Advances, IsQuiet, own_digests, HasFrozen, IsEmptied, names_region}
+use Rattle.silt_engine.proofs.Common.{MayBecomeCurrent, BecomesCurrent, ◌-◌, ◌^◌, IsLowestFree, IsNextLog, empty_store, next_body, FreezesActive, freeze_law}
+use Rattle.silt_engine.proofs.Common.{new_active_law, new_log_law, frozen_law, active_replaced, StaysBehind}
+use Rattle.silt_log.specs.Rows.{rows_from}
+use Rattle.silt_image.specs.Meaning.{with_new_log}
 use Rattle.silt_engine.proofs.Named.{named_body, named_shape, own_rows}
 use Rattle.silt_engine.proofs.Facts.{base_is, shown_named, shown_sound}
 use Rattle.silt_engine.proofs.Elsewhere.{length-log_rows, outside_slot}
 use Rattle.silt_engine.proofs.Standing.{Fits}
 use Rattle.silt_engine.proofs.Wholes.{merging_in, oldest_behind, under_way_in, written_in}
 use Rattle.silt_engine.proofs.NextBodies.{now_named, succeeds}
-use Rattle.silt_engine.proofs.Remains.{digested_stays, frozen_stays, hashed_stays, located_stays, merged_stays, written_stays}
-use Rattle.silt_engine.proofs.Holdings.{may_follow}
+use Rattle.silt_engine.proofs.Turns.{digested_stays, frozen_stays, hashed_stays, located_stays, merged_stays, written_stays}
+use Rattle.silt_engine.proofs.Counting.{may_follow}
 use Rattle.silt_engine.proofs.Flushes.{quiet}
 use Rattle.silt_engine.proofs.Freezes.{below_two, store_elsewhere}
 use Rattle.silt_engine.proofs.Said.{frozen_said}
@@ -227,3 +204,33 @@ module _ (old : Content) (s : EngineState) (next : NextLog) (digests : Digests) 
       merging = refl;
       charge = refl;
     }
+
+-- ---- the steps of a freeze, one after another
+
+-- the next log of stores with the same manifest and as many frozen logs
+pub next_for : (s t : EngineState) (next : NextLog) → t.manifest ≡ s.manifest → t.frozen ≡ s.frozen → IsNextLog s next → IsNextLog t next
+next_for s t next manifest frozen is = record {
+  region = is.region;
+  lowest = subst (λ (m : ManifestState). IsLowestFree m.shape.logs m.current is.region) (sym manifest) is.lowest;
+  spare = subst (λ (m : ManifestState). length t.frozen + 1 < m.shape.logs) (sym manifest) (subst (λ (l : List LogStoreState). length l + 1 < s.manifest.shape.logs) (sym frozen) is.spare);
+  unspent = subst (λ (m : ManifestState). m.current.generation < 2 ^ 63 - 1) (sym manifest) is.unspent;
+  body = is.body ∙ ap (λ (m : ManifestState). next_body m.current is.region) (sym manifest);
+  store = is.store ∙ ap (λ (m : ManifestState). empty_store m.shape is.region) (sym manifest);
+}
+
+-- the first log of later stores
+pub frozen_from : (next : NextLog) (content : Content) (first before after : EngineState) → StaysBehind first before
+    → before.charge ≡ first.charge → HasFrozen next content before after → HasFrozen next content first after
+frozen_from next content first before last behind charge has = record {
+  quiet = has.quiet;
+  active = has.active;
+  current = has.current;
+  frozen = has.frozen ∙ ap (λ (l : List LogStoreState). length l + 1) behind.frozen;
+  hashes = has.hashes ∙ behind.hashes;
+  sorted = has.sorted ∙ behind.sorted;
+  index = has.index ∙ behind.index;
+  digest = has.digest ∙ behind.digest;
+  converting = has.converting ∙ behind.converting;
+  merging = has.merging ∙ behind.merging;
+  charge = has.charge ∙ charge;
+}

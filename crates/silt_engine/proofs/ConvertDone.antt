@@ -1,41 +1,19 @@
 -- A conversion whose slots are all written: the stores in which its hash store replaces the oldest log.
-use Rattle.std.proofs.Common.{◌≡◌, ◌≢◌, ◌<◌, ℕ, ◌-◌, ◌*◌, IsTrue, List, ◌++◌, length, filter, get_or, Option, Some, Ok, ap, sym, ◌∙◌, subst, arith}
-use Rattle.std.specs.Prelude.{IfSome}
-use Rattle.std.proofs.lemmas.List.{get_or-map, length-map}
-use Rattle.silt_cuckoo.specs.Slots.{IsBucketCount}
-use Rattle.silt_disk.specs.Disk.{Content}
-use Rattle.silt_disk.specs.Layout.{Shape}
-use Rattle.silt_log.specs.Rows.{log_rows}
-use Rattle.silt_frame.specs.Rows.{has_known_kind, StoredRow, put_count}
-use Rattle.silt_log.specs.State.{all_rows, waiting_rows}
-use Rattle.silt_log_store.specs.State.{IsFrozenStore}
-use Rattle.silt_log_store.proofs.Buckets.{bucket_count_is}
-use Rattle.silt_manifest.specs.declared.body.Body.{Body}
-use Rattle.silt_log.specs.Parts.{Part, known_rows}
-use Rattle.silt_image.specs.Stores.{Stores, image_stores}
-use Rattle.silt_hash_store.specs.Slots.{hash_part, hash_rows}
-use Rattle.silt_image.specs.Meaning.{IsSound, part_digest, rows_of, with_log_rows}
-use Rattle.silt_event.specs.Rows.{map_of_rows}
-use Rattle.silt_image.proofs.Named.{whole_law}
-use Rattle.silt_event.proofs.Rows.{count_law}
-use Rattle.silt_conversion.specs.Conversion.{ConversionState, HasWritten, IsDigestOf, converted_rows}
-use Rattle.silt_engine.specs.Replacements.{HasOldest, ReplacesLog, with_converted}
-use Rattle.silt_conversion.specs.Laws.{IsTableOf}
-use Rattle.silt_conversion.proofs.Charging.{converted_charge}
-use Rattle.silt_engine.proofs.LogReplaced.{converts}
-use Rattle.silt_conversion.proofs.Writing.{all_charged, all_digested, all_due}
-use Rattle.silt_standing.specs.State.{IsUnderWay, EngineState, oldest_log, region_of}
-use Rattle.silt_standing.specs.Standing.{IsFrozen, Stands, base_map, shown_stores}
-use Rattle.silt_engine.specs.Conversion.{converted_body}
+use Rattle.silt_engine.proofs.Common.{◌≡◌, ◌≢◌, ◌<◌, ℕ, ◌-◌, ◌*◌, IsTrue, List, ◌++◌, length, filter, get_or, Option, Some, Ok, ap, sym, ◌∙◌, subst, arith}
+use Rattle.silt_engine.proofs.Common.{IfSome, get_or-map, length-map, IsBucketCount, Content, Shape, log_rows, has_known_kind, StoredRow, put_count, all_rows}
+use Rattle.silt_engine.proofs.Common.{waiting_rows, IsFrozenStore, bucket_count_is, Body, Part, known_rows, Stores, image_stores, hash_part, hash_rows, IsSound}
+use Rattle.silt_engine.proofs.Common.{part_digest, rows_of, with_log_rows, map_of_rows, whole_law, count_law, ConversionState, HasWritten, IsDigestOf}
+use Rattle.silt_engine.proofs.Common.{converted_rows, HasOldest, IsTableOf, converted_charge, IsUnderWay, EngineState, oldest_log, region_of, IsFrozen, Stands}
+use Rattle.silt_engine.proofs.Common.{base_map, shown_stores, converted_body, ReplacesLog, with_converted, all_charged, all_digested, all_due}
+use Rattle.silt_engine.proofs.ConvertStores.{converts, oldest_named, oldest_named_with, rows_converted, rows_named}
 use Rattle.silt_engine.proofs.Named.{named_body, named_here, named_shape, with_shape}
 use Rattle.silt_engine.proofs.Facts.{base_is, shown_named, shown_sound}
 use Rattle.silt_engine.proofs.Elsewhere.{frozen_named, not_active, scanned_all}
-use Rattle.silt_engine.proofs.ConvertStores.{oldest_named, oldest_named_with, rows_converted, rows_named}
 
 -- ---- the oldest log
 
 module _ (content : Content) (s : EngineState) (stands : Stands content s) (some : 0 < length s.frozen) where
-  last_inside : length s.frozen - 1 < length s.frozen
+  pub last_inside : length s.frozen - 1 < length s.frozen
   last_inside = omega (arith, some)
 
   -- as it is
@@ -46,7 +24,7 @@ module _ (content : Content) (s : EngineState) (stands : Stands content s) (some
   oldest_shape = (stands.whole.settled (length s.frozen - 1) s.active last_inside).has_shape
 
   -- its region is the last one that the body names
-  ids : length s.manifest.current.frozen ≡ length s.frozen
+  pub ids : length s.manifest.current.frozen ≡ length s.frozen
   ids = ap length (sym stands.whole.frozen_regions) ∙ length-map s.frozen region_of
 
   pub some_ids : 0 < length s.manifest.current.frozen

@@ -1,28 +1,16 @@
 -- A slot of a conversion, written, and the slots settled.
-use Rattle.std.proofs.Common.{◌≡◌, ◌≢◌, ◌≤◌, ◌<◌, ℕ, ◌+◌, ◌*◌, false, IsTrue, List, [], Option, Some, None, Ok, inl, inr, refl, ap, sym, ◌∙◌, subst, arith}
-use Rattle.std.specs.Prelude.{IfSome}
-use Rattle.silt_disk.specs.Disk.{ChangesWithin, Content, LeavesOnly, LiesOutside, Settles, Stays, Torn, size}
-use Rattle.silt_disk.specs.Layout.{Shape, entries_len, gates_at, hash_at, hash_size, log_len, row_len, slots_len, sorted_at}
-use Rattle.silt_disk.proofs.Images.{failed_sync_within, left_after_failed_sync, left_after_sync, shown_left, sync_within, torn_wider}
-use Rattle.silt_disk.proofs.Regions.{regions_apart, up_least}
-use Rattle.silt_manifest.proofs.Laws.{current_record_elsewhere}
-use Rattle.silt_manifest.specs.declared.body.Body.{Body}
-use Rattle.silt_image.specs.Stores.{Stores, image_stores}
-use Rattle.silt_image.proofs.Frame.{free_hash_law, pieces_apart}
-use Rattle.silt_conversion.specs.Conversion.{ConversionState, HasWritten}
-use Rattle.silt_hash_store.specs.Slots.{hash_slot_at}
+use Rattle.silt_engine.proofs.Common.{◌≡◌, ◌≢◌, ◌≤◌, ◌<◌, ℕ, ◌+◌, ◌*◌, false, IsTrue, List, [], Option, Ok, inl, inr, refl, ap, sym, ◌∙◌, subst, arith, IfSome}
+use Rattle.silt_engine.proofs.Common.{ChangesWithin, Content, LeavesOnly, LiesOutside, Torn, size, Shape, entries_len, gates_at, hash_at, hash_size, log_len}
+use Rattle.silt_engine.proofs.Common.{row_len, slots_len, sorted_at, shown_left, torn_wider, regions_apart, up_least, current_record_elsewhere, Body, Stores}
+use Rattle.silt_engine.proofs.Common.{image_stores, pieces_apart, ConversionState, HasWritten, hash_slot_at, IsUnderWay, EngineState, names_hash, oldest_log}
+use Rattle.silt_engine.proofs.Common.{Stands, shown_stores, Advances, Breaks, Remaps, SameDisk, Settles, Stays, failed_sync_within, left_after_failed_sync}
+use Rattle.silt_engine.proofs.Common.{left_after_sync, sync_within, free_hash_law, behind_logs}
 use Rattle.silt_hash_store.proofs.Reading.{slot_inside}
-use Rattle.silt_hash_store.proofs.Elsewhere.{behind_logs}
-use Rattle.silt_merge.specs.State.{MergeState}
-use Rattle.silt_standing.specs.State.{IsUnderWay, EngineState, names_hash, oldest_log}
-use Rattle.silt_standing.specs.Standing.{Stands, shown_stores}
-use Rattle.silt_engine.specs.Calls.{Advances, Breaks, Remaps}
-use Rattle.silt_standing.specs.Standing.{SameDisk}
 use Rattle.silt_engine.proofs.Named.{named_body, named_shape}
 use Rattle.silt_engine.proofs.Facts.{active_below}
-use Rattle.silt_engine.proofs.Elsewhere.{named_below, not_among}
+use Rattle.silt_engine.proofs.Elsewhere.{named_below, not_among, IsApart, IsOutsideMerge, IsPastSlots, IsPastEntries, on_some}
 use Rattle.silt_engine.proofs.Chains.{advances_break, advances_remap}
-use Rattle.silt_engine.proofs.Freezes.{IsApart, IsOutsideMerge, merged_on, stays_on, stays_with}
+use Rattle.silt_engine.proofs.Freezes.{merged_on, stays_on, stays_with}
 
 -- ---- places
 
@@ -80,25 +68,17 @@ module _ (old new : Content) (s : EngineState) (region slot : ℕ) (stands : Sta
 
   slot_apart : IsTrue old.honest → IsApart s.manifest.shape s.manifest.current (hash_slot_at s.manifest.shape region slot) (row_len s.manifest.shape)
   slot_apart h = record {
-    active = behind_logs s.manifest.shape s.manifest.current.active region slot (active_below old s stands);
     frozen = λ id named. behind_logs s.manifest.shape id region slot (named_below old s stands h id named);
     hashed = λ id named. slot_elsewhere s.manifest.shape id region slot (not_among s.manifest.current.hashed region id free named) below;
     sorted = entries_behind s.manifest.shape region slot s.manifest.current.sorted there below;
   }
 
   slot_before_entries : IsOutsideMerge s (hash_slot_at s.manifest.shape region slot) (row_len s.manifest.shape)
-  slot_before_entries = behind s.merging
-    where
-      behind : (o : Option MergeState)
-          → IfSome o (λ merge. LiesOutside (sorted_at s.manifest.shape merge.region) (entries_len s.manifest.shape) (hash_slot_at s.manifest.shape region slot) (row_len s.manifest.shape))
-      behind None = tt
-      behind (Some merge) = entries_behind s.manifest.shape region slot merge.region there below
+  slot_before_entries = on_some (IsPastEntries s.manifest.shape (hash_slot_at s.manifest.shape region slot) (row_len s.manifest.shape)) s.merging
+      (λ merge. entries_behind s.manifest.shape region slot merge.region there below)
 
-  outside_active : LiesOutside (gates_at s.active.log.shape s.active.log.region) (log_len s.active.log.shape) (hash_slot_at s.manifest.shape region slot) (row_len s.manifest.shape)
-  outside_active =
-      subst (λ (sh : Shape). LiesOutside (gates_at sh s.active.log.region) (log_len sh) (hash_slot_at s.manifest.shape region slot) (row_len s.manifest.shape)) (sym stands.whole.has_shape)
-      (subst (λ (n : ℕ). LiesOutside (gates_at s.manifest.shape n) (log_len s.manifest.shape) (hash_slot_at s.manifest.shape region slot) (row_len s.manifest.shape)) (sym stands.whole.active_region)
-      (behind_logs s.manifest.shape s.manifest.current.active region slot (active_below old s stands)))
+  outside_active : LiesOutside (gates_at s.manifest.shape s.manifest.current.active) (log_len s.manifest.shape) (hash_slot_at s.manifest.shape region slot) (row_len s.manifest.shape)
+  outside_active = behind_logs s.manifest.shape s.manifest.current.active region slot (active_below old s stands)
 
   -- the stores still stand, with the conversion as it is then
   pub slot_advances : (converting : Option ConversionState) → IfSome converting (IsUnderWay s) → IfSome converting (HasWritten new (oldest_log s))
@@ -122,17 +102,10 @@ module _ (old new : Content) (s : EngineState) (stands : Stands old s) (sizes : 
   -- if nothing is changed, and each image has the same stores, the stores still stand
   still_advances : ChangesWithin 0 0 old new → LeavesOnly new (λ image. image_stores image ≡ Ok (shown_stores old s)) → Advances [] old new s s
   still_advances changes named = stays_on old new s 0 0 stands sizes changes
-      (λ h. record { active = inl (omega arith); frozen = λ id there. inl (omega arith); hashed = λ id there. inl (omega arith); sorted = inl (omega arith) }) (inl (omega arith))
-      (λ h. nowhere s.converting) (λ h. nowhere_merged s.merging) s.manifest refl refl refl stands.idle
+      (λ h. record { frozen = λ id there. inl (omega arith); hashed = λ id there. inl (omega arith); sorted = inl (omega arith) }) (inl (omega arith))
+      (λ h. on_some (IsPastSlots s.manifest.shape 0 0) s.converting (λ conversion. inl (omega arith)))
+      (λ h. on_some (IsPastEntries s.manifest.shape 0 0) s.merging (λ merge. inl (omega arith))) s.manifest refl refl refl stands.idle
       (current_record_elsewhere s.manifest 0 0 old new (omega (arith, stands.has_size)) (inl (omega arith)) changes stands.current) named
-    where
-      nowhere : (o : Option ConversionState) → IfSome o (λ conversion. LiesOutside (hash_at s.manifest.shape conversion.region) (slots_len s.manifest.shape) 0 0)
-      nowhere None = tt
-      nowhere (Some conversion) = inl (omega arith)
-
-      nowhere_merged : (o : Option MergeState) → IfSome o (λ merge. LiesOutside (sorted_at s.manifest.shape merge.region) (entries_len s.manifest.shape) 0 0)
-      nowhere_merged None = tt
-      nowhere_merged (Some merge) = inl (omega arith)
 
   pub sync_advances : Settles old new → Advances [] old new s s
   sync_advances settles = still_advances (sync_within 0 0 settles) (record {

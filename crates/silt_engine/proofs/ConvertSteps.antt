@@ -1,32 +1,17 @@
 -- The steps of a conversion, at their exits.
-use Rattle.std.proofs.Common.{◌≡◌, ◌≤◌, ◌<◌, ℕ, ◌+◌, ◌-◌, ◌*◌, ◌^◌, ◌==◌, Bool, true, if◌then◌else◌, List, [], length, replicate, Option, Some, None, inl, inr, refl, ap, sym, ◌∙◌, subst, arith}
-use Rattle.std.specs.Prelude.{IfSome, slice_get}
-use Rattle.std.proofs.lemmas.Bool.{cases_eq, eq-eqb, ne_eqb}
-use Rattle.std.proofs.lemmas.Option.{get_or_from_slice_get, slice_get_within}
-use Rattle.silt_disk.specs.Disk.{ChangesWithin, Content, CountsFault, GaveAny, size}
-use Rattle.silt_disk.specs.declared.disk.Disk.{Ghosts}
-use Rattle.silt_disk.specs.Layout.{InLimits, Shape, row_len}
-use Rattle.silt_log_store.specs.State.{IsFrozenStore, LogStoreState}
-use Rattle.silt_log_store.proofs.Buckets.{bucket_count_is}
-use Rattle.silt_manifest.specs.Body.{is_well_formed}
-use Rattle.silt_manifest.specs.Standing.{current_slot}
-use Rattle.silt_manifest.specs.declared.body.Body.{Body}
-use Rattle.silt_manifest.specs.declared.digests.Digests.{Digests}
-use Rattle.silt_frame.specs.declared.digest.Digest.{Digest}
-use Rattle.silt_hash_store.specs.State.{HashState}
-use Rattle.silt_conversion.specs.Conversion.{ConversionState, FailsStep, HasWritten, IsDigestOf, Steps}
-use Rattle.silt_hash_store.specs.Slots.{hash_slot_at}
-use Rattle.silt_conversion.specs.declared.conversion.StepError.{StepError}
+use Rattle.silt_engine.proofs.Common.{◌≡◌, ◌≤◌, ◌<◌, ℕ, ◌+◌, ◌-◌, ◌*◌, ◌^◌, ◌==◌, Bool, true, if◌then◌else◌, List, [], length, replicate, Option, Some, None}
+use Rattle.silt_engine.proofs.Common.{inl, inr, refl, ap, sym, ◌∙◌, subst, arith, IfSome, eq-eqb, ne_eqb, get_or_from_slice_get, slice_get_within}
+use Rattle.silt_engine.proofs.Common.{ChangesWithin, Content, CountsFault, size, Ghosts, InLimits, Shape, row_len, IsFrozenStore, LogStoreState}
+use Rattle.silt_engine.proofs.Common.{bucket_count_is, is_well_formed, current_slot, Body, Digests, Digest, HashState, ConversionState, HasWritten, IsDigestOf}
+use Rattle.silt_engine.proofs.Common.{hash_slot_at, Progress, Finished, Idle, Moved, AreWhole, IsUnderWay, EngineState, names_hash, oldest_log, Stands}
+use Rattle.silt_engine.proofs.Common.{Advances, Breaks, Remaps, AreAllHashesNamed, EndsConversion, convert_turn, converted_body, is_work, cases_eq, GaveAny}
+use Rattle.silt_engine.proofs.Common.{FailsStep, Steps, Waiting, digests_with, ConvertErrorCause, Converts, IsLowestFreeHash, IsNextStep, progress_due}
+use Rattle.silt_engine.proofs.Common.{written_by}
 use Rattle.silt_conversion.specs.declared.conversion.StepError.TheVariants as step_error
-use Rattle.silt_event.specs.declared.progress.Progress.{Progress}
-use Rattle.silt_event.specs.declared.progress.Progress.TheVariants.{Finished, Idle, Moved, Waiting}
-use Rattle.silt_standing.specs.State.{AreWhole, IsUnderWay, EngineState, names_hash, oldest_log}
-use Rattle.silt_standing.specs.Standing.{Stands}
-use Rattle.silt_engine.specs.Calls.{Advances, Breaks, Remaps}
-use Rattle.silt_engine.specs.Digests.{digests_with}
-use Rattle.silt_engine.specs.Conversion.{AreAllHashesNamed, ConvertErrorCause, Converts, EndsConversion, IsLowestFreeHash, IsNextStep, convert_turn}
-use Rattle.silt_engine.specs.Conversion.{converted_body, is_work, progress_due, refusal_of_step, written_by}
-use Rattle.silt_engine.proofs.ConvertCounting.{hash_free, no_hash_free}
+use Rattle.std.specs.Prelude.{slice_get}
+use Rattle.silt_conversion.specs.declared.conversion.StepError.{StepError}
+use Rattle.silt_engine.specs.Conversion.{refusal_of_step}
+use Rattle.silt_engine.proofs.Counting.{hash_free, no_hash_free}
 use Rattle.silt_engine.proofs.ConvertDone.{has_written, oldest_stands, way}
 use Rattle.silt_engine.proofs.ConvertSlots.{slot_advances, slot_breaks, slot_map}
 
@@ -172,31 +157,39 @@ next_converts s before after tags was turn next = record {
 
 -- ---- the first slot of a new one
 
--- if no conversion is in progress, the first step begins one in a free region
-module _ (s : EngineState) (log : LogStoreState) (current : Body) (hashes region : ℕ) (read : Some log ≡ slice_get s.frozen (length s.frozen - 1)) (none : s.converting ≡ None) (whole : AreWhole s)
-    (sound : is_well_formed s.manifest.shape (current_slot s.manifest) s.manifest.current ≡ true) (same_current : current ≡ s.manifest.current) (hashes_are : hashes ≡ s.manifest.shape.hashes) where
+-- no conversion is in progress, and this was read of the stores: their oldest log, their body and the number of hash regions
+pub record MayBegin (s : EngineState) (log : LogStoreState) (current : Body) (hashes : ℕ) : Type 0 where
+  pub read : Some log ≡ slice_get s.frozen (length s.frozen - 1)
+  pub none : s.converting ≡ None
+  pub whole : AreWhole s
+  pub sound : is_well_formed s.manifest.shape (current_slot s.manifest) s.manifest.current ≡ true
+  pub same_current : current ≡ s.manifest.current
+  pub hashes_are : hashes ≡ s.manifest.shape.hashes
+
+-- the first step begins one in a free region
+module _ (s : EngineState) (log : LogStoreState) (current : Body) (hashes region : ℕ) (may : MayBegin s log current hashes) where
   some : 0 < length s.frozen
-  some = (last_log s log read).0
+  some = (last_log s log may.read).0
 
   -- no region is free
   pub begin_waits : AreAllHashesNamed hashes current → Converts Waiting s s
   begin_waits all = record {
-    due = sym (waits_turn s none some (no_hash_free s (current_slot s.manifest) whole sound
-        (subst (λ (n : ℕ). AreAllHashesNamed n s.manifest.current) hashes_are (subst (λ (b : Body). AreAllHashesNamed hashes b) same_current all))));
+    due = sym (waits_turn s may.none some (no_hash_free s (current_slot s.manifest) may.whole may.sound
+        (subst (λ (n : ℕ). AreAllHashesNamed n s.manifest.current) may.hashes_are (subst (λ (b : Body). AreAllHashesNamed hashes b) may.same_current all))));
     done = refl;
   }
 
   module _ (lowest_read : IsLowestFreeHash hashes current region) where
     pub lowest_here : IsLowestFreeHash s.manifest.shape.hashes s.manifest.current region
-    lowest_here = subst (λ (n : ℕ). IsLowestFreeHash n s.manifest.current region) hashes_are (subst (λ (b : Body). IsLowestFreeHash hashes b region) same_current lowest_read)
+    lowest_here = subst (λ (n : ℕ). IsLowestFreeHash n s.manifest.current region) may.hashes_are (subst (λ (b : Body). IsLowestFreeHash hashes b region) may.same_current lowest_read)
 
     pub begin_turn : convert_turn s ≡ Moved
-    begin_turn = moves_turn s none some (hash_free s (current_slot s.manifest) region whole sound lowest_here.below lowest_here.free)
+    begin_turn = moves_turn s may.none some (hash_free s (current_slot s.manifest) region may.whole may.sound lowest_here.below lowest_here.free)
 
     module _ (started : ConversionState) (is : started ≡ record
         { shape = log.log.shape; region = region; tags = replicate (4 * log.log.shape.buckets) None; next = 0; puts = 0; hasher = started.hasher }) (limits : InLimits s.manifest.shape) where
       log_shape : log.log.shape ≡ s.manifest.shape
-      log_shape = ap (λ (l : LogStoreState). l.log.shape) (last_log s log read).1 ∙ (whole.settled (length s.frozen - 1) s.active (omega (arith, some))).has_shape
+      log_shape = ap (λ (l : LogStoreState). l.log.shape) (last_log s log may.read).1 ∙ (may.whole.settled (length s.frozen - 1) s.active (omega (arith, some))).has_shape
 
       pub started_shape : started.shape ≡ s.manifest.shape
       started_shape = ap (λ (v : ConversionState). v.shape) is ∙ log_shape
@@ -230,7 +223,7 @@ module _ (s : EngineState) (log : LogStoreState) (current : Body) (hashes region
           done = record {
             conversion = after;
             is = refl;
-            step = subst (λ (o : Option ConversionState). IsNextStep s o after) (sym none) (
+            step = subst (λ (o : Option ConversionState). IsNextStep s o after) (sym may.none) (
               subst (IsLowestFreeHash s.manifest.shape.hashes s.manifest.current) (sym (ap (λ (v : ConversionState). v.region) next ∙ started_region)) lowest_here,
               ap (λ (v : ConversionState). v.next) next ∙ ap (λ (n : ℕ). n + 1) started_none,
             );
@@ -240,14 +233,14 @@ module _ (s : EngineState) (log : LogStoreState) (current : Body) (hashes region
       module _ (old new : Content) (after : ConversionState) (stands : Stands old s) (wrote : HasWritten old log started) (sizes : size new ≡ size old)
           (changes : ChangesWithin (hash_slot_at started.shape started.region started.next) (row_len started.shape) old new) where
         pub first_failed_breaks : Breaks old new s
-        first_failed_breaks = failed_breaks old new s log started after stands (last_log s log read).1 started_way started_below wrote sizes changes
+        first_failed_breaks = failed_breaks old new s log started after stands (last_log s log may.read).1 started_way started_below wrote sizes changes
 
         pub first_failed_map : Remaps [] old new s s
-        first_failed_map = failed_map old new s log started after stands (last_log s log read).1 started_way started_below wrote sizes changes s.converting
+        first_failed_map = failed_map old new s log started after stands (last_log s log may.read).1 started_way started_below wrote sizes changes s.converting
 
         module _ (steps : Steps log old new started after) (written : IsFrozenStore old log → HasWritten old log started → HasWritten new log after) where
           pub first_advances : Advances [] old new s (record s { converting = Some after })
-          first_advances = step_advances old new s log started after stands (last_log s log read).1 started_way started_below wrote sizes changes steps written
+          first_advances = step_advances old new s log started after stands (last_log s log may.read).1 started_way started_below wrote sizes changes steps written
 
 -- ---- why it was not
 

@@ -1,56 +1,76 @@
 -- The end of a conversion: the record that names the hash store, and the stores once it is current.
-use Rattle.std.proofs.Common.{inr, ◌≡◌, ◌≤◌, ◌<◌, ℕ, ◌-◌, IsTrue, List, [], ◌∷◌, ◌++◌, length, map, take, get_or, Option, Some, None, refl, ap, sym, ◌∙◌, subst, arith}
-use Rattle.std.specs.Prelude.{All, IfSome}
-use Rattle.std.proofs.lemmas.List.{length-map, take-map}
-use Rattle.std.proofs.lemmas.List.Elements.{All-cons, All-take}
-use Rattle.silt_cuckoo.specs.Index.{index_of_keys}
-use Rattle.silt_cuckoo.specs.Slots.{IsBucketCount}
-use Rattle.silt_disk.specs.Disk.{Content, LeavesOnly, Rests, Torn, size}
-use Rattle.silt_disk.specs.Layout.{Shape, device_size, slot_at}
-use Rattle.silt_disk.proofs.Images.{left_at_rest}
-use Rattle.silt_log.specs.Rows.{log_rows}
-use Rattle.silt_frame.specs.Rows.{StoredRow, keys_of, put_count}
-use Rattle.silt_log.specs.State.{all_rows}
-use Rattle.silt_log.specs.Calls.{KeepsRows}
-use Rattle.silt_log.proofs.Elsewhere.{log_rows_elsewhere}
-use Rattle.silt_log.specs.Parts.{part_rows}
-use Rattle.silt_log_store.specs.State.{IsFrozenStore}
-use Rattle.silt_log_store.proofs.Buckets.{bucket_count_is}
-use Rattle.silt_manifest.specs.Standing.{ManifestState, spare_slot}
-use Rattle.silt_manifest.specs.declared.body.Body.{Body}
-use Rattle.silt_manifest.specs.declared.digests.Digests.{Digests}
-use Rattle.silt_image.specs.Stores.{Stores, stores_named}
-use Rattle.silt_image.specs.Meaning.{AreDigestsOf, IsSound, rows_of, with_log_rows}
-use Rattle.silt_event.specs.Rows.{command_of}
-use Rattle.silt_image.proofs.Named.{whole_law}
-use Rattle.silt_conversion.specs.Conversion.{ConversionState, HasWritten, IsDigestOf, converted_rows}
-use Rattle.silt_hash_store.specs.Slots.{hash_rows}
-use Rattle.silt_hash_store.specs.State.{IsHashStore, IsHeldHash, HashState}
-use Rattle.silt_conversion.proofs.Writing.{store_stands}
-use Rattle.silt_merge.specs.State.{MergeState}
-use Rattle.silt_merge.specs.Comparing.{HasCompared}
-use Rattle.silt_merge.specs.Merging.{HasMerged}
-use Rattle.silt_merge.proofs.Elsewhere.{oldest_stores_law}
-use Rattle.silt_sorted_store.specs.State.{SortedState}
-use Rattle.silt_standing.specs.State.{AreWhole, IsHashOf, IsMerging, IsSettled, IsUnderWay, EngineState, oldest_log, region_of, sorted_named}
-use Rattle.silt_standing.specs.Standing.{HasGathered, IsFrozen, Stands, full_image, shown_stores}
-use Rattle.silt_engine.specs.Calls.{Advances}
-use Rattle.silt_engine.specs.Succession.{MayBecomeCurrent, BecomesCurrent}
-use Rattle.silt_engine.specs.Conversion.{AreConverted, EndsConversion, Finishes, HasConvertedRows, MayReplace, converted_body, oldest_replaced, oldest_rows, store_of}
+use Rattle.silt_engine.proofs.Common.{inr, ◌≡◌, ◌≤◌, ◌<◌, ℕ, ◌-◌, IsTrue, List, [], ◌∷◌, ◌++◌, length, map, take, get_or, Option, Some, None, refl, ap, sym}
+use Rattle.silt_engine.proofs.Common.{◌∙◌, subst, arith, All, IfSome, take-map, All-cons, All-take, index_of_keys, IsBucketCount, Content, LeavesOnly, Rests}
+use Rattle.silt_engine.proofs.Common.{Torn, size, Shape, device_size, slot_at, left_at_rest, log_rows, StoredRow, keys_of, put_count, all_rows, KeepsRows}
+use Rattle.silt_engine.proofs.Common.{log_rows_elsewhere, part_rows, IsFrozenStore, bucket_count_is, ManifestState, spare_slot, Body, Digests, Stores}
+use Rattle.silt_engine.proofs.Common.{stores_named, AreDigestsOf, IsSound, rows_of, with_log_rows, command_of, whole_law, ConversionState, HasWritten}
+use Rattle.silt_engine.proofs.Common.{IsDigestOf, converted_rows, hash_rows, IsHashStore, IsHeldHash, HashState, MergeState, HasCompared, HasMerged}
+use Rattle.silt_engine.proofs.Common.{SortedState, AreWhole, IsHashOf, IsMerging, IsSettled, IsUnderWay, EngineState, oldest_log, region_of, sorted_named}
+use Rattle.silt_engine.proofs.Common.{HasGathered, IsFrozen, Stands, full_image, shown_stores, Advances, MayBecomeCurrent, BecomesCurrent, EndsConversion}
+use Rattle.silt_engine.proofs.Common.{MayReplace, converted_body, oldest_replaced, oldest_rows, store_of, Part, HasOldest, store_stands, oldest_stores_law}
+use Rattle.silt_engine.proofs.Common.{AreConverted, Finishes, HasConvertedRows, get_or-append_seam}
 use Rattle.silt_engine.proofs.Named.{named_shape}
 use Rattle.silt_engine.proofs.Facts.{shown_named}
 use Rattle.silt_engine.proofs.Elsewhere.{frozen_named, indexed_same, named_below, outside_slot, scanned_all}
 use Rattle.silt_engine.proofs.Standing.{Fits, shown_are}
 use Rattle.silt_engine.proofs.Wholes.{merging_in}
-use Rattle.silt_engine.proofs.ConvertCounting.{may_end}
-use Rattle.silt_engine.proofs.Remains.{active_stays, digested_stays, frozen_stays, hashed_stays, located_stays, merged_stays, slot_below, waiting_stays, written_stays}
+use Rattle.silt_engine.proofs.Counting.{may_end}
+use Rattle.silt_engine.proofs.Turns.{active_stays, digested_stays, frozen_stays, hashed_stays, located_stays, merged_stays, slot_below, waiting_stays, written_stays}
 use Rattle.silt_engine.proofs.NextBodies.{now_named, succeeds}
-use Rattle.silt_engine.proofs.ConvertStores.{converted_named, converted_current, converted_shape}
+use Rattle.silt_engine.proofs.ConvertStores.{converted_named, converted_current, converted_shape, oldest_named}
 use Rattle.silt_engine.proofs.Said.{converted_said}
 use Rattle.silt_engine.proofs.ConvertDone.{ending_counted, ending_digest, ending_full_sound, ending_map, ending_slots, ending_sound, ending_stores}
-use Rattle.silt_engine.proofs.ConvertDone.{oldest_frozen, oldest_shape, oldest_stands, table_of, way}
-use Rattle.silt_engine.proofs.ConvertRows.{front_converted, front_named, no_part, oldest_same}
+use Rattle.silt_engine.proofs.ConvertDone.{oldest_frozen, oldest_shape, oldest_stands, table_of, way, oldest, oldest_full, some_ids, ids, last_inside}
 use Rattle.silt_engine.proofs.MergeDone.{full_is}
+use Rattle.std.proofs.lemmas.List.{length-append}
+use Rattle.silt_image.specs.Meaning.{with_log_rows}
+use Rattle.silt_image.specs.Stores.{stores_named}
+use Rattle.silt_engine.specs.Replacements.{with_converted}
+
+-- ---- the oldest log
+
+-- the last of a list
+last_is : {X : Type 0} (xs : List X) (x d : X) → get_or (xs ++ x ∷ []) (length (xs ++ x ∷ []) - 1) d ≡ x
+last_is xs x d =
+    let long : length (xs ++ x ∷ []) - 1 ≡ length xs = omega (arith, length-append xs (x ∷ [])) in
+    ap (λ (n : ℕ). get_or (xs ++ x ∷ []) n d) long ∙ get_or-append_seam xs x [] d
+
+-- a part with no rows
+abbrev pub no_part : Part
+no_part = record { region = 0; rows = [] }
+
+-- the oldest log of stores has rows of one kind alone
+one_oldest : (rows other : List StoredRow) (t : Stores) → HasOldest rows t → HasOldest other t → rows ≡ other
+one_oldest rows other t has also = sym (last rows has) ∙ last other also
+  where
+    last : (r : List StoredRow) → HasOldest r t → part_rows (get_or t.logs (length t.logs - 1) no_part) ≡ r
+    last r is = ap (λ (l : List Part). part_rows (get_or l (length l - 1) no_part)) is.logs ∙ ap part_rows (last_is is.newer (record { region = is.region; rows = r }) no_part)
+
+-- its rows in the full image are those that a disk with the same stores shows, if it obeys the crash model
+pub oldest_same : (first old : Content) (s : EngineState) (stood : Stands first s) (stands : Stands old s) (conversion : ConversionState)
+    → s.converting ≡ Some conversion → IsTrue first.honest → IsTrue old.honest
+    → shown_stores old s ≡ shown_stores first s → oldest_rows s.manifest.shape s.manifest.current (full_image first s) ≡ all_rows old (oldest_log s).log
+oldest_same first old s stood stands conversion was was_honest h same =
+    let named = oldest_named s.manifest.shape s.manifest.current s.manifest.current.active (full_image first s) (some_ids first s stood (way first s stood conversion was).some_frozen) in
+    let full : HasOldest (oldest_rows s.manifest.shape s.manifest.current (full_image first s)) (with_log_rows s.manifest.current.active (all_rows first s.active.log) (shown_stores first s)) =
+    subst (HasOldest (oldest_rows s.manifest.shape s.manifest.current (full_image first s))) (full_is first s stood was_honest) named in
+    one_oldest (oldest_rows s.manifest.shape s.manifest.current (full_image first s)) (all_rows first (oldest_log s).log) _ full (oldest_full first s stood conversion was was_honest)
+    ∙ one_oldest (all_rows first (oldest_log s).log) (all_rows old (oldest_log s).log) (shown_stores first s) (oldest first s stood conversion was was_honest)
+    (subst (HasOldest (all_rows old (oldest_log s).log)) same (oldest old s stands conversion was h))
+
+-- ---- the hash store in front
+
+-- of the stores that the next body names
+pub front_named : (shape : Shape) (body : Body) (region : ℕ) (image : List ℕ)
+    → part_rows (get_or (stores_named shape (converted_body body region) image).hashes 0 no_part) ≡ hash_rows shape region image
+unfolding stores_named
+front_named shape body region image = refl
+
+-- and of the stores with it
+pub front_converted : (region : ℕ) (rows : List StoredRow) (body : Body) (part : Part) (t : Stores)
+    → part_rows (get_or (with_log_rows region rows (with_converted body part t)).hashes 0 no_part) ≡ part.rows
+unfolding with_log_rows with_converted
+front_converted region rows body part t = refl
 
 -- ---- the body that names the hash store
 
@@ -62,16 +82,14 @@ module _ (old : Content) (s : EngineState) (body : Body) (digests : Digests) (st
   abbrev converted_stores : Stores
   converted_stores = ending_stores old s stands ends.conversion ends.was
 
-  some_ids : 0 < length s.manifest.current.frozen
-  some_ids = omega (arith, under_way.some_frozen, length-map s.frozen region_of, ap length stands.whole.frozen_regions)
-
   -- it names them in each possible crash image, since nothing is pending
   names : LeavesOnly old (λ image. stores_named s.manifest.shape body image ≡ converted_stores)
   names = record {
     each = λ h image left.
         ap (λ (shown : List ℕ). stores_named s.manifest.shape body shown) (left_at_rest rests h image left)
         ∙ ap (λ (b : Body). stores_named s.manifest.shape b old.shown) ends.is
-        ∙ converted_named s.manifest.shape s.manifest.current ends.conversion.region _ old.shown some_ids (ending_slots old s stands ends.conversion ends.was ends.done h);
+        ∙ converted_named s.manifest.shape s.manifest.current ends.conversion.region _ old.shown (some_ids old s stands under_way.some_frozen)
+        (ending_slots old s stands ends.conversion ends.was ends.done h);
   }
 
   -- the digests are theirs
@@ -102,9 +120,6 @@ module _ (old : Content) (s : EngineState) (body : Body) (digests : Digests) (st
     current_is : m.current ≡ converted_body s.manifest.current ends.conversion.region
     current_is = now.has_body ∙ ends.is
 
-    ids : length s.manifest.current.frozen ≡ length s.frozen
-    ids = ap length (sym stands.whole.frozen_regions) ∙ length-map s.frozen region_of
-
     -- they are those that the body names
     held_of : (digest : List ℕ) → IsHeldHash (store_of ends.conversion digest) → IsHashOf s.manifest.shape (store_of ends.conversion digest)
     held_of digest held = record { has_shape = under_way.has_shape; held = held }
@@ -116,7 +131,7 @@ module _ (old : Content) (s : EngineState) (body : Body) (digests : Digests) (st
       frozen_regions =
           sym (take-map region_of (length s.frozen - 1) s.frozen)
           ∙ ap (take (length s.frozen - 1)) stands.whole.frozen_regions
-          ∙ ap (λ (n : ℕ). take (n - 1) s.manifest.current.frozen) (sym ids)
+          ∙ ap (λ (n : ℕ). take (n - 1) s.manifest.current.frozen) (sym (ids old s stands under_way.some_frozen))
           ∙ ap (λ (b : Body). b.frozen) (sym current_is);
       settled = subst (λ (sh : Shape). All (IsSettled sh) (take (length s.frozen - 1) s.frozen)) (sym now.has_shape)
           (All-take (IsSettled s.manifest.shape) (length s.frozen - 1) s.frozen stands.whole.settled);
@@ -145,16 +160,14 @@ module _ (old : Content) (s : EngineState) (body : Body) (digests : Digests) (st
     slots_stay = subst (λ (o : Option ConversionState). IfSome o (HasWritten new (oldest_log s))) ends.was (written_stays old new s stands sizes now.changes)
 
     -- the oldest log is as it was in each possible crash image
-    last_inside : length s.frozen - 1 < length s.frozen
-    last_inside = omega (arith, under_way.some_frozen)
-
     log_shape : (oldest_log s).log.shape ≡ s.manifest.shape
     log_shape = oldest_shape old s stands under_way.some_frozen
 
     log_rows_stay : IsTrue new.honest → (first image : List ℕ) → length first ≡ size old → Torn (slot_at (spare_slot s.manifest)) 4096 first image
         → log_rows (oldest_log s).log.shape (oldest_log s).log.region image ≡ log_rows (oldest_log s).log.shape (oldest_log s).log.region first
     log_rows_stay h first image long torn =
-        let there_is = named_below old s stands (back h) (oldest_log s).log.region (frozen_named s stands.whole.frozen_regions (length s.frozen - 1) s.active last_inside) in
+        let there_is = named_below old s stands (back h) (oldest_log s).log.region
+        (frozen_named s stands.whole.frozen_regions (length s.frozen - 1) s.active (last_inside old s stands under_way.some_frozen)) in
         let fits : device_size (oldest_log s).log.shape ≡ length first = ap device_size log_shape ∙ sym stands.has_size ∙ sym long in
         log_rows_elsewhere (oldest_log s).log.shape (oldest_log s).log.region (slot_at (spare_slot s.manifest)) 4096 first image
         (subst (λ (sh : Shape). (oldest_log s).log.region < sh.logs) (sym log_shape) there_is) (omega (arith, fits))
@@ -162,7 +175,7 @@ module _ (old : Content) (s : EngineState) (body : Body) (digests : Digests) (st
 
     oldest_stays : IsFrozenStore new (oldest_log s)
     oldest_stays =
-        let is : IsFrozen new (oldest_log s) = frozen_stays old new s stands sizes now.changes (length s.frozen - 1) s.active last_inside in
+        let is : IsFrozen new (oldest_log s) = frozen_stays old new s stands sizes now.changes (length s.frozen - 1) s.active (last_inside old s stands under_way.some_frozen) in
         let was : IsFrozen old (oldest_log s) = oldest_frozen old s stands under_way.some_frozen in
         let log_stands : IsFrozenStore old (oldest_log s) = oldest_stands old s stands under_way.some_frozen in
         record {

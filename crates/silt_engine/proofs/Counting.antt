@@ -1,16 +1,16 @@
 -- Which log regions are free, and how many.
-use Rattle.std.proofs.Common.{◌≡◌, ◌≢◌, ◌≤◌, ◌<◌, ℕ, ◌+◌, ◌-◌, ◌%◌, ◌^◌, ◌==◌, ◌||◌, Bool, true, false, not, nat_lt, suc, zero, List, [], ◌∷◌, length, inl, inr, refl, ap, sym, ◌∙◌, arith}
-use Rattle.std.specs.List.{AllByRecursion, IsDistinct, list_any, range_with_len}
-use Rattle.std.proofs.Math.Dec.{eqb}
-use Rattle.std.proofs.lemmas.Bool.{and_parts, cases_Bool, eq-eqb, eqb-true, eqb-false, lt-ltb, ltb-true, not-true, and_from}
-use Rattle.std.proofs.lemmas.List.FromFn.{length-range_with_len}
-use Rattle.std.proofs.lemmas.Cmp.{nat_eq_equiv}
+use Rattle.silt_engine.proofs.Common.{◌≡◌, ◌≢◌, ◌≤◌, ◌<◌, ℕ, ◌+◌, ◌-◌, ◌%◌, ◌^◌, ◌==◌, ◌||◌, Bool, true, false, not, nat_lt, suc, zero, List, [], ◌∷◌, length}
+use Rattle.silt_engine.proofs.Common.{inl, inr, refl, ap, sym, ◌∙◌, arith, list_any, eqb, and_parts, cases_Bool, eq-eqb, eqb-true, eqb-false, lt-ltb, ltb-true}
+use Rattle.silt_engine.proofs.Common.{not-true, and_from, Shape, all_below, has_sound_logs, is_distinct, is_well_formed, Body, AreAllNamed, IsLowestFree}
+use Rattle.silt_engine.proofs.Common.{next_body, nat_le, take, Option, Some, subst, IfSome, nat_tests, length-map, length-take, has_sound_hashes, IsNext}
+use Rattle.silt_engine.proofs.Common.{current_slot, spare_slot, Digests, AreWhole, IsUnderWay, EngineState, hash_region_of, names_hash, ConversionState}
+use Rattle.silt_engine.proofs.Common.{AreAllHashesNamed, EndsConversion, converted_body, le-leb, MergeState, IndexedState, EndsMerge, merged_body, IsMerging}
+use Rattle.silt_engine.proofs.Common.{NextLog, region_of, IsNextLog, empty_store, AllByRecursion, range_with_len, length-range_with_len, nat_eq_equiv}
+use Rattle.silt_engine.proofs.Common.{HasNoFreeLog}
+use Rattle.std.specs.List.{IsDistinct}
 use Rattle.std.proofs.lemmas.Map.Made.{length-le_from_is_member}
 use Rattle.std.proofs.lemmas.Map.Steps.{length-le_from_distinct_below}
-use Rattle.silt_disk.specs.Layout.{Shape}
-use Rattle.silt_manifest.specs.Body.{all_below, has_sound_logs, is_distinct, is_well_formed}
-use Rattle.silt_manifest.specs.declared.body.Body.{Body}
-use Rattle.silt_engine.specs.NextLog.{AreAllNamed, IsLowestFree, next_body}
+use Rattle.silt_manifest.proofs.SoundBodies.{sound_parts}
 
 -- numbers that differ
 pub told_apart : (a b : ℕ) → a ≢ b → eqb a b ≡ false
@@ -87,6 +87,31 @@ below_each n (id ∷ ids) all x e =
 pub at_most : (n : ℕ) (ids : List ℕ) → is_distinct ids ≡ true → all_below n ids ≡ true → length ids ≤ n
 at_most n ids distinct all = length-le_from_distinct_below ids n (distinct_ids ids distinct) (below_each n ids all)
 
+-- the tests of a well-formed record
+pub record HasTests (s : Shape) (b : Body) : Type 0 where
+  pub generation : b.generation < 2 ^ 63
+  pub logs : has_sound_logs s.logs b ≡ true
+  pub hashes : has_sound_hashes s.hashes b ≡ true
+  pub sorted : nat_lt b.sorted 2 ≡ true
+  pub count : nat_le b.sorted_count s.sorted_capacity ≡ true
+
+tests_of : (s : Shape) (slot : ℕ) (b : Body) → is_well_formed s slot b ≡ true → HasTests s b
+tests_of s slot b sound =
+    let p1 = and_parts _ _ sound in
+    let p2 = and_parts _ _ p1.0 in
+    let p3 = and_parts _ _ p2.0 in
+    let p4 = and_parts _ _ p3.0 in
+    record { generation = ltb-true b.generation (2 ^ 63) (and_parts _ _ p4.0).0; logs = p4.1; hashes = p3.1; sorted = p2.1; count = p1.1 }
+
+-- a record of the next generation with such tests is well formed
+next_well_formed : (s : Shape) (b next : Body) → next.generation ≡ b.generation + 1 → b.generation < 2 ^ 63 - 1 → has_sound_logs s.logs next ≡ true
+    → has_sound_hashes s.hashes next ≡ true → nat_lt next.sorted 2 ≡ true → nat_le next.sorted_count s.sorted_capacity ≡ true
+    → is_well_formed s ((b.generation + 1) % 2) next ≡ true
+next_well_formed s b next is unspent logs hashes sorted count =
+    let generation : nat_lt next.generation (2 ^ 63) ≡ true = lt-ltb next.generation (2 ^ 63) (omega (arith, is, unspent)) in
+    let remainder : (next.generation % 2 == (b.generation + 1) % 2) ≡ true = eq-eqb _ _ (ap (λ (n : ℕ). n % 2) is) in
+    and_from _ _ (and_from _ _ (and_from _ _ (and_from _ _ (and_from _ _ generation remainder) logs) hashes) sorted) count
+
 -- what holds of the logs of a well-formed record
 pub record HasSoundLogs (logs : ℕ) (b : Body) : Type 0 where
   pub generation : b.generation < 2 ^ 63
@@ -98,17 +123,13 @@ pub record HasSoundLogs (logs : ℕ) (b : Body) : Type 0 where
 
 pub sound_logs : (s : Shape) (slot : ℕ) (b : Body) → is_well_formed s slot b ≡ true → HasSoundLogs s.logs b
 sound_logs s slot b sound =
-    let p1 = and_parts _ _ sound in
-    let p2 = and_parts _ _ p1.0 in
-    let p3 = and_parts _ _ p2.0 in
-    let p4 = and_parts _ _ p3.0 in
-    let g = and_parts _ _ p4.0 in
-    let l1 = and_parts _ _ p4.1 in
+    let tests = tests_of s slot b sound in
+    let l1 = and_parts _ _ tests.logs in
     let l2 = and_parts _ _ l1.0 in
     let l3 = and_parts _ _ l2.0 in
     let l4 = and_parts _ _ l3.0 in
     record {
-      generation = ltb-true b.generation (2 ^ 63) g.0;
+      generation = tests.generation;
       fewer = ltb-true (length b.frozen) s.logs l4.0;
       active = l4.1;
       frozen = l3.1;
@@ -138,21 +159,232 @@ one_to_spare s slot region b sound lowest =
 pub next_sound : (s : Shape) (slot region : ℕ) (b : Body) → is_well_formed s slot b ≡ true → IsLowestFree s.logs b region → b.generation < 2 ^ 63 - 1
     → is_well_formed s ((b.generation + 1) % 2) (next_body b region) ≡ true
 next_sound s slot region b sound lowest unspent =
-    let p1 = and_parts _ _ sound in
-    let p2 = and_parts _ _ p1.0 in
-    let p3 = and_parts _ _ p2.0 in
+    let tests = tests_of s slot b sound in
     let parts = sound_logs s slot b sound in
     let spare = one_to_spare s slot region b sound lowest in
-    let generation : nat_lt (b.generation + 1) (2 ^ 63) ≡ true = lt-ltb (b.generation + 1) (2 ^ 63) (omega arith) in
-    let remainder : ((b.generation + 1) % 2 == (b.generation + 1) % 2) ≡ true = eq-eqb _ _ refl in
     let fewer : nat_lt (length (b.active ∷ b.frozen)) s.logs ≡ true = lt-ltb (length (b.active ∷ b.frozen)) s.logs (omega (arith, spare)) in
     let below : nat_lt region s.logs ≡ true = lt-ltb region s.logs lowest.below in
     let frozen : all_below s.logs (b.active ∷ b.frozen) ≡ true = and_from _ _ parts.active parts.frozen in
     let apart : not (list_any (λ id. id == region) (b.active ∷ b.frozen)) ≡ true = ap not lowest.free in
     let distinct : is_distinct (b.active ∷ b.frozen) ≡ true = and_from _ _ (ap not parts.apart) parts.distinct in
     let logs : has_sound_logs s.logs (next_body b region) ≡ true = and_from _ _ (and_from _ _ (and_from _ _ (and_from _ _ fewer below) frozen) apart) distinct in
-    and_from _ _ (and_from _ _ (and_from _ _ (and_from _ _ (and_from _ _ generation remainder) logs) p3.1) p2.1) p1.1
+    next_well_formed s b (next_body b region) refl unspent logs tests.hashes tests.sorted tests.count
 
 -- there are few frozen logs
 pub few_ids : (s : Shape) (slot : ℕ) (b : Body) → is_well_formed s slot b ≡ true → s.logs ≤ 8 → length b.frozen < 8
 few_ids s slot b sound most = let fewer = (sound_logs s slot b sound).fewer in omega (arith, fewer, most)
+
+-- ---- hash regions, and the body that names one more
+
+-- what holds of the hash stores of a well-formed record
+pub record HasSoundHashes (hashes : ℕ) (b : Body) : Type 0 where
+  pub generation : b.generation < 2 ^ 63
+  pub most : length b.hashed ≤ hashes
+  pub below : all_below hashes b.hashed ≡ true
+  pub distinct : is_distinct b.hashed ≡ true
+
+pub sound_hashes : (s : Shape) (slot : ℕ) (b : Body) → is_well_formed s slot b ≡ true → HasSoundHashes s.hashes b
+sound_hashes s slot b sound =
+    let parts = sound_parts s slot b sound in
+    record {
+      generation = parts.generation;
+      most = parts.hashed_count;
+      below = parts.hashed;
+      distinct = (and_parts _ _ (tests_of s slot b sound).hashes).1;
+    }
+
+-- with every region named there are as many hash stores as regions
+pub all_hashes_named : (s : Shape) (slot : ℕ) (b : Body) → is_well_formed s slot b ≡ true → AreAllHashesNamed s.hashes b → length b.hashed ≡ s.hashes
+all_hashes_named s slot b sound named =
+    let many = all_among s.hashes b.hashed named in
+    let few = (sound_hashes s slot b sound).most in
+    omega (arith, many, few)
+
+-- with a free region there are fewer
+pub fewer_hashes : (s : Shape) (slot region : ℕ) (b : Body) → is_well_formed s slot b ≡ true → region < s.hashes → names_hash b region ≡ false → length b.hashed < s.hashes
+fewer_hashes s slot region b sound inside free =
+    let parts = sound_hashes s slot b sound in
+    let distinct : is_distinct (region ∷ b.hashed) ≡ true = and_from _ _ (ap not free) parts.distinct in
+    let below : all_below s.hashes (region ∷ b.hashed) ≡ true = and_from _ _ (lt-ltb region s.hashes inside) parts.below in
+    let most = at_most s.hashes (region ∷ b.hashed) distinct below in
+    omega (arith, most)
+
+-- ---- fewer frozen logs
+
+-- the first numbers of a list have what the list has
+pub none_of_first : (ids : List ℕ) (n x : ℕ) → list_any (λ other. other == x) ids ≡ false → list_any (λ other. other == x) (take n ids) ≡ false
+none_of_first [] zero x none = refl
+none_of_first [] (suc n) x none = refl
+none_of_first (id ∷ ids) zero x none = refl
+none_of_first (id ∷ ids) (suc n) x none = elim (cases_Bool (eqb id x)) [
+  | inl same ↦ absurd (let no : true ≡ false = ap (λ (b : Bool). b || list_any (λ other. other == x) ids) (sym same) ∙ none in cc)
+  | inr other ↦
+      ap (λ (b : Bool). b || list_any (λ other. other == x) (take n ids)) other
+      ∙ none_of_first ids n x (ap (λ (b : Bool). b || list_any (λ other. other == x) ids) (sym other) ∙ none)
+]
+
+pub distinct_first : (ids : List ℕ) (n : ℕ) → is_distinct ids ≡ true → is_distinct (take n ids) ≡ true
+distinct_first [] zero e = refl
+distinct_first [] (suc n) e = refl
+distinct_first (id ∷ ids) zero e = refl
+distinct_first (id ∷ ids) (suc n) e =
+    let parts = and_parts (not (list_any (λ other. other == id) ids)) (is_distinct ids) e in
+    and_from _ _ (ap not (none_of_first ids n id (not-true _ parts.0))) (distinct_first ids n parts.1)
+
+pub below_first : (most : ℕ) (ids : List ℕ) (n : ℕ) → all_below most ids ≡ true → all_below most (take n ids) ≡ true
+below_first most [] zero e = refl
+below_first most [] (suc n) e = refl
+below_first most (id ∷ ids) zero e = refl
+below_first most (id ∷ ids) (suc n) e =
+    let parts = and_parts (nat_lt id most) (all_below most ids) e in
+    and_from _ _ parts.0 (below_first most ids n parts.1)
+
+sound_logs_first : (logs : ℕ) (b : Body) (n generation : ℕ) (hashed : List ℕ) → has_sound_logs logs b ≡ true
+    → has_sound_logs logs (record b { generation = generation; frozen = take n b.frozen; hashed = hashed }) ≡ true
+sound_logs_first logs b n generation hashed sound =
+    let l1 = and_parts _ _ sound in
+    let l2 = and_parts _ _ l1.0 in
+    let l3 = and_parts _ _ l2.0 in
+    let l4 = and_parts _ _ l3.0 in
+    let was = ltb-true (length b.frozen) logs l4.0 in
+    let fewer : nat_lt (length (take n b.frozen)) logs ≡ true = lt-ltb _ _ (omega (arith, was, length-take n b.frozen)) in
+    and_from _ _ (and_from _ _ (and_from _ _ (and_from _ _ fewer l4.1) (below_first logs b.frozen n l3.1)) (ap not (none_of_first b.frozen n b.active (not-true _ l2.1))))
+    (distinct_first b.frozen n l1.1)
+
+-- the body that names a free region in place of the oldest log is well formed
+pub converted_sound_body : (s : Shape) (slot region : ℕ) (b : Body) → is_well_formed s slot b ≡ true → region < s.hashes → names_hash b region ≡ false → b.generation < 2 ^ 63 - 1
+    → is_well_formed s ((b.generation + 1) % 2) (converted_body b region) ≡ true
+converted_sound_body s slot region b sound inside free unspent =
+    let fewer : length b.hashed < s.hashes = fewer_hashes s slot region b sound inside free in
+    let most : nat_le (length (region ∷ b.hashed)) s.hashes ≡ true = grind (arith, nat_tests, fewer) in
+    let parts = sound_hashes s slot b sound in
+    let distinct : is_distinct (region ∷ b.hashed) ≡ true = and_from _ _ (ap not free) parts.distinct in
+    let below : all_below s.hashes (region ∷ b.hashed) ≡ true = and_from _ _ (lt-ltb region s.hashes inside) parts.below in
+    let hashes : has_sound_hashes s.hashes (converted_body b region) ≡ true = and_from _ _ (and_from _ _ most below) distinct in
+    let tests = tests_of s slot b sound in
+    let logs : has_sound_logs s.logs (converted_body b region) ≡ true =
+    sound_logs_first s.logs b (length b.frozen - 1) (b.generation + 1) (region ∷ b.hashed) tests.logs in
+    next_well_formed s b (converted_body b region) refl unspent logs hashes tests.sorted tests.count
+
+-- ---- of the stores in memory
+
+-- there are as many hash stores as the body names
+pub hash_count : (s : EngineState) → AreWhole s → length s.hashes ≡ length s.manifest.current.hashed
+hash_count s whole = sym (length-map s.hashes hash_region_of) ∙ ap length whole.hash_regions
+
+-- if every region is named, there is a hash store in each
+pub no_hash_free : (s : EngineState) (slot : ℕ) → AreWhole s → is_well_formed s.manifest.shape slot s.manifest.current ≡ true
+    → AreAllHashesNamed s.manifest.shape.hashes s.manifest.current → length s.hashes ≡ s.manifest.shape.hashes
+no_hash_free s slot whole sound named = hash_count s whole ∙ all_hashes_named s.manifest.shape slot s.manifest.current sound named
+
+-- if one is free, there are fewer
+pub hash_free : (s : EngineState) (slot region : ℕ) → AreWhole s → is_well_formed s.manifest.shape slot s.manifest.current ≡ true
+    → region < s.manifest.shape.hashes → names_hash s.manifest.current region ≡ false → length s.hashes < s.manifest.shape.hashes
+hash_free s slot region whole sound inside free =
+    let fewer = fewer_hashes s.manifest.shape slot region s.manifest.current sound inside free in
+    omega (arith, fewer, hash_count s whole)
+
+-- the record that ends a conversion may follow the current one
+pub may_end : (s : EngineState) (body : Body) (digests : Digests) → is_well_formed s.manifest.shape (current_slot s.manifest) s.manifest.current ≡ true
+    → AreWhole s → EndsConversion s body digests → IsNext s.manifest body
+may_end s body digests sound whole ends =
+    let way : IsUnderWay s ends.conversion = subst (λ (o : Option ConversionState). IfSome o (IsUnderWay s)) ends.was whole.under_way in
+    record {
+      generation = ap (λ (b : Body). b.generation) ends.is;
+      sound =
+          ap (is_well_formed s.manifest.shape (spare_slot s.manifest)) ends.is
+          ∙ converted_sound_body s.manifest.shape (current_slot s.manifest) ends.conversion.region s.manifest.current sound way.there way.free ends.unspent;
+    }
+
+-- it has room for one hash store more
+pub room_for_hash : (s : EngineState) (current : Body) (conversion : ConversionState) (limit : ℕ) → AreWhole s
+    → is_well_formed s.manifest.shape (current_slot s.manifest) s.manifest.current ≡ true → s.converting ≡ Some conversion
+    → limit ≡ s.manifest.shape.hashes → limit ≤ 16 → current ≡ s.manifest.current → length current.hashed < 16
+room_for_hash s current conversion limit whole sound was limit_is most same =
+    let way : IsUnderWay s conversion = subst (λ (o : Option ConversionState). IfSome o (IsUnderWay s)) was whole.under_way in
+    let fewer = fewer_hashes s.manifest.shape (current_slot s.manifest) conversion.region s.manifest.current sound way.there way.free in
+    omega (arith, fewer, limit_is, most, ap (λ (b : Body). length b.hashed) same)
+
+-- ---- the body that names the sorted store of a merge
+
+-- the body with other entries, and without the oldest hash stores, is well formed
+merged_sound_body : (s : Shape) (slot count region written : ℕ) (b : Body) → is_well_formed s slot b ≡ true → region < 2 → written ≤ s.sorted_capacity → b.generation < 2 ^ 63 - 1
+    → is_well_formed s ((b.generation + 1) % 2) (merged_body b count region written) ≡ true
+merged_sound_body s slot count region written b sound there room unspent =
+    let parts = sound_hashes s slot b sound in
+    let fewer : nat_le (length (take (length b.hashed - count) b.hashed)) s.hashes ≡ true = le-leb _ _ (omega (arith, parts.most, length-take (length b.hashed - count) b.hashed)) in
+    let hashes : has_sound_hashes s.hashes (merged_body b count region written) ≡ true =
+    and_from _ _ (and_from _ _ fewer (below_first s.hashes b.hashed (length b.hashed - count) parts.below)) (distinct_first b.hashed (length b.hashed - count) parts.distinct) in
+    next_well_formed s b (merged_body b count region written) refl unspent (tests_of s slot b sound).logs hashes (lt-ltb region 2 there)
+    (le-leb written s.sorted_capacity room)
+
+-- the record that ends a merge may follow the current one
+pub may_end_merge : (s : EngineState) (body : Body) (digests : Digests) (store : IndexedState)
+    → is_well_formed s.manifest.shape (current_slot s.manifest) s.manifest.current ≡ true → AreWhole s → EndsMerge s body digests store → IsNext s.manifest body
+may_end_merge s body digests store sound whole ends =
+    let way : IsMerging s ends.merge = subst (λ (o : Option MergeState). IfSome o (IsMerging s)) ends.was whole.merging in
+    record {
+      generation = ap (λ (b : Body). b.generation) ends.is;
+      sound =
+          ap (is_well_formed s.manifest.shape (spare_slot s.manifest)) ends.is
+          ∙ merged_sound_body s.manifest.shape (current_slot s.manifest) ends.merge.stores ends.merge.region ends.merge.written s.manifest.current sound way.held.there
+          (subst (λ (sh : Shape). ends.merge.written ≤ sh.sorted_capacity) way.has_shape way.held.room) ends.unspent;
+    }
+
+-- there are no more hash stores than a manifest has room for
+pub few_hashes : (s : EngineState) (limit : ℕ) → AreWhole s → is_well_formed s.manifest.shape (current_slot s.manifest) s.manifest.current ≡ true
+    → limit ≡ s.manifest.shape.hashes → limit ≤ 16 → length s.hashes ≤ 16
+few_hashes s limit whole sound limit_is most =
+    let fewer = (sound_hashes s.manifest.shape (current_slot s.manifest) s.manifest.current sound).most in
+    omega (arith, fewer, limit_is, most, hash_count s whole)
+
+-- ---- the stores in memory, and the log that comes next
+
+-- the record of the next log may follow the current one
+pub may_follow : (s : EngineState) (next : NextLog) → is_well_formed s.manifest.shape (current_slot s.manifest) s.manifest.current ≡ true → IsNextLog s next → IsNext s.manifest next.body
+may_follow s next sound is = record {
+  generation = ap (λ (b : Body). b.generation) is.body;
+  sound = ap (is_well_formed s.manifest.shape (spare_slot s.manifest)) is.body ∙ next_sound s.manifest.shape (current_slot s.manifest) is.region s.manifest.current sound is.lowest is.unspent;
+}
+
+-- there are as many frozen logs as the body names
+pub frozen_count : (s : EngineState) → AreWhole s → length s.frozen ≡ length s.manifest.current.frozen
+frozen_count s whole = sym (length-map s.frozen region_of) ∙ ap length whole.frozen_regions
+
+-- the stores if every region is named
+pub no_room : (s : EngineState) (slot logs : ℕ) → logs ≡ s.manifest.shape.logs → AreWhole s → is_well_formed s.manifest.shape slot s.manifest.current ≡ true
+    → AreAllNamed logs s.manifest.current → HasNoFreeLog s
+no_room s slot logs is whole sound named =
+    let all = all_in_use s.manifest.shape slot s.manifest.current sound (subst (λ (n : ℕ). AreAllNamed n s.manifest.current) is named) in
+    omega (arith, all, frozen_count s whole)
+
+-- and if one is free
+pub has_room : (s : EngineState) (slot logs region : ℕ) → logs ≡ s.manifest.shape.logs → AreWhole s
+    → is_well_formed s.manifest.shape slot s.manifest.current ≡ true → IsLowestFree logs s.manifest.current region
+    → length s.frozen + 1 < s.manifest.shape.logs
+has_room s slot logs region is whole sound lowest =
+    let spare = one_to_spare s.manifest.shape slot region s.manifest.current sound (subst (λ (n : ℕ). IsLowestFree n s.manifest.current region) is lowest) in
+    omega (arith, spare, frozen_count s whole)
+
+pub not_all : (s : EngineState) → length s.frozen + 1 < s.manifest.shape.logs → HasNoFreeLog s → ⊥
+not_all s room all = absurd (omega (arith, room, all))
+
+-- the next log is made
+pub is_next : (s : EngineState) (slot logs region : ℕ) (next : NextLog) → logs ≡ s.manifest.shape.logs → AreWhole s
+    → is_well_formed s.manifest.shape slot s.manifest.current ≡ true → IsLowestFree logs s.manifest.current region
+    → s.manifest.current.generation ≢ 2 ^ 63 - 1 → next.body ≡ next_body s.manifest.current region → next.store ≡ empty_store s.manifest.shape region → IsNextLog s next
+is_next s slot logs region next is whole sound lowest unspent body store = record {
+  region = region;
+  lowest = subst (λ (n : ℕ). IsLowestFree n s.manifest.current region) is lowest;
+  spare = has_room s slot logs region is whole sound lowest;
+  unspent = let most = (sound_logs s.manifest.shape slot s.manifest.current sound).generation in omega (arith, most, unspent);
+  body = body;
+  store = store;
+}
+
+-- the next body has room for its frozen logs
+pub few_frozen : (s : Shape) (slot : ℕ) (b : Body) → is_well_formed s slot b ≡ true → s.logs ≤ 8 → length b.frozen < 16
+few_frozen s slot b sound most = let fewer = (sound_logs s slot b sound).fewer in omega (arith, fewer, most)
+
+pub before_last : (s : Shape) (slot : ℕ) (b : Body) → is_well_formed s slot b ≡ true → b.generation ≢ 2 ^ 63 - 1 → b.generation < 2 ^ 63 - 1
+before_last s slot b sound unspent = let most = (sound_logs s slot b sound).generation in omega (arith, most, unspent)

@@ -1,39 +1,17 @@
 -- What a change in one place of the disk leaves of the logs, the hash stores, the entries, the conversion and the merge in other places.
-use Rattle.std.proofs.Common.{◌≡◌, ◌≢◌, ◌≤◌, ◌<◌, ℕ, ◌+◌, ◌*◌, ◌-◌, ◌%◌, ◌==◌, true, false, IsTrue, List, suc, length, map, get_or, Option, Some, None, inl, inr, ap, sym, ◌∙◌, subst, arith}
-use Rattle.std.specs.Prelude.{All, Contains, IfSome}
-use Rattle.std.specs.List.{list_any, list_all}
-use Rattle.std.proofs.lemmas.List.{get_or-map, length-map}
-use Rattle.std.proofs.lemmas.List.Elements.{All-drop}
-use Rattle.std.proofs.lemmas.List.Folds.{list_any_at}
-use Rattle.std.proofs.lemmas.List.FromFn.{length-map-range_with_len}
-use Rattle.std.proofs.lemmas.Bool.Decides.{nat_tests}
-use Rattle.silt_disk.specs.Disk.{ChangesWithin, Content, LiesOutside, size}
-use Rattle.silt_disk.specs.Layout.{Shape, device_size, entries_len, gates_at, hash_at, hash_size, log_len, log_size, row_len, slot_at, slots_len, sorted_at}
-use Rattle.silt_disk.proofs.Regions.{next_region, regions_apart, up_least}
-use Rattle.silt_log.specs.Rows.{first_rows, log_rows, open_count, row_at, rows_from}
-use Rattle.silt_frame.specs.Rows.{has_known_kind, StoredRow, keys_of, put_count}
-use Rattle.silt_log.specs.State.{InBounds, LogState, all_rows}
+use Rattle.silt_engine.proofs.Common.{◌≡◌, ◌≢◌, ◌≤◌, ◌<◌, ℕ, ◌+◌, ◌*◌, ◌-◌, ◌%◌, ◌==◌, true, false, IsTrue, List, suc, length, map, get_or, Option, Some, None}
+use Rattle.silt_engine.proofs.Common.{inl, inr, ap, sym, ◌∙◌, subst, arith, All, Contains, IfSome, list_any, get_or-map, length-map, All-drop, list_any_at}
+use Rattle.silt_engine.proofs.Common.{nat_tests, ChangesWithin, Content, LiesOutside, size, Shape, device_size, entries_len, gates_at, hash_at, hash_size}
+use Rattle.silt_engine.proofs.Common.{log_len, log_size, row_len, slot_at, slots_len, sorted_at, regions_apart, up_least, first_rows, row_at, has_known_kind}
+use Rattle.silt_engine.proofs.Common.{StoredRow, keys_of, put_count, InBounds, LogState, all_rows, log_inside, log_rows_elsewhere, IsIndexed, LogStoreState}
+use Rattle.silt_engine.proofs.Common.{index_of_keys, ConversionState, HasWritten, HashState, IsHashStore, pieces_apart, whole_law, is_well_formed, Body}
+use Rattle.silt_engine.proofs.Common.{HasMerged, MergeState, oldest_stores, SortedState, digest_elsewhere, indexed_elsewhere, IsHashOf, IsMerging, IsUnderWay}
+use Rattle.silt_engine.proofs.Common.{EngineState, hash_region_of, oldest_log, region_of, HasGathered, IsDigested, IsFrozen, IsLocated, Stands, shown_stores}
+use Rattle.silt_engine.proofs.Common.{entries_behind_log, list_all, length-map-range_with_len, next_region, hash_elsewhere, IsWhole, names_regions, apart_of}
+use Rattle.silt_engine.proofs.Common.{merged_elsewhere}
+use Rattle.silt_log.specs.Rows.{log_rows, open_count, rows_from}
 use Rattle.silt_log.proofs.Counts.{count_most}
-use Rattle.silt_log.proofs.Exits.{log_inside}
-use Rattle.silt_log.proofs.Elsewhere.{log_rows_elsewhere}
-use Rattle.silt_log_store.specs.State.{IsIndexed, LogStoreState}
-use Rattle.silt_cuckoo.specs.Index.{index_of_keys}
-use Rattle.silt_conversion.specs.Conversion.{ConversionState, HasWritten}
-use Rattle.silt_hash_store.specs.State.{HashState, IsHashStore}
-use Rattle.silt_hash_store.proofs.Elsewhere.{hash_elsewhere}
 use Rattle.silt_conversion.proofs.Elsewhere.{written_elsewhere}
-use Rattle.silt_image.specs.Laws.{IsWhole}
-use Rattle.silt_image.proofs.Frame.{names_regions, pieces_apart}
-use Rattle.silt_image.proofs.Named.{apart_of, whole_law}
-use Rattle.silt_manifest.specs.Body.{is_well_formed}
-use Rattle.silt_manifest.specs.declared.body.Body.{Body}
-use Rattle.silt_merge.specs.Merging.{HasMerged}
-use Rattle.silt_merge.specs.State.{MergeState, oldest_stores}
-use Rattle.silt_merge.proofs.Elsewhere.{merged_elsewhere}
-use Rattle.silt_sorted_store.specs.State.{SortedState}
-use Rattle.silt_sorted_store.proofs.Elsewhere.{digest_elsewhere, indexed_elsewhere}
-use Rattle.silt_standing.specs.State.{IsHashOf, IsMerging, IsUnderWay, EngineState, hash_region_of, oldest_log, region_of}
-use Rattle.silt_standing.specs.Standing.{HasGathered, IsDigested, IsFrozen, IsLocated, Stands, shown_stores}
 use Rattle.silt_engine.proofs.Facts.{shown_named}
 use Rattle.silt_engine.proofs.Named.{named_body, named_shape}
 
@@ -146,19 +124,6 @@ module _ (content : Content) (s : EngineState) (stands : Stands content s) (hone
   pub not_active : (region : ℕ) → Contains s.manifest.current.frozen region → region ≢ s.manifest.current.active
   not_active region there = not_among s.manifest.current.frozen s.manifest.current.active region (apart_of s.manifest.shape (s.manifest.current.generation % 2) s.manifest.current current_sound) there
 
--- a change outside the regions of the frozen logs leaves these
-pub all_frozen_elsewhere : (old new : Content) (s : EngineState) (at count : ℕ) → Stands old s → ChangesWithin at count old new
-    → (IsTrue old.honest → (region : ℕ) → Contains s.manifest.current.frozen region → LiesOutside (gates_at s.manifest.shape region) (log_len s.manifest.shape) at count) → All (IsFrozen new) s.frozen
-all_frozen_elsewhere old new s at count stands changes outside k d inside =
-    let store : LogStoreState = get_or s.frozen k d in
-    let is_shape : store.log.shape ≡ s.manifest.shape = (stands.whole.settled k d inside).has_shape in
-    frozen_elsewhere old new store at count (stands.has_size ∙ ap device_size (sym is_shape)) changes
-    (λ h. (
-      subst (λ (sh : Shape). store.log.region < sh.logs) (sym is_shape) (named_below old s stands h store.log.region (frozen_named s stands.whole.frozen_regions k d inside)),
-      subst (λ (sh : Shape). LiesOutside (gates_at sh store.log.region) (log_len sh) at count) (sym is_shape) (outside h store.log.region (frozen_named s stands.whole.frozen_regions k d inside)),
-    ))
-    (stands.frozen k d inside)
-
 -- ---- hash stores
 
 -- the body names the region of each hash store
@@ -169,26 +134,6 @@ hash_named s are k d inside = (
   omega (arith, inside, length-map s.hashes hash_region_of, ap length are),
   ap (λ (ids : List ℕ). get_or ids k (hash_region_of (get_or s.hashes k d))) (sym are) ∙ get_or-map hash_region_of s.hashes k d (hash_region_of (get_or s.hashes k d)) inside,
 )
-
--- a change outside the slots of the hash stores leaves these
-pub all_hashed_elsewhere : (old new : Content) (s : EngineState) (at count : ℕ) → Stands old s → ChangesWithin at count old new
-    → (IsTrue old.honest → (region : ℕ) → Contains s.manifest.current.hashed region → LiesOutside (hash_at s.manifest.shape region) (slots_len s.manifest.shape) at count)
-    → All (IsHashStore new) s.hashes
-all_hashed_elsewhere old new s at count stands changes outside k d inside =
-    let store : HashState = get_or s.hashes k d in
-    let is : IsHashOf s.manifest.shape store = stands.whole.hashed k d inside in
-    let back : IsTrue new.honest → IsTrue old.honest = λ h. subst IsTrue changes.honest h in
-    let fits : device_size store.shape ≤ size old = subst (λ (sh : Shape). device_size sh ≤ size old) (sym is.has_shape) (omega (arith, stands.has_size)) in
-    let stays : IsTrue old.honest → IsHashStore new store =
-    λ h. hash_elsewhere store old new at count is.held fits
-    (subst (λ (sh : Shape). LiesOutside (hash_at sh store.region) (slots_len sh) at count) (sym is.has_shape)
-    (outside h store.region (hash_named s stands.whole.hash_regions k d inside))) changes (stands.hashed k d inside) in
-    record {
-      sound = λ h. (stays (back h)).sound h;
-      tagged = λ h. (stays (back h)).tagged h;
-      counted = λ h. (stays (back h)).counted h;
-      digested = λ h. (stays (back h)).digested h;
-    }
 
 -- ---- the conversion
 
@@ -225,87 +170,148 @@ log_written_elsewhere old new store conversion at count fits there most frozen c
       hashed = λ h. (stays (subst IsTrue changes.honest h)).hashed h;
     }
 
--- a conversion in progress keeps what it has written if only bytes outside the frozen logs and its slots change
-pub written_all_elsewhere : (old new : Content) (s : EngineState) (at count : ℕ) (o : Option ConversionState) → Stands old s → ChangesWithin at count old new
-    → (IsTrue old.honest → (region : ℕ) → Contains s.manifest.current.frozen region → LiesOutside (gates_at s.manifest.shape region) (log_len s.manifest.shape) at count)
-    → (IsTrue old.honest → IfSome o (λ conversion. LiesOutside (hash_at s.manifest.shape conversion.region) (slots_len s.manifest.shape) at count))
-    → IfSome o (IsUnderWay s) → IfSome o (HasWritten old (oldest_log s)) → IfSome o (HasWritten new (oldest_log s))
-written_all_elsewhere old new s at count None stands changes outside apart under_way is = tt
-written_all_elsewhere old new s at count (Some conversion) stands changes outside apart under_way is =
-    let way : IsUnderWay s conversion = under_way in
-    let inside : length s.frozen - 1 < length s.frozen = omega (arith, way.some_frozen) in
-    let log : LogStoreState = oldest_log s in
-    let is_shape : log.log.shape ≡ s.manifest.shape = (stands.whole.settled (length s.frozen - 1) s.active inside).has_shape in
-    let named = frozen_named s stands.whole.frozen_regions (length s.frozen - 1) s.active inside in
-    log_written_elsewhere old new log conversion at count (subst (λ (sh : Shape). device_size sh ≤ size old) (sym is_shape) (omega (arith, stands.has_size)))
-    (subst (λ (sh : Shape). conversion.region < sh.hashes) (sym way.has_shape) way.there)
-    (subst (λ (sh : Shape). conversion.next ≤ 4 * sh.buckets) (sym way.has_shape) way.most)
-    (stands.frozen (length s.frozen - 1) s.active inside) changes
-    (λ h. (
-      subst (λ (sh : Shape). log.log.region < sh.logs) (sym is_shape) (named_below old s stands h log.log.region named),
-      subst (λ (sh : Shape). LiesOutside (gates_at sh log.log.region) (log_len sh) at count) (sym is_shape) (outside h log.log.region named),
-      subst (λ (sh : Shape). LiesOutside (hash_at sh conversion.region) (slots_len sh) at count) (sym way.has_shape) (apart h),
-    ))
-    is
+-- ---- a place apart from all but the active log
 
--- ---- the entries
+-- what holds of each value holds of one that is there
+pub on_some : {A : Type 0} (P : A → Type 0) (o : Option A) → ((x : A) → P x) → IfSome o P
+on_some P None each = tt
+on_some P (Some x) each = each x
 
--- a change outside the entries of the sorted store leaves their index
-pub located_elsewhere : (old new : Content) (s : EngineState) (at count : ℕ) → Stands old s → ChangesWithin at count old new
-    → (IsTrue old.honest → LiesOutside (sorted_at s.manifest.shape s.manifest.current.sorted) (entries_len s.manifest.shape) at count) → IsLocated new s
-located_elsewhere old new s at count stands changes behind honest =
-    let is_shape : s.sorted.shape ≡ s.manifest.shape = ap (λ (t : SortedState). t.shape) stands.whole.sorted in
-    let is_region : s.sorted.region ≡ s.manifest.current.sorted = ap (λ (t : SortedState). t.region) stands.whole.sorted in
-    indexed_elsewhere s.sorted s.index old new at count stands.whole.held
-    (subst (λ (sh : Shape). device_size sh ≤ size old) (sym is_shape) (omega (arith, stands.has_size)))
-    (subst (λ (n : ℕ). LiesOutside (sorted_at s.sorted.shape n) (entries_len s.sorted.shape) at count) (sym is_region)
-    (subst (λ (sh : Shape). LiesOutside (sorted_at sh s.manifest.current.sorted) (entries_len sh) at count) (sym is_shape) (behind (subst IsTrue changes.honest honest))))
-    changes stands.located honest
+-- outside the regions of the frozen logs, the slots of the hash stores and the entries of the sorted store
+pub record IsApart (shape : Shape) (body : Body) (at count : ℕ) : Type 0 where
+  pub frozen : (region : ℕ) → Contains body.frozen region → LiesOutside (gates_at shape region) (log_len shape) at count
+  pub hashed : (region : ℕ) → Contains body.hashed region → LiesOutside (hash_at shape region) (slots_len shape) at count
+  pub sorted : LiesOutside (sorted_at shape body.sorted) (entries_len shape) at count
 
--- and their digest
-pub digested_elsewhere : (old new : Content) (s : EngineState) (at count : ℕ) → Stands old s → ChangesWithin at count old new
-    → (IsTrue old.honest → LiesOutside (sorted_at s.manifest.shape s.manifest.current.sorted) (entries_len s.manifest.shape) at count) → IsDigested new s
-digested_elsewhere old new s at count stands changes behind honest =
-    let is_shape : s.sorted.shape ≡ s.manifest.shape = ap (λ (t : SortedState). t.shape) stands.whole.sorted in
-    let is_region : s.sorted.region ≡ s.manifest.current.sorted = ap (λ (t : SortedState). t.region) stands.whole.sorted in
-    digest_elsewhere s.sorted s.digest old new at count stands.whole.held
-    (subst (λ (sh : Shape). device_size sh ≤ size old) (sym is_shape) (omega (arith, stands.has_size)))
-    (subst (λ (n : ℕ). LiesOutside (sorted_at s.sorted.shape n) (entries_len s.sorted.shape) at count) (sym is_region)
-    (subst (λ (sh : Shape). LiesOutside (sorted_at sh s.manifest.current.sorted) (entries_len sh) at count) (sym is_shape) (behind (subst IsTrue changes.honest honest))))
-    changes stands.digested honest
+-- outside the slots of a conversion
+abbrev pub IsPastSlots : Shape → ℕ → ℕ → ConversionState → Type 0
+IsPastSlots shape at count conversion = LiesOutside (hash_at shape conversion.region) (slots_len shape) at count
 
--- ---- the merge
+abbrev pub IsOutsideConversion : EngineState → ℕ → ℕ → Type 0
+IsOutsideConversion s at count = IfSome s.converting (IsPastSlots s.manifest.shape at count)
 
--- a merge in progress keeps what it has gathered and written if only bytes outside its entries, those of the sorted store and the slots of
--- the hash stores change
-pub merged_all_elsewhere : (old new : Content) (s : EngineState) (at count : ℕ) (o : Option MergeState) → Stands old s → ChangesWithin at count old new
-    → (IsTrue old.honest → (region : ℕ) → Contains s.manifest.current.hashed region → LiesOutside (hash_at s.manifest.shape region) (slots_len s.manifest.shape) at count)
-    → (IsTrue old.honest → LiesOutside (sorted_at s.manifest.shape s.manifest.current.sorted) (entries_len s.manifest.shape) at count)
-    → (IsTrue old.honest → IfSome o (λ merge. LiesOutside (sorted_at s.manifest.shape merge.region) (entries_len s.manifest.shape) at count))
-    → IfSome o (IsMerging s) → IfSome o (HasGathered old s) → IfSome o (HasGathered new s)
-merged_all_elsewhere old new s at count None stands changes outside behind apart merging is = tt
-merged_all_elsewhere old new s at count (Some merge) stands changes outside behind apart merging is =
-    let way : IsMerging s merge = merging in
-    let is_shape : s.sorted.shape ≡ s.manifest.shape = ap (λ (t : SortedState). t.shape) stands.whole.sorted in
-    let is_region : s.sorted.region ≡ s.manifest.current.sorted = ap (λ (t : SortedState). t.region) stands.whole.sorted in
-    let fits : device_size s.sorted.shape ≤ size old = subst (λ (sh : Shape). device_size sh ≤ size old) (sym is_shape) (omega (arith, stands.has_size)) in
-    let slots : IsTrue old.honest → All (λ (store : HashState). LiesOutside (hash_at s.sorted.shape store.region) (slots_len s.sorted.shape) at count) (oldest_stores merge.stores s.hashes) =
-    λ h. All-drop (λ (store : HashState). LiesOutside (hash_at s.sorted.shape store.region) (slots_len s.sorted.shape) at count) (length s.hashes - merge.stores) s.hashes
-    (λ k d inside. subst (λ (sh : Shape). LiesOutside (hash_at sh (get_or s.hashes k d).region) (slots_len sh) at count) (sym is_shape)
-    (outside h (get_or s.hashes k d).region (hash_named s stands.whole.hash_regions k d inside))) in
-    let stays : IsTrue old.honest → HasMerged new (oldest_stores merge.stores s.hashes) s.sorted merge =
-    λ h. merged_elsewhere (oldest_stores merge.stores s.hashes) s.sorted merge old new at count stands.whole.held way.held fits
-    (subst (λ (sh : Shape). LiesOutside (sorted_at sh merge.region) (entries_len sh) at count) (sym is_shape) (apart h))
-    (subst (λ (n : ℕ). LiesOutside (sorted_at s.sorted.shape n) (entries_len s.sorted.shape) at count) (sym is_region)
-    (subst (λ (sh : Shape). LiesOutside (sorted_at sh s.manifest.current.sorted) (entries_len sh) at count) (sym is_shape) (behind h)))
-    (slots h) changes is.0 in (
+-- outside the entries of a merge
+abbrev pub IsPastEntries : Shape → ℕ → ℕ → MergeState → Type 0
+IsPastEntries shape at count merge = LiesOutside (sorted_at shape merge.region) (entries_len shape) at count
+
+abbrev pub IsOutsideMerge : EngineState → ℕ → ℕ → Type 0
+IsOutsideMerge s at count = IfSome s.merging (IsPastEntries s.manifest.shape at count)
+
+-- the region of a log that is there lies before the slots of a conversion
+pub region_before_conversion : (s : EngineState) (region : ℕ) → region < s.manifest.shape.logs
+    → IsOutsideConversion s (gates_at s.manifest.shape region) (log_size s.manifest.shape)
+region_before_conversion s region below =
+    on_some (IsPastSlots s.manifest.shape (gates_at s.manifest.shape region) (log_size s.manifest.shape)) s.converting
+    (λ conversion. slots_behind_log s.manifest.shape region conversion.region below)
+
+-- and before the entries of a merge
+pub region_before_merge : (s : EngineState) (region : ℕ) → region < s.manifest.shape.logs
+    → IsOutsideMerge s (gates_at s.manifest.shape region) (log_size s.manifest.shape)
+region_before_merge s region below =
+    on_some (IsPastEntries s.manifest.shape (gates_at s.manifest.shape region) (log_size s.manifest.shape)) s.merging
+    (λ merge. entries_behind_log s.manifest.shape region merge.region below)
+
+-- a change in such a place leaves what is not in the active log
+module _ (old new : Content) (s : EngineState) (at count : ℕ) (stands : Stands old s) (changes : ChangesWithin at count old new)
+    (apart : IsTrue old.honest → IsApart s.manifest.shape s.manifest.current at count) where
+  back : IsTrue new.honest → IsTrue old.honest
+  back h = subst IsTrue changes.honest h
+
+  -- the frozen logs
+  pub all_frozen_elsewhere : All (IsFrozen new) s.frozen
+  all_frozen_elsewhere k d inside =
+      let store : LogStoreState = get_or s.frozen k d in
+      let is_shape : store.log.shape ≡ s.manifest.shape = (stands.whole.settled k d inside).has_shape in
+      let named = frozen_named s stands.whole.frozen_regions k d inside in
+      frozen_elsewhere old new store at count (stands.has_size ∙ ap device_size (sym is_shape)) changes
+      (λ h. (
+        subst (λ (sh : Shape). store.log.region < sh.logs) (sym is_shape) (named_below old s stands h store.log.region named),
+        subst (λ (sh : Shape). LiesOutside (gates_at sh store.log.region) (log_len sh) at count) (sym is_shape)
+            ((apart h).frozen store.log.region named),
+      ))
+      (stands.frozen k d inside)
+
+  -- the hash stores
+  pub all_hashed_elsewhere : All (IsHashStore new) s.hashes
+  all_hashed_elsewhere k d inside =
+      let store : HashState = get_or s.hashes k d in
+      let is : IsHashOf s.manifest.shape store = stands.whole.hashed k d inside in
+      let fits : device_size store.shape ≤ size old =
+      subst (λ (sh : Shape). device_size sh ≤ size old) (sym is.has_shape) (omega (arith, stands.has_size)) in
+      let stays : IsTrue old.honest → IsHashStore new store =
+      λ h. hash_elsewhere store old new at count is.held fits
+      (subst (λ (sh : Shape). LiesOutside (hash_at sh store.region) (slots_len sh) at count) (sym is.has_shape)
+      ((apart h).hashed store.region (hash_named s stands.whole.hash_regions k d inside))) changes (stands.hashed k d inside) in
       record {
-        shape = is.0.shape;
-        counted = is.0.counted;
-        apart = is.0.apart;
-        hashed = λ h. (stays (subst IsTrue changes.honest h)).hashed h;
-        merged = λ h. (stays (subst IsTrue changes.honest h)).merged h;
-      },
-      is.1,
-      λ h. is.2 (subst IsTrue changes.honest h),
-    )
+        sound = λ h. (stays (back h)).sound h;
+        tagged = λ h. (stays (back h)).tagged h;
+        counted = λ h. (stays (back h)).counted h;
+        digested = λ h. (stays (back h)).digested h;
+      }
+
+  -- what a conversion has written, if its slots are apart too
+  pub written_all_elsewhere : (o : Option ConversionState) → (IsTrue old.honest → IfSome o (IsPastSlots s.manifest.shape at count))
+      → IfSome o (IsUnderWay s) → IfSome o (HasWritten old (oldest_log s)) → IfSome o (HasWritten new (oldest_log s))
+  written_all_elsewhere None outside under_way is = tt
+  written_all_elsewhere (Some conversion) outside under_way is =
+      let way : IsUnderWay s conversion = under_way in
+      let inside : length s.frozen - 1 < length s.frozen = omega (arith, way.some_frozen) in
+      let log : LogStoreState = oldest_log s in
+      let is_shape : log.log.shape ≡ s.manifest.shape = (stands.whole.settled (length s.frozen - 1) s.active inside).has_shape in
+      let named = frozen_named s stands.whole.frozen_regions (length s.frozen - 1) s.active inside in
+      log_written_elsewhere old new log conversion at count
+      (subst (λ (sh : Shape). device_size sh ≤ size old) (sym is_shape) (omega (arith, stands.has_size)))
+      (subst (λ (sh : Shape). conversion.region < sh.hashes) (sym way.has_shape) way.there)
+      (subst (λ (sh : Shape). conversion.next ≤ 4 * sh.buckets) (sym way.has_shape) way.most)
+      (stands.frozen (length s.frozen - 1) s.active inside) changes
+      (λ h. (
+        subst (λ (sh : Shape). log.log.region < sh.logs) (sym is_shape) (named_below old s stands h log.log.region named),
+        subst (λ (sh : Shape). LiesOutside (gates_at sh log.log.region) (log_len sh) at count) (sym is_shape)
+            ((apart h).frozen log.log.region named),
+        subst (λ (sh : Shape). IsPastSlots sh at count conversion) (sym way.has_shape) (outside h),
+      ))
+      is
+
+  -- the entries, where the manifest names them
+  sorted_inside : device_size s.sorted.shape ≤ size old
+  sorted_inside = subst (λ (t : SortedState). device_size t.shape ≤ size old) (sym stands.whole.sorted) (omega (arith, stands.has_size))
+
+  sorted_outside : IsTrue old.honest → LiesOutside (sorted_at s.sorted.shape s.sorted.region) (entries_len s.sorted.shape) at count
+  sorted_outside h =
+      subst (λ (t : SortedState). LiesOutside (sorted_at t.shape t.region) (entries_len t.shape) at count) (sym stands.whole.sorted) (apart h).sorted
+
+  -- their index and their digest
+  pub located_elsewhere : IsLocated new s
+  located_elsewhere h =
+      indexed_elsewhere s.sorted s.index old new at count stands.whole.held sorted_inside (sorted_outside (back h)) changes stands.located h
+
+  pub digested_elsewhere : IsDigested new s
+  digested_elsewhere h =
+      digest_elsewhere s.sorted s.digest old new at count stands.whole.held sorted_inside (sorted_outside (back h)) changes stands.digested h
+
+  -- what a merge has gathered and written, if its entries are apart too
+  pub merged_all_elsewhere : (o : Option MergeState) → (IsTrue old.honest → IfSome o (IsPastEntries s.manifest.shape at count))
+      → IfSome o (IsMerging s) → IfSome o (HasGathered old s) → IfSome o (HasGathered new s)
+  merged_all_elsewhere None outside merging is = tt
+  merged_all_elsewhere (Some merge) outside merging is =
+      let way : IsMerging s merge = merging in
+      let is_shape : s.sorted.shape ≡ s.manifest.shape = ap (λ (t : SortedState). t.shape) stands.whole.sorted in
+      let taken : List HashState = oldest_stores merge.stores s.hashes in
+      let slots : IsTrue old.honest → All (λ (store : HashState). LiesOutside (hash_at s.sorted.shape store.region) (slots_len s.sorted.shape) at count) taken =
+      λ h. All-drop (λ (store : HashState). LiesOutside (hash_at s.sorted.shape store.region) (slots_len s.sorted.shape) at count)
+      (length s.hashes - merge.stores) s.hashes
+      (λ k d inside. subst (λ (sh : Shape). LiesOutside (hash_at sh (get_or s.hashes k d).region) (slots_len sh) at count) (sym is_shape)
+      ((apart h).hashed (get_or s.hashes k d).region (hash_named s stands.whole.hash_regions k d inside))) in
+      let stays : IsTrue old.honest → HasMerged new taken s.sorted merge =
+      λ h. merged_elsewhere taken s.sorted merge old new at count stands.whole.held way.held sorted_inside
+      (subst (λ (sh : Shape). IsPastEntries sh at count merge) (sym is_shape) (outside h)) (sorted_outside h) (slots h) changes is.0 in (
+        record {
+          shape = is.0.shape;
+          counted = is.0.counted;
+          apart = is.0.apart;
+          hashed = λ h. (stays (back h)).hashed h;
+          merged = λ h. (stays (back h)).merged h;
+        },
+        is.1,
+        λ h. is.2 (back h),
+      )

@@ -1,29 +1,15 @@
 -- What the images of a disk on which the stores stand represent.
-use Rattle.std.proofs.Common.{◌≡◌, ◌≤◌, ◌<◌, ℕ, ◌+◌, ◌-◌, IsTrue, List, ◌++◌, length, map, replicate, Ok, inr, refl, ap, sym, ◌∙◌, subst, arith}
-use Rattle.std.proofs.lemmas.List.{length-replicate}
-use Rattle.silt_disk.specs.Disk.{Content, Left, LeavesOnly, Torn, size}
-use Rattle.silt_disk.specs.Layout.{Shape, device_size, gates_at, log_size}
-use Rattle.silt_disk.proofs.Images.{shown_left, torn_splice, torn_wider}
-use Rattle.silt_disk.proofs.Regions.{regions_apart, up_least}
-use Rattle.silt_log.specs.Rows.{log_rows}
-use Rattle.silt_frame.specs.Rows.{StoredRow, put_count}
-use Rattle.silt_log.specs.State.{InBounds, LogState, all_rows, settled_rows, waiting_rows}
+use Rattle.silt_engine.proofs.Common.{◌≡◌, ◌≤◌, ◌<◌, ℕ, ◌+◌, ◌-◌, IsTrue, List, ◌++◌, length, map, replicate, Ok, inr, refl, ap, sym, ◌∙◌, subst, arith}
+use Rattle.silt_engine.proofs.Common.{Content, Left, LeavesOnly, Torn, size, Shape, device_size, gates_at, log_size, shown_left, torn_wider, regions_apart}
+use Rattle.silt_engine.proofs.Common.{up_least, log_rows, StoredRow, put_count, InBounds, LogState, all_rows, settled_rows, waiting_rows}
+use Rattle.silt_engine.proofs.Common.{all_are_settled_and_waiting, log_inside, Map, map_after, Stores, image_digests, image_stores, HasActive, IsSound}
+use Rattle.silt_engine.proofs.Common.{StandsFor, image_map, rows_of, with_log_rows, command_of, map_of_rows, rows_law, where_found, RecordIsCurrent}
+use Rattle.silt_engine.proofs.Common.{current_record, EngineState, Stands, current_map, full_image, shown_stores, length-replicate, torn_splice}
+use Rattle.silt_engine.proofs.Common.{torn_slice_before, other_regions, IsGoodWith}
 use Rattle.silt_log.specs.State as log
-use Rattle.silt_log.proofs.Elsewhere.{all_are_settled_and_waiting}
-use Rattle.silt_log.proofs.Exits.{log_inside}
-use Rattle.silt_event.specs.Commands.{Map, map_after}
-use Rattle.silt_image.specs.Stores.{Stores, image_digests, image_stores}
-use Rattle.silt_image.specs.Meaning.{HasActive, IsSound, StandsFor, image_charge, image_map, rows_of, with_log_rows}
-use Rattle.silt_event.specs.Rows.{command_of, map_of_rows}
-use Rattle.silt_image.proofs.Verdict.{rows_law}
+use Rattle.silt_image.specs.Meaning.{image_charge}
 use Rattle.silt_disk.specs.Header.{header_of, version_of}
-use Rattle.silt_disk.proofs.Images.{torn_slice_before}
-use Rattle.silt_manifest.specs.Current.{where_found}
-use Rattle.silt_manifest.specs.Standing.{RecordIsCurrent, current_record}
-use Rattle.silt_manifest.proofs.Laws.{other_regions}
-use Rattle.silt_standing.specs.State.{EngineState}
-use Rattle.silt_standing.specs.Standing.{Stands, base_map, current_map, full_image, shown_stores}
-use Rattle.silt_engine.specs.Laws.{IsGoodWith}
+use Rattle.silt_standing.specs.Standing.{base_map}
 use Rattle.silt_engine.proofs.Named.{active_named, map_with_more, named_body, named_here, named_shape, region_torn, rows_with_more, said_with_rows}
 use Rattle.silt_engine.proofs.Named.{says_current, sound_settled, stands_for, stores_map, with_body, with_shape}
 

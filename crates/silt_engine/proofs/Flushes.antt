@@ -1,26 +1,11 @@
 -- The waiting rows settled, and some of them.
-use Rattle.std.proofs.Common.{◌≡◌, ℕ, ◌+◌, ◌-◌, nat_lt, false, IsTrue, List, [], ◌++◌, map, take, drop, Ok, refl, ap, sym, ◌∙◌, subst, arith}
-use Rattle.std.proofs.lemmas.Bool.{ltb-false}
-use Rattle.std.proofs.lemmas.List.{append-nil, map-append, take-append-drop}
-use Rattle.silt_disk.specs.Disk.{ChangesWithin, Content, LeavesOnly, size}
-use Rattle.silt_disk.specs.Layout.{Shape, gates_at, log_size}
-use Rattle.silt_log.specs.Rows.{log_rows}
-use Rattle.silt_frame.specs.Rows.{StoredRow, put_count}
-use Rattle.silt_log.specs.State.{LogState, all_rows, settled_rows, waiting_rows}
-use Rattle.silt_log.specs.Calls.{HasBeginning}
-use Rattle.silt_log.proofs.Elsewhere.{gates_in_region}
-use Rattle.silt_log.proofs.Waiting.{none_waiting}
-use Rattle.silt_log_store.specs.State.{LogStoreState}
-use Rattle.silt_log_store.specs.Calls.{OpensSomeOfStore, OpensStore}
-use Rattle.silt_event.specs.Commands.{Map, map_after}
-use Rattle.silt_image.specs.Stores.{Stores, image_stores}
-use Rattle.silt_image.specs.Meaning.{AreDigestsOf, IsSound, image_map, rows_of, with_log_rows}
-use Rattle.silt_event.specs.Rows.{command_of, map_of_rows}
-use Rattle.silt_image.proofs.Rows.{again_law}
-use Rattle.silt_standing.specs.State.{EngineState}
-use Rattle.silt_standing.specs.Standing.{Stands, full_image, shown_stores, waiting_commands}
-use Rattle.silt_engine.specs.Calls.{Advances, Breaks, Remaps}
-use Rattle.silt_standing.specs.Standing.{IsQuiet, SameDisk}
+use Rattle.silt_engine.proofs.Common.{◌≡◌, ℕ, ◌+◌, ◌-◌, nat_lt, false, IsTrue, List, [], ◌++◌, map, take, drop, Ok, refl, ap, sym, ◌∙◌, subst, arith}
+use Rattle.silt_engine.proofs.Common.{map-append, take-append-drop, ChangesWithin, Content, LeavesOnly, size, Shape, gates_at, log_size, log_rows, StoredRow}
+use Rattle.silt_engine.proofs.Common.{put_count, LogState, all_rows, settled_rows, waiting_rows, none_waiting, LogStoreState, Map, map_after, Stores}
+use Rattle.silt_engine.proofs.Common.{image_stores, AreDigestsOf, IsSound, image_map, rows_of, with_log_rows, command_of, map_of_rows, EngineState, Stands}
+use Rattle.silt_engine.proofs.Common.{full_image, shown_stores, waiting_commands, Advances, Breaks, Remaps, IsQuiet, SameDisk, ltb-false, HasBeginning}
+use Rattle.silt_engine.proofs.Common.{gates_in_region, OpensSomeOfStore, OpensStore, again_law}
+use Rattle.std.proofs.lemmas.List.{append-nil}
 use Rattle.silt_engine.proofs.Named.{map_with_more, named_body, named_shape, rows_with_more, said_with_rows, sound_some, with_body, with_shape}
 use Rattle.silt_engine.proofs.Facts.{active_is, all_sound, base_is, full_map, has_active, map_with_rows, rows_split, stands_with_rows, torn_active}
 use Rattle.silt_engine.proofs.Standing.{Fits, digested_stays, fits_stand, frozen_stay, full_with, hashed_stay, located_stays, merged_stays, named_with, current_record_stays, shown_are, written_stays}

@@ -1,29 +1,16 @@
 -- Rows done on a map in memory.
-use Rattle.std.proofs.Common.{◌≡◌, ◌<◌, ℕ, ◌+◌, ◌*◌, ◌==◌, Bool, cond, if◌then◌else◌, true, false, List, [], ◌∷◌, ◌++◌, ◌-◌, length, filter, map, take, drop}
-use Rattle.std.proofs.Common.{get_or, Some, None, refl, ap, sym, ◌∙◌, subst, arith}
+use Rattle.silt_engine.proofs.Common.{◌≡◌, ◌<◌, ℕ, ◌+◌, ◌*◌, ◌==◌, Bool, cond, if◌then◌else◌, true, false, List, [], ◌∷◌, ◌++◌, ◌-◌, length, filter, map, take}
+use Rattle.silt_engine.proofs.Common.{drop, get_or, Some, None, refl, ap, sym, ◌∙◌, subst, arith, get, get-insert, get-remove, nat_list_cmp_total, length-drop}
+use Rattle.silt_engine.proofs.Common.{map-append, take_all, take_more, filter-append, get_or_from_slice_get, slice_get_within, Shape, Key, slot_row, hash_rows}
+use Rattle.silt_engine.proofs.Common.{all_before, Command, Map, changed, delete, map_after, put, command_of, oldest_first, map_after-append, entry_row}
+use Rattle.silt_engine.proofs.Common.{has_known_kind, StoredRow, key_cmp, stored_row, Put, AreEntriesOf, DoesRows, empty, get-empty, eq_by_cmp_equiv, drop_more}
+use Rattle.silt_engine.proofs.Common.{before_more, HasEntry}
+use Rattle.std.specs.BTreeMap as tree
 use Rattle.std.specs.Ordering.{nat_cmp, eq_by_cmp}
 use Rattle.std.specs.Cmp.Lexicographic.{slice_cmp}
 use Rattle.std.specs.BTreeMap.{BTreeMap}
-use Rattle.std.specs.BTreeMap as tree
-use Rattle.std.specs.FinMap.{empty, get, get-empty, get-insert, get-remove}
 use Rattle.std.specs.Map.{lookup}
-use Rattle.std.proofs.lemmas.Cmp.{eq_by_cmp_equiv, nat_list_cmp_total}
-use Rattle.std.proofs.lemmas.List.{drop_more, length-drop, map-append, take_all, take_more}
-use Rattle.std.proofs.lemmas.List.Elements.{filter-append}
-use Rattle.std.proofs.lemmas.Option.{get_or_from_slice_get, slice_get_within}
-use Rattle.silt_disk.specs.Layout.{Shape}
-use Rattle.silt_frame.specs.declared.key.Key.{Key}
-use Rattle.silt_hash_store.specs.Slots.{rows_before, slot_row, hash_rows}
-use Rattle.silt_hash_store.proofs.Slotting.{all_before, before_more}
-use Rattle.silt_event.specs.Commands.{Command, Map, changed, delete, map_after, put}
-use Rattle.silt_event.specs.Rows.{command_of}
-use Rattle.silt_log.specs.Parts.{oldest_first}
-use Rattle.silt_event.proofs.Rows.{map_after-append}
-use Rattle.silt_sorted_store.specs.OnlyRow.{HasEntry}
-use Rattle.silt_frame.specs.Rows.{entry_row, has_known_kind, StoredRow, key_cmp, stored_row}
-use Rattle.silt_frame.specs.declared.key.Kind.TheVariants.{Put}
-use Rattle.silt_engine.specs.Lookup.{AreEntriesOf}
-use Rattle.silt_engine.specs.Entries.{DoesRows}
+use Rattle.silt_hash_store.specs.Slots.{rows_before}
 
 -- which of two keys is named first does not matter
 tied : (a b : List ℕ) → eq_by_cmp (slice_cmp nat_cmp) a b ≡ eq_by_cmp (slice_cmp nat_cmp) b a

@@ -1,62 +1,25 @@
 -- The steps of freezing.
-use Rattle.std.proofs.Common.{◌≡◌, ◌≢◌, ◌<◌, ℕ, ◌+◌, ◌-◌, ◌%◌, false, IsTrue, List, [], ◌∷◌, ◌++◌, suc, length, map, take, drop, replicate, Option, Some, None}
-use Rattle.std.proofs.Common.{Ok, inr, refl, ap, sym, ◌∙◌, subst, arith}
-use Rattle.std.specs.Prelude.{Contains, IfSome}
-use Rattle.std.proofs.lemmas.List.{append-nil, take-append-drop}
+use Rattle.silt_engine.proofs.Common.{◌≡◌, ◌≢◌, ◌<◌, ℕ, ◌+◌, ◌-◌, ◌%◌, false, IsTrue, List, [], ◌∷◌, ◌++◌, suc, length, map, take, drop, replicate, Option}
+use Rattle.silt_engine.proofs.Common.{None, Ok, inr, refl, ap, sym, ◌∙◌, subst, arith, Contains, IfSome, take-append-drop, ChangesWithin, Content, LeavesOnly}
+use Rattle.silt_engine.proofs.Common.{LiesOutside, size, Shape, device_size, gates_at, log_len, log_size, slot_at, within_wider, up_least, log_rows, StoredRow}
+use Rattle.silt_engine.proofs.Common.{put_count, all_rows, KeepsRows, waiting_kept, IsLogStore, LogStoreState, ConversionState, HasWritten, ManifestState}
+use Rattle.silt_engine.proofs.Common.{IsCurrent, Body, Digests, current_record_elsewhere, map_after, Stores, image_stores, AreDigestsOf, IsSound, rows_of}
+use Rattle.silt_engine.proofs.Common.{with_log_rows, command_of, map_of_rows, whole_law, MergeState, IsMerging, IsUnderWay, EngineState, oldest_log}
+use Rattle.silt_engine.proofs.Common.{HasGathered, Stands, base_map, current_map, full_image, shown_stores, waiting_commands, Advances, IsQuiet, SameDisk}
+use Rattle.silt_engine.proofs.Common.{names_region, entries_behind_log, LogState, NextLog, IsEmptied, IsNextLog, log_elsewhere, names_log, unnamed_law}
+use Rattle.silt_engine.proofs.Common.{EmptiesStore}
+use Rattle.std.proofs.lemmas.List.{append-nil}
 use Rattle.std.proofs.Math.Nat.{mod-lt}
-use Rattle.silt_disk.specs.Disk.{ChangesWithin, Content, LeavesOnly, LiesOutside, size}
-use Rattle.silt_disk.specs.Layout.{Shape, device_size, entries_len, gates_at, hash_at, log_len, log_size, slot_at, slots_len, sorted_at}
-use Rattle.silt_disk.proofs.Images.{within_wider}
-use Rattle.silt_disk.proofs.Regions.{up_least}
-use Rattle.silt_log.specs.Rows.{log_rows}
-use Rattle.silt_frame.specs.Rows.{StoredRow, put_count}
-use Rattle.silt_log.specs.State.{all_rows}
-use Rattle.silt_log.specs.Calls.{KeepsRows}
-use Rattle.silt_log.proofs.Elsewhere.{log_elsewhere}
-use Rattle.silt_log.proofs.Waiting.{waiting_kept}
-use Rattle.silt_log_store.specs.State.{IsLogStore, LogStoreState}
-use Rattle.silt_conversion.specs.Conversion.{ConversionState, HasWritten}
-use Rattle.silt_manifest.specs.Standing.{ManifestState, IsCurrent}
-use Rattle.silt_manifest.specs.declared.body.Body.{Body}
-use Rattle.silt_manifest.specs.declared.digests.Digests.{Digests}
-use Rattle.silt_manifest.proofs.Laws.{current_record_elsewhere}
-use Rattle.silt_event.specs.Commands.{map_after}
-use Rattle.silt_image.specs.Stores.{Stores, image_stores}
-use Rattle.silt_image.specs.Meaning.{AreDigestsOf, IsSound, names_log, rows_of, with_log_rows}
-use Rattle.silt_event.specs.Rows.{command_of, map_of_rows}
-use Rattle.silt_image.proofs.Named.{whole_law}
-use Rattle.silt_image.proofs.Rows.{unnamed_law}
-use Rattle.silt_merge.specs.State.{MergeState}
-use Rattle.silt_standing.specs.State.{IsMerging, IsUnderWay, EngineState, oldest_log}
-use Rattle.silt_standing.specs.Standing.{HasGathered, Stands, base_map, current_map, full_image, shown_stores, waiting_commands}
-use Rattle.silt_engine.specs.Calls.{Advances}
-use Rattle.silt_standing.specs.Standing.{IsQuiet, SameDisk}
-use Rattle.silt_engine.specs.NextLog.{names_region}
 use Rattle.silt_engine.proofs.Named.{named_body, named_shape, region_torn}
 use Rattle.silt_engine.proofs.Facts.{active_size, base_is, shown_named}
 use Rattle.silt_engine.proofs.Elsewhere.{all_frozen_elsewhere, all_hashed_elsewhere, digested_elsewhere, entries_behind_manifest, indexed_same}
 use Rattle.silt_engine.proofs.Elsewhere.{located_elsewhere, merged_all_elsewhere, not_among, outside_other, outside_slot, slots_behind_log}
-use Rattle.silt_engine.proofs.Elsewhere.{slots_behind_manifest, written_all_elsewhere}
-use Rattle.silt_standing.proofs.Places.{entries_behind_log}
+use Rattle.silt_engine.proofs.Elsewhere.{slots_behind_manifest, written_all_elsewhere, IsApart, IsPastSlots, IsPastEntries, IsOutsideConversion, IsOutsideMerge}
+use Rattle.silt_engine.proofs.Elsewhere.{region_before_conversion, region_before_merge, on_some}
 use Rattle.silt_engine.proofs.Standing.{Fits, fits_stand, shown_are}
 use Rattle.silt_engine.proofs.Wholes.{whole_with}
 
 -- ---- a change that leaves the stores as they are
-
--- outside the regions of all logs, the slots of all hash stores and the entries of the sorted store
-pub record IsApart (shape : Shape) (body : Body) (at count : ℕ) : Type 0 where
-  pub active : LiesOutside (gates_at shape body.active) (log_len shape) at count
-  pub frozen : (region : ℕ) → Contains body.frozen region → LiesOutside (gates_at shape region) (log_len shape) at count
-  pub hashed : (region : ℕ) → Contains body.hashed region → LiesOutside (hash_at shape region) (slots_len shape) at count
-  pub sorted : LiesOutside (sorted_at shape body.sorted) (entries_len shape) at count
-
--- outside the slots of a conversion in progress
-abbrev pub IsOutsideConversion : EngineState → ℕ → ℕ → Type 0
-IsOutsideConversion s at count = IfSome s.converting (λ conversion. LiesOutside (hash_at s.manifest.shape conversion.region) (slots_len s.manifest.shape) at count)
-
--- outside the entries of a merge in progress
-abbrev pub IsOutsideMerge : EngineState → ℕ → ℕ → Type 0
-IsOutsideMerge s at count = IfSome s.merging (λ merge. LiesOutside (sorted_at s.manifest.shape merge.region) (entries_len s.manifest.shape) at count)
 
 -- a log store under a change elsewhere
 pub store_elsewhere : (old new : Content) (store : LogStoreState) (at count : ℕ) → IsLogStore old store → size old ≡ device_size store.log.shape → size new ≡ size old
@@ -70,12 +33,14 @@ store_elsewhere old new store at count stands sized sizes outside changes =
 
 module _ (old new : Content) (s : EngineState) (at count : ℕ) (stands : Stands old s) (sizes : size new ≡ size old) (changes : ChangesWithin at count old new)
     (apart : IsTrue old.honest → IsApart s.manifest.shape s.manifest.current at count)
-    (outside : LiesOutside (gates_at s.active.log.shape s.active.log.region) (log_len s.active.log.shape) at count) where
+    (outside : LiesOutside (gates_at s.manifest.shape s.manifest.current.active) (log_len s.manifest.shape) at count) where
   pub same_here : SameDisk old new
   same_here = record { size = sizes; honest = changes.honest }
 
   pub kept : KeepsRows old new s.active.log s.active.log
-  kept = log_elsewhere old new s.active.log at count stands.active (omega (arith, active_size old s stands)) sizes outside changes
+  kept = log_elsewhere old new s.active.log at count stands.active (omega (arith, active_size old s stands)) sizes
+      (subst (λ (sh : Shape). LiesOutside (gates_at sh s.active.log.region) (log_len sh) at count) (sym stands.whole.has_shape)
+      (subst (λ (n : ℕ). LiesOutside (gates_at s.manifest.shape n) (log_len s.manifest.shape) at count) (sym stands.whole.active_region) outside)) changes
 
   -- the stores stand in this state, with the same rows waiting
   module _ (m : ManifestState) (converting : Option ConversionState) (merging : Option MergeState) (same_shape : m.shape ≡ s.manifest.shape)
@@ -102,10 +67,10 @@ module _ (old new : Content) (s : EngineState) (at count : ℕ) (stands : Stands
       idle = idle;
       current = is_current;
       active = record { log = kept.stands; index = indexed_same old new s.active back (λ h. kept.all (back h)) stands.indexed };
-      frozen = all_frozen_elsewhere old new s at count stands changes (λ h. (apart h).frozen);
-      hashed = all_hashed_elsewhere old new s at count stands changes (λ h. (apart h).hashed);
-      located = located_elsewhere old new s at count stands changes (λ h. (apart h).sorted);
-      digested = digested_elsewhere old new s at count stands changes (λ h. (apart h).sorted);
+      frozen = all_frozen_elsewhere old new s at count stands changes apart;
+      hashed = all_hashed_elsewhere old new s at count stands changes apart;
+      located = located_elsewhere old new s at count stands changes apart;
+      digested = digested_elsewhere old new s at count stands changes apart;
       written = written;
       merged = merged;
       same_shape = t_shape;
@@ -137,7 +102,7 @@ module _ (old new : Content) (s : EngineState) (at count : ℕ) (stands : Stands
 
   -- what a merge has gathered and written, after a change outside its entries
   pub merged_on : (IsTrue old.honest → IsOutsideMerge s at count) → IfSome s.merging (HasGathered new s)
-  merged_on outside_merge = merged_all_elsewhere old new s at count s.merging stands changes (λ h. (apart h).hashed) (λ h. (apart h).sorted) outside_merge stands.whole.merging stands.merged
+  merged_on outside_merge = merged_all_elsewhere old new s at count stands changes apart s.merging outside_merge stands.whole.merging stands.merged
 
   -- so do the stores with their conversion and their merge as they are, after a change outside their slots and entries
   pub stays_on : (IsTrue old.honest → IsOutsideConversion s at count) → (IsTrue old.honest → IsOutsideMerge s at count)
@@ -145,7 +110,7 @@ module _ (old new : Content) (s : EngineState) (at count : ℕ) (stands : Stands
       → LeavesOnly new (λ image. image_stores image ≡ Ok (shown_stores old s)) → Advances [] old new s (record s { manifest = m })
   stays_on outside_slots outside_merge m same_shape same_current same_digests idle is_current named =
       stays_with m s.converting s.merging same_shape same_current same_digests idle is_current named stands.whole.under_way
-      (written_all_elsewhere old new s at count s.converting stands changes (λ h. (apart h).frozen) outside_slots stands.whole.under_way stands.written)
+      (written_all_elsewhere old new s at count stands changes apart s.converting outside_slots stands.whole.under_way stands.written)
       stands.whole.merging (merged_on outside_merge)
 
 -- ---- the region of the new log
@@ -160,29 +125,10 @@ later_contains first ids id (k, inside, here) = (suc k, omega (arith, inside), h
 -- it lies apart from the logs, the hash stores and the sorted store
 pub region_apart : (shape : Shape) (body : Body) (region : ℕ) → region < shape.logs → names_region body region ≡ false → IsApart shape body (gates_at shape region) (log_size shape)
 region_apart shape body region below free = record {
-  active = outside_other shape body.active region (not_named body region free body.active (0, omega arith, refl));
   frozen = λ id there. outside_other shape id region (not_named body region free id (later_contains body.active body.frozen id there));
   hashed = λ id there. slots_behind_log shape region id below;
   sorted = entries_behind_log shape region body.sorted below;
 }
-
--- and apart from the slots of a conversion
-pub region_before_conversion : (s : EngineState) (region : ℕ) → region < s.manifest.shape.logs → IsOutsideConversion s (gates_at s.manifest.shape region) (log_size s.manifest.shape)
-region_before_conversion s region below = behind s.converting
-  where
-    behind : (o : Option ConversionState)
-        → IfSome o (λ conversion. LiesOutside (hash_at s.manifest.shape conversion.region) (slots_len s.manifest.shape) (gates_at s.manifest.shape region) (log_size s.manifest.shape))
-    behind None = tt
-    behind (Some conversion) = slots_behind_log s.manifest.shape region conversion.region below
-
--- and from the entries of a merge
-pub region_before_merge : (s : EngineState) (region : ℕ) → region < s.manifest.shape.logs → IsOutsideMerge s (gates_at s.manifest.shape region) (log_size s.manifest.shape)
-region_before_merge s region below = behind s.merging
-  where
-    behind : (o : Option MergeState) → IfSome o (λ merge. LiesOutside (sorted_at s.manifest.shape merge.region) (entries_len s.manifest.shape)
-        (gates_at s.manifest.shape region) (log_size s.manifest.shape))
-    behind None = tt
-    behind (Some merge) = entries_behind_log s.manifest.shape region merge.region below
 
 module _ (old new : Content) (s : EngineState) (region : ℕ) (stands : Stands old s) (below : region < s.manifest.shape.logs) (free : names_region s.manifest.current region ≡ false)
     (sizes : size new ≡ size old) (gates : ChangesWithin (gates_at s.manifest.shape region) s.manifest.shape.log_capacity old new) where
@@ -203,11 +149,8 @@ module _ (old new : Content) (s : EngineState) (region : ℕ) (stands : Stands o
         ∙ ap Ok (unnamed_law t region (log_rows s.manifest.shape region image) names);
   }
 
-  outside_active : LiesOutside (gates_at s.active.log.shape s.active.log.region) (log_len s.active.log.shape) (gates_at s.manifest.shape region) (log_size s.manifest.shape)
-  outside_active =
-      subst (λ (sh : Shape). LiesOutside (gates_at sh s.active.log.region) (log_len sh) (gates_at s.manifest.shape region) (log_size s.manifest.shape)) (sym stands.whole.has_shape)
-      (subst (λ (n : ℕ). LiesOutside (gates_at s.manifest.shape n) (log_len s.manifest.shape) (gates_at s.manifest.shape region) (log_size s.manifest.shape))
-      (sym stands.whole.active_region) (region_apart s.manifest.shape s.manifest.current region below free).active)
+  outside_active : LiesOutside (gates_at s.manifest.shape s.manifest.current.active) (log_len s.manifest.shape) (gates_at s.manifest.shape region) (log_size s.manifest.shape)
+  outside_active = outside_other s.manifest.shape s.manifest.current.active region (not_named s.manifest.current region free s.manifest.current.active (0, omega arith, refl))
 
   -- the stores still stand
   pub cleared : Advances [] old new s s
@@ -242,27 +185,62 @@ quiet_map content s is = ap (map_after (base_map content s)) is.none_wait
 -- a slot of the manifest lies apart from the logs, the hash stores and the sorted store
 pub slot_apart : (shape : Shape) (body : Body) (slot : ℕ) → slot < 2 → IsApart shape body (slot_at slot) 4096
 slot_apart shape body slot below = record {
-  active = outside_slot shape body.active slot below;
   frozen = λ region there. outside_slot shape region slot below;
   hashed = λ region there. slots_behind_manifest shape region slot below;
   sorted = entries_behind_manifest shape body.sorted slot below;
 }
 
--- and apart from the slots of a conversion
+-- and apart from the slots of a conversion and the entries of a merge
 pub slot_before_conversion : (s : EngineState) (slot : ℕ) → slot < 2 → IsOutsideConversion s (slot_at slot) 4096
-slot_before_conversion s slot below = behind s.converting
-  where
-    behind : (o : Option ConversionState) → IfSome o (λ conversion. LiesOutside (hash_at s.manifest.shape conversion.region) (slots_len s.manifest.shape) (slot_at slot) 4096)
-    behind None = tt
-    behind (Some conversion) = slots_behind_manifest s.manifest.shape conversion.region slot below
+slot_before_conversion s slot below =
+    on_some (IsPastSlots s.manifest.shape (slot_at slot) 4096) s.converting (λ conversion. slots_behind_manifest s.manifest.shape conversion.region slot below)
 
--- and from the entries of a merge
 pub slot_before_merge : (s : EngineState) (slot : ℕ) → slot < 2 → IsOutsideMerge s (slot_at slot) 4096
-slot_before_merge s slot below = behind s.merging
-  where
-    behind : (o : Option MergeState) → IfSome o (λ merge. LiesOutside (sorted_at s.manifest.shape merge.region) (entries_len s.manifest.shape) (slot_at slot) 4096)
-    behind None = tt
-    behind (Some merge) = entries_behind_manifest s.manifest.shape merge.region slot below
+slot_before_merge s slot below =
+    on_some (IsPastEntries s.manifest.shape (slot_at slot) 4096) s.merging (λ merge. entries_behind_manifest s.manifest.shape merge.region slot below)
 
 pub below_two : (n : ℕ) → n % 2 < 2
 below_two n = mod-lt n (omega arith)
+
+-- ---- the region of the new log is cleared
+
+module _ (old new : Content) (s : EngineState) (next : NextLog) where
+  store_shape : IsNextLog s next → next.store.log.shape ≡ s.manifest.shape
+  store_shape is = ap (λ (t : LogStoreState). t.log.shape) is.store
+
+  store_region : (is : IsNextLog s next) → next.store.log.region ≡ is.region
+  store_region is = ap (λ (t : LogStoreState). t.log.region) is.store
+
+  module _ (stands : Stands old s) (is : IsNextLog s next) (sizes : size new ≡ size old)
+      (changes : ChangesWithin (gates_at next.store.log.shape next.store.log.region) next.store.log.shape.log_capacity old new) where
+    gates : ChangesWithin (gates_at s.manifest.shape is.region) s.manifest.shape.log_capacity old new
+    gates =
+        subst (λ (n : ℕ). ChangesWithin (gates_at s.manifest.shape n) s.manifest.shape.log_capacity old new) (store_region is)
+        (subst (λ (sh : Shape). ChangesWithin (gates_at sh next.store.log.region) sh.log_capacity old new) (store_shape is) changes)
+
+    pub clear_advances : Advances [] old new s s
+    clear_advances = cleared old new s is.region stands is.lowest.below is.lowest.free sizes gates
+
+  -- the new log is as it was in memory, and its region is empty
+  module _ (is : IsNextLog s next) (after : LogStoreState) (empties : EmptiesStore new next.store after) where
+    pub same_store : after ≡ next.store
+    same_store =
+        let log : after.log ≡ next.store.log = empties.log.log ∙ sym (
+        ap (λ (t : LogStoreState). t.log) is.store
+        ∙ ap (λ (t : LogStoreState). record t.log { settled = 0; used = 0; stale = false }) (sym is.store)
+        ) in
+        ap (λ (l : LogState). let r : LogStoreState = record { log = l; table = after.table; puts = after.puts } in r) log
+        ∙ ap (λ t. let r : LogStoreState = record { log = next.store.log; table = t; puts = after.puts } in r) empties.table
+        ∙ ap (λ (n : ℕ). let r : LogStoreState = record { log = next.store.log; table = next.store.table; puts = n } in r) empties.puts
+
+    pub clear_emptied : (now : NextLog) → now ≡ record next { store = after } → IsEmptied new s now
+    clear_emptied now now_is =
+        let same : now ≡ next = now_is ∙ ap (λ (t : LogStoreState). record next { store = t }) same_store in
+        let emptied : IsEmptied new s next = record {
+          follows = is;
+          stands = subst (IsLogStore new) same_store empties.stands;
+          images = record {
+            each = λ h image left. ap (λ (sh : Shape). log_rows sh next.store.log.region image) (sym (store_shape is)) ∙ empties.log.images.each h image left;
+          };
+        } in
+        subst (λ (n : NextLog). IsEmptied new s n) (sym same) emptied

@@ -1,53 +1,22 @@
 -- What a walk through the stores finds.
-use Rattle.std.proofs.Common.{◌≡◌, ◌≢◌, ◌<◌, ◌*◌, ℕ, ◌==◌, Bool, true, false, cond, if◌then◌else◌, IsTrue, List, [], ◌∷◌, ◌++◌, suc, zero, inl, inr, length}
-use Rattle.std.proofs.Common.{filter, map, take, get_or, slice_get, reverse, find, Option, Some, None, option_and_then, refl, ap, sym, ◌∙◌, subst, arith}
-use Rattle.std.proofs.Common.{append_assoc}
-use Rattle.std.specs.Prelude.{All}
-use Rattle.std.specs.Option.{is_some, option_or}
-use Rattle.std.specs.Str.{bytes_eq}
-use Rattle.std.specs.FinMap.{get}
-use Rattle.std.proofs.lemmas.Bool.{and_from, and_parts, cases_Bool, or_parts}
-use Rattle.std.proofs.lemmas.List.{get_or-map, length-map, reverse-append}
-use Rattle.std.proofs.lemmas.List.Elements.{filter-append}
-use Rattle.std.proofs.lemmas.List.Folds.{find-append, list_any_at}
-use Rattle.std.proofs.lemmas.Option.{get_or_from_slice_get, slice_get_within}
-use Rattle.std.proofs.lemmas.Slice.Eq.{bytes_eq-Decides}
-use Rattle.silt_disk.specs.Disk.{Content}
-use Rattle.silt_disk.specs.Layout.{Shape}
-use Rattle.silt_frame.specs.Frame.{is_put, kind_byte, kind_of}
-use Rattle.silt_frame.specs.declared.key.Kind.{Kind}
-use Rattle.silt_frame.specs.declared.key.Kind.TheVariants.{Put, Delete}
-use Rattle.silt_hash_store.specs.Slots.{is_row_of, rows_before, slot_row, hash_part, hash_rows}
-use Rattle.silt_hash_store.specs.State.{HashState}
+use Rattle.silt_engine.proofs.Common.{◌≡◌, ◌≢◌, ◌<◌, ◌*◌, ℕ, ◌==◌, Bool, true, false, cond, if◌then◌else◌, IsTrue, List, [], ◌∷◌, ◌++◌, suc, zero, inl, inr}
+use Rattle.silt_engine.proofs.Common.{length, filter, map, take, get_or, Option, Some, None, refl, ap, sym, ◌∙◌, subst, arith, append_assoc, All, bytes_eq, get}
+use Rattle.silt_engine.proofs.Common.{and_from, and_parts, cases_Bool, get_or-map, length-map, filter-append, list_any_at, get_or_from_slice_get}
+use Rattle.silt_engine.proofs.Common.{slice_get_within, bytes_eq-Decides, Content, Shape, is_put, kind_byte, Kind, Put, Delete, rows_before, slot_row}
+use Rattle.silt_engine.proofs.Common.{hash_part, hash_rows, HashState, all_before, log_rows, row_at, has_known_kind, StoredRow, all_rows, settled_rows}
+use Rattle.silt_engine.proofs.Common.{waiting_rows, all_are_settled_and_waiting, row_of_all, all_count, LogStoreState, FindsLast, HasNoRow, IsLastRow, Found}
+use Rattle.silt_engine.proofs.Common.{Body, Map, map_after, log_part, known_rows, oldest_first, part_rows, sorted_rows, entries_of, hash_findings, holds_key}
+use Rattle.silt_engine.proofs.Common.{map_of_rows, sorted_findings, map_law, finds_nothing, HasNoEntry, HasOnlyValue, entries_law, Holder, Active, Frozen}
+use Rattle.silt_engine.proofs.Common.{Hashed, EngineState, hash_region_of, region_of, Stands, current_map, shown_stores, waiting_commands, hashed_rows}
+use Rattle.silt_engine.proofs.Common.{FindsFrozen, FindsHashed, FindsNewest, frozen_at, hash_store_at, hash_rows_of, row_in, reverse, find, option_and_then}
+use Rattle.silt_engine.proofs.Common.{option_or, or_parts, reverse-append, find-append, kind_of, is_row_of, before_at, before_count, before_taken, before_there}
+use Rattle.silt_engine.proofs.Common.{unsound_twice, newest_row, value_given, newest_law, IsOnlyRow, ShowsStores, value_found}
+use Rattle.std.proofs.Common.{slice_get}
+use Rattle.std.specs.Option.{is_some}
 use Rattle.silt_hash_store.proofs.Growing.{all_sound}
-use Rattle.silt_hash_store.proofs.Slotting.{all_before, before_at, before_count, before_taken, before_there, unsound_twice}
-use Rattle.silt_log.specs.Rows.{log_rows, row_at}
-use Rattle.silt_frame.specs.Rows.{has_known_kind, StoredRow}
-use Rattle.silt_log.specs.State.{all_rows, settled_rows, waiting_rows}
-use Rattle.silt_log.proofs.Elsewhere.{all_are_settled_and_waiting, row_of_all, all_count}
-use Rattle.silt_log_store.specs.State.{LogStoreState}
-use Rattle.silt_log_store.specs.LastRow.{FindsLast, HasNoRow, IsLastRow}
-use Rattle.silt_log.specs.declared.found.Found.{Found}
-use Rattle.silt_manifest.specs.declared.body.Body.{Body}
-use Rattle.silt_event.specs.Commands.{Map, map_after}
-use Rattle.silt_log.specs.Parts.{log_part, known_rows, oldest_first, part_rows}
-use Rattle.silt_sorted_store.specs.State.{sorted_rows, entries_of}
 use Rattle.silt_image.specs.Stores.{stores_named}
-use Rattle.silt_hash_store.specs.Findings.{hash_findings, holds_key}
-use Rattle.silt_event.specs.Rows.{map_of_rows, newest_row, value_given}
 use Rattle.silt_image.specs.Meaning.{rows_of}
-use Rattle.silt_sorted_store.specs.Findings.{sorted_findings}
-use Rattle.silt_event.proofs.Rows.{map_law, newest_law}
-use Rattle.silt_image.proofs.Sound.{finds_nothing}
-use Rattle.silt_sorted_store.specs.OnlyRow.{HasNoEntry, HasOnlyValue, IsOnlyRow}
-use Rattle.silt_sorted_store.proofs.Entries.{entries_law}
-use Rattle.silt_engine.specs.declared.lookup.Holder.{Holder}
-use Rattle.silt_engine.specs.declared.lookup.Holder.TheVariants.{Active, Frozen, Hashed}
-use Rattle.silt_standing.specs.State.{EngineState, hash_region_of, region_of}
-use Rattle.silt_standing.specs.Standing.{ShowsStores, Stands, current_map, shown_stores, waiting_commands}
 use Rattle.silt_standing.proofs.Shown.{stands_shown}
-use Rattle.silt_engine.specs.Entries.{hashed_rows}
-use Rattle.silt_engine.specs.Lookup.{FindsFrozen, FindsHashed, FindsNewest, frozen_at, hash_store_at, hash_rows_of, row_in, value_found}
 use Rattle.silt_engine.proofs.Facts.{base_is, shown_sound}
 use Rattle.silt_engine.proofs.Elsewhere.{scanned_all}
 

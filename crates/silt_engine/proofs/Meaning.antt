@@ -1,5 +1,5 @@
 -- What the images of a disk mean.
-use Rattle.silt_engine.specs.Laws.{StandingLaw}
+use Rattle.silt_engine.proofs.Common.{StandingLaw}
 use Rattle.silt_engine.proofs.Facts.{base_safe, full_map, full_numbers, full_rows, shown_map}
 use Rattle.silt_engine.proofs.MergeDone.{done_by_steps}
 

@@ -1,43 +1,19 @@
 -- What a merge takes of the stores, and when it is done.
-use Rattle.std.proofs.Common.{◌≡◌, ◌≤◌, ◌<◌, ℕ, ◌+◌, ◌-◌, ◌*◌, ◌^◌, ◌++◌, IsTrue, List, [], true, length, map, take, drop, get_or, refl, ap, sym, ◌∙◌, subst, Option, Some, None, arith}
-use Rattle.std.specs.Prelude.{IfSome}
-use Rattle.std.proofs.lemmas.Bool.{and_parts, eqb-true, leb-true}
-use Rattle.std.proofs.lemmas.List.{length-drop, take-append-drop, take_all}
-use Rattle.std.proofs.lemmas.List.Elements.{All-drop}
-use Rattle.std.proofs.lemmas.Option.{slice_get-get_or}
-use Rattle.silt_disk.specs.Disk.{Content}
-use Rattle.silt_disk.specs.Layout.{Shape, entry_len, slots_len}
-use Rattle.silt_frame.specs.Rows.{StoredRow, put_count}
-use Rattle.silt_hash_store.specs.State.{HashState, IsHashStore, IsHeldHash}
-use Rattle.silt_image.specs.Meaning.{IsSound, charge_of, rows_of, with_log_rows}
-use Rattle.silt_log.specs.Parts.{known_rows, oldest_first, part_rows, Part}
-use Rattle.silt_event.specs.Rows.{map_of_rows}
-use Rattle.silt_sorted_store.specs.Findings.{sorted_findings}
-use Rattle.silt_image.specs.Stores.{Stores, stores_named}
-use Rattle.silt_sorted_store.specs.State.{sorted_rows, HasDigest, SortedState, entries_of}
-use Rattle.silt_event.proofs.Rows.{count_law}
-use Rattle.silt_image.proofs.Sound.{charge_law, parts_law}
-use Rattle.silt_log.specs.State.{all_rows, waiting_rows}
-use Rattle.silt_manifest.specs.declared.body.Body.{Body}
-use Rattle.silt_manifest.specs.declared.digests.Digests.{Digests}
-use Rattle.silt_engine.specs.Replacements.{ReplacesStores, with_merged}
-use Rattle.silt_merge.specs.Comparing.{HasBytes}
-use Rattle.silt_merge.specs.Merging.{AreSound, HasMerged, IsMergeOf}
-use Rattle.silt_merge.specs.Rows.{entries_in, key_count, merged_rows, sources}
-use Rattle.silt_merge.specs.State.{MergeState, is_done, oldest_stores, steps_for, steps_of}
+use Rattle.silt_engine.proofs.Common.{◌≡◌, ◌≤◌, ℕ, ◌+◌, ◌-◌, ◌*◌, ◌++◌, IsTrue, List, [], true, length, map, take, drop, get_or, refl, ap, sym, ◌∙◌, subst}
+use Rattle.silt_engine.proofs.Common.{Option, Some, None, arith, IfSome, and_parts, eqb-true, length-drop, take-append-drop, take_all, All-drop, Content, Shape}
+use Rattle.silt_engine.proofs.Common.{entry_len, slots_len, StoredRow, put_count, HashState, IsHashStore, IsHeldHash, IsSound, charge_of, rows_of}
+use Rattle.silt_engine.proofs.Common.{with_log_rows, known_rows, oldest_first, part_rows, Part, map_of_rows, sorted_findings, Stores, sorted_rows, SortedState}
+use Rattle.silt_engine.proofs.Common.{count_law, all_rows, waiting_rows, Body, IsMergeOf, entries_in, merged_rows, MergeState, is_done, oldest_stores, steps_of}
+use Rattle.silt_engine.proofs.Common.{charge_without, merge_sources, puts_in, IsMerging, EngineState, HasGathered, Stands, base_map, full_image, shown_stores}
+use Rattle.silt_engine.proofs.Common.{leb-true, slice_get-get_or, charge_law, parts_law, ReplacesStores, with_merged, HasBytes, AreSound, key_count, sources}
+use Rattle.silt_engine.proofs.Common.{steps_for, entry_count, AreCompared, IsDoneBySteps}
+use Rattle.silt_engine.specs.Merge as spec
+use Rattle.silt_image.specs.Stores.{stores_named}
 use Rattle.silt_merge.proofs.Ending.{done_entries, done_steps}
 use Rattle.silt_merge.proofs.Newest.{key_count_law, merged_law}
-use Rattle.silt_engine.proofs.StoresReplaced.{merges, rows_old}
+use Rattle.silt_engine.proofs.MergeStores.{merges, rows_old, sound_with, sources_named, sources_puts, sources_with}
 use Rattle.silt_merge.proofs.Sounding.{sound_stores}
-use Rattle.silt_sorted_store.specs.Index.{IndexedState, IsIndexOf}
-use Rattle.silt_sorted_store.proofs.Entries.{entry_count}
-use Rattle.silt_engine.specs.Digests.{merged_digests}
-use Rattle.silt_engine.specs.Merge.{AreCompared, IsDoneBySteps, charge_without, merge_sources, merged_body, puts_in}
-use Rattle.silt_engine.specs.Merge as spec
-use Rattle.silt_standing.specs.State.{IsMerging, EngineState}
-use Rattle.silt_standing.specs.Standing.{HasGathered, Stands, base_map, full_image, shown_stores}
 use Rattle.silt_engine.proofs.Facts.{base_is, full_stores, shown_sound}
-use Rattle.silt_engine.proofs.MergeStores.{sound_with, sources_named, sources_puts, sources_with}
 use Rattle.silt_engine.proofs.Named.{named_body, named_here, named_shape, with_body, with_shape}
 
 module _ (content : Content) (s : EngineState) (stands : Stands content s) where

@@ -1,26 +1,14 @@
 -- An entry of a merge, written into the sorted region that the body does not name.
-use Rattle.std.proofs.Common.{◌≡◌, ◌≢◌, ◌<◌, ℕ, ◌*◌, IsTrue, [], Option, Some, None, Ok, inl, inr, refl, ap, sym, ◌∙◌, subst, arith}
-use Rattle.std.specs.Prelude.{IfSome}
-use Rattle.silt_disk.specs.Disk.{ChangesWithin, Content, LeavesOnly, LiesOutside, Torn, size}
-use Rattle.silt_disk.specs.Layout.{Shape, entries_len, entry_len, gates_at, hash_at, hash_size, log_len, log_size, row_len, slots_len, sorted_at, sorted_size}
-use Rattle.silt_disk.proofs.Regions.{regions_apart, up_least}
-use Rattle.silt_manifest.proofs.Laws.{current_record_elsewhere}
-use Rattle.silt_manifest.specs.declared.body.Body.{Body}
-use Rattle.silt_conversion.specs.Conversion.{ConversionState}
-use Rattle.silt_image.specs.Stores.{Stores, image_stores}
-use Rattle.silt_image.proofs.Frame.{free_sorted_law, pieces_apart}
-use Rattle.silt_merge.specs.State.{MergeState}
-use Rattle.silt_sorted_store.specs.State.{SortedState}
-use Rattle.silt_standing.specs.State.{IsMerging, IsUnderWay, EngineState}
-use Rattle.silt_standing.specs.Standing.{HasGathered, Stands, shown_stores}
-use Rattle.silt_engine.specs.Calls.{Advances, Breaks, Remaps}
-use Rattle.silt_standing.specs.Standing.{SameDisk}
+use Rattle.silt_engine.proofs.Common.{◌≡◌, ◌≢◌, ◌<◌, ℕ, ◌*◌, IsTrue, [], Option, Some, None, Ok, inl, inr, refl, ap, sym, ◌∙◌, subst, arith, IfSome}
+use Rattle.silt_engine.proofs.Common.{ChangesWithin, Content, LeavesOnly, LiesOutside, Torn, size, Shape, entries_len, entry_len, gates_at, hash_at, hash_size}
+use Rattle.silt_engine.proofs.Common.{log_len, log_size, row_len, slots_len, sorted_at, sorted_size, regions_apart, up_least, current_record_elsewhere, Body}
+use Rattle.silt_engine.proofs.Common.{ConversionState, Stores, image_stores, pieces_apart, MergeState, SortedState, IsMerging, IsUnderWay, EngineState}
+use Rattle.silt_engine.proofs.Common.{HasGathered, Stands, shown_stores, Advances, Breaks, Remaps, SameDisk, free_sorted_law, log_ends_before}
 use Rattle.silt_engine.proofs.Named.{named_body, named_shape}
 use Rattle.silt_engine.proofs.Facts.{active_below}
-use Rattle.silt_engine.proofs.Elsewhere.{hash_below, named_below, written_all_elsewhere}
-use Rattle.silt_standing.proofs.Places.{log_ends_before}
+use Rattle.silt_engine.proofs.Elsewhere.{hash_below, named_below, written_all_elsewhere, IsApart, IsOutsideConversion, IsPastSlots}
 use Rattle.silt_engine.proofs.Chains.{advances_break, advances_remap}
-use Rattle.silt_engine.proofs.Freezes.{IsApart, IsOutsideConversion, stays_with}
+use Rattle.silt_engine.proofs.Freezes.{stays_with}
 
 -- ---- places
 
@@ -72,23 +60,18 @@ module _ (old new : Content) (s : EngineState) (region : ℕ) (stands : Stands o
 
   entry_apart : IsTrue old.honest → IsApart s.manifest.shape s.manifest.current (sorted_at s.manifest.shape region) (sorted_size s.manifest.shape)
   entry_apart h = record {
-    active = behind_log s.manifest.shape s.manifest.current.active region (active_below old s stands);
     frozen = λ id named. behind_log s.manifest.shape id region (named_below old s stands h id named);
     hashed = λ id named. behind_hash s.manifest.shape id region (hash_below old s stands h id named);
     sorted = other_sorted s.manifest.shape s.manifest.current.sorted region not_named;
   }
 
-  outside_active : LiesOutside (gates_at s.active.log.shape s.active.log.region) (log_len s.active.log.shape) (sorted_at s.manifest.shape region) (sorted_size s.manifest.shape)
-  outside_active =
-      subst (λ (sh : Shape). LiesOutside (gates_at sh s.active.log.region) (log_len sh) (sorted_at s.manifest.shape region) (sorted_size s.manifest.shape)) (sym stands.whole.has_shape)
-      (subst (λ (n : ℕ). LiesOutside (gates_at s.manifest.shape n) (log_len s.manifest.shape) (sorted_at s.manifest.shape region) (sorted_size s.manifest.shape)) (sym stands.whole.active_region)
-      (behind_log s.manifest.shape s.manifest.current.active region (active_below old s stands)))
+  outside_active : LiesOutside (gates_at s.manifest.shape s.manifest.current.active) (log_len s.manifest.shape) (sorted_at s.manifest.shape region) (sorted_size s.manifest.shape)
+  outside_active = behind_log s.manifest.shape s.manifest.current.active region (active_below old s stands)
 
   outside_conversion : IsOutsideConversion s (sorted_at s.manifest.shape region) (sorted_size s.manifest.shape)
   outside_conversion = behind s.converting stands.whole.under_way
     where
-      behind : (o : Option ConversionState) → IfSome o (IsUnderWay s)
-          → IfSome o (λ conversion. LiesOutside (hash_at s.manifest.shape conversion.region) (slots_len s.manifest.shape) (sorted_at s.manifest.shape region) (sorted_size s.manifest.shape))
+      behind : (o : Option ConversionState) → IfSome o (IsUnderWay s) → IfSome o (IsPastSlots s.manifest.shape (sorted_at s.manifest.shape region) (sorted_size s.manifest.shape))
       behind None way = tt
       behind (Some conversion) way =
           let is : IsUnderWay s conversion = way in
@@ -100,8 +83,8 @@ module _ (old new : Content) (s : EngineState) (region : ℕ) (stands : Stands o
       s.manifest s.converting merging refl refl refl stands.idle
       (current_record_elsewhere s.manifest (sorted_at s.manifest.shape region) (sorted_size s.manifest.shape) old new (omega (arith, stands.has_size)) (inr (omega arith)) changes stands.current)
       entry_named stands.whole.under_way
-      (written_all_elsewhere old new s (sorted_at s.manifest.shape region) (sorted_size s.manifest.shape) s.converting stands changes
-      (λ h. (entry_apart h).frozen) (λ h. outside_conversion) stands.whole.under_way stands.written)
+      (written_all_elsewhere old new s (sorted_at s.manifest.shape region) (sorted_size s.manifest.shape) stands changes entry_apart
+      s.converting (λ h. outside_conversion) stands.whole.under_way stands.written)
       is_merging merged
 
   pub entry_map : (merging : Option MergeState) → IfSome merging (IsMerging s) → IfSome merging (HasGathered new s) → Remaps [] old new s (record s { merging = merging })

@@ -1,31 +1,15 @@
 -- The index of a merge is made before its last writes: nothing else of the stores changes.
-use Rattle.std.proofs.Common.{◌≡◌, ◌<◌, ◌-◌, ◌^◌, ℕ, true, None, List, [], Option, Some, Ok, Result, IfOk, refl, ap, sym, ◌∙◌, subst}
-use Rattle.std.specs.Prelude.{IfSome, IsTrue, ⊤}
-use Rattle.silt_disk.specs.Disk.{Content}
-use Rattle.silt_disk.specs.declared.disk.Disk.{Ghosts}
-use Rattle.silt_disk.proofs.Images.{within_refl}
-use Rattle.silt_hash_store.specs.State.{HashState}
-use Rattle.silt_event.specs.declared.progress.Progress.{Progress}
-use Rattle.silt_event.specs.declared.progress.Progress.TheVariants.{Finished}
-use Rattle.silt_manifest.specs.declared.body.Body.{Body}
-use Rattle.silt_manifest.specs.declared.digests.Digests.{Digests}
-use Rattle.silt_merge.specs.Merging.{HasMerged, Seals}
-use Rattle.silt_merge.specs.Rows.{merged_rows}
-use Rattle.silt_merge.specs.State.{MergeState, is_done, oldest_stores, sorted_in}
-use Rattle.silt_sorted_store.specs.Index.{IndexedState, IsIndexOf}
-use Rattle.silt_sorted_store.specs.State.{HasDigest, SortedState, entries_of}
-use Rattle.silt_trie.specs.Marks.{MarkedCode}
-use Rattle.silt_standing.specs.State.{EngineState, IsMerging}
-use Rattle.silt_standing.specs.Standing.{Stands}
-use Rattle.silt_engine.specs.Calls.{Advances, BreaksOff, Works}
-use Rattle.silt_engine.specs.Merge.{AreCompared, EndsMerge, EndsMerged, HasMergedEntries, Merges, SealsMerge, damaged_in, full_stores, merge_sources, merge_turn, merged_body}
+use Rattle.silt_engine.proofs.Common.{◌≡◌, ◌<◌, ◌-◌, ◌^◌, ℕ, true, None, List, [], Option, Some, Ok, refl, ap, sym, ◌∙◌, subst, IfSome, Content, Ghosts}
+use Rattle.silt_engine.proofs.Common.{within_refl, HashState, Finished, Body, Digests, HasMerged, Seals, merged_rows, MergeState, is_done, oldest_stores}
+use Rattle.silt_engine.proofs.Common.{sorted_in, IndexedState, IsIndexOf, HasDigest, SortedState, entries_of, MarkedCode, EngineState, IsMerging, Stands}
+use Rattle.silt_engine.proofs.Common.{Advances, Works, AreCompared, EndsMerge, EndsMerged, HasMergedEntries, Merges, SealsMerge, damaged_in, full_stores}
+use Rattle.silt_engine.proofs.Common.{merge_sources, merge_turn, merged_body, merged_digests}
 use Rattle.silt_engine.proofs.MergeEntries.{entry_advances}
 use Rattle.silt_engine.proofs.MergeDone.{taken_sound}
 use Rattle.silt_engine.proofs.MergeSteps.{gathered_of, merging_of}
-use Rattle.silt_engine.proofs.MergeSwaps.{same_merge}
-use Rattle.silt_engine.specs.Digests.{merged_digests}
+use Rattle.silt_engine.proofs.Swaps.{same_merge}
 use Rattle.silt_engine.proofs.Tries.{compared_with_trie, merged_with_trie, way_with_trie, with_trie}
-use Rattle.silt_engine.proofs.Works.{went}
+use Rattle.silt_engine.proofs.Exits.{went}
 
 -- the sealed merge is in progress
 pub sealed_way : (s : EngineState) (merge sealed : MergeState) → Seals merge sealed → IsMerging s merge → IsMerging s sealed

@@ -1,33 +1,17 @@
 -- The steps of a merge.
-use Rattle.std.proofs.Common.{◌≡◌, ◌≢◌, ◌≤◌, ◌<◌, ℕ, ◌+◌, ◌-◌, ◌*◌, ◌==◌, ◌&&◌, nat_le, nat_lt, Bool, true, false, if◌then◌else◌, IsTrue, List, [], get_or}
-use Rattle.std.proofs.Common.{length, drop, Option, Some, None, Result, ◌⊎◌, inl, inr, refl, ap, sym, ◌∙◌, subst, arith}
-use Rattle.std.specs.Prelude.{All, IfSome}
-use Rattle.std.specs.Option.{option_map}
-use Rattle.std.proofs.lemmas.Bool.{eq-eqb, eqb-false, lt-ltb, ne_eqb}
-use Rattle.std.proofs.lemmas.List.Elements.{All-drop}
-use Rattle.silt_disk.specs.Disk.{ChangesWithin, Content, MakesAtMost}
-use Rattle.silt_disk.specs.declared.disk.Disk.{Ghosts}
-use Rattle.silt_disk.specs.Layout.{Shape, sorted_at, sorted_size}
+use Rattle.silt_engine.proofs.Common.{◌≡◌, ◌≢◌, ◌≤◌, ◌<◌, ℕ, ◌+◌, ◌-◌, ◌*◌, ◌==◌, nat_le, nat_lt, Bool, true, false, if◌then◌else◌, IsTrue, List, [], get_or}
+use Rattle.silt_engine.proofs.Common.{length, drop, Option, Some, None, Result, ◌⊎◌, inl, inr, refl, ap, sym, ◌∙◌, subst, arith, All, IfSome, eq-eqb, eqb-false}
+use Rattle.silt_engine.proofs.Common.{lt-ltb, ne_eqb, All-drop, ChangesWithin, Content, MakesAtMost, Ghosts, Shape, sorted_at, sorted_size, HashState}
+use Rattle.silt_engine.proofs.Common.{IsHashStore, HasCompared, HasMerged, regions_of, MergeState, is_done, oldest_stores, steps_of, TakesMemory, SortedState}
+use Rattle.silt_engine.proofs.Common.{Progress, Finished, Idle, Moved, AreWhole, IsHashOf, IsMerging, EngineState, HasGathered, SameDisk, Stands, Advances}
+use Rattle.silt_engine.proofs.Common.{Breaks, Remaps, is_work, step_syncs, step_writes, written_by_merge, Damaged, damaged_in, merge_turn, ◌&&◌, option_map}
+use Rattle.silt_engine.proofs.Common.{MatchesDigests, IsSameMerge, IsHeldMerge, FailsMerge, GoesOn, TakesStep, damaged_place, StepMakes, IsNextMerge}
+use Rattle.silt_engine.proofs.Common.{MayLackMemory, MergeErrorCause, Merges, merge_progress, place_read}
+use Rattle.silt_merge.specs.declared.merge.StepError.TheVariants as step_error
 use Rattle.silt_event.specs.declared.place.Place.{Place}
 use Rattle.silt_event.specs.declared.place.Place.TheVariants.{HashDigest, SortedDigest}
-use Rattle.silt_hash_store.specs.State.{HashState, IsHashStore}
-use Rattle.silt_merge.specs.Comparing.{HasCompared, MatchesDigests}
-use Rattle.silt_merge.specs.Merging.{HasMerged, IsSameMerge}
-use Rattle.silt_merge.specs.Rows.{regions_of}
-use Rattle.silt_merge.specs.State.{IsHeldMerge, MergeState, is_done, oldest_stores, steps_of}
-use Rattle.silt_merge.specs.Steps.{FailsMerge, Finds, GoesOn, TakesMemory, TakesStep, damaged_place}
 use Rattle.silt_merge.specs.declared.merge.StepError.{StepError}
-use Rattle.silt_merge.specs.declared.merge.StepError.TheVariants as step_error
-use Rattle.silt_sorted_store.specs.State.{SortedState}
-use Rattle.silt_event.specs.declared.progress.Progress.{Progress}
-use Rattle.silt_event.specs.declared.progress.Progress.TheVariants.{Finished, Idle, Moved}
-use Rattle.silt_standing.specs.State.{AreWhole, IsHashOf, IsMerging, EngineState}
-use Rattle.silt_standing.specs.Standing.{HasGathered, SameDisk, Stands}
-use Rattle.silt_engine.specs.Calls.{Advances, Breaks, Remaps}
-use Rattle.silt_engine.specs.Conversion.{is_work}
-use Rattle.silt_engine.specs.Costs.{StepMakes, step_syncs, step_writes, written_by_merge}
-use Rattle.silt_engine.specs.declared.merge.MergeError.TheVariants.{Damaged}
-use Rattle.silt_engine.specs.Merge.{IsNextMerge, MayLackMemory, MergeErrorCause, Merges, damaged_in, merge_progress, merge_turn, place_read, refusal_of_step}
+use Rattle.silt_engine.specs.Merge.{refusal_of_step}
 use Rattle.silt_engine.proofs.MergeDone.{taken_sound}
 use Rattle.silt_engine.proofs.MergeEntries.{entry_advances, entry_breaks, entry_failed_map}
 
@@ -184,85 +168,110 @@ module _ {D F T : Type 0} (facts : Ghosts D F) (old new : D) (s : EngineState) (
 pub some_stores : (stores : List HashState) (len : ℕ) (empty : Bool) → empty ≡ (len == 0) → empty ≡ false → len ≡ length stores → 0 < length stores
 some_stores stores len empty is none same = let differ = eqb-false len 0 (sym is ∙ none) in omega (arith, differ, same)
 
-module _ (s : EngineState) (region : ℕ) (read : List HashState) (none : s.merging ≡ None) (some : 0 < length s.hashes) (whole : AreWhole s)
-    (other : region ≡ 1 - s.sorted.region) (read_is : read ≡ s.hashes)
-    (sorted : SortedState) (sorted_is : sorted ≡ s.sorted) (started : MergeState)
-    (is : started ≡ record {
-      shape = sorted.shape;
-      region = region;
-      stores = length read;
-      store = 0;
-      slot = 0;
-      waiting = [];
-      passed = 0;
-      written = 0;
-      index = started.index;
-      decided = 0;
-      last = None;
-      slots = [];
-      ahead = [];
-      input = started.input;
-      hasher = started.hasher;
-      damaged = None;
-    })
-    (held : IsHeldMerge started) where
+-- a merge of all hash stores that was started, from what was read of these stores
+pub record BeginsMerge (s : EngineState) (started : MergeState) : Type 0 where
+  pub none : s.merging ≡ None
+  pub some : 0 < length s.hashes
+  pub whole : AreWhole s
+  pub region : ℕ
+  pub other : region ≡ 1 - s.sorted.region
+  pub read : List HashState
+  pub read_is : read ≡ s.hashes
+  pub sorted : SortedState
+  pub sorted_is : sorted ≡ s.sorted
+  pub is : started ≡ record {
+    shape = sorted.shape;
+    region = region;
+    stores = length read;
+    store = 0;
+    slot = 0;
+    waiting = [];
+    passed = 0;
+    written = 0;
+    index = started.index;
+    decided = 0;
+    last = None;
+    slots = [];
+    ahead = [];
+    input = started.input;
+    hasher = started.hasher;
+    damaged = None;
+  }
+  pub held : IsHeldMerge started
+
+module _ (s : EngineState) (started : MergeState) (begins : BeginsMerge s started) where
   pub started_sound : started.damaged ≡ None
-  started_sound = ap (λ (v : MergeState). v.damaged) is
+  started_sound = ap (λ (v : MergeState). v.damaged) begins.is
 
   started_stores : started.stores ≡ length s.hashes
-  started_stores = ap (λ (v : MergeState). v.stores) is ∙ ap length read_is
+  started_stores = ap (λ (v : MergeState). v.stores) begins.is ∙ ap length begins.read_is
 
   pub started_way : IsMerging s started
   started_way = record {
-    has_shape = ap (λ (v : MergeState). v.shape) is ∙ ap (λ (t : SortedState). t.shape) (sorted_is ∙ whole.sorted);
-    apart = λ e. let below = whole.held.region in let here : started.region ≡ region = ap (λ (v : MergeState). v.region) is in absurd (omega (arith, e, below, here, other));
-    some = omega (arith, some, started_stores);
+    has_shape = ap (λ (v : MergeState). v.shape) begins.is ∙ ap (λ (t : SortedState). t.shape) (begins.sorted_is ∙ begins.whole.sorted);
+    apart = λ e.
+        let below = begins.whole.held.region in
+        let here : started.region ≡ begins.region = ap (λ (v : MergeState). v.region) begins.is in
+        absurd (omega (arith, e, below, here, begins.other));
+    some = omega (arith, begins.some, started_stores);
     most = omega (arith, started_stores);
-    held = held;
+    held = begins.held;
   }
+
+  begins_store : started.store ≡ 0
+  begins_store = ap (λ (v : MergeState). v.store) begins.is
 
   -- it has decided no key
   pub started_not_done : is_done started s.sorted ≡ false
   started_not_done =
-      let differ : started.store ≢ started.stores = λ e. let here : started.store ≡ 0 = ap (λ (v : MergeState). v.store) is in absurd (omega (arith, e, here, some, started_stores)) in
+      let differ : started.store ≢ started.stores = λ e. absurd (omega (arith, e, begins_store, begins.some, started_stores)) in
       ap (λ (b : Bool). (b && (length started.waiting == 0)) && nat_le s.sorted.count started.passed) (ne_eqb started.store started.stores differ)
 
   -- its hash stores are all
   all_taken : oldest_stores started.stores s.hashes ≡ s.hashes
   all_taken = ap (λ (n : ℕ). drop n s.hashes) (let nothing : length s.hashes - started.stores ≡ 0 = omega (arith, started_stores) in nothing)
 
-  pub begun : (content : Content) → HasMerged content read sorted started → HasCompared read sorted s.digest started → HasGathered content s started
+  pub begun : (content : Content) → HasMerged content begins.read begins.sorted started → HasCompared begins.read begins.sorted s.digest started
+      → HasGathered content s started
   begun content has compared = (
-    subst (λ (l : List HashState). HasMerged content l s.sorted started) (read_is ∙ sym all_taken) (subst (λ (t : SortedState). HasMerged content read t started) sorted_is has),
-    subst (λ (l : List HashState). HasCompared l s.sorted s.digest started) (read_is ∙ sym all_taken) (subst (λ (t : SortedState). HasCompared read t s.digest started) sorted_is compared),
+    subst (λ (l : List HashState). HasMerged content l s.sorted started) (begins.read_is ∙ sym all_taken)
+        (subst (λ (t : SortedState). HasMerged content begins.read t started) begins.sorted_is has),
+    subst (λ (l : List HashState). HasCompared l s.sorted s.digest started) (begins.read_is ∙ sym all_taken)
+        (subst (λ (t : SortedState). HasCompared begins.read t s.digest started) begins.sorted_is compared),
     λ h. started_sound,
   )
 
   -- it reads the newest of them, and it has written nothing
   pub started_reads : damaged_place (oldest_stores started.stores s.hashes) started ≡ place_read s.hashes s.merging
   started_reads =
-      let first : started.store ≡ 0 = ap (λ (v : MergeState). v.store) is in
-      let gathers : nat_lt started.store started.stores ≡ true = lt-ltb started.store started.stores (omega (arith, first, some, started_stores)) in
+      let gathers : nat_lt started.store started.stores ≡ true =
+      lt-ltb started.store started.stores (omega (arith, begins_store, begins.some, started_stores)) in
       ap (λ (b : Bool). if b then HashDigest (get_or (regions_of (oldest_stores started.stores s.hashes)) started.store 0) else SortedDigest) gathers
       ∙ ap (λ (l : List HashState). HashDigest (get_or (regions_of l) started.store 0)) all_taken
-      ∙ ap (λ (n : ℕ). HashDigest (get_or (regions_of s.hashes) n 0)) first
-      ∙ ap (place_read s.hashes) (sym none)
+      ∙ ap (λ (n : ℕ). HashDigest (get_or (regions_of s.hashes) n 0)) begins_store
+      ∙ ap (place_read s.hashes) (sym begins.none)
 
   pub started_written : written_by_merge s.merging ≡ started.written
-  started_written = ap written_by_merge none ∙ sym (ap (λ (v : MergeState). v.written) is)
+  started_written = ap written_by_merge begins.none ∙ sym (ap (λ (v : MergeState). v.written) begins.is)
+
+  pub begins_turn : merge_turn s ≡ Moved
+  begins_turn = first_turn s begins.none begins.some
 
   pub begin_merges : (after : MergeState) → IsSameMerge started after → steps_of after ≡ steps_of started + 1
-      → (after.damaged ≡ None) ⊎ (after.damaged ≡ Some (damaged_place (oldest_stores started.stores s.hashes) started)) → Merges Moved s (record s { merging = Some after })
+      → (after.damaged ≡ None) ⊎ (after.damaged ≡ Some (damaged_place (oldest_stores started.stores s.hashes) started))
+      → Merges Moved s (record s { merging = Some after })
   begin_merges after same step found =
-      let slots : started.store * (4 * started.shape.buckets) ≡ 0 * (4 * started.shape.buckets) = ap (λ (v : MergeState). v.store * (4 * started.shape.buckets)) is in
-      let slot : started.slot ≡ 0 = ap (λ (v : MergeState). v.slot) is in
-      let decided : started.decided ≡ 0 = ap (λ (v : MergeState). v.decided) is in
+      let slots : started.store * (4 * started.shape.buckets) ≡ 0 * (4 * started.shape.buckets) =
+      ap (λ (v : MergeState). v.store * (4 * started.shape.buckets)) begins.is in
+      let slot : started.slot ≡ 0 = ap (λ (v : MergeState). v.slot) begins.is in
+      let decided : started.decided ≡ 0 = ap (λ (v : MergeState). v.decided) begins.is in
       record {
-        due = sym (first_turn s none some);
+        due = sym begins_turn;
         done = record {
           merge = after;
           is = refl;
-          step = subst (λ (o : Option MergeState). IsNextMerge s o after) (sym none) (same.stores ∙ started_stores, omega (arith, step, slots, slot, decided));
+          step = subst (λ (o : Option MergeState). IsNextMerge s o after) (sym begins.none)
+              (same.stores ∙ started_stores, omega (arith, step, slots, slot, decided));
           found = elim found [
             | inl nothing ↦ inl nothing
             | inr damaged ↦ inr (damaged ∙ ap Some started_reads)
@@ -291,9 +300,9 @@ pub first_lacks : (content : Content) (s : EngineState) → s.merging ≡ None �
 first_lacks content s none = subst (λ (o : Option MergeState). IfSome o (λ merge. TakesMemory content (oldest_stores merge.stores s.hashes) s.sorted merge)) (sym none) tt
 
 -- what a step finds, without why
-pub found_by : (content : Content) (stores : List HashState) (sorted : SortedState) (digest : List ℕ) (before after : MergeState) → Finds content stores sorted digest before after
-    → (after.damaged ≡ None) ⊎ (after.damaged ≡ Some (damaged_place stores before))
-found_by content stores sorted digest before after finds = elim finds [
+pub found_by : {D F : Type 0} {facts : Ghosts D F} {stores : List HashState} {sorted : SortedState} {digest : List ℕ} {old new : D} {before after : MergeState}
+    → GoesOn facts stores sorted digest old new before after → (after.damaged ≡ None) ⊎ (after.damaged ≡ Some (damaged_place stores before))
+found_by goes = elim goes.finds [
   | inl none ↦ inl none
   | inr found ↦ inr found.0
 ]

@@ -1,27 +1,91 @@
 -- The rows that a merge takes of the stores that a body names, and the stores with its entries.
-use Rattle.std.proofs.Common.{◌≡◌, ℕ, zero, suc, ◌+◌, ◌-◌, IsTrue, [], ◌∷◌, ◌++◌, List, length, map, take, drop, refl, ap, sym, ◌∙◌, arith}
-use Rattle.std.specs.Prelude.{All}
-use Rattle.std.proofs.lemmas.List.Sums.{sum_by-cons}
-use Rattle.std.proofs.lemmas.List.{drop-map, length-map, take-map}
-use Rattle.silt_disk.specs.Disk.{Content}
-use Rattle.silt_disk.specs.Layout.{Shape}
-use Rattle.silt_frame.specs.Rows.{StoredRow, entry_row, put_count}
-use Rattle.silt_hash_store.specs.State.{HashState, IsHashStore}
-use Rattle.silt_image.specs.Meaning.{IsSound, with_log_rows}
-use Rattle.silt_log.specs.Parts.{known_rows, oldest_first, Part, log_part}
-use Rattle.silt_image.specs.Stores.{Stores, stores_named}
-use Rattle.silt_hash_store.specs.Slots.{hash_part}
-use Rattle.silt_sorted_store.specs.State.{sorted_rows, SortedState}
-use Rattle.silt_event.proofs.Rows.{count_law}
-use Rattle.silt_manifest.specs.declared.body.Body.{Body}
-use Rattle.silt_engine.specs.Replacements.{taken_rows, with_merged}
-use Rattle.silt_merge.specs.Merging.{IsMergeOf}
-use Rattle.silt_merge.specs.Rows.{entries_in, regions_of, rows_of_hashes, sources}
-use Rattle.silt_merge.specs.State.{oldest_stores}
-use Rattle.silt_engine.proofs.StoresReplaced.{merges}
-use Rattle.silt_sorted_store.proofs.Elsewhere.{entry_bytes, entry_more}
-use Rattle.silt_engine.specs.Merge.{merge_sources, merged_body, puts_in}
-use Rattle.silt_standing.specs.State.{hash_region_of, sorted_named}
+use Rattle.silt_engine.proofs.Common.{◌≡◌, ℕ, zero, suc, ◌+◌, ◌-◌, IsTrue, [], ◌∷◌, ◌++◌, List, length, map, take, drop, refl, ap, sym, ◌∙◌, arith, All}
+use Rattle.silt_engine.proofs.Common.{length-map, take-map, Content, Shape, StoredRow, entry_row, put_count, HashState, IsHashStore, IsSound, known_rows}
+use Rattle.silt_engine.proofs.Common.{oldest_first, Part, log_part, Stores, hash_part, SortedState, count_law, Body, taken_rows, IsMergeOf, entries_in}
+use Rattle.silt_engine.proofs.Common.{regions_of, oldest_stores, merge_sources, merged_body, puts_in, hash_region_of, sorted_named, flat_map, append_assoc}
+use Rattle.silt_engine.proofs.Common.{flat_map-append, map-append, Map, map_after, FindsNothing, charge_of, command_of, map_of_rows, hash_findings, part_rows}
+use Rattle.silt_engine.proofs.Common.{map_law, finds_nothing, is_sound, nothing_first, sum_by-cons, drop-map, MergesLaw, rows_of_hashes, entry_bytes}
+use Rattle.silt_engine.proofs.Common.{entry_more}
+use Rattle.silt_image.specs.Meaning.{with_log_rows, rows_of}
+use Rattle.silt_image.specs.Stores.{stores_named}
+use Rattle.silt_sorted_store.specs.State.{sorted_rows}
+use Rattle.silt_engine.specs.Replacements.{with_merged}
+use Rattle.silt_merge.specs.Rows.{sources}
+use Rattle.std.proofs.Common.{append-nil}
+
+-- the rows of older stores come first
+older_first : (newer older : List (List StoredRow)) → oldest_first (newer ++ older) ≡ oldest_first older ++ oldest_first newer
+older_first [] older = sym (append-nil (oldest_first older))
+older_first (rows ∷ newer) older = ap (λ (l : List StoredRow). l ++ rows) (older_first newer older) ∙ append_assoc (oldest_first older) (oldest_first newer) rows
+
+module _ (s : Stores) (body : Body) (newer taken : List Part) (entries : List StoredRow) (split : s.hashes ≡ newer ++ taken) (is : IsMergeOf (taken_rows taken s) entries) where
+  abbrev new : Stores
+  new = with_merged body newer entries s
+
+  -- the rows that are merged
+  abbrev rows : List StoredRow
+  rows = taken_rows taken s
+
+  -- those of the newer hash stores and of the logs
+  abbrev rest : List StoredRow
+  rest = oldest_first (map known_rows newer) ++ oldest_first (map part_rows s.logs)
+
+  -- those that are merged come first
+  pub rows_old : rows_of s ≡ rows ++ rest
+  unfolding rows_of
+  rows_old =
+      ap (λ (l : List Part). s.entries ++ oldest_first (map known_rows l) ++ oldest_first (map part_rows s.logs)) split
+      ∙ ap (λ (l : List (List StoredRow)). s.entries ++ oldest_first l ++ oldest_first (map part_rows s.logs)) (map-append known_rows newer taken)
+      ∙ ap (λ (l : List StoredRow). s.entries ++ l ++ oldest_first (map part_rows s.logs)) (older_first (map known_rows newer) (map known_rows taken))
+      ∙ ap (λ (l : List StoredRow). l ++ oldest_first (map part_rows s.logs)) (sym (append_assoc s.entries (oldest_first (map known_rows taken)) (oldest_first (map known_rows newer))))
+      ∙ append_assoc rows (oldest_first (map known_rows newer)) (oldest_first (map part_rows s.logs))
+
+  -- and then the entries do
+  rows_new : rows_of new ≡ entries ++ rest
+  unfolding rows_of with_merged
+  rows_new = append_assoc entries (oldest_first (map known_rows newer)) (oldest_first (map part_rows s.logs))
+
+  -- they make the same map
+  same_map : map_of_rows (rows_of new) ≡ map_of_rows (rows_of s)
+  same_map =
+      ap map_of_rows rows_new
+      ∙ map_law entries rest
+      ∙ ap (λ (m : Map). map_after m (map command_of rest)) is.same_map
+      ∙ sym (map_law rows rest)
+      ∙ ap map_of_rows (sym rows_old)
+
+  -- also with rows behind
+  same_behind : (more : List StoredRow) → map_of_rows (rows_of new ++ more) ≡ map_of_rows (rows_of s ++ more)
+  same_behind more = map_law (rows_of new) more ∙ ap (λ (m : Map). map_after m (map command_of more)) same_map ∙ sym (map_law (rows_of s) more)
+
+  -- the entries count for the puts of the rows
+  charge_moves : charge_of new + put_count rows ≡ charge_of s + length entries
+  charge_moves = omega (arith, ap put_count rows_old, ap put_count rows_new, count_law rows rest, count_law entries rest, is.counted)
+
+  -- and nothing is found
+  still_sound : IsSound s → IsSound new
+  unfolding with_merged
+  still_sound sound =
+      let nothing : FindsNothing s = finds_nothing s sound in
+      let hashes : flat_map (hash_findings s.shape) newer ++ flat_map (hash_findings s.shape) taken ≡ [] =
+      sym (flat_map-append (hash_findings s.shape) newer taken) ∙ ap (flat_map (hash_findings s.shape)) (sym split) ∙ nothing.hashes in
+      is_sound new (record {
+        logs = nothing.logs;
+        hashes = nothing_first (flat_map (hash_findings s.shape) newer) (flat_map (hash_findings s.shape) taken) hashes;
+        entries = is.rising;
+        charge = omega (arith, nothing.charge, charge_moves, is.charge, is.counted);
+      })
+
+-- a merge of the entries and the oldest hash stores may replace them as the entries
+pub merges : MergesLaw
+merges s body newer taken entries split sound is = record {
+  map = same_map s body newer taken entries split is;
+  behind = same_behind s body newer taken entries split is;
+  sound = still_sound s body newer taken entries split is sound;
+  charge = charge_moves s body newer taken entries split is;
+}
+
+-- ---- what a merge takes of the stores of an image
 
 -- the oldest of the hash regions that a body names are those of the oldest hash stores
 pub taken_named : (shape : Shape) (image ids : List ℕ) (stores : List HashState) (count : ℕ) → map hash_region_of stores ≡ ids
@@ -45,7 +109,7 @@ sources_named shape body stores sorted count image is are =
 -- other rows of a log change nothing of that
 pub sources_with : (region count : ℕ) (rows : List StoredRow) (t : Stores) → merge_sources count (with_log_rows region rows t) ≡ merge_sources count t
 unfolding with_log_rows
-sources_with region count rows t = refl
+sources_with region count more t = refl
 
 -- ---- the stores with a new sorted store
 
@@ -78,7 +142,7 @@ merged_entries body newer entries t = refl
 -- other rows of a log leave the entries
 pub with_entries : (region : ℕ) (rows : List StoredRow) (t : Stores) → (with_log_rows region rows t).entries ≡ t.entries
 unfolding with_log_rows
-with_entries region rows t = refl
+with_entries region more t = refl
 
 -- if the merge may replace what it took, it may do so with other rows of a log
 pub sound_with : (body : Body) (newer taken : List Part) (entries rows : List StoredRow) (region : ℕ) (t : Stores) → t.hashes ≡ newer

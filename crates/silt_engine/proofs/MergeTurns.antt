@@ -1,41 +1,19 @@
 -- The end of a merge: the record that names its sorted store, and the stores once it is current.
-use Rattle.std.proofs.Common.{inr, ◌≡◌, ◌≤◌, ◌<◌, ℕ, ◌-◌, ◌*◌, ◌==◌, IsTrue, List, [], ◌++◌, length, map, take, Option, Some, None, refl, ap, sym, ◌∙◌, subst, arith}
-use Rattle.std.specs.Prelude.{All, IfSome}
-use Rattle.std.specs.List.{list_any}
-use Rattle.std.proofs.lemmas.List.{take-map}
-use Rattle.std.proofs.lemmas.List.Elements.{All-take}
-use Rattle.silt_disk.specs.Disk.{Content, LeavesOnly, Rests, size}
-use Rattle.silt_disk.specs.Layout.{Shape, device_size, slot_at}
-use Rattle.silt_disk.proofs.Images.{left_at_rest}
-use Rattle.silt_frame.specs.Rows.{StoredRow, put_count}
-use Rattle.silt_log.specs.State.{all_rows}
-use Rattle.silt_log.specs.Calls.{KeepsRows}
-use Rattle.silt_manifest.specs.Standing.{ManifestState, spare_slot}
-use Rattle.silt_manifest.specs.declared.body.Body.{Body}
-use Rattle.silt_manifest.specs.declared.digests.Digests.{Digests}
-use Rattle.silt_image.specs.Stores.{Stores, stores_named}
-use Rattle.silt_image.specs.Meaning.{AreDigestsOf, IsSound, entries_digest, rows_of, with_log_rows}
-use Rattle.silt_event.specs.Rows.{command_of}
-use Rattle.silt_conversion.specs.Conversion.{ConversionState}
-use Rattle.silt_hash_store.specs.State.{IsHashStore}
-use Rattle.silt_merge.specs.Rows.{merged_rows}
-use Rattle.silt_merge.specs.State.{MergeState}
-use Rattle.silt_sorted_store.specs.Index.{IndexedState}
-use Rattle.silt_sorted_store.specs.State.{IsHeldSorted, SortedState, entries_of, sorted_rows}
-use Rattle.silt_sorted_store.proofs.Elsewhere.{digest_elsewhere, indexed_elsewhere}
-use Rattle.silt_standing.specs.State.{AreWhole, IsHashOf, IsMerging, IsSettled, IsUnderWay, EngineState, hash_region_of, sorted_named}
-use Rattle.silt_standing.specs.Standing.{IsDigested, IsLocated, Stands, shown_stores}
-use Rattle.silt_engine.specs.Calls.{Advances}
-use Rattle.silt_engine.specs.Succession.{MayBecomeCurrent, BecomesCurrent}
-use Rattle.silt_engine.specs.Merge.{EndsMerge, EndsMerged, HasMergedEntries, MayStandFor, charge_without, merge_sources, merged_body, sorted_replaced}
+use Rattle.silt_engine.proofs.Common.{inr, ◌≡◌, ◌≤◌, ◌<◌, ℕ, ◌-◌, ◌*◌, ◌==◌, IsTrue, List, [], ◌++◌, length, map, take, Option, Some, None, refl, ap, sym, ◌∙◌}
+use Rattle.silt_engine.proofs.Common.{subst, arith, All, IfSome, list_any, take-map, All-take, Content, LeavesOnly, Rests, size, Shape, device_size, slot_at}
+use Rattle.silt_engine.proofs.Common.{left_at_rest, StoredRow, put_count, all_rows, KeepsRows, ManifestState, spare_slot, Body, Digests, Stores, stores_named}
+use Rattle.silt_engine.proofs.Common.{AreDigestsOf, IsSound, entries_digest, rows_of, with_log_rows, command_of, ConversionState, IsHashStore, merged_rows}
+use Rattle.silt_engine.proofs.Common.{MergeState, IndexedState, SortedState, entries_of, sorted_rows, digest_elsewhere, indexed_elsewhere, AreWhole, IsHashOf}
+use Rattle.silt_engine.proofs.Common.{IsMerging, IsSettled, IsUnderWay, EngineState, hash_region_of, sorted_named, IsDigested, IsLocated, Stands, shown_stores}
+use Rattle.silt_engine.proofs.Common.{Advances, MayBecomeCurrent, BecomesCurrent, EndsMerge, MayStandFor, charge_without, merge_sources, merged_body}
+use Rattle.silt_engine.proofs.Common.{sorted_replaced, IsHeldSorted, EndsMerged, HasMergedEntries}
 use Rattle.silt_engine.specs.Merge as spec
 use Rattle.silt_engine.proofs.Named.{named_shape}
 use Rattle.silt_engine.proofs.Elsewhere.{entries_behind_manifest, indexed_same}
 use Rattle.silt_engine.proofs.Standing.{Fits, shown_are}
-use Rattle.silt_engine.proofs.ConvertCounting.{hash_count, none_of_first}
-use Rattle.silt_engine.proofs.Remains.{active_stays, frozen_stays, hashed_stays, slot_below, waiting_stays, written_stays}
+use Rattle.silt_engine.proofs.Counting.{hash_count, none_of_first, may_end_merge}
+use Rattle.silt_engine.proofs.Turns.{active_stays, frozen_stays, hashed_stays, slot_below, waiting_stays, written_stays}
 use Rattle.silt_engine.proofs.NextBodies.{now_named, succeeds}
-use Rattle.silt_engine.proofs.MergeCounting.{may_end_merge}
 use Rattle.silt_engine.proofs.MergeStores.{merged_entries, merged_named, merged_current, merged_shape, sources_with, with_entries}
 use Rattle.silt_engine.proofs.Said.{merged_said}
 use Rattle.silt_engine.proofs.MergeDone.{all_compared, entries_are, full_is, merged_counted, merged_full_sound, merged_map, merged_sound, merged_stores, way}

@@ -1,25 +1,13 @@
 -- Stores that a body names, and the images that have them.
-use Rattle.std.proofs.Common.{◌≡◌, ◌<◌, ℕ, List, [], ◌++◌, map, take, Option, Some, None, Result, Ok, Err, refl, ap, sym, ◌∙◌, subst}
+use Rattle.silt_engine.proofs.Common.{◌≡◌, ◌<◌, ℕ, List, [], ◌++◌, map, take, Option, Some, None, Result, Ok, Err, refl, ap, sym, ◌∙◌, subst, Torn, Shape}
+use Rattle.silt_engine.proofs.Common.{gates_at, log_size, log_rows, StoredRow, manifest_found, current_manifest, where_found, Body, Digests, SlotRecord, Map}
+use Rattle.silt_engine.proofs.Common.{map_after, Stores, image_digests, image_stores, AreDigestsOf, HasActive, IsSound, StandsFor, rows_of, command_of}
+use Rattle.silt_engine.proofs.Common.{map_of_rows, whole_law, map_law, rows_law, digests_law, stores_law, log_region_law, append_law, own_rows_law}
+use Rattle.silt_engine.proofs.Common.{beginning_law, stands_law}
 use Rattle.std.proofs.lemmas.List.{append-nil}
-use Rattle.silt_disk.specs.Disk.{Torn}
-use Rattle.silt_disk.specs.Layout.{Shape, gates_at, log_size}
-use Rattle.silt_log.specs.Rows.{log_rows}
-use Rattle.silt_frame.specs.Rows.{StoredRow}
-use Rattle.silt_manifest.specs.Current.{manifest_found, current_manifest, where_found}
-use Rattle.silt_manifest.specs.declared.body.Body.{Body}
-use Rattle.silt_manifest.specs.declared.digests.Digests.{Digests}
 use Rattle.silt_manifest.specs.declared.slot.Damage.{Damage}
-use Rattle.silt_manifest.specs.declared.slot.SlotRecord.{SlotRecord}
-use Rattle.silt_event.specs.Commands.{Map, map_after}
-use Rattle.silt_image.specs.Stores.{Stores, image_digests, image_stores, stores_named}
-use Rattle.silt_image.specs.Meaning.{AreDigestsOf, HasActive, IsSound, StandsFor, image_map, rows_of, with_log_rows}
-use Rattle.silt_event.specs.Rows.{command_of, map_of_rows}
-use Rattle.silt_image.proofs.Named.{digests_law, stores_law, whole_law}
-use Rattle.silt_image.proofs.Frame.{log_region_law}
-use Rattle.silt_image.proofs.Rows.{append_law, own_rows_law}
-use Rattle.silt_event.proofs.Rows.{map_law}
-use Rattle.silt_image.proofs.Sound.{beginning_law}
-use Rattle.silt_image.proofs.Verdict.{rows_law, stands_law}
+use Rattle.silt_image.specs.Stores.{stores_named}
+use Rattle.silt_image.specs.Meaning.{image_map, with_log_rows}
 
 -- ---- one image
 

@@ -1,22 +1,11 @@
 -- A change of the manifest: each possible crash image has the stores that were, or those that the next record names.
-use Rattle.std.proofs.Common.{◌≡◌, ◌<◌, ◌⊎◌, ℕ, ◌+◌, true, IsTrue, List, [], Option, Some, None, Ok, inl, inr, refl, ap, sym, ◌∙◌, subst, arith}
+use Rattle.silt_engine.proofs.Common.{◌≡◌, ◌<◌, ◌⊎◌, ℕ, ◌+◌, true, IsTrue, List, [], Option, Some, None, Ok, inl, inr, refl, ap, sym, ◌∙◌, subst, arith}
+use Rattle.silt_engine.proofs.Common.{ChangesWithin, Content, Left, LeavesOnly, Torn, size, Shape, slot_at, shown_left, within_wider, current_manifest}
+use Rattle.silt_engine.proofs.Common.{ManifestState, IsCurrent, RecordIsCurrent, current_record, spare_slot, Body, Digests, SlotRecord, StandsFor, image_map}
+use Rattle.silt_engine.proofs.Common.{rows_of, map_of_rows, Stores, image_stores, EngineState, Stands, base_map, shown_stores, waiting_commands, Advances}
+use Rattle.silt_engine.proofs.Common.{Breaks, Remaps, MayBecomeCurrent, BecomesCurrent, within_trans, OldOrNewIsCurrent}
 use Rattle.std.proofs.lemmas.List.{append-nil}
-use Rattle.silt_disk.specs.Disk.{ChangesWithin, Content, Left, LeavesOnly, Torn, size}
-use Rattle.silt_disk.specs.Layout.{Shape, slot_at}
-use Rattle.silt_disk.proofs.Images.{shown_left, within_trans, within_wider}
-use Rattle.silt_manifest.specs.Current.{current_manifest}
 use Rattle.silt_manifest.specs.Digests.{long_record}
-use Rattle.silt_manifest.specs.Standing.{ManifestState, IsCurrent, RecordIsCurrent, OldOrNewIsCurrent, current_record, spare_slot}
-use Rattle.silt_manifest.specs.declared.body.Body.{Body}
-use Rattle.silt_manifest.specs.declared.digests.Digests.{Digests}
-use Rattle.silt_manifest.specs.declared.slot.SlotRecord.{SlotRecord}
-use Rattle.silt_image.specs.Meaning.{StandsFor, image_map, rows_of}
-use Rattle.silt_event.specs.Rows.{map_of_rows}
-use Rattle.silt_image.specs.Stores.{Stores, image_stores}
-use Rattle.silt_standing.specs.State.{EngineState}
-use Rattle.silt_standing.specs.Standing.{Stands, base_map, shown_stores, waiting_commands}
-use Rattle.silt_engine.specs.Calls.{Advances, Breaks, Remaps}
-use Rattle.silt_engine.specs.Succession.{MayBecomeCurrent, BecomesCurrent}
 use Rattle.silt_engine.proofs.Facts.{active_is, base_is, base_stands}
 use Rattle.silt_engine.proofs.Freezes.{below_two}
 use Rattle.silt_engine.proofs.Named.{named_shape, says_current, stands_for, stores_map}

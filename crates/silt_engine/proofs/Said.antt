@@ -1,24 +1,15 @@
 -- When the digests of a record are those of the stores.
-use Rattle.std.proofs.Common.{◌≡◌, ◌<◌, ℕ, ◌-◌, IsTrue, List, [], ◌∷◌, suc, length, map, take, get_or, replicate, Some, refl, ap, sym, ◌∙◌, arith}
-use Rattle.std.specs.Prelude.{All}
-use Rattle.std.proofs.lemmas.List.{get_or-map, get_or_append_left, length-map, take-map}
-use Rattle.std.proofs.lemmas.Option.{get_or_from_slice_get, slice_get_within}
-use Rattle.silt_disk.specs.Disk.{Content}
-use Rattle.silt_disk.specs.Layout.{Shape}
-use Rattle.silt_frame.specs.Rows.{StoredRow}
-use Rattle.silt_frame.specs.declared.digest.Digest.{Digest}
-use Rattle.silt_hash_store.specs.Slots.{hash_part}
-use Rattle.silt_hash_store.specs.State.{HashState, IsHashStore}
-use Rattle.silt_image.specs.Meaning.{AreDigestsOf, entries_digest, part_digest, with_new_log}
-use Rattle.silt_image.specs.Stores.{Stores, stores_named}
-use Rattle.silt_log.specs.Parts.{Part}
-use Rattle.silt_manifest.specs.declared.body.Body.{Body}
-use Rattle.silt_sorted_store.specs.Index.{IndexedState}
-use Rattle.silt_sorted_store.specs.State.{SortedState, entries_of}
-use Rattle.silt_standing.specs.State.{EngineState, hash_region_of}
-use Rattle.silt_standing.specs.Standing.{Stands, shown_stores}
-use Rattle.silt_engine.specs.Digests.{converted_digests, digest_of, merged_digests, no_digest, own_digests, padded}
+use Rattle.silt_engine.proofs.Common.{◌≡◌, ◌<◌, ℕ, ◌-◌, IsTrue, List, [], ◌∷◌, suc, length, map, take, get_or, replicate, Some, refl, ap, sym, ◌∙◌, arith, All}
+use Rattle.silt_engine.proofs.Common.{get_or-map, length-map, take-map, get_or_from_slice_get, slice_get_within, Content, Shape, StoredRow, Digest, hash_part}
+use Rattle.silt_engine.proofs.Common.{HashState, IsHashStore, AreDigestsOf, entries_digest, part_digest, Stores, Part, Body, IndexedState, SortedState}
+use Rattle.silt_engine.proofs.Common.{entries_of, EngineState, hash_region_of, Stands, shown_stores, digest_of, merged_digests, no_digest, own_digests, padded}
+use Rattle.silt_engine.proofs.Common.{◌≤◌, ◌+◌, Bool, ◌++◌, Option, None, append_assoc, option_to_list, length-take, get_or_append_left, map_more}
+use Rattle.silt_engine.proofs.Common.{converted_digests, slice_set, set-append_seam}
+use Rattle.silt_image.specs.Meaning.{with_new_log}
+use Rattle.silt_image.specs.Stores.{stores_named}
 use Rattle.silt_engine.specs.Replacements.{with_converted, with_merged}
+use Rattle.std.proofs.Common.{is_some, length-append}
+use Rattle.std.specs.Int.{from_bool}
 
 -- the bytes of a digest
 abbrev pub bytes_of : Digest → List ℕ
@@ -107,3 +98,35 @@ module _ (content : Content) (s : EngineState) (stands : Stands content s) (hone
       ∙ take-map bytes_of newer (map digest_of s.hashes)
       ∙ ap (map bytes_of) (take-map digest_of newer s.hashes))
       is
+
+-- ---- digests in their places, one after the other
+
+-- one digest more
+padded_more : (ds : List Digest) (d : Digest) → length ds < 16 → slice_set (padded ds) (length ds) d ≡ padded (ds ++ d ∷ [])
+padded_more ds d room =
+    let left : ℕ = 16 - length (ds ++ d ∷ []) in
+    let one_less : 16 - length ds ≡ suc left = omega (arith, room, length-append ds (d ∷ [])) in
+    ap (λ (n : ℕ). slice_set (ds ++ replicate n no_digest) (length ds) d) one_less
+    ∙ set-append_seam ds no_digest (replicate left no_digest) d
+    ∙ sym (append_assoc ds (d ∷ []) (replicate left no_digest))
+
+-- how many come first
+pub in_front : (first : Option Digest) (is : Bool) (newer : ℕ) → newer ≡ from_bool is → is ≡ is_some first → newer ≡ length (option_to_list first)
+in_front None is newer counted same = counted ∙ ap from_bool same
+in_front (Some digest) is newer counted same = counted ∙ ap from_bool same
+
+-- the digest of one store more
+pub one_more : (front : List Digest) (stores : List HashState) (index newer : ℕ) (store : HashState) (digest : Digest) (hashed : List Digest)
+    → length front + length stores ≤ 16 → newer ≡ length front → index < length stores
+    → store ≡ get_or stores index store → digest.0 ≡ store.digest → hashed ≡ padded (front ++ map digest_of (take index stores))
+    → slice_set hashed (newer + index) digest ≡ padded (front ++ map digest_of (take (index + 1) stores))
+one_more front stores index newer store digest hashed room counted inside here its was =
+    let before : List Digest = map digest_of (take index stores) in
+    let place : newer + index ≡ length (front ++ before) = omega (arith, counted, inside, length-append front before, length-map (take index stores) digest_of, length-take index stores) in
+    let is : digest ≡ digest_of (get_or stores index store) = ap (λ (bytes : List ℕ). let d : Digest = record { 0 = bytes } in d) its ∙ ap digest_of here in
+    ap (λ (l : List Digest). slice_set l (newer + index) digest) was
+    ∙ ap (λ (n : ℕ). slice_set (padded (front ++ before)) n digest) place
+    ∙ padded_more (front ++ before) digest (omega (arith, place, counted, inside, room))
+    ∙ ap padded (append_assoc front before (digest ∷ []))
+    ∙ ap (λ (d : Digest). padded (front ++ (before ++ d ∷ []))) is
+    ∙ ap (λ (l : List Digest). padded (front ++ l)) (sym (map_more digest_of stores index store inside))

@@ -1,28 +1,14 @@
 -- When stores stand on a disk, from the stores that its images have.
-use Rattle.std.proofs.Common.{◌≡◌, ℕ, IsTrue, List, [], ◌∷◌, ◌++◌, Option, Some, None, Ok, inr, ap, sym, ◌∙◌, subst, arith}
-use Rattle.std.specs.Prelude.{All, IfSome}
-use Rattle.silt_disk.specs.Disk.{ChangesWithin, Content, LeavesOnly, LiesOutside, Torn, size}
-use Rattle.silt_disk.specs.Layout.{Shape, device_size, entries_len, gates_at, hash_at, log_size, slots_len, sorted_at}
-use Rattle.silt_disk.proofs.Images.{shown_left, torn_trans}
-use Rattle.silt_log.specs.Rows.{log_rows}
-use Rattle.silt_frame.specs.Rows.{StoredRow, put_count}
-use Rattle.silt_log.specs.State.{LogState, all_rows, settled_rows, waiting_rows}
+use Rattle.silt_engine.proofs.Common.{◌≡◌, ℕ, IsTrue, List, [], ◌∷◌, ◌++◌, None, Ok, inr, ap, sym, ◌∙◌, subst, arith, All, IfSome, ChangesWithin, Content}
+use Rattle.silt_engine.proofs.Common.{LeavesOnly, Torn, size, Shape, device_size, gates_at, log_size, shown_left, log_rows, StoredRow, put_count, LogState}
+use Rattle.silt_engine.proofs.Common.{all_rows, waiting_rows, IsLogStore, HasWritten, IsHashStore, Stores, image_stores, AreDigestsOf, IsSound, rows_of}
+use Rattle.silt_engine.proofs.Common.{with_log_rows, IsCurrent, current_record_elsewhere, AreWhole, EngineState, oldest_log, HasGathered, IsDigested, IsFrozen}
+use Rattle.silt_engine.proofs.Common.{IsLocated, Stands, shown_stores, entries_behind_log, torn_trans}
 use Rattle.silt_log.specs.State as log
-use Rattle.silt_log_store.specs.State.{IsLogStore}
-use Rattle.silt_conversion.specs.Conversion.{ConversionState, HasWritten}
-use Rattle.silt_hash_store.specs.State.{IsHashStore}
-use Rattle.silt_image.specs.Stores.{Stores, image_stores}
-use Rattle.silt_image.specs.Meaning.{AreDigestsOf, IsSound, rows_of, with_log_rows}
-use Rattle.silt_manifest.specs.Standing.{IsCurrent}
-use Rattle.silt_manifest.proofs.Laws.{current_record_elsewhere}
-use Rattle.silt_standing.specs.State.{AreWhole, EngineState, oldest_log}
-use Rattle.silt_merge.specs.State.{MergeState}
-use Rattle.silt_standing.specs.Standing.{HasGathered, IsDigested, IsFrozen, IsLocated, Stands, shown_stores}
 use Rattle.silt_engine.proofs.Named.{named_here}
 use Rattle.silt_engine.proofs.Facts.{active_below, full_torn, torn_active}
 use Rattle.silt_engine.proofs.Elsewhere.{all_frozen_elsewhere, all_hashed_elsewhere, digested_elsewhere, located_elsewhere, merged_all_elsewhere, not_active}
-use Rattle.silt_engine.proofs.Elsewhere.{outside_other, slots_behind_log, written_all_elsewhere}
-use Rattle.silt_standing.proofs.Places.{entries_behind_log}
+use Rattle.silt_engine.proofs.Elsewhere.{outside_other, slots_behind_log, written_all_elsewhere, IsApart, region_before_conversion, region_before_merge}
 
 -- the stores that are shown are those that all images have
 pub shown_are : (content : Content) (s : EngineState) (t : Stores) → t.shape ≡ s.manifest.shape → t.body ≡ s.manifest.current
@@ -95,51 +81,35 @@ module _ (old new : Content) (s : EngineState) (stands : Stands old s) (sizes : 
   current_record_stays = current_record_elsewhere s.manifest (gates_at s.manifest.shape s.manifest.current.active) (log_size s.manifest.shape)
       old new (omega (arith, stands.has_size)) (inr (omega arith)) changes_active stands.current
 
-  -- the frozen logs match the disk as before
+  -- all else lies apart
+  apart : IsTrue old.honest → IsApart s.manifest.shape s.manifest.current (gates_at s.manifest.shape s.manifest.current.active) (log_size s.manifest.shape)
+  apart h = record {
+    frozen = λ region there. outside_other s.manifest.shape region s.manifest.current.active (not_active old s stands h region there);
+    hashed = λ region there. slots_behind_log s.manifest.shape s.manifest.current.active region (active_below old s stands);
+    sorted = entries_behind_log s.manifest.shape s.manifest.current.active s.manifest.current.sorted (active_below old s stands);
+  }
+
+  -- the frozen logs, the hash stores and the entries match the disk as before
   pub frozen_stay : All (IsFrozen new) s.frozen
-  frozen_stay = all_frozen_elsewhere old new s (gates_at s.manifest.shape s.manifest.current.active) (log_size s.manifest.shape) stands changes_active
-      (λ h region there. outside_other s.manifest.shape region s.manifest.current.active (not_active old s stands h region there))
+  frozen_stay = all_frozen_elsewhere old new s _ _ stands changes_active apart
 
-  -- the hash stores match the disk as before
   pub hashed_stay : All (IsHashStore new) s.hashes
-  hashed_stay = all_hashed_elsewhere old new s (gates_at s.manifest.shape s.manifest.current.active) (log_size s.manifest.shape) stands changes_active
-      (λ h region there. slots_behind_log s.manifest.shape s.manifest.current.active region (active_below old s stands))
+  hashed_stay = all_hashed_elsewhere old new s _ _ stands changes_active apart
 
-  -- and the index of the entries is theirs as before
   pub located_stays : IsLocated new s
-  located_stays = located_elsewhere old new s (gates_at s.manifest.shape s.manifest.current.active) (log_size s.manifest.shape) stands changes_active
-      (λ h. entries_behind_log s.manifest.shape s.manifest.current.active s.manifest.current.sorted (active_below old s stands))
+  located_stays = located_elsewhere old new s _ _ stands changes_active apart
 
-  -- and so is the digest
   pub digested_stays : IsDigested new s
-  digested_stays = digested_elsewhere old new s (gates_at s.manifest.shape s.manifest.current.active) (log_size s.manifest.shape) stands changes_active
-      (λ h. entries_behind_log s.manifest.shape s.manifest.current.active s.manifest.current.sorted (active_below old s stands))
+  digested_stays = digested_elsewhere old new s _ _ stands changes_active apart
 
-  -- and a conversion has written what it had
+  -- a conversion has written what it had, and a merge has gathered and written what it had
   pub written_stays : IfSome s.converting (HasWritten new (oldest_log s))
-  written_stays = written_all_elsewhere old new s (gates_at s.manifest.shape s.manifest.current.active) (log_size s.manifest.shape) s.converting stands changes_active
-      (λ h region there. outside_other s.manifest.shape region s.manifest.current.active (not_active old s stands h region there))
-      (λ h. behind s.converting)
-      stands.whole.under_way stands.written
-    where
-      behind : (o : Option ConversionState)
-          → IfSome o (λ conversion. LiesOutside (hash_at s.manifest.shape conversion.region) (slots_len s.manifest.shape)
-          (gates_at s.manifest.shape s.manifest.current.active) (log_size s.manifest.shape))
-      behind None = tt
-      behind (Some conversion) = slots_behind_log s.manifest.shape s.manifest.current.active conversion.region (active_below old s stands)
+  written_stays = written_all_elsewhere old new s _ _ stands changes_active apart s.converting
+      (λ h. region_before_conversion s s.manifest.current.active (active_below old s stands)) stands.whole.under_way stands.written
 
-  -- and a merge has gathered and written what it had
   pub merged_stays : IfSome s.merging (HasGathered new s)
-  merged_stays = merged_all_elsewhere old new s (gates_at s.manifest.shape s.manifest.current.active) (log_size s.manifest.shape) s.merging stands changes_active
-      (λ h region there. slots_behind_log s.manifest.shape s.manifest.current.active region (active_below old s stands))
-      (λ h. entries_behind_log s.manifest.shape s.manifest.current.active s.manifest.current.sorted (active_below old s stands))
-      (λ h. behind s.merging)
-      stands.whole.merging stands.merged
-    where
-      behind : (o : Option MergeState)
-          → IfSome o (λ merge. LiesOutside (sorted_at s.manifest.shape merge.region) (entries_len s.manifest.shape) (gates_at s.manifest.shape s.manifest.current.active) (log_size s.manifest.shape))
-      behind None = tt
-      behind (Some merge) = entries_behind_log s.manifest.shape s.manifest.current.active merge.region (active_below old s stands)
+  merged_stays = merged_all_elsewhere old new s _ _ stands changes_active apart s.merging
+      (λ h. region_before_merge s s.manifest.current.active (active_below old s stands)) stands.whole.merging stands.merged
 
   -- with these rows of the log in each image, each has the stores with them
   pub named_with : (rows : List StoredRow) → LeavesOnly new (λ image. log_rows s.active.log.shape s.active.log.region image ≡ rows)

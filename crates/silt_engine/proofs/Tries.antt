@@ -1,13 +1,5 @@
 -- A merge whose builder has made a trie.
-use Rattle.std.proofs.Common.{ℕ, List, Option}
-use Rattle.silt_disk.specs.Disk.{Content}
-use Rattle.silt_hash_store.specs.State.{HashState}
-use Rattle.silt_merge.specs.Comparing.{HasCompared}
-use Rattle.silt_merge.specs.Merging.{HasMerged, IsGatheredIn, IsMergedIn}
-use Rattle.silt_merge.specs.State.{IsHeldMerge, MergeState}
-use Rattle.silt_sorted_store.specs.State.{SortedState}
-use Rattle.silt_trie.specs.Marks.{MarkedCode}
-use Rattle.silt_standing.specs.State.{EngineState, IsMerging}
+use Rattle.silt_engine.proofs.Common.{ℕ, List, Option, Content, HashState, HasCompared, HasMerged, IsGatheredIn, IsMergedIn, IsHeldMerge, MergeState, SortedState, MarkedCode, EngineState, IsMerging}
 
 -- a merge whose builder has this trie
 abbrev pub with_trie : MergeState → Option MarkedCode → MergeState

@@ -1,37 +1,20 @@
 -- A change of a slot of the manifest: in each image the old record is current, or another one.
-use Rattle.std.proofs.Common.{◌≡◌, ◌<◌, ℕ, IsTrue, List, [], map, Some, Ok, refl, ap, sym, ◌∙◌, subst}
-use Rattle.silt_disk.specs.Disk.{ChangesWithin, Content, LiesOutside, Torn, size}
-use Rattle.silt_disk.specs.Layout.{Shape, device_size, gates_at, log_len, slot_at}
-use Rattle.silt_frame.specs.Rows.{StoredRow}
-use Rattle.silt_log.specs.Calls.{KeepsRows}
-use Rattle.silt_log.specs.State.{LogState, waiting_rows}
+use Rattle.silt_engine.proofs.Common.{◌≡◌, ◌<◌, ℕ, IsTrue, List, [], map, Some, Ok, refl, ap, sym, ◌∙◌, subst, ChangesWithin, Content, Torn, size, Shape}
+use Rattle.silt_engine.proofs.Common.{device_size, slot_at, StoredRow, KeepsRows, LogState, waiting_rows, waiting_kept, manifest_found, current_manifest}
+use Rattle.silt_engine.proofs.Common.{RecordIsCurrent, current_record, SlotRecord, Stores, image_stores, stores_named, Map, map_after, StandsFor, image_map}
+use Rattle.silt_engine.proofs.Common.{rows_of, command_of, map_of_rows, EngineState, Stands, base_map, full_image, shown_stores, waiting_commands, HasBegun}
+use Rattle.silt_engine.proofs.Common.{IsQuiet, ◌+◌, All, IfSome, HasWritten, IsHashStore, spare_slot, oldest_log, HasGathered, IsDigested, IsFrozen, IsLocated}
+use Rattle.silt_engine.proofs.Common.{manifest_law}
 use Rattle.silt_log.specs.State as log
-use Rattle.silt_log.proofs.Waiting.{waiting_kept}
-use Rattle.silt_manifest.specs.Current.{manifest_found, current_manifest}
-use Rattle.silt_manifest.specs.Standing.{RecordIsCurrent, current_record}
-use Rattle.silt_manifest.specs.declared.slot.SlotRecord.{SlotRecord}
-use Rattle.silt_image.specs.Stores.{Stores, image_stores, stores_named}
-use Rattle.silt_event.specs.Commands.{Map, map_after}
-use Rattle.silt_image.specs.Meaning.{StandsFor, image_map, rows_of}
-use Rattle.silt_event.specs.Rows.{command_of, map_of_rows}
-use Rattle.silt_image.proofs.Frame.{manifest_law}
-use Rattle.silt_standing.specs.State.{EngineState}
-use Rattle.silt_standing.specs.Standing.{Stands, base_map, full_image, shown_stores, waiting_commands}
-use Rattle.silt_engine.specs.Calls.{HasBegun}
-use Rattle.silt_standing.specs.Standing.{IsQuiet}
 use Rattle.silt_engine.proofs.Named.{found_current, named_body, named_here, named_shape}
 use Rattle.silt_engine.proofs.Facts.{full_map, opened_map}
-use Rattle.silt_engine.proofs.Elsewhere.{outside_slot}
-use Rattle.silt_engine.proofs.Freezes.{IsApart, full_quiet, kept, quiet_map, slot_apart}
+use Rattle.silt_engine.proofs.Elsewhere.{outside_slot, IsApart, all_frozen_elsewhere, all_hashed_elsewhere, digested_elsewhere, located_elsewhere, merged_all_elsewhere, written_all_elsewhere}
+use Rattle.silt_engine.proofs.Freezes.{full_quiet, kept, quiet_map, slot_apart, below_two, slot_before_conversion, slot_before_merge}
 
 -- an image that represents the base represents it after none of what waited
 pub begun_none : (content : Content) (s : EngineState) (image : List ℕ) → StandsFor s.manifest.shape (base_map content s) image
     → HasBegun s.manifest.shape (base_map content s) (waiting_commands content s) image
 begun_none content s image stands = record { kept = []; begins = record { rest = waiting_commands content s; is = refl }; stands = stands }
-
--- the active log lies outside the slots
-active_outside : (s : EngineState) (slot : ℕ) → slot < 2 → LiesOutside (gates_at s.active.log.shape s.active.log.region) (log_len s.active.log.shape) (slot_at slot) 4096
-active_outside s slot below = outside_slot s.active.log.shape s.active.log.region slot below
 
 module _ (old new : Content) (s : EngineState) (slot : ℕ) (below : slot < 2) (stands : Stands old s) (sizes : size new ≡ size old) (changes : ChangesWithin (slot_at slot) 4096 old new) where
   back : IsTrue new.honest → IsTrue old.honest
@@ -40,12 +23,12 @@ module _ (old new : Content) (s : EngineState) (slot : ℕ) (below : slot < 2) (
   there : IsTrue old.honest → IsTrue new.honest
   there h = subst IsTrue (sym changes.honest) h
 
-  apart : IsTrue old.honest → IsApart s.manifest.shape s.manifest.current (slot_at slot) 4096
-  apart h = slot_apart s.manifest.shape s.manifest.current slot below
+  slots_apart : IsTrue old.honest → IsApart s.manifest.shape s.manifest.current (slot_at slot) 4096
+  slots_apart h = slot_apart s.manifest.shape s.manifest.current slot below
 
   -- the active log matches the disk as before
   pub active_kept : KeepsRows old new s.active.log s.active.log
-  active_kept = kept old new s (slot_at slot) 4096 stands sizes changes apart (active_outside s slot below)
+  active_kept = kept old new s (slot_at slot) 4096 stands sizes changes slots_apart (outside_slot s.manifest.shape s.manifest.current.active slot below)
 
   -- an image in which this record is current has the stores that it names in an earlier image
   pub current_named : (h : IsTrue new.honest) (before image : List ℕ) (found : SlotRecord) → image_stores before ≡ Ok (shown_stores old s) → Torn (slot_at slot) 4096 before image
@@ -80,3 +63,41 @@ module _ (old new : Content) (s : EngineState) (slot : ℕ) (below : slot < 2) (
       ∙ ap (λ (m : Map). map_after m (map command_of (waiting_rows new l))) same_map
       ∙ ap (λ (rows : List StoredRow). map_after (base_map old s) (map command_of rows)) (waiting_kept old new l l stands.active h active_kept)
       ∙ sym (full_map old s stands h)
+
+-- ---- what a change of the spare slot leaves
+
+module _ (old new : Content) (s : EngineState) (stands : Stands old s) (sizes : size new ≡ size old) (changes : ChangesWithin (slot_at (spare_slot s.manifest)) 4096 old new) where
+  pub slot_below : spare_slot s.manifest < 2
+  slot_below = below_two (s.manifest.current.generation + 1)
+
+  apart : IsApart s.manifest.shape s.manifest.current (slot_at (spare_slot s.manifest)) 4096
+  apart = slot_apart s.manifest.shape s.manifest.current (spare_slot s.manifest) slot_below
+
+  -- the active log is as it was
+  pub active_stays : KeepsRows old new s.active.log s.active.log
+  active_stays = active_kept old new s (spare_slot s.manifest) slot_below stands sizes changes
+
+  pub waiting_stays : IsTrue old.honest → waiting_rows new s.active.log ≡ waiting_rows old s.active.log
+  waiting_stays h = waiting_kept old new s.active.log s.active.log stands.active h active_stays
+
+  -- so are the frozen logs, the hash stores and the entries
+  pub frozen_stays : All (IsFrozen new) s.frozen
+  frozen_stays = all_frozen_elsewhere old new s _ _ stands changes (λ h. apart)
+
+  pub hashed_stays : All (IsHashStore new) s.hashes
+  hashed_stays = all_hashed_elsewhere old new s _ _ stands changes (λ h. apart)
+
+  pub located_stays : IsLocated new s
+  located_stays = located_elsewhere old new s _ _ stands changes (λ h. apart)
+
+  pub digested_stays : IsDigested new s
+  digested_stays = digested_elsewhere old new s _ _ stands changes (λ h. apart)
+
+  -- and what a conversion and a merge have written
+  pub written_stays : IfSome s.converting (HasWritten new (oldest_log s))
+  written_stays = written_all_elsewhere old new s _ _ stands changes (λ h. apart) s.converting
+      (λ h. slot_before_conversion s (spare_slot s.manifest) slot_below) stands.whole.under_way stands.written
+
+  pub merged_stays : IfSome s.merging (HasGathered new s)
+  merged_stays = merged_all_elsewhere old new s _ _ stands changes (λ h. apart) s.merging
+      (λ h. slot_before_merge s (spare_slot s.manifest) slot_below) stands.whole.merging stands.merged

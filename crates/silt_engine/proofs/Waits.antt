@@ -1,29 +1,12 @@
 -- Whether the row that a lookup found waits for a flush.
-use Rattle.std.proofs.Common.{◌≡◌, ◌≢◌, ◌<◌, ◌≤◌, ◌+◌, ◌-◌, ◌||◌, ◌==◌, ℕ, Bool, true, false, cond, if◌then◌else◌, nat_le, IsTrue, List, [], ◌∷◌, ◌++◌, length}
-use Rattle.std.proofs.Common.{map, get_or, Option, Some, None, inl, inr, refl, ap, sym, ◌∙◌, subst, arith, length-append}
-use Rattle.std.specs.List.{list_any}
-use Rattle.std.specs.Str.{bytes_eq}
-use Rattle.std.specs.FinMap.{get, get-insert, get-remove}
-use Rattle.std.proofs.lemmas.Bool.{cases_lt, le-leb, lt-leb}
-use Rattle.std.proofs.lemmas.Cmp.{nat_list_cmp_total}
-use Rattle.std.proofs.lemmas.List.{get_or-append-add, get_or-append_right, get_or-map}
-use Rattle.std.proofs.lemmas.List.Folds.{list_any_at, list_any_none}
-use Rattle.std.proofs.lemmas.Option.{get_or_from_slice_get, slice_get_within}
-use Rattle.std.proofs.lemmas.Slice.Eq.{bytes_eq-Decides}
-use Rattle.silt_event.specs.Commands.{Command, Map, changed, delete, map_after, put}
-use Rattle.silt_event.specs.Rows.{command_of}
-use Rattle.silt_event.proofs.Rows.{same_key}
-use Rattle.silt_frame.specs.Rows.{StoredRow, keys_of}
-use Rattle.silt_log_store.specs.LastRow.{FindsLast, HasNoRow, IsLastRow}
-use Rattle.silt_log.specs.declared.found.Found.{Found}
-use Rattle.silt_log.specs.State.{all_rows, settled_rows, waiting_rows}
-use Rattle.silt_log.proofs.Elsewhere.{all_are_settled_and_waiting, all_count}
-use Rattle.silt_log_store.specs.State.{IsIndexed}
-use Rattle.silt_disk.specs.Disk.{Content}
-use Rattle.silt_standing.specs.State.{EngineState}
-use Rattle.silt_standing.specs.Standing.{Stands, waiting_commands}
-use Rattle.silt_engine.specs.declared.lookup.Holder.TheVariants.{Active}
-use Rattle.silt_engine.specs.Lookup.{changes_key, is_of_key, is_waiting_row}
+use Rattle.silt_engine.proofs.Common.{◌≡◌, ◌≢◌, ◌<◌, ◌≤◌, ◌+◌, ◌-◌, ◌||◌, ◌==◌, ℕ, Bool, true, false, cond, if◌then◌else◌, nat_le, IsTrue, List, [], ◌∷◌, ◌++◌}
+use Rattle.silt_engine.proofs.Common.{length, map, get_or, Option, Some, None, inl, inr, refl, ap, sym, ◌∙◌, subst, arith, list_any, bytes_eq, get, get-insert}
+use Rattle.silt_engine.proofs.Common.{get-remove, cases_lt, le-leb, nat_list_cmp_total, get_or-map, list_any_at, get_or_from_slice_get, slice_get_within}
+use Rattle.silt_engine.proofs.Common.{bytes_eq-Decides, Command, Map, changed, delete, map_after, put, command_of, StoredRow, keys_of, FindsLast, HasNoRow}
+use Rattle.silt_engine.proofs.Common.{IsLastRow, Found, all_rows, settled_rows, waiting_rows, all_are_settled_and_waiting, all_count, IsIndexed, Content}
+use Rattle.silt_engine.proofs.Common.{EngineState, Stands, waiting_commands, Active, lt-leb, get_or-append-add, get_or-append_right, list_any_none, same_key}
+use Rattle.silt_engine.proofs.Common.{changes_key, is_of_key, is_waiting_row}
+use Rattle.std.proofs.Common.{length-append}
 use Rattle.silt_engine.proofs.Lookups.{other_key}
 
 -- ---- commands of other keys

@@ -1,69 +1,16 @@
 -- A lookup, at its exits.
-use Rattle.std.proofs.Common.{◌≡◌, ◌<◌, ◌+◌, ◌*◌, ℕ, true, false, IsTrue, List, [], length, get_or, Option, Some, None, inl, inr, refl, ap, sym, ◌∙◌, subst, arith}
-use Rattle.std.specs.Prelude.{IfSome}
-use Rattle.std.specs.FinMap.{get}
-use Rattle.std.proofs.lemmas.Bool.{cases_lt}
-use Rattle.std.proofs.lemmas.List.{get_or_default}
-use Rattle.silt_disk.specs.Disk.{Content}
-use Rattle.silt_frame.specs.Frame.{is_put}
-use Rattle.silt_frame.specs.declared.key.Kind.{Kind}
-use Rattle.silt_frame.specs.declared.key.Kind.TheVariants.{Put, Delete}
-use Rattle.silt_hash_store.specs.Lookup.{FindsRow}
-use Rattle.silt_hash_store.specs.Slots.{slot_row}
-use Rattle.silt_hash_store.specs.State.{HashState, IsHashStore}
-use Rattle.silt_hash_store.specs.Findings.{holds_key}
-use Rattle.silt_sorted_store.specs.Findings.{sorted_findings}
-use Rattle.silt_log.specs.Rows.{row_at}
-use Rattle.silt_log.specs.State.{all_rows}
-use Rattle.silt_log_store.specs.State.{IsIndexed, LogStoreState}
-use Rattle.silt_log_store.specs.LastRow.{FindsLast, HasNoRow}
-use Rattle.silt_log.specs.Found.{put_place}
-use Rattle.silt_log.specs.declared.found.Found.{Found}
-use Rattle.silt_frame.specs.Rows.{StoredRow}
-use Rattle.silt_sorted_store.specs.Index.{IsIndexOf}
-use Rattle.silt_sorted_store.specs.OnlyRow.{HasNoEntry, HasOnlyValue}
-use Rattle.silt_sorted_store.specs.State.{entries_of}
-use Rattle.silt_engine.specs.declared.lookup.Holder.{Holder}
-use Rattle.silt_engine.specs.declared.lookup.Holder.TheVariants.{Active, Frozen, Hashed}
-use Rattle.silt_standing.specs.State.{EngineState}
-use Rattle.silt_standing.specs.Standing.{Stands, current_map}
-use Rattle.silt_engine.specs.Lookup.{FindsFrozen, FindsHashed, FindsNewest, IsItsValue, frozen_at, hash_store_at, hash_rows_of, row_in}
+use Rattle.silt_engine.proofs.Common.{◌≡◌, ◌<◌, ◌+◌, ◌*◌, ℕ, true, false, IsTrue, List, [], length, get_or, Option, Some, None, inl, inr, refl, ap, sym, ◌∙◌}
+use Rattle.silt_engine.proofs.Common.{subst, arith, IfSome, get, cases_lt, get_or_default, Content, is_put, Kind, Put, Delete, slot_row, HashState, IsHashStore}
+use Rattle.silt_engine.proofs.Common.{holds_key, sorted_findings, row_at, all_rows, IsIndexed, LogStoreState, FindsLast, HasNoRow, put_place, Found, StoredRow}
+use Rattle.silt_engine.proofs.Common.{IsIndexOf, HasNoEntry, HasOnlyValue, entries_of, Holder, Active, Frozen, Hashed, EngineState, Stands, current_map}
+use Rattle.silt_engine.proofs.Common.{FindsFrozen, FindsHashed, FindsNewest, frozen_at, hash_store_at, hash_rows_of, row_in, FindsRow, IsItsValue}
 use Rattle.silt_engine.proofs.Lookups.{entries_sound, found_active, found_frozen, found_hashed, found_nowhere, found_value, past_hashed}
 
--- what a frozen log finds, by its number
-log_finds : (content : Content) (s : EngineState) (items : List LogStoreState) (number : ℕ) (store : LogStoreState) (key : List ℕ) (o : Option Found)
-    → items ≡ s.frozen → number < length items → store ≡ get_or items number store → Stands content s → IsTrue content.honest
-    → (IsTrue content.honest → IsIndexed content store → FindsLast (all_rows content store.log) key o) → FindsLast (all_rows content (frozen_at s number).log) key o
-log_finds content s items number store key o are inside is stands honest finds =
-    let below : number < length s.frozen = subst (λ (l : List LogStoreState). number < length l) are inside in
-    let here : store ≡ frozen_at s number = is ∙ ap (λ (l : List LogStoreState). get_or l number store) are ∙ get_or_default s.frozen number store s.active below in
-    subst (λ (t : LogStoreState). FindsLast (all_rows content t.log) key o) here (finds honest (subst (IsIndexed content) (sym here) (stands.frozen number s.active below).indexed))
-
--- a log of the frozen ones has a row of the key
-pub found_here : (content : Content) (s : EngineState) (items : List LogStoreState) (number : ℕ) (store : LogStoreState) (key : List ℕ) (o : Option Found) (found : Found)
-    → items ≡ s.frozen → number < length items → store ≡ get_or items number store → Stands content s → IsTrue content.honest
-    → (IsTrue content.honest → IsIndexed content store → FindsLast (all_rows content store.log) key o) → o ≡ Some found
-    → ((index : ℕ) → index < number → HasNoRow (all_rows content (frozen_at s index).log) key) → FindsFrozen content s key (Some (number, found))
-found_here content s items number store key o found are inside is stands honest finds some before =
-    (before, subst (FindsLast (all_rows content (frozen_at s number).log) key) some (log_finds content s items number store key o are inside is stands honest finds))
-
--- what a hash store finds, by its number
-hash_finds : (content : Content) (s : EngineState) (items : List HashState) (number : ℕ) (store : HashState) (key : List ℕ) (o : Option Found)
-    → items ≡ s.hashes → number < length items → store ≡ get_or items number store → Stands content s → IsTrue content.honest
-    → (IsTrue content.honest → IsHashStore content store → FindsRow (hash_rows_of content store) key o) → FindsRow (hash_rows_of content (hash_store_at s number)) key o
-hash_finds content s items number store key o are inside is stands honest finds =
-    let none : HashState = record { shape = s.manifest.shape; region = 0; tags = []; puts = 0; digest = [] } in
-    let below : number < length s.hashes = subst (λ (l : List HashState). number < length l) are inside in
-    let here : store ≡ hash_store_at s number = is ∙ ap (λ (l : List HashState). get_or l number store) are ∙ get_or_default s.hashes number store none below in
-    subst (λ (t : HashState). FindsRow (hash_rows_of content t) key o) here (finds honest (subst (IsHashStore content) (sym here) (stands.hashed number none below)))
-
--- a hash store has a row of the key
-pub hash_here : (content : Content) (s : EngineState) (items : List HashState) (number : ℕ) (store : HashState) (key : List ℕ) (o : Option Found) (found : Found)
-    → items ≡ s.hashes → number < length items → store ≡ get_or items number store → Stands content s → IsTrue content.honest
-    → (IsTrue content.honest → IsHashStore content store → FindsRow (hash_rows_of content store) key o) → o ≡ Some found
-    → ((index : ℕ) → index < number → holds_key key (hash_rows_of content (hash_store_at s index)) ≡ false) → FindsHashed content s key (Some (number, found))
-hash_here content s items number store key o found are inside is stands honest finds some before =
-    (before, subst (FindsRow (hash_rows_of content (hash_store_at s number)) key) some (hash_finds content s items number store key o are inside is stands honest finds))
+-- by the row of a holder, its value
+its_value : (content : Content) (s : EngineState) (holder : Holder) (kind : Kind) (place : ℕ) (out : List ℕ) (value : ℕ → List ℕ) → ((n : ℕ) → value n ≡ (row_in content s holder n).value)
+    → IfSome (put_place (Some (record { kind = kind; place = place }))) (λ n. out ≡ value n) → IsItsValue content s holder (record { kind = kind; place = place }) out
+its_value content s holder Put place out value same has = has ∙ same place
+its_value content s holder Delete place out value same has = tt
 
 -- a result that is none
 pub none_of : {X : Type 0} (o : Option X) → ((x : X) → o ≡ Some x → ⊥) → o ≡ None
@@ -77,24 +24,80 @@ one_more P number before here index below = elim (cases_lt index number) [
   | inr past ↦ let same : number ≡ index = omega (arith, below, past) in subst P same here
 ]
 
--- a frozen log that has no row of the key is passed
-pub log_passed : (content : Content) (s : EngineState) (items : List LogStoreState) (number : ℕ) (store : LogStoreState) (key : List ℕ) (o : Option Found)
-    → items ≡ s.frozen → number < length items → store ≡ get_or items number store → Stands content s → IsTrue content.honest
-    → (IsTrue content.honest → IsIndexed content store → FindsLast (all_rows content store.log) key o) → ((found : Found) → o ≡ Some found → ⊥)
-    → ((index : ℕ) → index < number → HasNoRow (all_rows content (frozen_at s index).log) key) → (index : ℕ) → index < number + 1 → HasNoRow (all_rows content (frozen_at s index).log) key
-log_passed content s items number store key o are inside is stands honest finds not_some before =
-    one_more (λ index. HasNoRow (all_rows content (frozen_at s index).log) key) number before
-    (subst (FindsLast (all_rows content (frozen_at s number).log) key) (none_of o not_some) (log_finds content s items number store key o are inside is stands honest finds))
+-- ---- a frozen log, by its number
 
--- and so is a hash store
-pub hash_passed : (content : Content) (s : EngineState) (items : List HashState) (number : ℕ) (store : HashState) (key : List ℕ) (o : Option Found)
-    → items ≡ s.hashes → number < length items → store ≡ get_or items number store → Stands content s → IsTrue content.honest
-    → (IsTrue content.honest → IsHashStore content store → FindsRow (hash_rows_of content store) key o) → ((found : Found) → o ≡ Some found → ⊥)
-    → ((index : ℕ) → index < number → holds_key key (hash_rows_of content (hash_store_at s index)) ≡ false) → (index : ℕ)
-    → index < number + 1 → holds_key key (hash_rows_of content (hash_store_at s index)) ≡ false
-hash_passed content s items number store key o are inside is stands honest finds not_some before =
-    one_more (λ index. holds_key key (hash_rows_of content (hash_store_at s index)) ≡ false) number before
-    (subst (FindsRow (hash_rows_of content (hash_store_at s number)) key) (none_of o not_some) (hash_finds content s items number store key o are inside is stands honest finds))
+module _ (content : Content) (s : EngineState) (items : List LogStoreState) (number : ℕ) (store : LogStoreState) (are : items ≡ s.frozen)
+    (inside : number < length items) (is : store ≡ get_or items number store) where
+  log_below : number < length s.frozen
+  log_below = subst (λ (l : List LogStoreState). number < length l) are inside
+
+  log_here : store ≡ frozen_at s number
+  log_here = is ∙ ap (λ (l : List LogStoreState). get_or l number store) are ∙ get_or_default s.frozen number store s.active log_below
+
+  module _ (key : List ℕ) (o : Option Found) (stands : Stands content s) (honest : IsTrue content.honest)
+      (finds : IsTrue content.honest → IsIndexed content store → FindsLast (all_rows content store.log) key o)
+      (before : (index : ℕ) → index < number → HasNoRow (all_rows content (frozen_at s index).log) key) where
+    log_finds : FindsLast (all_rows content (frozen_at s number).log) key o
+    log_finds = subst (λ (t : LogStoreState). FindsLast (all_rows content t.log) key o) log_here
+        (finds honest (subst (IsIndexed content) (sym log_here) (stands.frozen number s.active log_below).indexed))
+
+    -- it has a row of the key
+    pub found_here : (found : Found) → o ≡ Some found → FindsFrozen content s key (Some (number, found))
+    found_here found some = (before, subst (FindsLast (all_rows content (frozen_at s number).log) key) some log_finds)
+
+    -- it has none, and is passed
+    pub log_passed : ((found : Found) → o ≡ Some found → ⊥) → (index : ℕ) → index < number + 1 → HasNoRow (all_rows content (frozen_at s index).log) key
+    log_passed not_some = one_more (λ index. HasNoRow (all_rows content (frozen_at s index).log) key) number before
+        (subst (FindsLast (all_rows content (frozen_at s number).log) key) (none_of o not_some) log_finds)
+
+  -- the value of a row that it has
+  pub frozen_value : (o : Option Found) (found : Found) (out : List ℕ) → o ≡ Some found
+      → IfSome (put_place o) (λ place. out ≡ (row_at store.log.shape store.log.region content.shown place).value)
+      → IsItsValue content s (Frozen number) found out
+  frozen_value o found out some has =
+      its_value content s (Frozen number) found.kind found.place out (λ n. (row_at store.log.shape store.log.region content.shown n).value)
+      (λ n. ap (λ (t : LogStoreState). (row_at t.log.shape t.log.region content.shown n).value) log_here)
+      (subst (λ (o : Option Found). IfSome (put_place o) (λ place. out ≡ (row_at store.log.shape store.log.region content.shown place).value)) some has)
+
+-- ---- a hash store, by its number
+
+module _ (content : Content) (s : EngineState) (items : List HashState) (number : ℕ) (store : HashState) (are : items ≡ s.hashes)
+    (inside : number < length items) (is : store ≡ get_or items number store) where
+  hash_below : number < length s.hashes
+  hash_below = subst (λ (l : List HashState). number < length l) are inside
+
+  abbrev no_store : HashState
+  no_store = record { shape = s.manifest.shape; region = 0; tags = []; puts = 0; digest = [] }
+
+  store_here : store ≡ hash_store_at s number
+  store_here = is ∙ ap (λ (l : List HashState). get_or l number store) are ∙ get_or_default s.hashes number store no_store hash_below
+
+  module _ (key : List ℕ) (o : Option Found) (stands : Stands content s) (honest : IsTrue content.honest)
+      (finds : IsTrue content.honest → IsHashStore content store → FindsRow (hash_rows_of content store) key o)
+      (before : (index : ℕ) → index < number → holds_key key (hash_rows_of content (hash_store_at s index)) ≡ false) where
+    hash_finds : FindsRow (hash_rows_of content (hash_store_at s number)) key o
+    hash_finds = subst (λ (t : HashState). FindsRow (hash_rows_of content t) key o) store_here
+        (finds honest (subst (IsHashStore content) (sym store_here) (stands.hashed number no_store hash_below)))
+
+    -- it has a row of the key
+    pub hash_here : (found : Found) → o ≡ Some found → FindsHashed content s key (Some (number, found))
+    hash_here found some = (before, subst (FindsRow (hash_rows_of content (hash_store_at s number)) key) some hash_finds)
+
+    -- it has none, and is passed
+    pub hash_passed : ((found : Found) → o ≡ Some found → ⊥) → (index : ℕ) → index < number + 1
+        → holds_key key (hash_rows_of content (hash_store_at s index)) ≡ false
+    hash_passed not_some = one_more (λ index. holds_key key (hash_rows_of content (hash_store_at s index)) ≡ false) number before
+        (subst (FindsRow (hash_rows_of content (hash_store_at s number)) key) (none_of o not_some) hash_finds)
+
+  -- the value of a row that it has
+  pub hashed_value : (o : Option Found) (found : Found) (out : List ℕ) → o ≡ Some found
+      → IfSome (put_place o) (λ place. out ≡ (slot_row store.shape store.region content.shown place).value) → IsItsValue content s (Hashed number) found out
+  hashed_value o found out some has =
+      its_value content s (Hashed number) found.kind found.place out (λ n. (slot_row store.shape store.region content.shown n).value)
+      (λ n. ap (λ (t : HashState). (slot_row t.shape t.region content.shown n).value) store_here)
+      (subst (λ (o : Option Found). IfSome (put_place o) (λ place. out ≡ (slot_row store.shape store.region content.shown place).value)) some has)
+
+-- ---- the active log
 
 -- the active log has a row of the key
 pub newest_active : (content : Content) (s : EngineState) (key : List ℕ) (o : Option Found) (found : Found) → Stands content s → IsTrue content.honest
@@ -141,12 +144,6 @@ module _ (content : Content) (view s : EngineState) (is : view ≡ s) (key : Lis
 
 -- ---- the value beside the answer
 
--- by the row of a holder
-its_value : (content : Content) (s : EngineState) (holder : Holder) (kind : Kind) (place : ℕ) (out : List ℕ) (value : ℕ → List ℕ) → ((n : ℕ) → value n ≡ (row_in content s holder n).value)
-    → IfSome (put_place (Some (record { kind = kind; place = place }))) (λ n. out ≡ value n) → IsItsValue content s holder (record { kind = kind; place = place }) out
-its_value content s holder Put place out value same has = has ∙ same place
-its_value content s holder Delete place out value same has = tt
-
 -- in the active log, which is seen through the stores' fields
 pub active_value : (content : Content) (view s : EngineState) → view ≡ s → (o : Option Found) (found : Found) (out : List ℕ) → o ≡ Some found
     → IfSome (put_place o) (λ place. out ≡ (row_at view.active.log.shape view.active.log.region content.shown place).value) → IsItsValue content s Active found out
@@ -154,29 +151,6 @@ active_value content view s is o found out some has =
     its_value content s Active found.kind found.place out (λ n. (row_at view.active.log.shape view.active.log.region content.shown n).value)
     (λ n. ap (λ (v : EngineState). (row_at v.active.log.shape v.active.log.region content.shown n).value) is)
     (subst (λ (o : Option Found). IfSome (put_place o) (λ place. out ≡ (row_at view.active.log.shape view.active.log.region content.shown place).value)) some has)
-
--- in a frozen log
-pub frozen_value : (content : Content) (s : EngineState) (items : List LogStoreState) (number : ℕ) (store : LogStoreState) (o : Option Found) (found : Found) (out : List ℕ)
-    → items ≡ s.frozen → number < length items → store ≡ get_or items number store → o ≡ Some found
-    → IfSome (put_place o) (λ place. out ≡ (row_at store.log.shape store.log.region content.shown place).value) → IsItsValue content s (Frozen number) found out
-frozen_value content s items number store o found out are inside is some has =
-    let below : number < length s.frozen = subst (λ (l : List LogStoreState). number < length l) are inside in
-    let here : store ≡ frozen_at s number = is ∙ ap (λ (l : List LogStoreState). get_or l number store) are ∙ get_or_default s.frozen number store s.active below in
-    its_value content s (Frozen number) found.kind found.place out (λ n. (row_at store.log.shape store.log.region content.shown n).value)
-    (λ n. ap (λ (t : LogStoreState). (row_at t.log.shape t.log.region content.shown n).value) here)
-    (subst (λ (o : Option Found). IfSome (put_place o) (λ place. out ≡ (row_at store.log.shape store.log.region content.shown place).value)) some has)
-
--- in a hash store
-pub hashed_value : (content : Content) (s : EngineState) (items : List HashState) (number : ℕ) (store : HashState) (o : Option Found) (found : Found) (out : List ℕ)
-    → items ≡ s.hashes → number < length items → store ≡ get_or items number store → o ≡ Some found
-    → IfSome (put_place o) (λ place. out ≡ (slot_row store.shape store.region content.shown place).value) → IsItsValue content s (Hashed number) found out
-hashed_value content s items number store o found out are inside is some has =
-    let none : HashState = record { shape = s.manifest.shape; region = 0; tags = []; puts = 0; digest = [] } in
-    let below : number < length s.hashes = subst (λ (l : List HashState). number < length l) are inside in
-    let here : store ≡ hash_store_at s number = is ∙ ap (λ (l : List HashState). get_or l number store) are ∙ get_or_default s.hashes number store none below in
-    its_value content s (Hashed number) found.kind found.place out (λ n. (slot_row store.shape store.region content.shown n).value)
-    (λ n. ap (λ (t : HashState). (slot_row t.shape t.region content.shown n).value) here)
-    (subst (λ (o : Option Found). IfSome (put_place o) (λ place. out ≡ (slot_row store.shape store.region content.shown place).value)) some has)
 
 -- a put gives the key its value
 put_gives : (content : Content) (s : EngineState) (key : List ℕ) (holder : Holder) (kind : Kind) (place : ℕ) (out : List ℕ)

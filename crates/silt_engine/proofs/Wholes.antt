@@ -1,16 +1,7 @@
 -- Stores in memory that stay whole, and the oldest log, which a conversion reads.
-use Rattle.std.proofs.Common.{◌≡◌, ◌≤◌, ◌<◌, ◌*◌, ◌-◌, ◌==◌, ℕ, List, ◌∷◌, suc, length, get_or, Option, Some, None, refl, ap, sym, ◌∙◌, subst, arith}
-use Rattle.std.specs.Prelude.{All, IfSome}
-use Rattle.std.specs.List.{list_any}
-use Rattle.std.proofs.lemmas.List.{get_or_default}
-use Rattle.silt_disk.specs.Disk.{Content}
-use Rattle.silt_disk.specs.Layout.{Shape}
-use Rattle.silt_conversion.specs.Conversion.{ConversionState, HasWritten}
-use Rattle.silt_merge.specs.State.{MergeState}
-use Rattle.silt_log_store.specs.State.{LogStoreState}
-use Rattle.silt_manifest.specs.Standing.{ManifestState}
-use Rattle.silt_manifest.specs.declared.body.Body.{Body}
-use Rattle.silt_standing.specs.State.{AreWhole, IsHashOf, IsMerging, IsSettled, IsUnderWay, EngineState, oldest_log, sorted_named}
+use Rattle.silt_engine.proofs.Common.{◌≡◌, ◌≤◌, ◌<◌, ◌*◌, ◌-◌, ◌==◌, ℕ, List, ◌∷◌, suc, length, get_or, Option, Some, None, refl, ap, sym, ◌∙◌, subst, arith}
+use Rattle.silt_engine.proofs.Common.{All, IfSome, list_any, get_or_default, Content, Shape, ConversionState, HasWritten, MergeState, LogStoreState}
+use Rattle.silt_engine.proofs.Common.{ManifestState, Body, AreWhole, IsHashOf, IsMerging, IsSettled, IsUnderWay, EngineState, oldest_log, sorted_named}
 
 -- ---- the oldest log
 

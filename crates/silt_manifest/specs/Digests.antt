@@ -31,12 +31,12 @@ abbrev pub slot_len : ℕ
 slot_len = 461
 
 -- where the digests of the hash stores begin in a slot
-abbrev pub hashed_at : ℕ
-hashed_at = 121
+abbrev pub hash_digests_at : ℕ
+hash_digests_at = 121
 
 -- where the digest of the sorted entries is in a slot
-abbrev pub sorted_at : ℕ
-sorted_at = 441
+abbrev pub sorted_digest_at : ℕ
+sorted_digest_at = 441
 
 -- the digest at this place of a slot
 abbrev pub digest_at : ℕ → List ℕ → Digest
@@ -45,8 +45,8 @@ digest_at at slot = record { 0 = slice_range slot at (at + digest_len) }
 -- the digests of a slot, whose first byte is the gate
 abbrev pub digests_of : List ℕ → Digests
 digests_of slot = record {
-  hashed = map (λ k. digest_at (hashed_at + digest_len * k) slot) (range_with_len 0 most_hashes);
-  sorted = digest_at sorted_at slot;
+  hashed = map (λ k. digest_at (hash_digests_at + digest_len * k) slot) (range_with_len 0 most_hashes);
+  sorted = digest_at sorted_digest_at slot;
 }
 
 -- digests follow the body of a slot

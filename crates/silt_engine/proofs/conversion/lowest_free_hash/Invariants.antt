@@ -1,4 +1,4 @@
-use Rattle.silt_engine.specs.Conversion.{AreAllHashesNamed}
+use Rattle.silt_engine.proofs.Common.{AreAllHashesNamed}
 use Rattle.silt_engine.proofs.conversion.lowest_free_hash.Given as goal
 
 -- the regions that were passed are named

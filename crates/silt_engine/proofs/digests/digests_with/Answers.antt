@@ -1,5 +1,5 @@
-use Rattle.std.specs.Option.{option_to_list}
-use Rattle.silt_engine.proofs.Digesting.{in_front, one_more}
+use Rattle.silt_engine.proofs.Common.{option_to_list}
+use Rattle.silt_engine.proofs.Said.{in_front, one_more}
 use Rattle.silt_engine.proofs.digests.digests_with.Goals as goal
 
 pub loop-index-preserved : goal.loop-index-preserved

@@ -1,6 +1,4 @@
-use Rattle.std.proofs.Common.{◌≡◌, ◌++◌, map, take}
-use Rattle.std.specs.Option.{option_to_list}
-use Rattle.silt_engine.specs.Digests.{digest_of, padded}
+use Rattle.silt_engine.proofs.Common.{◌≡◌, ◌++◌, map, take, option_to_list, digest_of, padded}
 use Rattle.silt_engine.proofs.digests.digests_with.Given as goal
 
 -- the digests of the stores so far are there

@@ -1,6 +1,4 @@
-use Rattle.std.proofs.Common.{arith}
-use Rattle.silt_sorted_store.specs.State.{entries_of}
-use Rattle.silt_sorted_store.proofs.Entries.{entries_law}
+use Rattle.silt_engine.proofs.Common.{arith, entries_of, entries_law}
 use Rattle.silt_engine.proofs.Folds.{bytes_from, does_entry, does_whole}
 use Rattle.silt_engine.proofs.entries.do_entries.Goals as goal
 

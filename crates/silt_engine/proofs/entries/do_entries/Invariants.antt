@@ -1,6 +1,4 @@
-use Rattle.std.proofs.Common.{◌≡◌, IsTrue, length, take}
-use Rattle.silt_sorted_store.specs.State.{entries_of}
-use Rattle.silt_engine.specs.Entries.{DoesRows}
+use Rattle.silt_engine.proofs.Common.{◌≡◌, IsTrue, length, take, entries_of, DoesRows}
 use Rattle.silt_engine.proofs.entries.do_entries.Given as goal
 
 -- the buffer is as long as it came, and the entries that were read are done

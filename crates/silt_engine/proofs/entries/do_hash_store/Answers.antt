@@ -1,5 +1,4 @@
-use Rattle.std.proofs.Common.{ap, arith}
-use Rattle.silt_disk.specs.Layout.{Shape}
+use Rattle.silt_engine.proofs.Common.{ap, arith, Shape}
 use Rattle.silt_engine.proofs.Folds.{does_no_slot, does_slot, does_slots}
 use Rattle.silt_engine.proofs.entries.do_hash_store.Goals as goal
 

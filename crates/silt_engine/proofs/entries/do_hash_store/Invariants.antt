@@ -1,7 +1,4 @@
-use Rattle.std.proofs.Common.{IsTrue, filter}
-use Rattle.silt_hash_store.specs.Slots.{rows_before}
-use Rattle.silt_frame.specs.Rows.{has_known_kind}
-use Rattle.silt_engine.specs.Entries.{DoesRows}
+use Rattle.silt_engine.proofs.Common.{IsTrue, filter, rows_before, has_known_kind, DoesRows}
 use Rattle.silt_engine.proofs.entries.do_hash_store.Given as goal
 
 -- the slots that were read are done

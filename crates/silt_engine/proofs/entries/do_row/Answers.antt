@@ -1,6 +1,4 @@
-use Rattle.std.proofs.Common.{sym}
-use Rattle.silt_frame.specs.declared.key.Key.{Key}
-use Rattle.silt_frame.specs.Rows.{row_of}
+use Rattle.silt_engine.proofs.Common.{sym, Key, row_of}
 use Rattle.silt_engine.proofs.Counting.{told_apart}
 use Rattle.silt_engine.proofs.Folds.{bytes_from, does_delete, does_row}
 use Rattle.silt_engine.proofs.entries.do_row.Goals as goal

@@ -1,7 +1,4 @@
-use Rattle.std.proofs.Common.{sym, ◌∙◌, arith}
-use Rattle.silt_frame.specs.Rows.{row_of}
-use Rattle.silt_log.specs.State.{all_rows}
-use Rattle.silt_log.proofs.Elsewhere.{all_count, row_of_all}
+use Rattle.silt_engine.proofs.Common.{sym, ◌∙◌, arith, row_of, all_rows, all_count, row_of_all}
 use Rattle.silt_engine.proofs.Folds.{does_next, does_whole}
 use Rattle.silt_engine.proofs.entries.do_rows.Goals as goal
 

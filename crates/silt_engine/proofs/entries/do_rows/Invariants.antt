@@ -1,6 +1,4 @@
-use Rattle.std.proofs.Common.{IsTrue, take}
-use Rattle.silt_log.specs.State.{all_rows}
-use Rattle.silt_engine.specs.Entries.{DoesRows}
+use Rattle.silt_engine.proofs.Common.{IsTrue, take, all_rows, DoesRows}
 use Rattle.silt_engine.proofs.entries.do_rows.Given as goal
 
 -- the rows that were read are done

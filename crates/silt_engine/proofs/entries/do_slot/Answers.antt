@@ -1,9 +1,4 @@
-use Rattle.std.proofs.Common.{◌≡◌, ◌==◌, ap, sym, ◌∙◌, subst}
-use Rattle.silt_frame.specs.Frame.{kind_byte}
-use Rattle.silt_hash_store.specs.Lookup.{IsRowAt}
-use Rattle.silt_hash_store.specs.Slots.{slot_row}
-use Rattle.silt_log.specs.Rows.{IsRow}
-use Rattle.silt_frame.specs.Rows.{StoredRow}
+use Rattle.silt_engine.proofs.Common.{◌≡◌, ◌==◌, ap, sym, ◌∙◌, subst, kind_byte, slot_row, StoredRow, IsRowAt, IsRow}
 use Rattle.silt_engine.proofs.Folds.{does_delete, does_kept}
 use Rattle.silt_engine.proofs.entries.do_slot.Goals as goal
 

@@ -1,8 +1,5 @@
-use Rattle.std.proofs.Common.{◌≡◌, List, ℕ, length, drop, Some, ◌∙◌, subst, arith}
+use Rattle.silt_engine.proofs.Common.{◌≡◌, List, ℕ, length, drop, Some, ◌∙◌, subst, arith, take_all, slot_row, StoredRow, key_cmp, take-append-le}
 use Rattle.std.specs.BTreeMap as tree
-use Rattle.std.proofs.lemmas.List.{take-append-le, take_all}
-use Rattle.silt_hash_store.specs.Slots.{slot_row}
-use Rattle.silt_frame.specs.Rows.{StoredRow, key_cmp}
 use Rattle.silt_engine.proofs.Folds.{does_put}
 use Rattle.silt_engine.proofs.entries.put_slot.Goals as goal
 

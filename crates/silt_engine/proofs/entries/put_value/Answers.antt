@@ -1,7 +1,5 @@
-use Rattle.std.proofs.Common.{subst, ◌∙◌, refl, List, ℕ, Some}
+use Rattle.silt_engine.proofs.Common.{subst, ◌∙◌, refl, List, ℕ, Some, key_cmp, stored_row, Put}
 use Rattle.std.specs.BTreeMap as tree
-use Rattle.silt_frame.specs.Rows.{key_cmp, stored_row}
-use Rattle.silt_frame.specs.declared.key.Kind.TheVariants.{Put}
 use Rattle.silt_engine.proofs.Folds.{does_put}
 use Rattle.silt_engine.proofs.entries.put_value.Goals as goal
 

@@ -1,4 +1,4 @@
-use Rattle.silt_engine.proofs.LogReplaced.{converts}
+use Rattle.silt_engine.proofs.ConvertStores.{converts}
 use Rattle.silt_engine.proofs.laws.converts_law.Goals as goal
 
 pub returns : goal.returns

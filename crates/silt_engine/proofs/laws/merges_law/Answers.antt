@@ -1,4 +1,4 @@
-use Rattle.silt_engine.proofs.StoresReplaced.{merges}
+use Rattle.silt_engine.proofs.MergeStores.{merges}
 use Rattle.silt_engine.proofs.laws.merges_law.Goals as goal
 
 pub returns : goal.returns

@@ -1,8 +1,4 @@
-use Rattle.std.proofs.Common.{◌≡◌, ◌-◌, List, get_or, ap, ◌∙◌, arith}
-use Rattle.std.proofs.lemmas.List.{take_all}
-use Rattle.std.proofs.lemmas.List.Sums.{sum_by_more}
-use Rattle.silt_hash_store.specs.State.{HashState}
-use Rattle.silt_engine.specs.Merge.{puts_in}
+use Rattle.silt_engine.proofs.Common.{◌≡◌, ◌-◌, List, get_or, ap, ◌∙◌, arith, take_all, HashState, puts_in, sum_by_more}
 use Rattle.silt_engine.proofs.merge.without_puts.Goals as goal
 
 pub loop-store-preserved : goal.loop-store-preserved

@@ -1,5 +1,4 @@
-use Rattle.std.proofs.Common.{◌≡◌, ◌-◌, take}
-use Rattle.silt_engine.specs.Merge.{puts_in}
+use Rattle.silt_engine.proofs.Common.{◌≡◌, ◌-◌, take, puts_in}
 use Rattle.silt_engine.proofs.merge.without_puts.Given as goal
 
 -- the charge without the puts of the stores so far

@@ -1,4 +1,4 @@
-use Rattle.silt_engine.specs.NextLog.{AreAllNamed}
+use Rattle.silt_engine.proofs.Common.{AreAllNamed}
 use Rattle.silt_engine.proofs.next_log.lowest_free.Given as goal
 
 -- the regions that were passed are named

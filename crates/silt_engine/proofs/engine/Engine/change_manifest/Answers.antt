@@ -1,12 +1,6 @@
-use Rattle.std.proofs.Common.{◌+◌, ◌%◌, ◌^◌, ℕ, ap, sym, ◌∙◌, subst, rules, arith}
-use Rattle.silt_standing.specs.State.{EngineState}
-use Rattle.silt_standing.specs.Standing.{Stands}
-use Rattle.silt_engine.specs.Succession.{MayBecomeCurrent}
-use Rattle.silt_engine.proofs.Exits.{on_error}
+use Rattle.silt_engine.proofs.Common.{◌+◌, ◌%◌, ◌^◌, ℕ, ap, sym, ◌∙◌, subst, rules, arith, EngineState, Stands, MayBecomeCurrent, MakesAtMost, most_both}
+use Rattle.silt_engine.proofs.Exits.{on_error, state_of}
 use Rattle.silt_engine.proofs.NextBodies.{at_gate, before_gate, both_steps, manifest_breaks, manifest_map, becomes_current}
-use Rattle.silt_engine.proofs.Viewing.{state_of}
-use Rattle.silt_disk.specs.Disk.{MakesAtMost}
-use Rattle.silt_disk.proofs.Costs.{most_both}
 use Rattle.silt_engine.proofs.engine.Engine.change_manifest.Goals as goal
 
 pub prepare_next-requires-clause-next : goal.prepare_next-requires-clause-next

@@ -1,8 +1,7 @@
-use Rattle.std.proofs.Common.{[], refl}
-use Rattle.silt_engine.proofs.Exits.{on_error}
+use Rattle.silt_engine.proofs.Common.{[], refl}
+use Rattle.silt_engine.proofs.Exits.{on_error, broke_off, went}
 use Rattle.silt_engine.proofs.Flushes.{quiet}
-use Rattle.silt_engine.proofs.Emptied.{clear_advances, clear_emptied}
-use Rattle.silt_engine.proofs.Works.{broke_off, went}
+use Rattle.silt_engine.proofs.Freezes.{clear_advances, clear_emptied}
 use Rattle.silt_engine.proofs.engine.Engine.clear_region.Goals as goal
 
 pub returns-in_err-prepare-clause-err : goal.returns-in_err-prepare-clause-err

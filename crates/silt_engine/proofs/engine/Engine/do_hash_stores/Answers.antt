@@ -1,4 +1,4 @@
-use Rattle.std.proofs.Common.{◌-◌, sym, arith}
+use Rattle.silt_engine.proofs.Common.{◌-◌, sym, arith}
 use Rattle.silt_engine.proofs.Folds.{does_log}
 use Rattle.silt_engine.proofs.Lookups.{known_in}
 use Rattle.silt_engine.proofs.engine.Engine.do_hash_stores.Goals as goal

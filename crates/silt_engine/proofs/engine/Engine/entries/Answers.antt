@@ -1,15 +1,8 @@
-use Rattle.std.proofs.Common.{◌≡◌, ◌-◌, ◌++◌, ℕ, List, drop, map, sym, subst, arith}
-use Rattle.silt_event.specs.Commands.{Map}
-use Rattle.silt_log.specs.Parts.{oldest_first}
-use Rattle.silt_frame.specs.Rows.{StoredRow}
-use Rattle.silt_log.specs.State.{all_rows}
-use Rattle.silt_sorted_store.specs.State.{SortedState, entries_of}
-use Rattle.silt_engine.specs.Entries.{DoesRows, hashed_rows}
-use Rattle.silt_engine.specs.Lookup.{AreEntriesOf}
-use Rattle.silt_standing.specs.State.{EngineState}
+use Rattle.silt_engine.proofs.Common.{◌≡◌, ◌-◌, ◌++◌, ℕ, List, drop, map, sym, subst, arith, Map, oldest_first, StoredRow, all_rows, SortedState, entries_of}
+use Rattle.silt_engine.proofs.Common.{DoesRows, hashed_rows, AreEntriesOf, EngineState}
 use Rattle.silt_engine.proofs.Folds.{does_all, does_log, does_more}
 use Rattle.silt_engine.proofs.Lookups.{current_is, rows_in}
-use Rattle.silt_engine.proofs.Viewing.{state_of}
+use Rattle.silt_engine.proofs.Exits.{state_of}
 use Rattle.silt_engine.proofs.engine.Engine.entries.Goals as goal
 
 pub loop-index-preserved : goal.loop-index-preserved

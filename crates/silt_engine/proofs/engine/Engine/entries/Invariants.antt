@@ -1,6 +1,4 @@
-use Rattle.std.proofs.Common.{IsTrue, drop, map}
-use Rattle.silt_log.specs.Parts.{oldest_first}
-use Rattle.silt_engine.specs.Entries.{DoesRows}
+use Rattle.silt_engine.proofs.Common.{IsTrue, drop, map, oldest_first, DoesRows}
 use Rattle.silt_engine.proofs.Lookups.{rows_in}
 use Rattle.silt_engine.proofs.engine.Engine.entries.Given as goal
 

@@ -1,17 +1,8 @@
-use Rattle.std.proofs.Common.{◌≡◌, ◌<◌, length, Option, ap, sym, ◌∙◌, subst, arith}
-use Rattle.std.specs.Prelude.{IfSome}
-use Rattle.std.proofs.lemmas.List.{length-map}
-use Rattle.silt_disk.specs.Layout.{Shape}
-use Rattle.silt_conversion.specs.Conversion.{ConversionState}
-use Rattle.silt_manifest.specs.declared.body.Body.{Body}
-use Rattle.silt_standing.specs.State.{IsUnderWay, EngineState, region_of}
-use Rattle.silt_event.specs.declared.progress.Progress.TheVariants.{Finished}
-use Rattle.silt_engine.specs.Conversion.{convert_turn, converted_body}
+use Rattle.silt_engine.proofs.Common.{◌≡◌, ◌<◌, length, Option, ap, sym, ◌∙◌, subst, arith, IfSome, length-map, Shape, ConversionState, Body, IsUnderWay}
+use Rattle.silt_engine.proofs.Common.{EngineState, region_of, Finished, convert_turn, converted_body, most_none}
 use Rattle.silt_engine.proofs.ConvertSteps.{may_finish}
-use Rattle.silt_engine.proofs.Holdings.{before_last}
-use Rattle.silt_engine.proofs.ConvertCounting.{hash_count, room_for_hash}
-use Rattle.silt_engine.proofs.Viewing.{state_of}
-use Rattle.silt_disk.proofs.Costs.{most_none}
+use Rattle.silt_engine.proofs.Counting.{before_last, hash_count, room_for_hash}
+use Rattle.silt_engine.proofs.Exits.{state_of}
 use Rattle.silt_engine.proofs.engine.Engine.finish_conversion.Goals as goal
 
 pub converted_body-body-requires-clause-hashed : goal.converted_body-body-requires-clause-hashed

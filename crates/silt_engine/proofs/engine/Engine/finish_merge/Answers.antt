@@ -1,8 +1,6 @@
-use Rattle.std.proofs.Common.{[], Ok, ap}
-use Rattle.silt_disk.proofs.Costs.{most_none}
-use Rattle.silt_engine.specs.Conversion.{is_work}
+use Rattle.silt_engine.proofs.Common.{ap, most_none, [], is_work}
+use Rattle.silt_engine.proofs.Exits.{both_went, then_broke_off}
 use Rattle.silt_engine.proofs.MergeSeals.{merges_before, sealed_stands, sealed_works}
-use Rattle.silt_engine.proofs.Works.{both_went, then_broke_off}
 use Rattle.silt_engine.proofs.engine.Engine.finish_merge.Goals as goal
 
 pub finish_sealed-requires-clause-stands : goal.finish_sealed-requires-clause-stands

@@ -1,14 +1,8 @@
-use Rattle.std.proofs.Common.{◌≡◌, None, ◌<◌, ◌-◌, ◌^◌, Option, Some, length, ap, sym, ◌∙◌, subst, arith}
-use Rattle.std.proofs.lemmas.List.{length-map}
-use Rattle.silt_event.specs.declared.progress.Progress.TheVariants.{Finished}
-use Rattle.silt_manifest.specs.declared.body.Body.{Body}
-use Rattle.silt_merge.specs.State.{MergeState}
-use Rattle.silt_engine.specs.Digests.{merged_digests}
-use Rattle.silt_engine.specs.Merge.{SealsMerge, damaged_in, merge_turn, merged_body}
-use Rattle.silt_standing.specs.State.{EngineState, hash_region_of}
+use Rattle.silt_engine.proofs.Common.{◌≡◌, None, ◌<◌, ◌-◌, ◌^◌, length, ap, sym, ◌∙◌, subst, arith, length-map, Finished, Body, merged_digests, SealsMerge}
+use Rattle.silt_engine.proofs.Common.{damaged_in, merge_turn, merged_body, EngineState, hash_region_of}
 use Rattle.silt_engine.proofs.MergeSeals.{may_end_now}
 use Rattle.silt_engine.proofs.MergeSteps.{is_finished, merging_of}
-use Rattle.silt_engine.proofs.Viewing.{state_of}
+use Rattle.silt_engine.proofs.Exits.{state_of}
 use Rattle.silt_engine.proofs.engine.Engine.finish_sealed.Goals as goal
 
 pub end_merge-requires-clause-ends : goal.end_merge-requires-clause-ends

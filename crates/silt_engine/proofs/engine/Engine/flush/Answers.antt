@@ -1,10 +1,6 @@
-use Rattle.std.proofs.Common.{sym, subst, refl, arith, ◌∙◌}
-use Rattle.std.proofs.lemmas.Bool.Decides.{nat_tests}
-use Rattle.silt_standing.specs.State.{EngineState}
-use Rattle.silt_standing.specs.Standing.{Stands}
+use Rattle.silt_engine.proofs.Common.{sym, subst, ◌∙◌, EngineState, Stands}
 use Rattle.silt_engine.proofs.Flushes.{quiet_when}
-use Rattle.silt_engine.proofs.Viewing.{state_of}
-use Rattle.silt_engine.proofs.Works.{nothing_done}
+use Rattle.silt_engine.proofs.Exits.{state_of, nothing_done}
 use Rattle.silt_engine.proofs.engine.Engine.flush.Goals as goal
 
 pub returns-then-not-has_waiting-clause-works : goal.returns-then-not-has_waiting-clause-works

@@ -1,16 +1,6 @@
-use Rattle.std.proofs.Common.{[], Ok, sym, subst, rules, refl, arith, ◌+◌, ◌*◌}
-use Rattle.std.specs.Prelude.{⊤}
-use Rattle.silt_engine.specs.declared.next_log.NextLog.{NextLog}
-use Rattle.silt_standing.specs.State.{EngineState}
-use Rattle.silt_engine.specs.Calls.{Advances}
-use Rattle.silt_engine.specs.NextLog.{HasFrozen}
-use Rattle.silt_engine.proofs.Exits.{on_error}
-use Rattle.silt_engine.proofs.Steps.{frozen_from, next_for}
-use Rattle.silt_engine.proofs.Commits.{frozen_advances, frozen_may_become_current, frozen_whole, has_frozen}
-use Rattle.silt_engine.proofs.Works.{both_went, then_broke_off, went}
-use Rattle.silt_disk.specs.Disk.{MakesAtMost}
-use Rattle.silt_disk.proofs.Costs.{made_both, most_both}
-use Rattle.silt_engine.specs.Costs.{row_waits}
+use Rattle.silt_engine.proofs.Common.{[], Ok, sym, subst, rules, refl, arith, ◌+◌, ◌*◌, ⊤, NextLog, EngineState, Advances, HasFrozen, MakesAtMost, most_both, made_both, row_waits}
+use Rattle.silt_engine.proofs.Exits.{on_error, both_went, then_broke_off, went}
+use Rattle.silt_engine.proofs.Commits.{frozen_from, next_for, frozen_advances, frozen_may_become_current, frozen_whole, has_frozen}
 use Rattle.silt_engine.proofs.engine.Engine.freeze.Goals as goal
 
 pub clear_region-requires-clause-next : goal.clear_region-requires-clause-next

@@ -1,8 +1,4 @@
-use Rattle.std.proofs.Common.{◌≡◌, ◌<◌, ℕ, IsTrue}
-use Rattle.silt_log.specs.State.{all_rows}
-use Rattle.silt_log_store.specs.LastRow.{HasNoRow}
-use Rattle.silt_standing.specs.Standing.{Stands}
-use Rattle.silt_engine.specs.Lookup.{frozen_at}
+use Rattle.silt_engine.proofs.Common.{◌≡◌, ◌<◌, ℕ, IsTrue, all_rows, HasNoRow, Stands, frozen_at}
 use Rattle.silt_engine.proofs.engine.Engine.get_frozen.Given as goal
 
 -- nothing is written, and the logs that were passed have no row of the key

@@ -1,7 +1,4 @@
-use Rattle.std.proofs.Common.{◌≡◌, ◌<◌, ℕ, false, IsTrue}
-use Rattle.silt_hash_store.specs.Findings.{holds_key}
-use Rattle.silt_standing.specs.Standing.{Stands}
-use Rattle.silt_engine.specs.Lookup.{hash_store_at, hash_rows_of}
+use Rattle.silt_engine.proofs.Common.{◌≡◌, ◌<◌, ℕ, false, IsTrue, holds_key, Stands, hash_store_at, hash_rows_of}
 use Rattle.silt_engine.proofs.engine.Engine.get_hashed.Given as goal
 
 -- nothing is written, and the stores that were passed have no row of the key

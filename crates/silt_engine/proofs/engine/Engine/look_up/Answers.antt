@@ -1,4 +1,4 @@
-use Rattle.std.proofs.Common.{Ok, ap}
+use Rattle.silt_engine.proofs.Common.{Ok, ap}
 use Rattle.silt_engine.proofs.Walks.{found_delete, found_put, gets_none, gets_value}
 use Rattle.silt_engine.proofs.engine.Engine.look_up.Goals as goal
 

@@ -1,10 +1,6 @@
-use Rattle.std.proofs.Common.{◌≡◌, Some, None, Result, Err, refl, ap, sym, ◌∙◌}
-use Rattle.silt_disk.proofs.Costs.{most_none}
-use Rattle.silt_event.specs.declared.progress.Progress.{Progress}
-use Rattle.silt_engine.specs.declared.merge.MergeError.{MergeError}
-use Rattle.silt_engine.specs.declared.merge.MergeError.TheVariants.{Damaged}
+use Rattle.silt_engine.proofs.Common.{◌≡◌, Some, sym, ◌∙◌, most_none}
 use Rattle.silt_engine.proofs.MergeSteps.{refused_merge}
-use Rattle.silt_engine.proofs.Works.{nothing_done}
+use Rattle.silt_engine.proofs.Exits.{nothing_done}
 use Rattle.silt_engine.proofs.engine.Engine.merge.Goals as goal
 
 pub returns-in-Some-clause-works : goal.returns-in-Some-clause-works

@@ -1,11 +1,6 @@
-use Rattle.std.proofs.Common.{ap, sym, ◌∙◌, subst}
-use Rattle.silt_disk.specs.Layout.{Shape}
-use Rattle.silt_manifest.specs.declared.body.Body.{Body}
-use Rattle.silt_engine.specs.declared.next_log.NextLog.{NextLog}
-use Rattle.silt_standing.specs.State.{EngineState}
-use Rattle.silt_engine.specs.NextLog.{AreAllNamed, IsLowestFree, empty_store, next_body}
-use Rattle.silt_engine.proofs.Holdings.{has_room, is_next, no_room, not_all}
-use Rattle.silt_engine.proofs.Viewing.{state_of}
+use Rattle.silt_engine.proofs.Common.{ap, sym, ◌∙◌, subst, Shape, Body, NextLog, EngineState, AreAllNamed, IsLowestFree, empty_store, next_body}
+use Rattle.silt_engine.proofs.Counting.{has_room, is_next, no_room, not_all}
+use Rattle.silt_engine.proofs.Exits.{state_of}
 use Rattle.silt_engine.proofs.engine.Engine.next_log.Goals as goal
 
 pub returns-in_default-clause-err : goal.returns-in_default-clause-err

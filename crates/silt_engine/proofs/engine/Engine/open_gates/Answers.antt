@@ -1,10 +1,6 @@
-use Rattle.std.proofs.Common.{[], sym, subst}
-use Rattle.silt_standing.specs.State.{EngineState}
-use Rattle.silt_standing.specs.Standing.{Stands}
+use Rattle.silt_engine.proofs.Common.{[], sym, subst, EngineState, Stands}
 use Rattle.silt_engine.proofs.Flushes.{flush_breaks, flush_failed_map, flushed, flushed_quiet}
-use Rattle.silt_engine.proofs.Exits.{on_error}
-use Rattle.silt_engine.proofs.Viewing.{state_of}
-use Rattle.silt_engine.proofs.Works.{went}
+use Rattle.silt_engine.proofs.Exits.{on_error, state_of, went}
 use Rattle.silt_engine.proofs.engine.Engine.open_gates.Goals as goal
 
 pub returns-in_err-open_gates-clause-err : goal.returns-in_err-open_gates-clause-err

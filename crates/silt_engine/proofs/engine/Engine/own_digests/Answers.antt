@@ -1,8 +1,6 @@
-use Rattle.std.proofs.Common.{length, ap, ◌∙◌, arith}
-use Rattle.silt_disk.specs.Layout.{Shape}
-use Rattle.silt_standing.specs.State.{EngineState}
-use Rattle.silt_engine.proofs.MergeCounting.{few_hashes}
-use Rattle.silt_engine.proofs.Viewing.{state_of}
+use Rattle.silt_engine.proofs.Common.{length, ap, ◌∙◌, arith, Shape, EngineState}
+use Rattle.silt_engine.proofs.Counting.{few_hashes}
+use Rattle.silt_engine.proofs.Exits.{state_of}
 use Rattle.silt_engine.proofs.engine.Engine.own_digests.Goals as goal
 
 pub digests_with-requires : goal.digests_with-requires

@@ -1,6 +1,4 @@
-use Rattle.std.proofs.Common.{rules, sym, subst, arith}
-use Rattle.silt_standing.specs.State.{EngineState}
-use Rattle.silt_engine.specs.Conversion.{MayReplace}
+use Rattle.silt_engine.proofs.Common.{rules, sym, subst, arith, EngineState, MayReplace}
 use Rattle.silt_engine.proofs.Swaps.{named_more, replaced_whole, replaces}
 use Rattle.silt_engine.proofs.engine.Engine.replace_oldest.Goals as goal
 

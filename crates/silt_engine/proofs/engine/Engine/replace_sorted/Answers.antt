@@ -1,10 +1,6 @@
-use Rattle.std.proofs.Common.{◌≡◌, ◌-◌, ℕ, drop, refl, ap, sym, ◌∙◌, subst, arith}
-use Rattle.silt_standing.specs.State.{EngineState}
-use Rattle.std.specs.Prelude.{IfSome}
-use Rattle.silt_sorted_store.specs.Index.{IndexedState}
-use Rattle.silt_engine.specs.Merge.{MayStandFor, sorted_replaced}
-use Rattle.silt_engine.proofs.MergeSwaps.{from_on, is_sealed, replaced, sorted_whole, store_is}
-use Rattle.silt_engine.proofs.Viewing.{state_of}
+use Rattle.silt_engine.proofs.Common.{◌-◌, ℕ, drop, refl, ap, sym, ◌∙◌, subst, arith, EngineState, MayStandFor, ◌≡◌, IfSome, IndexedState, sorted_replaced}
+use Rattle.silt_engine.proofs.Swaps.{from_on, replaced, sorted_whole, is_sealed, store_is}
+use Rattle.silt_engine.proofs.Exits.{state_of}
 use Rattle.silt_engine.proofs.engine.Engine.replace_sorted.Goals as goal
 
 pub into_store-sorted-requires : goal.into_store-sorted-requires

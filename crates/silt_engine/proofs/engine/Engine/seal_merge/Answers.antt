@@ -1,8 +1,7 @@
-use Rattle.std.proofs.Common.{Some, refl}
-use Rattle.silt_standing.specs.State.{EngineState}
+use Rattle.silt_engine.proofs.Common.{Some, refl, EngineState}
 use Rattle.silt_engine.proofs.MergeSeals.{sealed_way}
 use Rattle.silt_engine.proofs.MergeSteps.{merging_of}
-use Rattle.silt_engine.proofs.Viewing.{state_of}
+use Rattle.silt_engine.proofs.Exits.{state_of}
 use Rattle.silt_engine.proofs.Wholes.{whole_with}
 use Rattle.silt_engine.proofs.engine.Engine.seal_merge.Goals as goal
 

@@ -1,9 +1,6 @@
-use Rattle.std.proofs.Common.{[], rules, arith}
-use Rattle.silt_engine.proofs.Exits.{on_error}
+use Rattle.silt_engine.proofs.Common.{[], rules, arith, MakesAtMost, most_made}
+use Rattle.silt_engine.proofs.Exits.{on_error, broke_off, went}
 use Rattle.silt_engine.proofs.ConvertSlots.{failed_advances, sync_advances}
-use Rattle.silt_engine.proofs.Works.{broke_off, went}
-use Rattle.silt_disk.specs.Disk.{MakesAtMost}
-use Rattle.silt_disk.proofs.Costs.{most_made}
 use Rattle.silt_engine.proofs.engine.Engine.settle_work.Goals as goal
 
 pub returns-in_err-sync-clause-err : goal.returns-in_err-sync-clause-err

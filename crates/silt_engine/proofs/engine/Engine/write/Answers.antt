@@ -1,7 +1,5 @@
-use Rattle.std.proofs.Common.{inl, ap}
-use Rattle.silt_event.specs.Rows.{command_of}
-use Rattle.silt_frame.specs.Rows.{stored_row}
-use Rattle.silt_engine.proofs.Takes.{waits_behind}
+use Rattle.silt_engine.proofs.Common.{inl, ap, command_of, stored_row}
+use Rattle.silt_engine.proofs.Appends.{waits_behind}
 use Rattle.silt_engine.proofs.engine.Engine.write.Goals as goal
 
 pub returns-in-Ok-clause-current : goal.returns-in-Ok-clause-current

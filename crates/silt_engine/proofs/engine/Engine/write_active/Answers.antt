@@ -1,12 +1,6 @@
-use Rattle.std.proofs.Common.{◌≡◌, ◌≤◌, ◌+◌, ℕ, ap, sym, subst, rules}
-use Rattle.silt_standing.specs.State.{EngineState}
-use Rattle.silt_standing.specs.Standing.{Stands}
-use Rattle.silt_frame.specs.Rows.{puts_of}
-use Rattle.silt_engine.proofs.Appends.{appended, appended_waits}
-use Rattle.silt_engine.proofs.Exits.{on_error}
-use Rattle.silt_engine.proofs.Takes.{has_place, not_taken}
-use Rattle.silt_engine.proofs.Viewing.{state_of}
-use Rattle.silt_engine.proofs.Works.{went}
+use Rattle.silt_engine.proofs.Common.{◌≡◌, ◌≤◌, ◌+◌, ℕ, ap, sym, subst, rules, EngineState, Stands, puts_of}
+use Rattle.silt_engine.proofs.Appends.{appended, appended_waits, has_place, not_taken}
+use Rattle.silt_engine.proofs.Exits.{on_error, state_of, went}
 use Rattle.silt_engine.proofs.engine.Engine.write_active.Goals as goal
 
 pub invariant_of-self-2 : goal.invariant_of-self-2

@@ -1,9 +1,6 @@
-use Rattle.std.proofs.Common.{[], ◌∷◌, arith}
-use Rattle.silt_event.specs.Rows.{command_of}
-use Rattle.silt_frame.specs.Rows.{stored_row}
-use Rattle.silt_engine.proofs.Takes.{turns_for}
-use Rattle.silt_engine.proofs.Works.{both_went, then_broke_off}
-use Rattle.silt_disk.proofs.Costs.{most_both, most_none}
+use Rattle.silt_engine.proofs.Common.{[], ◌∷◌, arith, command_of, stored_row, most_both, most_none}
+use Rattle.silt_engine.proofs.Appends.{turns_for}
+use Rattle.silt_engine.proofs.Exits.{both_went, then_broke_off}
 use Rattle.silt_engine.proofs.engine.Engine.write_in_next.Goals as goal
 
 pub returns-in-Ok-write_active-clause-works : goal.returns-in-Ok-write_active-clause-works
