@@ -42,6 +42,10 @@ PlacesCall named c place = IfSome place (λ p. (Some p.book ≡ named) × (p.at 
 abbrev pub PlacesEvent : Option Book → Event → PlainReply → Option PlaceState → Type 0
 PlacesEvent named event reply place = IfSome place (λ p. (Some p.book ≡ named) × ((seat : ℕ) × (p.at ≡ Some (call seat event reply))))
 
+-- no calls are logged
+abbrev pub LogsNone : (List RecordedCall → Type 0) → Type 0
+LogsNone Logs = (calls : List RecordedCall) → Logs calls → ⊥
+
 -- these are the calls of a log, if there is one
 abbrev pub HasLogged : Option CallsSeen → List RecordedCall → Type 0
 HasLogged log calls = MatchOption log ⊥ (λ seen. calls ≡ seen.calls)

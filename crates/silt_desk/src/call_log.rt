@@ -1,5 +1,5 @@
 // The log of the calls at a desk, in order: contracts see the calls. Only its length is kept in memory.
-ghost use Rattle.std.specs.Prelude.{◌≡◌, ◌<◌, ◌^◌, ◌⊎◌, ◌++◌, ◌∷◌, [], length, IfSome, List, MatchBool, slice_get, true};
+ghost use Rattle.std.specs.Prelude.{◌≡◌, ◌+◌, ◌<◌, ◌^◌, ◌⊎◌, ◌++◌, ◌∷◌, [], length, IfSome, List, MatchBool, slice_get, true};
 ghost use Rattle.std.specs.Prelude.{Some};
 ghost use mathlib.Core.List.{IsPrefix};
 ghost use Rattle.silt_desk.specs.CallLogs.{log_word};
@@ -241,6 +241,14 @@ impl CallPlace {
         ensures { result ≡ self.now.number }
     {
         self.number
+    }
+
+    /// The number of the place behind it.
+    pub fn behind(&self) -> u64
+        ensures { result ≡ self.now.number + 1 }
+    {
+        let _known = self.view.len(); // more than the number
+        self.number + 1
     }
 
     /// The longer of a view and that with which the place was seen.

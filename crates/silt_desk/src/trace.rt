@@ -1,6 +1,7 @@
 // What a desk remembers of its calls.
 ghost use Rattle.logbook.specs.Pages.{Book};
-ghost use Rattle.std.specs.Prelude.{◌≡◌, ℕ, ◌+◌, ◌++◌, ◌∷◌, ◌%◌, ◌^◌, [], IfSome, List, MatchResult, Option, Some, length, vec_capacity};
+ghost use Rattle.std.specs.Prelude.{◌≡◌, ℕ, ◌+◌, ◌++◌, ◌∷◌, ◌%◌, ◌^◌, [], List, MatchOption, MatchResult, Option, Some, length, vec_capacity};
+ghost use Rattle.silt_desk.specs.CallLogs.{LogsNone};
 ghost use Rattle.silt_desk.specs.History.{accepted_by, call};
 ghost use Rattle.silt_desk.specs.Notes.{noted_event, reply_of};
 ghost use Rattle.silt_desk.specs.Seeing.{SeenStore, SeenStep};
@@ -70,9 +71,9 @@ pub trait Trace: Drop {
     fn numbers(&self) -> (u64, u64)
         ensures { (n m : ℕ) → counts self.now n m → (result.0 ≡ n % 2 ^ 64) × (result.1 ≡ m % 2 ^ 64) };
 
-    /// The calls of its log, if it keeps one.
+    /// The calls of its log. None only if it logs no calls.
     fn view(&self) -> Option<CallView>
-        ensures { IfSome result (λ view. (Some view.book ≡ log) × logs self.now view.calls) };
+        ensures { MatchOption result (LogsNone (logs self.now)) (λ view. (Some view.book ≡ log) × logs self.now view.calls) };
 
     ghost agrees_after: { (a b : Self) (c : Recorded) (s t : SeenStore) → agrees a s → extends a c b → SeenStep s t c.event c.reply → agrees b t };
 

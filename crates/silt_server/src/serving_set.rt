@@ -33,6 +33,13 @@ pub struct ServingSet<'a, S> {
     ghost count: { IsShardCount (length shards.now) },
 }
 
+/// A session at a shard, and what it was told of the calls there when its connection began.
+#[derive(Drop)]
+struct ShardSession<'a, D: Disk, T: Trace, N: DeskId + InboxId + LogId, R> {
+    session: Session<'a, D, T, N, R>,
+    told: Told<T>,
+}
+
 /// What one shard needs: its number, its workers and its writer, and where it says that they run.
 #[derive(Drop)]
 pub struct ShardPart<D: Disk, T: Trace, N: DeskId + InboxId + LogId> {
@@ -47,27 +54,27 @@ impl<D: Disk, T: Trace, N: DeskId + InboxId + LogId, G: Gate, R: Wait + Clock> S
     Serving<'_, Shared<D, T, N>, Job<D, T, N>, N, G, R>,
 > {
     // Replies to a connection by sessions at all shards.
-    fn answer(&self, sessions: &[Session<'_, D, T, N, R>], connection: &Connection<'_, R>)
+    fn answer(&self, sessions: &[ShardSession<'_, D, T, N, R>], connection: &Connection<'_, R>)
         requires { IsShardCount (length sessions.now) }
     {
         let Ok(mut shards) = Vec::with_capacity(self.alloc, sessions.len()) else {
             return;
         };
-        for session in sessions {
+        for at in sessions {
             shards.push_reserved(AskAheadBy {
                 one: move |event: Event| -> Result<Reply<()>, Unanswered> {
-                    session.answer(event, &mut Told::nothing())
+                    at.session.answer(event, &mut at.told.again())
                 },
                 begin: move |events: Vec<Event>| -> Result<AskedEvents<D, T, N>, Unanswered> {
-                    session.begin(events, &Told::nothing())
+                    at.session.begin(events, &at.told)
                 },
                 finish: move |asked: AskedEvents<D, T, N>| -> Result<Vec<Reply<()>>, Unanswered> {
-                    match session.finish(asked) {
+                    match at.session.finish(asked) {
                         Ok((replies, _)) => Ok(replies),
                         Err(lack) => Err(lack),
                     }
                 },
-                facts: move || -> Facts { session.facts() },
+                facts: move || -> Facts { at.session.facts() },
                 of: PhantomData,
             });
         }
@@ -85,14 +92,16 @@ impl<D: Viewed, T: Trace, N: DeskId + InboxId + LogId, G: Gate, R: Wait + Clock>
 > {
     // The sessions of the slot of this number, one at each shard, in their order. Their gets show only what a crash keeps. None if out of
     // memory.
-    fn sessions(&self, number: usize) -> Option<Vec<Session<'_, D, T, N, R>>>
+    fn sessions(&self, number: usize) -> Option<Vec<ShardSession<'_, D, T, N, R>>>
         ensures count { IfSome result (λ sessions. vec_len sessions ≡ length self.now.shards.now) }
-        ensures settle { IfSome result (λ sessions. All (λ session. session.settles_gets ≡ true) sessions.items) }
+        ensures settle { IfSome result (λ sessions. All (λ at. at.session.settles_gets ≡ true) sessions.items) }
     {
         let mut sessions = Vec::with_capacity(self.alloc, self.shards.len()).ok()?;
         for shard in self.shards {
             let slot = shard.slots.get(number)?;
-            sessions.push_reserved(shard.session(slot, true));
+            let session = shard.session(slot, true);
+            let told = session.told();
+            sessions.push_reserved(ShardSession { session, told });
         }
         Some(sessions)
     }

@@ -29,8 +29,8 @@ use Rattle.silt_session.specs.Pipelines.{IsPlaceOf, IsSettled, IsShown, IsTaskOf
 use Rattle.silt_session.specs.Pipelines.{SettlesAll, SettlesEach, SettlesShown, flush_if, given_after, given_by, reply_without_tasks, shown_of, waiting_events}
 use Rattle.silt_session.specs.Requests.{TaskState, asked_event, changed_key, requests_of}
 use Rattle.silt_session.specs.Sessions.{IsAnswer, IsKept, IsReplyOf, IsToldTo}
-use Rattle.silt_session.specs.Tolds.{IsToldMore, ToldState}
-use Rattle.silt_session.proofs.Tolds.{answers_more}
+use Rattle.silt_session.specs.Tolds.{AreInOrder, AreToldBetween, IsToldBetween, IsToldMore, PassesOn, ToldState, own_reply}
+use Rattle.silt_session.proofs.Tolds.{answers_more, more_both, more_passed, order_append, order_cons, order_none, order_same, order_stays}
 use Rattle.silt_session.specs.declared.job.Request.{Request}
 use Rattle.silt_session.specs.declared.job.Request.TheVariants.{Put, Delete, Swap, Flush}
 use Rattle.silt_session.specs.declared.key_marks.KeyMarks.{KeyMarks}
@@ -60,6 +60,13 @@ module _ {D F T : Type 0} (facts : Ghosts D F) (trace : TraceOf T) (told : ToldS
   -- a task's own reply comes from its request
   reply_comes : (task : TaskState) (request : Request) (reply : PlainReply) → task.request ≡ request → IsReplyOf facts trace told task reply → IsToldTo facts trace told request reply
   reply_comes task request reply its has = subst (λ (r : Request). IsToldTo facts trace told r reply) its has.1
+
+  -- a task's reply stays one when its command has taken its place
+  pub reply_passes : (new : ToldState) → PassesOn told new → (task : TaskState) (tasks : List TaskState) (found : Option PlainReply)
+      → tasks ≡ task ∷ [] → IfSome found (IsReplyOf facts trace told task)
+      → IfSome found (λ reply. (t : TaskState) × (tasks ≡ t ∷ []) × IsReplyOf facts trace new t reply)
+  reply_passes new passed task tasks None alone has = tt
+  reply_passes new passed task tasks (Some reply) alone has = (task, alone, subst (λ (s : ToldState). IsReplyOf facts trace s task reply) (sym passed.same) has)
 
   -- the reply of a task that came back alone comes from its request
   pub alone_comes : {E : Type 0} (request : Request) (sent tasks : List TaskState) (found : Option PlainReply) (given : Result PlainReply E)
@@ -121,55 +128,59 @@ module _ {D F : Type 0} (facts : Ghosts D F) (settles : Bool) where
 
 module _ {D F T : Type 0} (facts : Ghosts D F) (trace : TraceOf T) (told : ToldState) where
   -- one place more
-  pub fills_more : (flushed : Option PlainReply) (tasks mid left : List TaskState) (places : List Place) (replies : List PlainReply) (place : Place) (reply : PlainReply)
-      → Fills facts trace told flushed tasks places replies mid → FillsOne facts trace told flushed mid place reply left
-      → Fills facts trace told flushed tasks (places ++ place ∷ []) (replies ++ reply ∷ []) left
-  fills_more flushed tasks mid left [] [] place reply all one = (left, subst (λ (l : List TaskState). FillsOne facts trace told flushed l place reply left) all one, refl)
-  fills_more flushed tasks mid left (p ∷ places) (r ∷ replies) place reply all one = (all.0, all.1, fills_more flushed all.0 mid left places replies place reply all.2 one)
-  fills_more flushed tasks mid left [] (r ∷ replies) place reply all one = absurd all
-  fills_more flushed tasks mid left (p ∷ places) [] place reply all one = absurd all
+  pub fills_more : (flushed : Option PlainReply) (next at after : ℕ) (tasks mid left : List TaskState) (places : List Place) (replies : List PlainReply) (place : Place) (reply : PlainReply)
+      → Fills facts trace told flushed next tasks places replies at mid → FillsOne facts trace told flushed at mid place reply after left
+      → Fills facts trace told flushed next tasks (places ++ place ∷ []) (replies ++ reply ∷ []) after left
+  fills_more flushed next at after tasks mid left [] [] place reply all one =
+      let here : FillsOne facts trace told flushed at tasks place reply after left = subst (λ (l : List TaskState). FillsOne facts trace told flushed at l place reply after left) all.0 one in
+      (left, after, subst (λ (n : ℕ). FillsOne facts trace told flushed n tasks place reply after left) all.1 here, (refl, refl))
+  fills_more flushed next at after tasks mid left (p ∷ places) (r ∷ replies) place reply all one =
+      (all.0, all.1, all.2, fills_more flushed all.1 at after all.0 mid left places replies place reply all.3 one)
+  fills_more flushed next at after tasks mid left [] (r ∷ replies) place reply all one = absurd all
+  fills_more flushed next at after tasks mid left (p ∷ places) [] place reply all one = absurd all
 
 module _ {D F T : Type 0} (facts : Ghosts D F) (trace : TraceOf T) (told : ToldState) where
   -- the tasks give the places their replies
-  fills_settle : (flushed : Option PlainReply) → IsFlushedBy facts trace told flushed → (tasks : List TaskState) (places : List Place) (replies : List PlainReply)
-      → Fills facts trace told flushed tasks places replies [] → SettlesEach facts trace told places (requests_of tasks) replies
-  fills_settle flushed came tasks [] [] fills = subst (λ (l : List TaskState). SettlesEach facts trace told [] (requests_of l) []) fills tt
-  fills_settle flushed came tasks (Shows shown ∷ places) (reply ∷ replies) (mid, one, rest) =
-      subst (λ (l : List TaskState). SettlesEach facts trace told (Shows shown ∷ places) (requests_of l) (reply ∷ replies)) one.1
-      (inr (flushed, came, one.0), fills_settle flushed came mid places replies rest)
-  fills_settle flushed came tasks (Waits ∷ places) (reply ∷ replies) (mid, one, rest) =
-      let (task, next, has) = one in
-      subst (λ (l : List TaskState). SettlesEach facts trace told (Waits ∷ places) (requests_of l) (reply ∷ replies)) (sym next)
-      (has.1, fills_settle flushed came mid places replies rest)
-  fills_settle flushed came tasks [] (reply ∷ replies) fills = absurd fills
-  fills_settle flushed came tasks (place ∷ places) [] fills = absurd fills
+  fills_settle : (flushed : Option PlainReply) → IsFlushedBy facts trace told flushed → (next after : ℕ) (tasks : List TaskState) (places : List Place) (replies : List PlainReply)
+      → Fills facts trace told flushed next tasks places replies after [] → SettlesEach facts trace told next places (requests_of tasks) replies after
+  fills_settle flushed came next after tasks [] [] fills = subst (λ (l : List TaskState). SettlesEach facts trace told next [] (requests_of l) [] after) fills.0 fills.1
+  fills_settle flushed came next after tasks (Shows shown ∷ places) (reply ∷ replies) (mid, at, one, rest) =
+      let settled = subst (λ (n : ℕ). SettlesEach facts trace told n places (requests_of mid) replies after) one.2 (fills_settle flushed came at after mid places replies rest) in
+      subst (λ (l : List TaskState). SettlesEach facts trace told next (Shows shown ∷ places) (requests_of l) (reply ∷ replies) after) one.1 (inr (flushed, came, one.0), settled)
+  fills_settle flushed came next after tasks (Waits ∷ places) (reply ∷ replies) (mid, at, one, rest) =
+      let (task, first, has, takes) = one in
+      subst (λ (l : List TaskState). SettlesEach facts trace told next (Waits ∷ places) (requests_of l) (reply ∷ replies) after) (sym first)
+      (at, has.1, takes, fills_settle flushed came at after mid places replies rest)
+  fills_settle flushed came next after tasks [] (reply ∷ replies) fills = absurd fills
+  fills_settle flushed came next after tasks (place ∷ places) [] fills = absurd fills
 
   -- the tasks that came back give the places their replies
-  pub all_settle : (has_flush : Bool) (tasks : List TaskState) (requests : List Request) → requests_of tasks ≡ requests ++ flush_if has_flush
-      → (places : List Place) (replies : List PlainReply) → FillsAll facts trace told has_flush tasks places replies → SettlesEach facts trace told places requests replies
-  all_settle true tasks requests same places replies (left, flushed, (task, is, has), fills) =
+  pub all_settle : (has_flush : Bool) (next after : ℕ) (tasks : List TaskState) (requests : List Request) → requests_of tasks ≡ requests ++ flush_if has_flush
+      → (places : List Place) (replies : List PlainReply) → FillsAll facts trace told has_flush next tasks places replies after → SettlesEach facts trace told next places requests replies after
+  all_settle true next after tasks requests same places replies (left, flushed, (task, is, has), fills) =
       let both = last_same (requests_of left) requests task.request Flush (sym (map-append (λ (t : TaskState). t.request) left (task ∷ [])) ∙ ap requests_of (sym is) ∙ same) in
-      subst (λ (l : List Request). SettlesEach facts trace told places l replies) both.0
-      (fills_settle (Some flushed) (reply_comes facts trace told task Flush flushed both.1 has) left places replies fills)
-  all_settle false tasks requests same places replies fills =
-      subst (λ (l : List Request). SettlesEach facts trace told places l replies) (same ∙ append-nil requests) (fills_settle None tt tasks places replies fills)
+      subst (λ (l : List Request). SettlesEach facts trace told next places l replies after) both.0
+      (fills_settle (Some flushed) (reply_comes facts trace told task Flush flushed both.1 has) next after left places replies fills)
+  all_settle false next after tasks requests same places replies fills =
+      subst (λ (l : List Request). SettlesEach facts trace told next places l replies after) (same ∙ append-nil requests) (fills_settle None tt next after tasks places replies fills)
 
   -- each place has one reply
-  each_long : (places : List Place) (requests : List Request) (replies : List PlainReply) → SettlesEach facts trace told places requests replies → length replies ≡ length places
-  each_long [] [] [] fits = refl
-  each_long (Shows shown ∷ places) requests (reply ∷ replies) fits = ap suc (each_long places requests replies fits.1)
-  each_long (Waits ∷ places) (request ∷ requests) (reply ∷ replies) fits = ap suc (each_long places requests replies fits.1)
-  each_long [] (request ∷ requests) [] fits = absurd fits
-  each_long [] [] (reply ∷ replies) fits = absurd fits
-  each_long [] (request ∷ requests) (reply ∷ replies) fits = absurd fits
-  each_long (Shows shown ∷ places) requests [] fits = absurd fits
-  each_long (Waits ∷ places) [] replies fits = absurd fits
-  each_long (Waits ∷ places) (request ∷ requests) [] fits = absurd fits
+  each_long : (next after : ℕ) (places : List Place) (requests : List Request) (replies : List PlainReply)
+      → SettlesEach facts trace told next places requests replies after → length replies ≡ length places
+  each_long next after [] [] [] fits = refl
+  each_long next after (Shows shown ∷ places) requests (reply ∷ replies) fits = ap suc (each_long next after places requests replies fits.1)
+  each_long next after (Waits ∷ places) (request ∷ requests) (reply ∷ replies) fits = ap suc (each_long fits.0 after places requests replies fits.3)
+  each_long next after [] (request ∷ requests) [] fits = absurd fits
+  each_long next after [] [] (reply ∷ replies) fits = absurd fits
+  each_long next after [] (request ∷ requests) (reply ∷ replies) fits = absurd fits
+  each_long next after (Shows shown ∷ places) requests [] fits = absurd fits
+  each_long next after (Waits ∷ places) [] replies fits = absurd fits
+  each_long next after (Waits ∷ places) (request ∷ requests) [] fits = absurd fits
 
-  pub given_long : (memory : Bool) (places : List Place) (requests : List Request) (given : List PlainReply)
-      → (given ≡ map reply_without_tasks places) ⊎ ((memory ≡ false) × SettlesEach facts trace told places requests given) → length given ≡ length places
-  given_long memory places requests given (inl none) = ap length none ∙ length-map places reply_without_tasks
-  given_long memory places requests given (inr fits) = each_long places requests given fits.1
+  pub given_long : (memory : Bool) (next after : ℕ) (places : List Place) (requests : List Request) (given : List PlainReply)
+      → (given ≡ map reply_without_tasks places) ⊎ ((memory ≡ false) × SettlesEach facts trace told next places requests given after) → length given ≡ length places
+  given_long memory next after places requests given (inl none) = ap length none ∙ length-map places reply_without_tasks
+  given_long memory next after places requests given (inr fits) = each_long next after places requests given fits.1
 
   module _ (settles : Bool) where
     -- a look that waits for no flush
@@ -256,25 +267,25 @@ module _ {D F T : Type 0} (facts : Ghosts D F) (trace : TraceOf T) (told : ToldS
     given_answers e shown (Err lack) is settled = tt
 
     -- events have the replies at their places
-    places_answer : (marks : KeyMarks) (events : List Event) (places : List Place) (tasks : List TaskState) (replies : List PlainReply)
+    places_answer : (next after : ℕ) (marks : KeyMarks) (events : List Event) (places : List Place) (tasks : List TaskState) (replies : List PlainReply)
         → AllZip (IsPlaceOf facts settles marks) events places → AllZip IsTaskOf (waiting_events events places) tasks
-        → SettlesEach facts trace told places (requests_of tasks) replies → AllZip (IsAnswer facts trace told settles) events replies
-    places_answer marks [] [] [] [] are wait settled = tt
-    places_answer marks (e ∷ events) (Shows shown ∷ places) tasks (reply ∷ replies) are wait settled =
-        (shown_answers e shown reply are.0 settled.0, places_answer marks events places tasks replies are.1 wait settled.1)
-    places_answer marks (e ∷ events) (Waits ∷ places) (task ∷ tasks) (reply ∷ replies) are wait settled =
+        → SettlesEach facts trace told next places (requests_of tasks) replies after → AllZip (IsAnswer facts trace told settles) events replies
+    places_answer next after marks [] [] [] [] are wait settled = tt
+    places_answer next after marks (e ∷ events) (Shows shown ∷ places) tasks (reply ∷ replies) are wait settled =
+        (shown_answers e shown reply are.0 settled.0, places_answer next after marks events places tasks replies are.1 wait settled.1)
+    places_answer next after marks (e ∷ events) (Waits ∷ places) (task ∷ tasks) (reply ∷ replies) are wait settled =
         let (request, asks, fresh) = wait.0 in
-        let came = subst (λ (r : Request). IsToldTo facts trace told r reply) fresh.0 settled.0 in (
+        let came = subst (λ (r : Request). IsToldTo facts trace told r reply) fresh.0 settled.1 in (
           subst (λ (x : Event). IsAnswer facts trace told settles x reply) asks (request_answers request reply came),
-          places_answer marks events places tasks replies are.1 wait.1 settled.1,
+          places_answer settled.0 after marks events places tasks replies are.1 wait.1 settled.3,
         )
-    places_answer marks [] (place ∷ places) tasks replies are wait settled = absurd are
-    places_answer marks (e ∷ events) [] tasks replies are wait settled = absurd are
-    places_answer marks [] [] (task ∷ tasks) replies are wait settled = absurd wait
-    places_answer marks [] [] [] (reply ∷ replies) are wait settled = absurd settled
-    places_answer marks (e ∷ events) (Shows shown ∷ places) tasks [] are wait settled = absurd settled
-    places_answer marks (e ∷ events) (Waits ∷ places) [] replies are wait settled = absurd wait
-    places_answer marks (e ∷ events) (Waits ∷ places) (task ∷ tasks) [] are wait settled = absurd settled
+    places_answer next after marks [] (place ∷ places) tasks replies are wait settled = absurd are
+    places_answer next after marks (e ∷ events) [] tasks replies are wait settled = absurd are
+    places_answer next after marks [] [] (task ∷ tasks) replies are wait settled = absurd wait
+    places_answer next after marks [] [] [] (reply ∷ replies) are wait settled = absurd settled
+    places_answer next after marks (e ∷ events) (Shows shown ∷ places) tasks [] are wait settled = absurd settled
+    places_answer next after marks (e ∷ events) (Waits ∷ places) [] replies are wait settled = absurd wait
+    places_answer next after marks (e ∷ events) (Waits ∷ places) (task ∷ tasks) [] are wait settled = absurd settled
 
     -- out of memory for the tasks
     refused_answer : (marks : KeyMarks) (events : List Event) (places : List Place) → AllZip (IsPlaceOf facts settles marks) events places
@@ -289,6 +300,60 @@ module _ {D F T : Type 0} (facts : Ghosts D F) (trace : TraceOf T) (told : ToldS
     refused_answer marks [] (place ∷ places) are = absurd are
     refused_answer marks (e ∷ events) [] are = absurd are
 
+    -- what is not for the writer has no call of its own
+    own_none : (e : Event) (shown : Shown) (reply : PlainReply) → IsShown facts settles e shown → own_reply e reply ≡ None
+    own_none (event.Get key) shown reply is = refl
+    own_none event.Convert shown reply is = refl
+    own_none event.Merge shown reply is = refl
+    own_none event.Flush shown reply is = refl
+    own_none (event.Put key value) shown reply is = absurd is
+    own_none (event.Delete key) shown reply is = absurd is
+    own_none (event.Swap key old new) shown reply is = absurd is
+
+    -- nor has what is out of memory
+    refused_none : (e : Event) → own_reply e (Refused NoMemory) ≡ None
+    refused_none (event.Get key) = refl
+    refused_none event.Convert = refl
+    refused_none event.Merge = refl
+    refused_none event.Flush = refl
+    refused_none (event.Put key value) = refl
+    refused_none (event.Delete key) = refl
+    refused_none (event.Swap key old new) = refl
+
+    -- events have the replies at their places in order
+    places_order : (next after : ℕ) (marks : KeyMarks) (events : List Event) (places : List Place) (tasks : List TaskState) (replies : List PlainReply)
+        → AllZip (IsPlaceOf facts settles marks) events places → AllZip IsTaskOf (waiting_events events places) tasks
+        → SettlesEach facts trace told next places (requests_of tasks) replies after → AreToldBetween told next events replies after
+    places_order next after marks [] [] [] [] are wait settled = order_none told next after (omega (arith, settled))
+    places_order next after marks (e ∷ events) (Shows shown ∷ places) tasks (reply ∷ replies) are wait settled =
+        order_cons told next next after e reply events replies (order_same told next e reply (own_none e shown reply are.0))
+        (places_order next after marks events places tasks replies are.1 wait settled.1)
+    places_order next after marks (e ∷ events) (Waits ∷ places) (task ∷ tasks) (reply ∷ replies) are wait settled =
+        let (request, asks, fresh) = wait.0 in
+        let its : asked_event task.request ≡ e = ap asked_event fresh.0 ∙ asks in
+        order_cons told next settled.0 after e reply events replies (subst (λ (x : Event). IsToldBetween told next x reply settled.0) its settled.2)
+        (places_order settled.0 after marks events places tasks replies are.1 wait.1 settled.3)
+    places_order next after marks [] (place ∷ places) tasks replies are wait settled = absurd are
+    places_order next after marks (e ∷ events) [] tasks replies are wait settled = absurd are
+    places_order next after marks [] [] (task ∷ tasks) replies are wait settled = absurd wait
+    places_order next after marks [] [] [] (reply ∷ replies) are wait settled = absurd settled
+    places_order next after marks (e ∷ events) (Shows shown ∷ places) tasks [] are wait settled = absurd settled
+    places_order next after marks (e ∷ events) (Waits ∷ places) [] replies are wait settled = absurd wait
+    places_order next after marks (e ∷ events) (Waits ∷ places) (task ∷ tasks) [] are wait settled = absurd settled
+
+    -- out of memory for the tasks, no place is taken
+    refused_order : (next after : ℕ) → next ≤ after → (marks : KeyMarks) (events : List Event) (places : List Place) → AllZip (IsPlaceOf facts settles marks) events places
+        → AreToldBetween told next events (map reply_without_tasks places) after
+    refused_order next after le marks [] [] are = order_none told next after le
+    refused_order next after le marks (e ∷ events) (Shows shown ∷ places) are =
+        order_cons told next next after e (reply_without_tasks (Shows shown)) events (map reply_without_tasks places)
+        (order_same told next e (reply_without_tasks (Shows shown)) (own_none e shown (reply_without_tasks (Shows shown)) are.0)) (refused_order next after le marks events places are.1)
+    refused_order next after le marks (e ∷ events) (Waits ∷ places) are =
+        order_cons told next next after e (Refused NoMemory) events (map reply_without_tasks places) (order_same told next e (Refused NoMemory) (refused_none e))
+        (refused_order next after le marks events places are.1)
+    refused_order next after le marks [] (place ∷ places) are = absurd are
+    refused_order next after le marks (e ∷ events) [] are = absurd are
+
 -- ---- what settling does
 
 -- nothing waits still if only places moved
@@ -301,21 +366,20 @@ pub told_none : {D T F : Type 0} (old new : Pipeline D T F) → new ≡ record o
 told_none old new same none = subst NothingWaits (sym same) (record { tasks = none.tasks; memory = none.memory; flush = none.flush; marks = none.marks })
 
 module _ {D F T : Type 0} (facts : Ghosts D F) (trace : TraceOf T) (old mid new : Pipeline D T F) (none : NothingWaits mid)
-    (same : (mid.replies ≡ old.replies) × (mid.places ≡ old.places)) (more : IsToldMore old.told mid.told) where
+    (same : (mid.replies ≡ old.replies) × (mid.places ≡ old.places)) (more : IsToldMore old.told mid.told) (stays : mid.told.next ≡ old.told.next) where
   moved_settles : (given : List PlainReply) → new.replies.items ≡ mid.replies.items ++ given
-      → (given ≡ map reply_without_tasks mid.places.items) ⊎ ((old.lacks_memory ≡ false) × SettlesEach facts trace mid.told mid.places.items (requests_of old.tasks.items) given)
+      → (given ≡ map reply_without_tasks mid.places.items)
+      ⊎ ((old.lacks_memory ≡ false) × SettlesEach facts trace mid.told mid.told.next mid.places.items (requests_of old.tasks.items) given new.told.next)
       → MovesPlaces mid new → SettlesAll facts trace old new
   moved_settles given items fits moved =
-      let told : new.told ≡ mid.told = ap (λ (p : Pipeline D T F). p.told) moved.same in
+      let Fits : ToldState → ℕ → List Place → Type 0 = λ told next places.
+      (given ≡ map reply_without_tasks places) ⊎ ((old.lacks_memory ≡ false) × SettlesEach facts trace told next places (requests_of old.tasks.items) given new.told.next) in
       record {
         given = given;
         replies = items ∙ ap (λ v. v.items ++ given) same.0;
-        fits = subst
-            (λ v. (given ≡ map reply_without_tasks v.items) ⊎ ((old.lacks_memory ≡ false) × SettlesEach facts trace new.told v.items (requests_of old.tasks.items) given))
-            same.1
-            (subst (λ (s : ToldState). (given ≡ map reply_without_tasks mid.places.items)
-            ⊎ ((old.lacks_memory ≡ false) × SettlesEach facts trace s mid.places.items (requests_of old.tasks.items) given)) (sym told) fits);
-        told = subst (λ (s : ToldState). IsToldMore old.told s) (sym told) more;
+        fits = subst (λ v. Fits new.told old.told.next v.items) same.1
+            (subst (λ (n : ℕ). Fits new.told n mid.places.items) stays (subst (λ (s : ToldState). Fits s mid.told.next mid.places.items) (sym moved.told.same) fits));
+        told = more_both old.told mid.told new.told more (more_passed mid.told new.told moved.told);
         settled = (moved.places, nothing_moved mid new none moved);
         replies_room = moved.replies_room ∙ ap vec_capacity same.0;
         places_room = moved.places_room ∙ ap deque_capacity same.1;
@@ -324,11 +388,11 @@ module _ {D F T : Type 0} (facts : Ghosts D F) (trace : TraceOf T) (old mid new 
   -- the tasks came back
   pub filled_settles : {X E : Type 0} (result : Result X E) (has_flush : Bool) (tasks : List TaskState)
       → (old.lacks_memory ≡ false) × (requests_of tasks ≡ requests_of old.tasks.items ++ flush_if has_flush)
-      → OnOk result ((given : List PlainReply) × (new.replies.items ≡ mid.replies.items ++ given) × FillsAll facts trace mid.told has_flush tasks mid.places.items given)
+      → OnOk result ((given : List PlainReply) × (new.replies.items ≡ mid.replies.items ++ given) × FillsAll facts trace mid.told has_flush mid.told.next tasks mid.places.items given new.told.next)
       → OnOk result (MovesPlaces mid new) → OnOk result (SettlesAll facts trace old new)
   filled_settles (Ok x) has_flush tasks asked filled moved =
       moved_settles filled.0 filled.1
-      (inr (asked.0, all_settle facts trace mid.told has_flush tasks (requests_of old.tasks.items) asked.1 mid.places.items filled.0 filled.2)) moved
+      (inr (asked.0, all_settle facts trace mid.told has_flush mid.told.next new.told.next tasks (requests_of old.tasks.items) asked.1 mid.places.items filled.0 filled.2)) moved
   filled_settles (Err e) has_flush tasks asked filled moved = tt
 
   -- out of memory for the tasks
@@ -439,12 +503,13 @@ module _ {D F : Type 0} (facts : Ghosts D F) (settles : Bool) where
 
   module _ {T : Type 0} (trace : TraceOf T) where
     -- no event yet
-    pub answers_none : (pipeline : Pipeline D T F) → IsSettled pipeline → pipeline.replies.items ≡ [] → AnswersSoFar facts settles trace [] pipeline
-    answers_none pipeline settled none = record {
+    pub answers_none : (pipeline : Pipeline D T F) → IsSettled pipeline → pipeline.replies.items ≡ [] → pipeline.told.from ≤ pipeline.told.next → AnswersSoFar facts settles trace [] pipeline
+    answers_none pipeline settled none order = record {
       done = [];
       later = [];
       whole = refl;
       replied = subst (λ (l : List PlainReply). AllZip (IsAnswer facts trace pipeline.told settles) [] l) (sym none) tt;
+      in_order = subst (λ (l : List PlainReply). AreInOrder pipeline.told [] l) (sym none) (order_none pipeline.told pipeline.told.from pipeline.told.next order);
       placed = subst (λ (l : List Place). AllZip (IsPlaceOf facts settles pipeline.marks) [] l) (sym settled.0) tt;
       tasks = λ memory. none_wait pipeline settled;
       ordered = subst (λ (l : List Place). NoneOvertakes [] l) (sym settled.0) tt;
@@ -467,6 +532,7 @@ module _ {D F : Type 0} (facts : Ghosts D F) (settles : Bool) where
           whole = ap (λ (l : List Event). l ++ x ∷ []) so_far.whole ∙ append_assoc so_far.done so_far.later (x ∷ []);
           replied = subst (λ (s : ToldState). AllZip (IsAnswer facts trace s settles) so_far.done new.replies.items) (sym told)
               (subst (λ v. AllZip (IsAnswer facts trace old.told settles) so_far.done v.items) (sym same) so_far.replied);
+          in_order = subst (λ (s : ToldState). AreInOrder s so_far.done new.replies.items) (sym told) (subst (λ v. AreInOrder old.told so_far.done v.items) (sym same) so_far.in_order);
           placed = subst (λ (l : List Place). AllZip (IsPlaceOf facts settles new.marks) (so_far.later ++ x ∷ []) l) (sym items) placed;
           tasks = λ memory.
               let (had, made) = gathers memory in
@@ -495,6 +561,7 @@ module _ {D F : Type 0} (facts : Ghosts D F) (settles : Bool) where
           whole = ap (λ (l : List Event). l ++ e ∷ []) so_far.whole ∙ append_assoc so_far.done so_far.later (e ∷ []);
           replied = subst (λ (s : ToldState). AllZip (IsAnswer facts trace s settles) so_far.done new.replies.items) (sym told)
               (subst (λ v. AllZip (IsAnswer facts trace old.told settles) so_far.done v.items) (sym same) so_far.replied);
+          in_order = subst (λ (s : ToldState). AreInOrder s so_far.done new.replies.items) (sym told) (subst (λ v. AreInOrder old.told so_far.done v.items) (sym same) so_far.in_order);
           placed = subst (λ (m : KeyMarks). AllZip (IsPlaceOf facts settles m) (so_far.later ++ e ∷ []) new.places.items) (sym marks)
               (subst (λ (l : List Place). AllZip (IsPlaceOf facts settles old.marks) (so_far.later ++ e ∷ []) l) (sym items) placed);
           tasks = λ had.
@@ -509,18 +576,37 @@ module _ {D F : Type 0} (facts : Ghosts D F) (settles : Bool) where
         → AllZip (IsAnswer facts trace new.told settles) events new.replies.items
     settles_all events old new all so_far =
         let go : (all.given ≡ map reply_without_tasks old.places.items)
-        ⊎ ((old.lacks_memory ≡ false) × SettlesEach facts trace new.told old.places.items (requests_of old.tasks.items) all.given)
+        ⊎ ((old.lacks_memory ≡ false) × SettlesEach facts trace new.told old.told.next old.places.items (requests_of old.tasks.items) all.given new.told.next)
         → AllZip (IsAnswer facts trace new.told settles) so_far.later all.given = elim [
           | inl none ↦
               subst (λ (l : List PlainReply). AllZip (IsAnswer facts trace new.told settles) so_far.later l) (sym none)
               (refused_answer facts trace new.told settles old.marks so_far.later old.places.items so_far.placed)
           | inr fits ↦
-              places_answer facts trace new.told settles old.marks so_far.later old.places.items old.tasks.items all.given so_far.placed (so_far.tasks fits.0) fits.1
+              places_answer facts trace new.told settles old.told.next new.told.next old.marks so_far.later old.places.items old.tasks.items all.given so_far.placed (so_far.tasks fits.0) fits.1
         ] in
         subst (λ (l : List Event). AllZip (IsAnswer facts trace new.told settles) l new.replies.items) (sym so_far.whole)
         (subst (λ (l : List PlainReply). AllZip (IsAnswer facts trace new.told settles) (so_far.done ++ so_far.later) l) (sym all.replies)
         (zip_append (IsAnswer facts trace new.told settles) so_far.done old.replies.items so_far.later all.given
         (answers_more facts trace settles old.told new.told all.told so_far.done old.replies.items so_far.replied) (go all.fits)))
+
+    -- and their commands stand in order
+    pub settles_order : (events : List Event) (old new : Pipeline D T F) → SettlesAll facts trace old new → AnswersSoFar facts settles trace events old
+        → AreInOrder new.told events new.replies.items
+    settles_order events old new all so_far =
+        let later : (all.given ≡ map reply_without_tasks old.places.items)
+        ⊎ ((old.lacks_memory ≡ false) × SettlesEach facts trace new.told old.told.next old.places.items (requests_of old.tasks.items) all.given new.told.next)
+        → AreToldBetween new.told old.told.next so_far.later all.given new.told.next = elim [
+          | inl none ↦
+              subst (λ (l : List PlainReply). AreToldBetween new.told old.told.next so_far.later l new.told.next) (sym none)
+              (refused_order facts trace new.told settles old.told.next new.told.next all.told.next old.marks so_far.later old.places.items so_far.placed)
+          | inr fits ↦
+              places_order facts trace new.told settles old.told.next new.told.next old.marks so_far.later old.places.items old.tasks.items all.given so_far.placed (so_far.tasks fits.0) fits.1
+        ] in
+        let first = order_stays old.told new.told all.told old.told.from old.told.next so_far.done old.replies.items so_far.in_order in
+        let both = order_append new.told old.told.from old.told.next new.told.next so_far.done so_far.later old.replies.items all.given first (later all.fits) in
+        subst (λ (n : ℕ). AreToldBetween new.told n events new.replies.items new.told.next) (sym all.told.from)
+        (subst (λ (l : List Event). AreToldBetween new.told old.told.from l new.replies.items new.told.next) (sym so_far.whole)
+        (subst (λ (l : List PlainReply). AreToldBetween new.told old.told.from (so_far.done ++ so_far.later) l new.told.next) (sym all.replies) both))
 
     -- what was settled, or not, is as before
     pub settles_some : (events : List Event) (old new : Pipeline D T F) → MaySettle facts trace old new → AnswersSoFar facts settles trace events old → AnswersSoFar facts settles trace events new
@@ -530,6 +616,7 @@ module _ {D F : Type 0} (facts : Ghosts D F) (settles : Bool) where
       later = [];
       whole = sym (append-nil events);
       replied = settles_all events old new all so_far;
+      in_order = settles_order events old new all so_far;
       placed = subst (λ (l : List Place). AllZip (IsPlaceOf facts settles new.marks) [] l) (sym all.settled.0) tt;
       tasks = λ memory. none_wait new all.settled;
       ordered = subst (λ (l : List Place). NoneOvertakes [] l) (sym all.settled.0) tt;
@@ -560,7 +647,8 @@ module _ {D F T : Type 0} (facts : Ghosts D F) (trace : TraceOf T) where
   room_settled old new n all room =
       let count : vec_len new.replies ≡ vec_len old.replies + deque_len old.places =
       new.replies.ok.0 ∙ ap length all.replies ∙ length-append old.replies.items all.given ∙ ap (λ (k : ℕ). k + length all.given) (sym old.replies.ok.0)
-      ∙ ap (λ (k : ℕ). vec_len old.replies + k) (given_long facts trace new.told old.lacks_memory old.places.items (requests_of old.tasks.items) all.given all.fits ∙ sym old.places.ok.0) in
+      ∙ ap (λ (k : ℕ). vec_len old.replies + k) (given_long facts trace new.told old.lacks_memory old.told.next new.told.next
+      old.places.items (requests_of old.tasks.items) all.given all.fits ∙ sym old.places.ok.0) in
       let empty : deque_len new.places ≡ 0 = new.places.ok.0 ∙ ap length all.settled.0 in
       (omega (arith, room.0, count, empty, all.replies_room), omega (arith, room.1, empty, all.places_room))
 

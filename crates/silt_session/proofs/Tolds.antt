@@ -1,10 +1,10 @@
 -- What a session is told, and more of it.
-use Rattle.std.proofs.Common.{◌≡◌, ◌⊎◌, inl, inr, ℕ, zero, suc, ◌≤◌, Bool, true, false, cond, List, [], ◌∷◌, ◌++◌, append_assoc, length, refl, sym, ◌∙◌, ap}
-use Rattle.std.proofs.Common.{subst, Option, Some, None, Result, Ok, Err, slice_get}
+use Rattle.std.proofs.Common.{◌≡◌, ◌⊎◌, inl, inr, ℕ, zero, suc, ◌≤◌, ◌<◌, arith, Bool, true, false, cond, List, [], ◌∷◌, ◌++◌, append_assoc, length, refl, sym}
+use Rattle.std.proofs.Common.{◌∙◌, ap, subst, Option, Some, None, Result, Ok, Err, slice_get}
 use Rattle.std.specs.List.{AllZip}
 use Rattle.std.specs.Bool.{then_some}
 use Rattle.std.specs.Option.{option_map}
-use Rattle.std.specs.Prelude.{IfSome, MatchBool, if◌then◌else◌, nat_le}
+use Rattle.std.specs.Prelude.{IfSome, MatchBool, MatchOption, if◌then◌else◌, nat_le}
 use Rattle.std.proofs.lemmas.Bool.{leb-true}
 use Rattle.std.proofs.lemmas.List.{append-nil}
 use mathlib.Core.List.{IsPrefix}
@@ -22,7 +22,7 @@ use Rattle.silt_event.specs.declared.reply.Reply.TheVariants.{Accepted, Acknowle
 use Rattle.silt_store_set.specs.Replies.{change_reply, flush_reply, swap_reply}
 use Rattle.silt_desk.specs.declared.call.RecordedCall.{RecordedCall}
 use Rattle.silt_desk.specs.declared.trace.Trace.{Ghosts as TraceOf}
-use Rattle.silt_desk.specs.CallLogs.{PlaceState, PlacesCall, PlacesEvent}
+use Rattle.silt_desk.specs.CallLogs.{CallsSeen, LogsNone, PlaceState, PlacesCall, PlacesEvent}
 use Rattle.silt_desk.specs.DeskState.{DeskState, Refuses, Records, Serves}
 use Rattle.silt_desk.specs.History.{call, is_recorded}
 use Rattle.silt_desk.specs.Notes.{plain_answer}
@@ -32,9 +32,27 @@ use Rattle.silt_session.specs.Origins.{Flushes, HasDone, HasOrigin, Performs, Wa
 use Rattle.silt_session.specs.declared.task.Placed.{Placed}
 use Rattle.silt_session.specs.Requests.{Answer, Flushed, acknowledged, asked_event, changed, compared, reply_due}
 use Rattle.silt_session.specs.Sessions.{IsAnswer, IsKept, IsToldTo}
-use Rattle.silt_session.specs.Tolds.{AsksBehind, CallsAt, ExtendsCalls, IsInLog, IsTold, IsToldMore, HasCallAt, TellsAt, ToldOf, ToldState, reply_place, answer_place}
+use Rattle.silt_session.specs.Tolds.{AreToldBetween, AsksBehind, CallsAt, ExtendsCalls, HasCallAt, IsInLog, IsTold, IsToldBetween, IsToldMore, PassesOn}
+use Rattle.silt_session.specs.Tolds.{RisesThrough, TakesPlace, TellsAt, ToldOf, ToldState, answer_place, own_reply, reply_place}
 use Rattle.silt_session.specs.declared.job.Request.{Request}
 use Rattle.silt_session.specs.declared.job.Request.TheVariants.{Put, Delete, Swap, Flush}
+
+-- ---- all calls of a trace
+
+module _ {T : Type 0} (trace : TraceOf T) (state : T) where
+  -- what a trace shows of its log, if it logs calls
+  abbrev Shows : Option CallsSeen → Type 0
+  Shows view = MatchOption view (LogsNone (trace.logs state)) (λ seen. (Some seen.book ≡ trace.log) × trace.logs state seen.calls)
+
+  -- it is of the log
+  pub view_named : (view : Option CallsSeen) → Shows view → IfSome view (λ seen. Some seen.book ≡ trace.log)
+  view_named None shows = tt
+  view_named (Some seen) shows = shows.0
+
+  -- and all calls are told
+  pub view_told : (view : Option CallsSeen) → Shows view → MatchOption (option_map (λ (seen : CallsSeen). seen.calls) view) (LogsNone (trace.logs state)) (trace.logs state)
+  view_told None shows = shows
+  view_told (Some seen) shows = shows.1
 
 -- ---- more calls
 
@@ -98,10 +116,10 @@ goes_both (Some calls) (Some more) (Some most) first second =
     (first.0 ++ second.0, sym (append_assoc calls first.0 second.0) ∙ ap (λ (l : List RecordedCall). l ++ second.0) first.1 ∙ second.1)
 
 pub more_none : (told : ToldState) → IsToldMore told told
-more_none told = record { from = refl; calls = goes_none told.calls }
+more_none told = record { from = refl; next = omega arith; calls = goes_none told.calls }
 
 pub more_both : (a b c : ToldState) → IsToldMore a b → IsToldMore b c → IsToldMore a c
-more_both a b c first second = record { from = second.from ∙ first.from; calls = goes_both a.calls b.calls c.calls first.calls second.calls }
+more_both a b c first second = record { from = second.from ∙ first.from; next = omega (arith, first.next, second.next); calls = goes_both a.calls b.calls c.calls first.calls second.calls }
 
 asked_from : (old : Option (List RecordedCall)) (a b : ℕ) → b ≡ a → IfSome old (λ calls. a ≡ length calls) → IfSome old (λ calls. b ≡ length calls)
 asked_from None a b same is = tt
@@ -109,7 +127,113 @@ asked_from (Some calls) a b same is = same ∙ is
 
 -- events that were asked behind what was told, and more is told then
 pub asked_more : (a b c : ToldState) → AsksBehind a b → IsToldMore b c → AsksBehind a c
-asked_more a b c asks more = record { from = asked_from a.calls b.from c.from more.from asks.from; calls = goes_both a.calls b.calls c.calls asks.calls more.calls }
+asked_more a b c asks more =
+    record { from = asked_from a.calls b.from c.from more.from asks.from; next = omega (arith, asks.next, more.from, more.next); calls = goes_both a.calls b.calls c.calls asks.calls more.calls }
+
+-- ---- commands take their places
+
+pub passes_none : (told : ToldState) → PassesOn told told
+passes_none told = record { same = refl; next = omega arith }
+
+pub passes_both : (a b c : ToldState) → PassesOn a b → PassesOn b c → PassesOn a c
+passes_both a b c first second = record { same = second.same ∙ ap (λ (s : ToldState). record s { next = c.next }) first.same; next = omega (arith, first.next, second.next) }
+
+-- no less is told then
+pub more_passed : (old new : ToldState) → PassesOn old new → IsToldMore old new
+more_passed old new passed = record {
+  from = ap (λ (s : ToldState). s.from) passed.same;
+  next = passed.next;
+  calls = subst (λ (s : ToldState). ExtendsCalls old.calls s.calls) (sym passed.same) (goes_none old.calls);
+}
+
+match_more : {X A B : Type 0} (P Q : X → Type 0) → (A → B) → ((x : X) → P x → Q x) → (o : Option X) → MatchOption o A P → MatchOption o B Q
+match_more P Q none some None holds = none holds
+match_more P Q none some (Some x) holds = some x holds
+
+if_holds : {X : Type 0} (A : Type 0) → A → (o : Option X) → IfSome o (λ x. A)
+if_holds A holds None = tt
+if_holds A holds (Some x) = holds
+
+-- where an own call stands
+abbrev OwnAt : ℕ → List RecordedCall → Event → ℕ → PlainReply → Type 0
+OwnAt next calls e after made = (place : ℕ) × HasCallAt next calls place e made × (place < after)
+
+takes_more : (calls more : List RecordedCall) → IsPrefix calls more → (next after : ℕ) (e : Event) (r : PlainReply) → TakesPlace next calls e r after → TakesPlace next more e r after
+takes_more calls more begins next after e r takes =
+    match_more (OwnAt next calls e after) (OwnAt next more e after) (λ (le : next ≤ after). le)
+    (λ made here. (here.0, stands_more next calls more begins here.0 e made here.1, here.2)) (own_reply e r) takes
+
+takes_from : (calls : List RecordedCall) (a b after : ℕ) → a ≤ b → (e : Event) (r : PlainReply) → TakesPlace b calls e r after → TakesPlace a calls e r after
+takes_from calls a b after le e r takes =
+    match_more (OwnAt b calls e after) (OwnAt a calls e after) (λ (more : b ≤ after). let all : a ≤ after = omega arith in all)
+    (λ made here. (here.0, (omega (arith, le, here.1.0), here.1.1), here.2)) (own_reply e r) takes
+
+through_more : (calls more : List RecordedCall) → IsPrefix calls more → (next after : ℕ) (events : List Event) (replies : List PlainReply)
+    → RisesThrough next calls events replies after → RisesThrough next more events replies after
+through_more calls more begins next after [] [] rises = rises
+through_more calls more begins next after (e ∷ events) (r ∷ replies) (mid, takes, rest) =
+    (mid, takes_more calls more begins next mid e r takes, through_more calls more begins mid after events replies rest)
+through_more calls more begins next after [] (r ∷ replies) rises = absurd rises
+through_more calls more begins next after (e ∷ events) [] rises = absurd rises
+
+through_from : (calls : List RecordedCall) (a b after : ℕ) → a ≤ b → (events : List Event) (replies : List PlainReply)
+    → RisesThrough b calls events replies after → RisesThrough a calls events replies after
+through_from calls a b after le [] [] rises = omega (arith, le, rises)
+through_from calls a b after le (e ∷ events) (r ∷ replies) (mid, takes, rest) = (mid, takes_from calls a b mid le e r takes, rest)
+through_from calls a b after le [] (r ∷ replies) rises = absurd rises
+through_from calls a b after le (e ∷ events) [] rises = absurd rises
+
+through_append : (calls : List RecordedCall) (a b c : ℕ) (xs ys : List Event) (rs ss : List PlainReply)
+    → RisesThrough a calls xs rs b → RisesThrough b calls ys ss c → RisesThrough a calls (xs ++ ys) (rs ++ ss) c
+through_append calls a b c [] ys [] ss first second = through_from calls a b c first ys ss second
+through_append calls a b c (x ∷ xs) ys (r ∷ rs) ss (mid, takes, rest) second = (mid, takes, through_append calls mid b c xs ys rs ss rest second)
+through_append calls a b c [] ys (r ∷ rs) ss first second = absurd first
+through_append calls a b c (x ∷ xs) ys [] ss first second = absurd first
+
+between_more : (next after : ℕ) (events : List Event) (replies : List PlainReply) (old new : Option (List RecordedCall)) → ExtendsCalls old new
+    → IfSome old (λ calls. RisesThrough next calls events replies after) → IfSome new (λ calls. RisesThrough next calls events replies after)
+between_more next after events replies None None goes told = tt
+between_more next after events replies None (Some more) goes told = absurd (cc)
+between_more next after events replies (Some calls) None goes told = absurd goes
+between_more next after events replies (Some calls) (Some more) goes told = through_more calls more goes next after events replies told
+
+between_append : (calls : Option (List RecordedCall)) (a b c : ℕ) (xs ys : List Event) (rs ss : List PlainReply)
+    → IfSome calls (λ l. RisesThrough a l xs rs b) → IfSome calls (λ l. RisesThrough b l ys ss c) → IfSome calls (λ l. RisesThrough a l (xs ++ ys) (rs ++ ss) c)
+between_append None a b c xs ys rs ss first second = tt
+between_append (Some l) a b c xs ys rs ss first second = through_append l a b c xs ys rs ss first second
+
+between_cons : (calls : Option (List RecordedCall)) (next mid after : ℕ) (e : Event) (r : PlainReply) (events : List Event) (replies : List PlainReply)
+    → IfSome calls (λ l. TakesPlace next l e r mid) → IfSome calls (λ l. RisesThrough mid l events replies after) → IfSome calls (λ l. RisesThrough next l (e ∷ events) (r ∷ replies) after)
+between_cons None next mid after e r events replies takes rest = tt
+between_cons (Some l) next mid after e r events replies takes rest = (mid, takes, rest)
+
+takes_none : (calls : Option (List RecordedCall)) (next : ℕ) (e : Event) (r : PlainReply) → own_reply e r ≡ None → IfSome calls (λ l. TakesPlace next l e r next)
+takes_none None next e r none = tt
+takes_none (Some l) next e r none = subst (λ (o : Option PlainReply). MatchOption o (next ≤ next) (OwnAt next l e next)) (sym none) (omega arith)
+
+-- what stands in order stands so in more calls
+pub order_stays : (old new : ToldState) → IsToldMore old new → (next after : ℕ) (events : List Event) (replies : List PlainReply)
+    → AreToldBetween old next events replies after → AreToldBetween new next events replies after
+order_stays old new more next after events replies rises = between_more next after events replies old.calls new.calls more.calls rises
+
+module _ (told : ToldState) where
+  -- nothing is in order
+  pub order_none : (next after : ℕ) → next ≤ after → AreToldBetween told next [] [] after
+  order_none next after le = if_holds (next ≤ after) le told.calls
+
+  -- one event is in front
+  pub order_cons : (next mid after : ℕ) (e : Event) (r : PlainReply) (events : List Event) (replies : List PlainReply)
+      → IsToldBetween told next e r mid → AreToldBetween told mid events replies after → AreToldBetween told next (e ∷ events) (r ∷ replies) after
+  order_cons next mid after e r events replies takes rest = between_cons told.calls next mid after e r events replies takes rest
+
+  -- others are behind
+  pub order_append : (a b c : ℕ) (xs ys : List Event) (rs ss : List PlainReply)
+      → AreToldBetween told a xs rs b → AreToldBetween told b ys ss c → AreToldBetween told a (xs ++ ys) (rs ++ ss) c
+  order_append a b c xs ys rs ss first second = between_append told.calls a b c xs ys rs ss first second
+
+  -- an event with no call of its own takes no place
+  pub order_same : (next : ℕ) (e : Event) (r : PlainReply) → own_reply e r ≡ None → IsToldBetween told next e r next
+  order_same next e r none = takes_none told.calls next e r none
 
 -- ---- answers
 

@@ -16,7 +16,7 @@ use Rattle.silt_store_set.specs.Replies.{get_reply}
 use Rattle.silt_store_set.specs.declared.store_core.Look.{Look}
 use Rattle.silt_desk.specs.declared.trace.Trace.{Ghosts as TraceOf}
 use Rattle.silt_session.specs.Marks.{IsMarked, mark_of}
-use Rattle.silt_session.specs.Tolds.{IsToldMore, ToldState}
+use Rattle.silt_session.specs.Tolds.{AreInOrder, IsToldBetween, IsToldMore, PassesOn, ToldState}
 use Rattle.silt_session.specs.Requests.{IsNew, TaskState, asked_event, changed_key, requests_of}
 use Rattle.silt_session.specs.Sessions.{AnswersGet, IsAnswer, IsKept, IsReplyOf, IsToldTo}
 use Rattle.silt_session.specs.declared.job.Request.{Request}
@@ -54,29 +54,31 @@ reply_without_tasks (Shows shown) = if is_some shown.until then Refused NoMemory
 reply_without_tasks Waits = Refused NoMemory
 
 module _ {D F T : Type 0} (facts : Ghosts D F) (trace : TraceOf T) (told : ToldState) where
-  -- what a place takes of the tasks that came back, the next one if its request waited, and its reply
-  abbrev pub FillsOne : Option PlainReply → List TaskState → Place → PlainReply → List TaskState → Type 0
-  FillsOne flushed tasks (Shows shown) reply left = (given_by flushed shown ≡ Some reply) × (left ≡ tasks)
-  FillsOne flushed tasks Waits reply left = (task : TaskState) × (tasks ≡ task ∷ left) × IsReplyOf facts trace told task reply
+  -- What a place takes of the tasks that came back, the next one if its request waited, and its reply. The call of a command stands between
+  -- these numbers.
+  abbrev pub FillsOne : Option PlainReply → ℕ → List TaskState → Place → PlainReply → ℕ → List TaskState → Type 0
+  FillsOne flushed next tasks (Shows shown) reply after left = (given_by flushed shown ≡ Some reply) × (left ≡ tasks) × (after ≡ next)
+  FillsOne flushed next tasks Waits reply after left =
+      (task : TaskState) × (tasks ≡ task ∷ left) × IsReplyOf facts trace told task reply × IsToldBetween told next (asked_event task.request) reply after
 
   -- the same of places in order
-  abbrev pub Fills : Option PlainReply → List TaskState → List Place → List PlainReply → List TaskState → Type 0
-  Fills flushed tasks [] [] left = left ≡ tasks
-  Fills flushed tasks (place ∷ places) (reply ∷ replies) left =
-      (mid : List TaskState) × FillsOne flushed tasks place reply mid × Fills flushed mid places replies left
-  Fills flushed tasks places replies left = ⊥
+  abbrev pub Fills : Option PlainReply → ℕ → List TaskState → List Place → List PlainReply → ℕ → List TaskState → Type 0
+  Fills flushed next tasks [] [] after left = (left ≡ tasks) × (after ≡ next)
+  Fills flushed next tasks (place ∷ places) (reply ∷ replies) after left =
+      (mid : List TaskState) × (at : ℕ) × FillsOne flushed next tasks place reply at mid × Fills flushed at mid places replies after left
+  Fills flushed next tasks places replies after left = ⊥
 
   -- the last task leaves, with this reply
   abbrev pub TakesLast : List TaskState → List TaskState → PlainReply → Type 0
   TakesLast tasks left reply = (task : TaskState) × (tasks ≡ left ++ task ∷ []) × IsReplyOf facts trace told task reply
 
-  -- Places have these replies by the tasks that came back: each task of a request fills the next place that waits. The last task is that of
-  -- the flush if there is one.
-  abbrev pub FillsAll : Bool → List TaskState → List Place → List PlainReply → Type 0
-  FillsAll has_flush tasks places replies =
+  -- Places have these replies by the tasks that came back: each task of a request fills the next place that waits, and the calls of commands
+  -- stand in order between these numbers. The last task is that of the flush if there is one.
+  abbrev pub FillsAll : Bool → ℕ → List TaskState → List Place → List PlainReply → ℕ → Type 0
+  FillsAll has_flush next tasks places replies after =
       MatchBool has_flush
-      ((left : List TaskState) × (flushed : PlainReply) × TakesLast tasks left flushed × Fills (Some flushed) left places replies [])
-      (Fills None tasks places replies [])
+      ((left : List TaskState) × (flushed : PlainReply) × TakesLast tasks left flushed × Fills (Some flushed) next left places replies after [])
+      (Fills None next tasks places replies after [])
 
   -- there was no flush, or this reply comes from one
   abbrev pub IsFlushedBy : Option PlainReply → Type 0
@@ -87,12 +89,14 @@ module _ {D F T : Type 0} (facts : Ghosts D F) (trace : TraceOf T) (told : ToldS
   SettlesShown shown reply =
       (reply ≡ reply_without_tasks (Shows shown)) ⊎ ((flushed : Option PlainReply) × IsFlushedBy flushed × (given_by flushed shown ≡ Some reply))
 
-  -- places have these replies once the tasks are back: that of its own request where one waited, in order, or what is shown
-  abbrev pub SettlesEach : List Place → List Request → List PlainReply → Type 0
-  SettlesEach [] [] [] = Unit {0}
-  SettlesEach (Shows shown ∷ places) requests (reply ∷ replies) = SettlesShown shown reply × SettlesEach places requests replies
-  SettlesEach (Waits ∷ places) (request ∷ requests) (reply ∷ replies) = IsToldTo facts trace told request reply × SettlesEach places requests replies
-  SettlesEach places requests replies = ⊥
+  -- Places have these replies once the tasks are back: that of its own request where one waited, in order, or what is shown. The calls of
+  -- commands stand in order between these numbers.
+  abbrev pub SettlesEach : ℕ → List Place → List Request → List PlainReply → ℕ → Type 0
+  SettlesEach next [] [] [] after = after ≡ next
+  SettlesEach next (Shows shown ∷ places) requests (reply ∷ replies) after = SettlesShown shown reply × SettlesEach next places requests replies after
+  SettlesEach next (Waits ∷ places) (request ∷ requests) (reply ∷ replies) after =
+      (at : ℕ) × IsToldTo facts trace told request reply × IsToldBetween told next (asked_event request) reply at × SettlesEach at places requests replies after
+  SettlesEach next places requests replies after = ⊥
 
 -- the request of a flush, if it is needed
 abbrev pub flush_if : Bool → List Request
@@ -111,10 +115,11 @@ pub record NothingWaits {D T F : Type 0} (pipeline : Pipeline D T F) : Type 0 wh
 abbrev pub IsSettled : {D T F : Type 0} → Pipeline D T F → Type 0
 IsSettled pipeline = (pipeline.places.items ≡ []) × NothingWaits pipeline
 
--- no place is left, what waits stays, and there is as much room as before
+-- no place is left, what waits stays, commands have taken their places, and there is as much room as before
 pub record MovesPlaces {D T F : Type 0} (old new : Pipeline D T F) : Type 0 where
   pub places : new.places.items ≡ []
-  pub same : new ≡ record old { replies = new.replies; places = new.places }
+  pub same : new ≡ record old { replies = new.replies; places = new.places; told = new.told }
+  pub told : PassesOn old.told new.told
   pub replies_room : vec_capacity new.replies ≡ vec_capacity old.replies
   pub places_room : deque_capacity new.places ≡ deque_capacity old.places
 
@@ -134,7 +139,7 @@ module _ {D F T : Type 0} (facts : Ghosts D F) (trace : TraceOf T) where
     pub given : List PlainReply
     pub replies : new.replies.items ≡ old.replies.items ++ given
     pub fits : (given ≡ map reply_without_tasks old.places.items)
-        ⊎ ((old.lacks_memory ≡ false) × SettlesEach facts trace new.told old.places.items (requests_of old.tasks.items) given)
+        ⊎ ((old.lacks_memory ≡ false) × SettlesEach facts trace new.told old.told.next old.places.items (requests_of old.tasks.items) given new.told.next)
     pub told : IsToldMore old.told new.told
     pub settled : IsSettled new
     pub replies_room : vec_capacity new.replies ≡ vec_capacity old.replies
@@ -206,12 +211,13 @@ module _ {D F : Type 0} (facts : Ghosts D F) (settles : Bool) where
 
   module _ {T : Type 0} (trace : TraceOf T) where
     -- The first of these events have their replies. Each other one has its place, in order, and the tasks are those of the requests that
-    -- wait. No get is looked up behind a request that changes its key and waits.
+    -- wait. No get is looked up behind a request that changes its key and waits. The calls of the commands that have replies stand in order.
     pub record AnswersSoFar (events : List Event) (pipeline : Pipeline D T F) : Type 0 where
       pub done : List Event
       pub later : List Event
       pub whole : events ≡ done ++ later
       pub replied : AllZip (IsAnswer facts trace pipeline.told settles) done pipeline.replies.items
+      pub in_order : AreInOrder pipeline.told done pipeline.replies.items
       pub placed : AllZip (IsPlaceOf pipeline.marks) later pipeline.places.items
       pub tasks : pipeline.lacks_memory ≡ false → AllZip IsTaskOf (waiting_events later pipeline.places.items) pipeline.tasks.items
       pub ordered : NoneOvertakes later pipeline.places.items

@@ -1,5 +1,5 @@
 -- What a session is told of the calls at the desk.
-use Rattle.std.specs.Prelude.{◌≡◌, ℕ, ◌≤◌, ◌<◌, if◌then◌else◌, IfSome, List, length, MatchOption, Option, Some, None, slice_get}
+use Rattle.std.specs.Prelude.{◌≡◌, ℕ, ◌≤◌, ◌<◌, if◌then◌else◌, IfSome, List, [], ◌∷◌, length, MatchOption, Option, Some, None, slice_get}
 use mathlib.Core.List.{IsPrefix}
 use Rattle.logbook.specs.Pages.{Book}
 use Rattle.silt_event.specs.Events.{PlainReply}
@@ -8,16 +8,25 @@ use Rattle.silt_event.specs.declared.event.Event.TheVariants as event
 use Rattle.silt_event.specs.declared.refusal.Refusal.TheVariants.{NoMemory, HistoryFull}
 use Rattle.silt_event.specs.declared.reply.Reply.TheVariants.{Accepted, Acknowledged, Differs, Refused, Unsettled}
 use Rattle.silt_desk.specs.declared.call.RecordedCall.{RecordedCall}
-use Rattle.silt_desk.specs.CallLogs.{PlaceState, PlacesEvent}
+use Rattle.silt_desk.specs.declared.trace.Trace.{Ghosts as TraceOf}
+use Rattle.silt_desk.specs.CallLogs.{LogsNone, PlaceState, PlacesEvent}
 use Rattle.silt_desk.specs.History.{call, is_recorded}
 use Rattle.silt_store_set.specs.Replies.{swap_reply}
 use Rattle.silt_session.specs.Requests.{Answer, asked_event}
 use Rattle.silt_session.specs.declared.job.Request.{Request}
 
--- the first place at which a call of the present events can stand, and a beginning of the desk's calls, if its trace has a log
+-- the first place at which a call of the present events can stand, the first one for the next command among them, and a beginning of the
+-- desk's calls, if its trace has a log
 pub record ToldState : Type 0 where
   pub from : ℕ
+  pub next : ℕ
   pub calls : Option (List RecordedCall)
+
+-- all calls are told that a trace logs, or it logs none
+pub record TellsAll {T : Type 0} (trace : TraceOf T) (state : T) (told : ToldState) : Type 0 where
+  pub from : told.from ≡ 0
+  pub next : told.next ≡ 0
+  pub calls : MatchOption told.calls (LogsNone (trace.logs state)) (trace.logs state)
 
 -- the place, if there is one, is in the log that is named
 abbrev pub IsInLog : Option Book → Option PlaceState → Type 0
@@ -73,7 +82,59 @@ IsTold from calls e reply = Unit {0}
 abbrev pub ToldOf : ToldState → Event → PlainReply → Type 0
 ToldOf told e reply = IfSome told.calls (λ calls. IsTold told.from calls e reply)
 
+-- ---- commands in their order
+
+-- the reply with which a command's own call is recorded, by the reply that the command got, if that speaks of such a call
+abbrev pub call_reply : PlainReply → Option PlainReply
+call_reply (Accepted n) = Some (Accepted n)
+call_reply (Unsettled n) = Some (Accepted n)
+call_reply Differs = Some Differs
+call_reply (Refused NoMemory) = None
+call_reply (Refused HistoryFull) = None
+call_reply (Refused refusal) = Some (Refused refusal)
+call_reply reply = None
+
+-- the same of any event: one that is no command has no call of its own
+abbrev pub own_reply : Event → PlainReply → Option PlainReply
+own_reply event.Flush reply = None
+own_reply (event.Get key) reply = None
+own_reply event.Convert reply = None
+own_reply event.Merge reply = None
+own_reply e reply = call_reply reply
+
+-- an event's own call, if it has one, stands at a place from the first number on, and before the second
+abbrev pub TakesPlace : ℕ → List RecordedCall → Event → PlainReply → ℕ → Type 0
+TakesPlace next calls e reply after =
+    MatchOption (own_reply e reply) (next ≤ after) (λ made. (place : ℕ) × HasCallAt next calls place e made × (place < after))
+
+-- the own calls of events stand at rising places, in the order of the events, from the first number on, and before the second
+abbrev pub RisesThrough : ℕ → List RecordedCall → List Event → List PlainReply → ℕ → Type 0
+RisesThrough next calls [] [] after = next ≤ after
+RisesThrough next calls (e ∷ events) (reply ∷ replies) after = (mid : ℕ) × TakesPlace next calls e reply mid × RisesThrough mid calls events replies after
+RisesThrough next calls events replies after = ⊥
+
+-- an event's own call is told of, at a place between these numbers, if the desk's trace has a log
+abbrev pub IsToldBetween : ToldState → ℕ → Event → PlainReply → ℕ → Type 0
+IsToldBetween told next e reply after = IfSome told.calls (λ calls. TakesPlace next calls e reply after)
+
+-- the same of events in their order
+abbrev pub AreToldBetween : ToldState → ℕ → List Event → List PlainReply → ℕ → Type 0
+AreToldBetween told next events replies after = IfSome told.calls (λ calls. RisesThrough next calls events replies after)
+
+-- the commands among the present events stand at rising places, in their order, before the place for the next one
+abbrev pub AreInOrder : ToldState → List Event → List PlainReply → Type 0
+AreInOrder told events replies = AreToldBetween told told.from events replies told.next
+
+-- the place is one of these calls, no earlier than a command of the present events can stand, and before this number
+abbrev pub IsTakenAt : ToldState → List RecordedCall → PlaceState → ℕ → Type 0
+IsTakenAt told calls p after = (told.from ≤ p.number) × (told.next ≤ p.number) × (p.number < after) × (slice_get calls p.number ≡ p.at)
+
 -- ---- more that is told
+
+-- commands of the present events have taken their places
+pub record PassesOn (old new : ToldState) : Type 0 where
+  pub same : new ≡ record old { next = new.next }
+  pub next : old.next ≤ new.next
 
 -- the second list goes on where the first ends, if there are lists
 abbrev pub ExtendsCalls : Option (List RecordedCall) → Option (List RecordedCall) → Type 0
@@ -82,9 +143,11 @@ ExtendsCalls old new = MatchOption old (new ≡ None) (λ calls. MatchOption new
 -- more calls are told
 pub record IsToldMore (old new : ToldState) : Type 0 where
   pub from : new.from ≡ old.from
+  pub next : old.next ≤ new.next
   pub calls : ExtendsCalls old.calls new.calls
 
 -- events are asked now: a call of theirs stands behind all that was told
 pub record AsksBehind (old new : ToldState) : Type 0 where
   pub from : IfSome old.calls (λ calls. new.from ≡ length calls)
+  pub next : new.from ≤ new.next
   pub calls : ExtendsCalls old.calls new.calls

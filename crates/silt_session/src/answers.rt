@@ -1,5 +1,5 @@
 // The replies to the events of a session.
-ghost use Rattle.std.specs.Prelude.{◌≡◌, ℕ, ◌+◌, ◌++◌, ◌∷◌, [], List, IfOk, OnOk, vec_len};
+ghost use Rattle.std.specs.Prelude.{◌≡◌, ◌≤◌, ℕ, ◌+◌, ◌++◌, ◌∷◌, [], List, IfOk, OnOk, vec_len};
 ghost use Rattle.std.specs.List.{AllZip};
 ghost use Rattle.silt_event.specs.declared.event.Event.{Event as EventOf};
 ghost use Rattle.silt_event.specs.declared.event.Event.TheVariants as event_case;
@@ -7,7 +7,7 @@ ghost use Rattle.silt_session.specs.Handing.{AreAsked};
 ghost use Rattle.silt_session.specs.Pipelines.{AnswersSoFar, HasRoom, IsFree, IsSettled, IsShown, Looks, MaySettle, SettlesShown, awaited, shown_of};
 ghost use Rattle.silt_session.specs.Requests.{IsNoRequest, requests_of};
 ghost use Rattle.silt_session.specs.Sessions.{IsAnswer, IsToldTo};
-ghost use Rattle.silt_session.specs.Tolds.{AsksBehind, IsToldMore, ToldState};
+ghost use Rattle.silt_session.specs.Tolds.{AreInOrder, AsksBehind, IsToldMore, TellsAll, ToldState};
 ghost use Rattle.silt_store_set.specs.CoreState.{CoreState};
 ghost use Rattle.silt_store_set.specs.Facts.{facts_of};
 
@@ -94,8 +94,10 @@ fn alone<D: Disk, T: Trace>(alloc: Global, request: Request) -> Result<Vec<Task<
 }
 
 impl<D: Disk, T: Trace, N: DeskId + InboxId + LogId, R: Wait> Session<'_, D, T, N, R> {
-    /// All that is seen now of the desk's calls.
-    pub fn told(&self) -> Told<T> {
+    /// All calls that the desk's trace logs now. Nothing is told only if it logs none.
+    pub fn told(&self) -> Told<T>
+        ensures { (trace : T) × TellsAll T.Trace trace result }
+    {
         Told::of(self.desk.read(self.rt).trace())
     }
 
@@ -212,6 +214,7 @@ impl<D: Disk, T: Trace, N: DeskId + InboxId + LogId, R: Wait> Session<'_, D, T, 
     fn take_all(&self, pipeline: &mut Pipeline<D, T>, events: Vec<Event>) -> Result<(), Unanswered>
         requires settled { IsSettled pipeline.old }
         requires none { pipeline.old.replies.items ≡ [] }
+        requires order { pipeline.old.told.from ≤ pipeline.old.told.next }
         requires room { HasRoom pipeline.old (vec_len events) }
         ensures answers { OnOk result (AnswersSoFar D.Disk self.now.settles_gets T.Trace events.items pipeline.new) }
         ensures room { OnOk result (HasRoom pipeline.new 0) }
@@ -256,7 +259,7 @@ impl<D: Disk, T: Trace, N: DeskId + InboxId + LogId, R: Wait> Session<'_, D, T, 
         asked: AskedEvents<D, T, N>,
     ) -> Result<(Vec<Reply<()>>, Told<T>), Unanswered>
         ensures { (told : ToldState) (events : List EventOf) → AreAsked D.Disk self.now.settles_gets T.Trace told events asked
-            → IfOk result (λ given. AsksBehind told given.1 × AllZip (IsAnswer D.Disk T.Trace given.1 self.now.settles_gets) events given.0.items) }
+            → IfOk result (λ given. AsksBehind told given.1 × AllZip (IsAnswer D.Disk T.Trace given.1 self.now.settles_gets) events given.0.items × AreInOrder given.1 events given.0.items) }
     {
         let AskedEvents {
             mut pipeline,
@@ -278,6 +281,7 @@ impl<D: Disk, T: Trace, N: DeskId + InboxId + LogId, R: Wait> Session<'_, D, T, 
     ) -> Result<Vec<Reply<()>>, Unanswered>
         ensures told { OnOk result (AsksBehind told.old told.new) }
         ensures replies { IfOk result (λ replies. AllZip (IsAnswer D.Disk T.Trace told.new self.now.settles_gets) events.items replies.items) }
+        ensures order { IfOk result (λ replies. AreInOrder told.new events.items replies.items) }
     {
         let asked = self.begin(events, told)?;
         let (replies, now_told) = self.finish(asked)?;

@@ -179,6 +179,7 @@ impl<D: Disk, T: Trace> Pipeline<D, T> {
     // Is told of all calls up to those that the tasks' replies come from.
     fn learn(&mut self, tasks: &Vec<Task<D, T>>)
         ensures told { IsToldMore self.old.told self.new.told }
+        ensures next { self.new.told.next ≡ self.old.told.next }
         ensures same { self.new ≡ record self.old { told = self.new.told } }
     {
         for task in tasks {
@@ -258,7 +259,7 @@ impl<D: Disk, T: Trace> Pipeline<D, T> {
     // Moves each place to the replies, by the tasks that came back. The last of them is a flush's if there is one.
     fn fill(&mut self, tasks: Vec<Task<D, T>>, has_flush: bool) -> Result<(), Unanswered>
         requires { vec_len self.old.replies + deque_len self.old.places ≤ vec_capacity self.old.replies }
-        ensures replies { OnOk result ((given : List PlainReply) × (self.new.replies.items ≡ self.old.replies.items ++ given) × FillsAll D.Disk T.Trace self.old.told has_flush tasks.items self.old.places.items given) }
+        ensures replies { OnOk result ((given : List PlainReply) × (self.new.replies.items ≡ self.old.replies.items ++ given) × FillsAll D.Disk T.Trace self.old.told has_flush self.old.told.next tasks.items self.old.places.items given self.new.told.next) }
         ensures moved { OnOk result (MovesPlaces self.old self.new) }
     {
         let mut tasks = VecDeque::from(tasks);
@@ -278,12 +279,12 @@ impl<D: Disk, T: Trace> Pipeline<D, T> {
         flushed: &Option<Reply<()>>,
     ) -> Result<(), Unanswered>
         requires { vec_len self.old.replies + deque_len self.old.places ≤ vec_capacity self.old.replies }
-        ensures replies { OnOk result ((given : List PlainReply) × (self.new.replies.items ≡ self.old.replies.items ++ given) × Fills D.Disk T.Trace self.old.told flushed.now tasks.items self.old.places.items given []) }
+        ensures replies { OnOk result ((given : List PlainReply) × (self.new.replies.items ≡ self.old.replies.items ++ given) × Fills D.Disk T.Trace self.old.told flushed.now self.old.told.next tasks.items self.old.places.items given self.new.told.next []) }
         ensures moved { OnOk result (MovesPlaces self.old self.new) }
     {
         let mut tasks = tasks;
         while let Some(place) = self.places.pop_front() {
-            let Some(reply) = place.given(&mut tasks, flushed, &self.told) else {
+            let Some(reply) = place.given(&mut tasks, flushed, &mut self.told) else {
                 return Err(Unanswered::Lost);
             };
             self.replies.push_reserved(reply);
@@ -318,14 +319,14 @@ fn with_flush<D: Disk, T: Trace>(tasks: Vec<Task<D, T>>) -> Option<Vec<Task<D, T
     }
 }
 
-// Takes the last task, and returns its reply.
+// Takes the last task, that of a flush, and returns its reply. It takes no place of a command.
 fn take_last<D: Disk, T: Trace>(
     tasks: &mut VecDeque<Task<D, T>>,
     told: &Told<T>,
 ) -> Option<Reply<()>>
     ensures { IfSome result (TakesLast D.Disk T.Trace told.now tasks.old.items tasks.new.items) }
 {
-    tasks.pop_back()?.tell(told)
+    tasks.pop_back()?.tell(&mut told.again())
 }
 
 // The reply of a task that came back alone. The session is told of all calls up to those that it comes from.

@@ -1,6 +1,7 @@
 // The place of an event among the events that a session asks at once.
 ghost use Rattle.std.specs.Prelude.{◌≡◌, IfSome};
 ghost use Rattle.silt_session.specs.Pipelines.{FillsOne, given_by, reply_without_tasks};
+ghost use Rattle.silt_session.specs.Tolds.{PassesOn};
 
 use crate::task::Task;
 use crate::told::Told;
@@ -68,9 +69,10 @@ impl Place {
         self,
         tasks: &mut VecDeque<Task<D, T>>,
         flushed: &Option<Reply<()>>,
-        told: &Told<T>,
+        told: &mut Told<T>,
     ) -> Option<Reply<()>>
-        ensures { IfSome result (λ reply. FillsOne D.Disk T.Trace told.now flushed.now tasks.old.items self reply tasks.new.items) }
+        ensures told { PassesOn told.old told.new }
+        ensures fills { IfSome result (λ reply. FillsOne D.Disk T.Trace told.old flushed.now told.old.next tasks.old.items self reply told.new.next tasks.new.items) }
     {
         match self {
             Place::Shows(shown) => shown.given(flushed),

@@ -6,7 +6,7 @@ ghost use Rattle.silt_session.specs.Batches.{RepliesTo};
 ghost use Rattle.silt_session.specs.Origins.{HasDone, WasFlushed};
 ghost use Rattle.silt_session.specs.Requests.{IsNew, acknowledged, asked_event, changed, reply_due};
 ghost use Rattle.silt_session.specs.Sessions.{IsReplyOf};
-ghost use Rattle.silt_session.specs.Tolds.{CallsAt, IsInLog, TellsAt, ToldOf};
+ghost use Rattle.silt_session.specs.Tolds.{CallsAt, IsInLog, IsToldBetween, PassesOn, TellsAt, ToldOf};
 
 use crate::job::Request;
 use crate::told::Told;
@@ -112,10 +112,13 @@ impl<D: Disk, T: Trace> Task<D, T> {
         }
     }
 
-    /// The reply, if there is one, and if the calls that it speaks of are among those that were told.
-    pub fn tell(self, told: &Told<T>) -> Option<Reply<()>>
-        ensures reply { IfSome result (IsReplyOf D.Disk T.Trace told.now self) }
-        ensures none { told.now.calls ≡ None → IfNone result (self.reply ≡ None) }
+    /// The reply, if there is one, and if the calls that it speaks of are among those that were told. A command takes the place of its call,
+    /// which is none before that for the next command.
+    pub fn tell(self, told: &mut Told<T>) -> Option<Reply<()>>
+        ensures told { PassesOn told.old told.new }
+        ensures reply { IfSome result (IsReplyOf D.Disk T.Trace told.old self) }
+        ensures place { IfSome result (λ reply. IsToldBetween told.old told.old.next (asked_event self.request) reply told.new.next) }
+        ensures none { told.old.calls ≡ None → IfNone result (self.reply ≡ None) }
     {
         let Placed { reply, call, flush } = self.reply?;
         stands(told, &self.request, &reply, &call, &flush).then_some(reply)
@@ -132,9 +135,9 @@ fn again(place: &Option<CallPlace>) -> Option<CallPlace>
     }
 }
 
-// Whether the calls that a reply speaks of are among those that were told.
+// Whether the calls that a reply speaks of are among those that were told. A command takes the place of its call.
 fn stands<T: Trace>(
-    told: &Told<T>,
+    told: &mut Told<T>,
     request: &Request,
     reply: &Reply<()>,
     call: &Option<CallPlace>,
@@ -142,16 +145,18 @@ fn stands<T: Trace>(
 ) -> bool
     requires tells { TellsAt T.log (asked_event request.now) reply.now call.now flush.now }
     requires named { IsInLog T.log call.now × IsInLog T.log flush.now }
-    ensures told { result ≡ true → ToldOf told.now (asked_event request.now) reply.now }
-    ensures all { told.now.calls ≡ None → result ≡ true }
+    ensures passes { PassesOn told.old told.new }
+    ensures told { result ≡ true → ToldOf told.old (asked_event request.now) reply.now }
+    ensures place { result ≡ true → IsToldBetween told.old told.old.next (asked_event request.now) reply.now told.new.next }
+    ensures all { told.old.calls ≡ None → result ≡ true }
 {
     match (reply, request) {
-        (Reply::Accepted(_), _) => told.has_both(call, flush),
-        (Reply::Unsettled(_) | Reply::Differs, _) => told.has(call),
+        (Reply::Accepted(_), _) => told.takes_before(call, flush),
+        (Reply::Unsettled(_) | Reply::Differs, _) => told.takes(call),
         (Reply::Acknowledged(_), _) => told.has(flush),
         (Reply::Refused(Refusal::NoMemory | Refusal::HistoryFull), _) => true,
         (Reply::Refused(_), Request::Flush) => told.has(flush),
-        (Reply::Refused(_), _) => told.has(call),
+        (Reply::Refused(_), _) => told.takes(call),
         (_, _) => true,
     }
 }

@@ -1,48 +1,41 @@
 // What a session was told of the calls at the desk.
 ghost use Rattle.std.specs.Prelude.{◌≡◌, ◌≤◌, ◌<◌, IfSome, MatchOption, None, Some, length, slice_get, true};
-ghost use Rattle.silt_session.specs.Tolds.{AsksBehind, IsInLog, IsToldMore};
+ghost use Rattle.silt_session.specs.Tolds.{AsksBehind, IsInLog, IsTakenAt, IsToldMore, PassesOn, TellsAll};
 
 use silt_desk::{CallPlace, CallView, Trace};
 use std::marker::{Model, PhantomData};
 
-/// A beginning of the calls at a desk, if its trace has a log, and the first place at which a call of the present events can stand. Its
-/// type says that it is of the trace's log.
+/// A beginning of the calls at a desk, if its trace has a log, the first place at which a call of the present events can stand, and the
+/// first one for the next command among them. Its type says that it is of the trace's log.
 #[derive(Drop)]
 pub struct Told<T: Trace> {
     from: u64,
+    next: u64,
     view: Option<CallView>,
     of: PhantomData<T>,
 }
 
 impl<T: Trace> Model for Told<T> {
-    ghost use Rattle.std.specs.Prelude.{◌≡◌, IfSome, Some};
+    ghost use Rattle.std.specs.Prelude.{◌≡◌, ◌≤◌, IfSome, Some};
     ghost use Rattle.std.specs.Option.{option_map};
     ghost use Rattle.silt_session.specs.Tolds.{ToldState};
 
     ghost Value = { ToldState };
 
-    ghost view = { λ t. record { from = t.from; calls = option_map (λ seen. seen.calls) t.view } };
+    ghost view = { λ t. record { from = t.from; next = t.next; calls = option_map (λ seen. seen.calls) t.view } };
 
-    ghost invariant = { λ t. IfSome t.view (λ seen. Some seen.book ≡ T.log) };
+    ghost invariant = { λ t. IfSome t.view (λ seen. Some seen.book ≡ T.log) × (t.from ≤ t.next) };
 }
 
 impl<T: Trace> Told<T> {
-    /// All that is seen now of a trace's calls.
-    pub fn of(trace: &T) -> Told<T> {
-        Told {
-            from: 0,
-            view: trace.view(),
-            of: PhantomData,
-        }
-    }
-
-    /// Nothing is told of the calls.
-    pub fn nothing() -> Told<T>
-        ensures { result.calls ≡ None }
+    /// All calls that a trace logs now. Nothing is told only if it logs none.
+    pub fn of(trace: &T) -> Told<T>
+        ensures { TellsAll T.Trace trace.now result }
     {
         Told {
             from: 0,
-            view: None,
+            next: 0,
+            view: trace.view(),
             of: PhantomData,
         }
     }
@@ -54,11 +47,13 @@ impl<T: Trace> Told<T> {
         match &self.view {
             Some(view) => Told {
                 from: self.from,
+                next: self.next,
                 view: Some(view.again()),
                 of: PhantomData,
             },
             None => Told {
                 from: self.from,
+                next: self.next,
                 view: None,
                 of: PhantomData,
             },
@@ -72,11 +67,13 @@ impl<T: Trace> Told<T> {
         match &self.view {
             Some(view) => Told {
                 from: view.len(),
+                next: view.len(),
                 view: Some(view.again()),
                 of: PhantomData,
             },
             None => Told {
                 from: self.from,
+                next: self.next,
                 view: None,
                 of: PhantomData,
             },
@@ -86,10 +83,24 @@ impl<T: Trace> Told<T> {
     /// Adds all calls up to this place.
     pub(crate) fn learn(&mut self, place: &Option<CallPlace>)
         requires { IsInLog T.log place.now }
-        ensures { IsToldMore self.old self.new }
+        ensures told { IsToldMore self.old self.new }
+        ensures next { self.new.next ≡ self.old.next }
     {
         if let (Some(view), Some(place)) = (&self.view, place) {
             self.view = Some(place.seen_with(view));
+        }
+    }
+
+    // Whether the place is one of what was told, from the first of these on.
+    fn has_from(&self, first: u64, place: &Option<CallPlace>) -> bool
+        requires { IsInLog T.log place.now }
+        ensures place { result ≡ true → IfSome self.now.calls (λ calls. MatchOption place.now ⊥ (λ p. (first ≤ p.number) × (slice_get calls p.number ≡ p.at))) }
+        ensures all { self.now.calls ≡ None → result ≡ true }
+    {
+        match (&self.view, place) {
+            (None, _) => true,
+            (Some(view), Some(place)) => first <= place.number() && place.is_in(view),
+            (Some(_), None) => false,
         }
     }
 
@@ -99,27 +110,53 @@ impl<T: Trace> Told<T> {
         ensures place { result ≡ true → IfSome self.now.calls (λ calls. MatchOption place.now ⊥ (λ p. (self.now.from ≤ p.number) × (slice_get calls p.number ≡ p.at))) }
         ensures all { self.now.calls ≡ None → result ≡ true }
     {
-        match (&self.view, place) {
-            (None, _) => true,
-            (Some(view), Some(place)) => self.from <= place.number() && place.is_in(view),
-            (Some(_), None) => false,
-        }
+        self.has_from(self.from, place)
     }
 
-    /// The same of two places, of which the second is behind the first.
-    pub(crate) fn has_both(&self, place: &Option<CallPlace>, behind: &Option<CallPlace>) -> bool
-        requires { IsInLog T.log place.now × IsInLog T.log behind.now }
-        ensures place { result ≡ true → IfSome self.now.calls (λ calls. MatchOption place.now ⊥ (λ p. (self.now.from ≤ p.number) × (slice_get calls p.number ≡ p.at))) }
-        ensures behind { result ≡ true → IfSome self.now.calls (λ calls. MatchOption behind.now ⊥ (λ p. (self.now.from ≤ p.number) × (slice_get calls p.number ≡ p.at))) }
+    // Whether the second place is behind the first.
+    fn are_in_order(&self, place: &Option<CallPlace>, behind: &Option<CallPlace>) -> bool
         ensures order { result ≡ true → IfSome self.now.calls (λ calls. IfSome place.now (λ p. IfSome behind.now (λ q. p.number < q.number))) }
         ensures all { self.now.calls ≡ None → result ≡ true }
     {
-        if !self.has(place) || !self.has(behind) {
-            return false;
-        }
         match (&self.view, place, behind) {
             (Some(_), Some(place), Some(behind)) => place.number() < behind.number(),
             _ => true,
         }
+    }
+
+    /// Whether the place is one of what was told, and none before that for the next command. If so, it is taken: the command behind it
+    /// stands behind it.
+    pub(crate) fn takes(&mut self, place: &Option<CallPlace>) -> bool
+        requires { IsInLog T.log place.now }
+        ensures told { PassesOn self.old self.new }
+        ensures place { result ≡ true → IfSome self.old.calls (λ calls. MatchOption place.now ⊥ (λ p. IsTakenAt self.old calls p self.new.next)) }
+        ensures all { self.old.calls ≡ None → result ≡ true }
+    {
+        if !self.has_from(self.next, place) {
+            return false;
+        }
+        if let (Some(_), Some(place)) = (&self.view, place) {
+            self.next = place.behind();
+        }
+        true
+    }
+
+    /// The same, if another place behind it is one of what was told too.
+    pub(crate) fn takes_before(
+        &mut self,
+        place: &Option<CallPlace>,
+        behind: &Option<CallPlace>,
+    ) -> bool
+        requires { IsInLog T.log place.now × IsInLog T.log behind.now }
+        ensures told { PassesOn self.old self.new }
+        ensures place { result ≡ true → IfSome self.old.calls (λ calls. MatchOption place.now ⊥ (λ p. IsTakenAt self.old calls p self.new.next)) }
+        ensures behind { result ≡ true → IfSome self.old.calls (λ calls. MatchOption behind.now ⊥ (λ p. (self.old.from ≤ p.number) × (slice_get calls p.number ≡ p.at))) }
+        ensures order { result ≡ true → IfSome self.old.calls (λ calls. IfSome place.now (λ p. IfSome behind.now (λ q. p.number < q.number))) }
+        ensures all { self.old.calls ≡ None → result ≡ true }
+    {
+        if !self.has(behind) || !self.are_in_order(place, behind) {
+            return false;
+        }
+        self.takes(place)
     }
 }

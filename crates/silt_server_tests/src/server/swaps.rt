@@ -132,7 +132,7 @@ fn got_of(reply: Reply<()>) -> Got {
 
 // The reply to this task.
 fn got_by<D: Disk>(task: Task<D, Count>) -> Got {
-    match task.tell(&Told::nothing()) {
+    match task.tell(&mut Told::of(&Count::new())) {
         Some(reply) => got_of(reply),
         None => Got::Nothing,
     }

@@ -7,5 +7,5 @@ abbrev pub invariant-loop-shard : goal.invariant-loop-shard
 invariant-loop-shard g l = record {
   count : vec_len l.sessions ≡ l.shard-index;
   room : length l.shard-items ≤ vec_capacity l.sessions;
-  settle : All (λ session. session.settles_gets ≡ true) l.sessions.items;
+  settle : All (λ at. at.session.settles_gets ≡ true) l.sessions.items;
 }

@@ -10,6 +10,7 @@ pub returns-in-Ok : goal.returns-in-Ok
 returns-in-Ok g c = λ before is hands.
     let learnt = c.learn.ensures in
     let more : IsToldMore before.told c.learn.new.self.told = subst (λ (s : ToldState). IsToldMore s c.learn.new.self.told) is.3 learnt.told in
+    let stays = learnt.next ∙ ap (λ (s : ToldState). s.next) is.3 in
     filled_settles g.D.Disk g.T.Trace before c.learn.new.self c.fill.new.self (told_none c.args.self.now c.learn.new.self learnt.same is.0)
-    (ap (λ (p : Pipeline _ _ _). p.replies) learnt.same ∙ is.1, ap (λ (p : Pipeline _ _ _). p.places) learnt.same ∙ is.2) more c.fill.result c.args.handed.has_flush c.in-Ok.tasks.items
+    (ap (λ (p : Pipeline _ _ _). p.replies) learnt.same ∙ is.1, ap (λ (p : Pipeline _ _ _). p.places) learnt.same ∙ is.2) more stays c.fill.result c.args.handed.has_flush c.in-Ok.tasks.items
     (hands.0, c.in-Ok.ensures _ hands.2 ∙ ap (λ (b : Bool). requests_of before.tasks.items ++ flush_if b) (sym hands.1)) c.fill.ensures.replies c.fill.ensures.moved

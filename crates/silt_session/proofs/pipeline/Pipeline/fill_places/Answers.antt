@@ -5,10 +5,11 @@ use Rattle.silt_session.specs.declared.place.Place.{Place}
 use Rattle.silt_session.specs.Pipelines.{FillsOne}
 use Rattle.silt_session.specs.Tolds.{ToldState}
 use Rattle.silt_session.proofs.Pipelines.{fills_more}
+use Rattle.silt_session.proofs.Tolds.{passes_both, passes_none}
 use Rattle.silt_session.proofs.pipeline.Pipeline.fill_places.Goals as goal
 
 pub loop-place-init : goal.loop-place-init
-loop-place-init g c = record { same = refl; room = c.requires; replies_room = refl; places_room = refl; so_far = ([], [], refl, sym (append-nil _), refl) }
+loop-place-init g c = record { same = refl; told = passes_none _; room = c.requires; replies_room = refl; places_room = refl; so_far = ([], [], refl, sym (append-nil _), (refl, refl)) }
 
 pub loop-place-preserved : goal.loop-place-preserved
 loop-place-preserved g c =
@@ -17,7 +18,8 @@ loop-place-preserved g c =
     let place = c.in-Some.place in
     let reply = c.in-Some-given.reply in
     record {
-      same = ap (λ (p : Pipeline _ _ _). record p { replies = c.push_reserved.new.self; places = c.pop_front.new.self }) before.same;
+      same = ap (λ (p : Pipeline _ _ _). record p { replies = c.push_reserved.new.self; places = c.pop_front.new.self; told = c.given.new.told }) before.same;
+      told = passes_both _ _ _ before.told c.given.ensures.told;
       room = search rules;
       replies_room = search rules;
       places_room = search rules;
@@ -26,8 +28,10 @@ loop-place-preserved g c =
         given ++ reply ∷ [],
         append_assoc done (place ∷ []) c.pop_front.new.self.items ∙ ap (λ (l : List Place). done ++ l) (sym c.in-Some.ensures.items) ∙ whole,
         c.push_reserved.ensures.items ∙ ap (λ l. l ++ reply ∷ []) was ∙ append_assoc _ given (reply ∷ []),
-        fills_more g.D.Disk g.T.Trace _ _ _ _ _ done given place reply fills
-            (subst (λ (s : ToldState). FillsOne g.D.Disk g.T.Trace s c.args.flushed.now c.loop-place.tasks.items place reply c.given.new.tasks.items)
-            (ap (λ (p : Pipeline _ _ _). p.told) before.same) c.in-Some-given.ensures),
+        fills_more g.D.Disk g.T.Trace c.args.self.now.told c.args.flushed.now c.args.self.now.told.next c.loop-place.self.told.next
+            c.given.new.told.next c.args.tasks.items c.loop-place.tasks.items c.given.new.tasks.items done given place
+            reply fills
+            (subst (λ (s : ToldState). FillsOne g.D.Disk g.T.Trace s c.args.flushed.now c.loop-place.self.told.next c.loop-place.tasks.items
+            place reply c.given.new.told.next c.given.new.tasks.items) before.told.same c.in-Some-given.ensures.fills),
       );
     }

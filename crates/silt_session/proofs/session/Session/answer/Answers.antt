@@ -10,7 +10,8 @@ pub returns-in-Ok-clause-told : goal.returns-in-Ok-clause-told
 returns-in-Ok-clause-told g c = asked_more c.args.told.now c.asked.result c.request.new.told c.asked.ensures c.request.ensures.told
 
 pub returns-in-Ok-clause-reply : goal.returns-in-Ok-clause-reply
-returns-in-Ok-clause-reply g c = requested_answers g.D.Disk g.T.Trace _ _ c.in-Ok.request c.args.event c.request.result c.in-Ok.ensures c.request.ensures.reply
+returns-in-Ok-clause-reply g c = requested_answers g.D.Disk g.T.Trace c.request.new.told c.args.self.now.settles_gets c.in-Ok.request
+    c.args.event c.request.result c.in-Ok.ensures c.request.ensures.reply
 
 pub returns-in-Err-clause-told : goal.returns-in-Err-clause-told
 returns-in-Err-clause-told g c = asked_more c.args.told.now c.asked.result c.give.new.told c.asked.ensures c.give.ensures.told
@@ -18,4 +19,4 @@ returns-in-Err-clause-told g c = asked_more c.args.told.now c.asked.result c.giv
 pub returns-in-Err-clause-reply : goal.returns-in-Err-clause-reply
 returns-in-Err-clause-reply g c =
     subst (λ (e : EventOf). IfOk c.give.result (IsAnswer g.D.Disk g.T.Trace c.give.new.told c.args.self.now.settles_gets e)) c.in-Err.ensures.0
-    (given_answers g.D.Disk g.T.Trace _ _ c.in-Err.event c.answer_here.result c.give.result c.answer_here.ensures c.give.ensures.reply)
+    (given_answers g.D.Disk g.T.Trace c.give.new.told c.args.self.now.settles_gets c.in-Err.event c.answer_here.result c.give.result c.answer_here.ensures c.give.ensures.reply)

@@ -14,7 +14,7 @@ loop-event-init g c =
       can = tt;
       finite = tt;
       room = (omega (arith, c.requires.room.0, ap length given.0, c.args.events.ok.0), omega (arith, c.requires.room.1, ap length given.0, c.args.events.ok.0));
-      so_far = ([], refl, answers_none g.D.Disk _ g.T.Trace c.args.pipeline.now c.requires.settled c.requires.none);
+      so_far = ([], refl, answers_none g.D.Disk _ g.T.Trace c.args.pipeline.now c.requires.settled c.requires.none c.requires.order);
       told = more_none c.args.pipeline.now.told;
     }
 

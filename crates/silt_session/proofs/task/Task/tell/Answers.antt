@@ -1,8 +1,10 @@
 use Rattle.std.proofs.Common.{Option, ap, subst}
 use Rattle.std.specs.Option.{option_map}
 use Rattle.silt_session.specs.Origins.{HasOrigin}
-use Rattle.silt_session.specs.Requests.{TaskState}
+use Rattle.silt_session.specs.Requests.{TaskState, asked_event}
 use Rattle.silt_session.specs.Sessions.{IsReplyOf}
+use Rattle.silt_session.specs.Tolds.{IsToldBetween}
+use Rattle.silt_event.specs.Events.{PlainReply}
 use Rattle.silt_session.specs.declared.task.Placed.{Placed}
 use Rattle.silt_session.proofs.Tolds.{shows_then}
 use Rattle.silt_session.proofs.task.Task.tell.Goals as goal
@@ -20,3 +22,10 @@ returns-clause-reply g c =
         c.stands.ensures.told stands,
       ),
     )))
+
+pub returns-clause-place : goal.returns-clause-place
+returns-clause-place g c =
+    let told = c.args.told.now in
+    rw (← c.self.view_is)
+    (shows_then (λ (reply : PlainReply). IsToldBetween told told.next (asked_event c.self.inside.request) reply c.stands.new.told.next)
+    c.stands.result c.in_ok-reply.field-0.reply c.then_some.result c.then_some.ensures c.stands.ensures.place)
