@@ -61,13 +61,15 @@ class KillCase(BackupCase):
         lasted = time.monotonic() - began
         server.kill()
         ended = {"old": 0, "new": 0}
-        for _ in range(scaled(self.kills)):
+        # At once, long after, and between: a backup may take longer than that one on a busy machine.
+        moments = [0, 8, *(1.4 * self.random.random() for _ in range(scaled(self.kills)))]
+        for moment in moments:
             old, before = self.image(), dict(self.values)
             server = self.serve_store("--merge-at", 2, env=self.slowly())
             client = self.client(server)
             self.put_more(client)
             self.order(client)
-            time.sleep(1.4 * lasted * self.random.random())
+            time.sleep(moment * lasted)
             server.kill()
             ended[self.judge(old, before)] += 1
             self.whole()
