@@ -7,6 +7,7 @@ use Rattle.std.proofs.lemmas.List.{get_or_past}
 use Rattle.std.proofs.lemmas.List.FromFn.{length-map-range_with_len, get_or-map-range_with_len}
 use Rattle.silt_disk.specs.Disk.{Content, GaveAny, Makes, MakesAtMost, size, within}
 use Rattle.silt_disk.specs.declared.disk.Call.{Call}
+use Rattle.silt_disk.specs.declared.disk.Disk.{Ghosts}
 use Rattle.silt_device.specs.declared.buffered_disk.BufferFault.{BufferFault}
 use Rattle.silt_device.specs.declared.calls.Calls.{Calls}
 
@@ -212,6 +213,11 @@ buffered_content content disk = content_over_all disk.buffers (content disk.inne
 abbrev pub buffered_gave : {D F : Type 0} → (D → F → Call → ℕ → ℕ → Type 0) → BufferedState D → BufferFault F → Call → ℕ → ℕ → Type 0
 buffered_gave {D} gave disk fault call at count =
     (fault.call ≡ call) × (fault.at ≡ at) × (fault.count ≡ count) × (fault.failures ≡ disk.calls.failures) × ((inner : D) × GaveAny gave inner fault.inner)
+
+-- what the trait says of the disk, from what it says of the inner one
+abbrev pub buffered_disk : {D F : Type 0} → Ghosts D F → Ghosts (BufferedState D) (BufferFault F)
+buffered_disk inner =
+    record { content = buffered_content inner.content; failures = λ disk. disk.calls.failures; writes = buffered_writes; syncs = buffered_syncs; gave = buffered_gave inner.gave }
 
 -- whether the buffer has all of this many bytes from this place on
 abbrev pub holds : BufferedBytes → ℕ → ℕ → Bool

@@ -4,6 +4,7 @@ use Rattle.silt_disk.specs.Disk.{Content}
 use Rattle.silt_device.specs.Memory.{memory_content, memory_failures, memory_gave, memory_syncs, memory_writes}
 use Rattle.silt_disk.specs.declared.disk.Call.{Call}
 use Rattle.silt_disk.specs.declared.disk.Call.TheVariants.{Read, Write, Sync}
+use Rattle.silt_disk.specs.declared.disk.Disk.{Ghosts}
 use Rattle.silt_device.specs.declared.fault.FaultDisk.{FaultDisk}
 use Rattle.silt_device.specs.declared.memory.MemFault.{MemFault}
 
@@ -26,6 +27,10 @@ fault_syncs disk = memory_syncs disk.disk
 -- a fault of the disk in memory
 abbrev pub fault_gave : FaultDisk → MemFault → Call → ℕ → ℕ → Type 0
 fault_gave disk = memory_gave disk.disk
+
+-- what the trait says of it
+abbrev pub fault_disk : Ghosts FaultDisk MemFault
+fault_disk = record { content = fault_content; failures = fault_failures; writes = fault_writes; syncs = fault_syncs; gave = fault_gave }
 
 -- the next call, of this kind, is the one that fails
 pub record IsNamed (call : Call) (disk : FaultDisk) : Type 0 where

@@ -4,6 +4,7 @@ use Rattle.std.specs.Fs.{metadata_len}
 use Rattle.std.specs.declared.fs.attrs.Metadata.{Metadata}
 use Rattle.silt_disk.specs.Disk.{Content, Settles, size}
 use Rattle.silt_disk.specs.declared.disk.Call.{Call}
+use Rattle.silt_disk.specs.declared.disk.Disk.{Ghosts}
 use Rattle.std.specs.declared.fs.File.{File}
 use Rattle.silt_assumption.specs.Files.{system_content, unpromised}
 use Rattle.silt_device.specs.Calls.{no_calls}
@@ -44,6 +45,10 @@ HasLength file len = IsTrue file.honest → size file ≡ len
 -- the fault has its call, its range and the disk's number of failures at that time
 abbrev pub file_gave : {F : Type 0} → FileState F → FileFault → Call → ℕ → ℕ → Type 0
 file_gave disk fault call at count = (fault.call ≡ call) × (fault.at ≡ at) × (fault.count ≡ count) × (fault.failures ≡ disk.calls.failures)
+
+-- what the trait says of a disk in a file, from the content of the file
+abbrev pub random_access_disk : {F : Type 0} → (F → Content) → Ghosts (FileState F) FileFault
+random_access_disk content = record { content = random_access_content content; failures = λ disk. disk.calls.failures; writes = file_writes; syncs = file_syncs; gave = file_gave }
 
 -- a disk of this length, whose content is its file's if the file behaves, and which was asked for no write and no sync
 pub record IsOpened {F : Type 0} (content : F → Content) (count : ℕ) (disk : FileState F) : Type 0 where

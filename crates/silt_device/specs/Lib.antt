@@ -1,4 +1,5 @@
 pub mod Calls
+pub mod DiskCalls
 pub mod Fault
 pub mod File
 pub mod Buffered

@@ -4,6 +4,7 @@ use Rattle.silt_disk.specs.Disk.{Content, Rests}
 use Rattle.silt_device.specs.Calls.{no_calls}
 use Rattle.silt_device.specs.Lives.{filled, next_life}
 use Rattle.silt_disk.specs.declared.disk.Call.{Call}
+use Rattle.silt_disk.specs.declared.disk.Disk.{Ghosts}
 use Rattle.silt_device.specs.declared.memory.MemDisk.{MemDisk}
 use Rattle.silt_device.specs.declared.memory.MemFault.{MemFault}
 
@@ -33,6 +34,10 @@ memory_syncs disk = disk.calls.syncs
 -- how many of both have failed
 abbrev pub memory_failures : MemDisk → ℕ
 memory_failures disk = disk.calls.failures
+
+-- what the trait says of it
+abbrev pub memory_disk : Ghosts MemDisk MemFault
+memory_disk = record { content = memory_content; failures = memory_failures; writes = memory_writes; syncs = memory_syncs; gave = memory_gave }
 
 -- the disk shows these bytes, nothing is pending, it was asked for no write and no sync, and none will fail
 pub record IsFresh (bytes : List ℕ) (disk : MemDisk) : Type 0 where

@@ -1,6 +1,6 @@
 // A disk that buffers adjacent writes for another disk.
 ghost use Rattle.std.specs.Prelude.{◌≡◌, ◌+◌, ◌≤◌, ◌%◌, ◌^◌, ◌==◌, IfOk, OnOk, IfErr, MatchResult, IsTrue, length, []};
-ghost use Rattle.silt_disk.specs.Disk.{GaveAny, Stays, Tears, Writes, size};
+ghost use Rattle.silt_disk.specs.Disk.{GaveAny, size};
 ghost use Rattle.silt_device.specs.Buffered.{SavesWritesLaw, buffer_room, no_bytes};
 ghost use Rattle.silt_device.specs.Calls.{no_calls};
 
@@ -128,10 +128,9 @@ impl<D: Disk> BufferedDisk<D> {
 }
 
 impl<D: Disk> Disk for BufferedDisk<D> {
-    ghost use Rattle.std.specs.Prelude.{OnErr, ◌⊎◌};
-    ghost use Rattle.silt_disk.specs.declared.disk.Call.TheVariants.{Write, Sync};
-    ghost use Rattle.silt_disk.specs.Disk.{Makes, Settles};
-    ghost use Rattle.silt_device.specs.Buffered.{buffered_content, buffered_gave, buffered_syncs, buffered_writes, SavesWrites, PassesOn, WritesOut};
+    ghost use Rattle.std.specs.Prelude.{◌⊎◌};
+    ghost use Rattle.silt_device.specs.DiskCalls.{SyncsAll, WritesBytes};
+    ghost use Rattle.silt_device.specs.Buffered.{buffered_content, buffered_disk, buffered_gave, buffered_syncs, buffered_writes, SavesWrites, PassesOn, WritesOut};
 
     type Fault = BufferFault<D::Fault>;
 
@@ -176,15 +175,9 @@ impl<D: Disk> Disk for BufferedDisk<D> {
     #[tactic(auto)]
     fn write(&mut self, at: u64, buf: &[u8]) -> Result<(), BufferFault<D::Fault>>
         requires { at + length buf.now ≤ size (buffered_content D.content self.old) }
-        ensures size { size (buffered_content D.content self.new) ≡ size (buffered_content D.content self.old) }
-        ensures made { Makes buffered_writes buffered_syncs 1 0 self.old self.new }
-        ensures torn { Tears at (length buf.now) (buffered_content D.content self.old) (buffered_content D.content self.new) }
-        ensures written { OnOk result (Writes at buf.now (buffered_content D.content self.old) (buffered_content D.content self.new)) }
+        ensures writes { WritesBytes (buffered_disk D.Disk) at buf.now self.old self.new result }
         ensures passes { OnOk result (PassesOn D.writes D.syncs at buf.now self.old self.new) }
         ensures gathers { MatchResult result (λ _. SavesWrites D.writes D.syncs 1 0 self.old self.new) (λ _. SavesWrites D.writes D.syncs 2 0 self.old self.new) }
-        ensures failures { MatchResult result (λ _. self.new.calls.failures ≡ self.old.calls.failures)
-            (λ fault. (self.new.calls.failures ≡ (self.old.calls.failures + 1) % 2 ^ 64)
-            × buffered_gave D.gave self.new fault Write at (length buf.now)) }
     {
         let _known = self.inner.len(); // so no place within it passes a word
         let count = buf.len() as u64;
@@ -214,15 +207,9 @@ impl<D: Disk> Disk for BufferedDisk<D> {
 
     #[tactic(auto, using(crate::proofs::Waiting::size_over_all))]
     fn sync(&mut self) -> Result<(), BufferFault<D::Fault>>
-        ensures size { size (buffered_content D.content self.new) ≡ size (buffered_content D.content self.old) }
-        ensures made { Makes buffered_writes buffered_syncs 0 1 self.old self.new }
-        ensures settled { OnOk result (Settles (buffered_content D.content self.old) (buffered_content D.content self.new)) }
-        ensures unchanged { OnErr result (Stays (buffered_content D.content self.old) (buffered_content D.content self.new)) }
+        ensures syncs { SyncsAll (buffered_disk D.Disk) self.old self.new result }
         ensures gathers { MatchResult result (λ _. WritesOut D.writes D.syncs self.old self.new)
             (λ _. SavesWrites D.writes D.syncs 1 0 self.old self.new ⊎ SavesWrites D.writes D.syncs 0 1 self.old self.new) }
-        ensures failures { MatchResult result (λ _. self.new.calls.failures ≡ self.old.calls.failures)
-            (λ fault. (self.new.calls.failures ≡ (self.old.calls.failures + 1) % 2 ^ 64)
-            × buffered_gave D.gave self.new fault Sync 0 (size (buffered_content D.content self.new))) }
     {
         let size = self.inner.len();
         self.calls.count_sync();

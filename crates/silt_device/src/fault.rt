@@ -1,5 +1,5 @@
 // A disk in memory on which one chosen call fails. It then goes on working.
-ghost use Rattle.std.specs.Prelude.{◌≡◌, ◌+◌, ◌≤◌, ◌%◌, ◌^◌, ◌↔◌, IsTrue, length};
+ghost use Rattle.std.specs.Prelude.{◌≡◌, ◌+◌, ◌≤◌, ◌↔◌, IsTrue, length};
 
 use crate::memory::{MemDisk, MemFault};
 use silt_disk::{Call, Disk};
@@ -65,11 +65,12 @@ impl FaultDisk {
 }
 
 impl Disk for FaultDisk {
-    ghost use Rattle.std.specs.Prelude.{MatchResult, OnOk, OnErr, IsErr, IfErr, slice_range, ◌≢◌};
+    ghost use Rattle.std.specs.Prelude.{OnOk, IsErr, IfErr, slice_range, ◌≢◌};
     ghost use Rattle.silt_disk.specs.declared.disk.Call.TheVariants.{Read, Write, Sync};
-    ghost use Rattle.silt_disk.specs.Disk.{Makes, Tears, Settles, Stays, splice};
+    ghost use Rattle.silt_disk.specs.Disk.{splice};
+    ghost use Rattle.silt_device.specs.DiskCalls.{SyncsAll, WritesBytes};
     ghost use Rattle.silt_device.specs.Lives.{is_stopped, plan_after_call};
-    ghost use Rattle.silt_device.specs.Fault.{fault_content, fault_failures, fault_gave, fault_syncs, fault_writes, IsNamed, left_after};
+    ghost use Rattle.silt_device.specs.Fault.{fault_content, fault_disk, fault_failures, fault_gave, fault_syncs, fault_writes, IsNamed, left_after};
 
     type Fault = MemFault;
 
@@ -103,8 +104,7 @@ impl Disk for FaultDisk {
 
     fn write(&mut self, at: u64, buf: &[u8]) -> Result<(), MemFault>
         requires { at + length buf.now ≤ length self.old.disk.shown.items }
-        ensures made { Makes fault_writes fault_syncs 1 0 self.old self.new }
-        ensures torn { Tears at (length buf.now) (fault_content self.old) (fault_content self.new) }
+        ensures writes { WritesBytes fault_disk at buf.now self.old self.new result }
         ensures written { OnOk result (self.new.disk.shown.items ≡ splice at buf.now self.old.disk.shown.items) }
         ensures named { IsNamed Write self.old → IsErr result }
         ensures others { ¬ IsNamed Write self.old → (IsErr result ↔ IsTrue (is_stopped self.new.disk.lives.life)) }
@@ -112,9 +112,6 @@ impl Disk for FaultDisk {
         ensures counted { self.new.left ≡ left_after Write self.old }
         ensures lives { self.new.disk.lives ≡ plan_after_call self.old.disk.lives }
         ensures call { self.new.call ≡ self.old.call }
-        ensures failures { MatchResult result (λ _. fault_failures self.new ≡ fault_failures self.old)
-            (λ fault. (fault_failures self.new ≡ (fault_failures self.old + 1) % 2 ^ 64)
-            × fault_gave self.new fault Write at (length buf.now)) }
     {
         if self.is_named(Call::Write) {
             return Err(self.disk.refuse_write(at, buf.len()));
@@ -123,17 +120,12 @@ impl Disk for FaultDisk {
     }
 
     fn sync(&mut self) -> Result<(), MemFault>
-        ensures made { Makes fault_writes fault_syncs 0 1 self.old self.new }
-        ensures settled { OnOk result (Settles (fault_content self.old) (fault_content self.new)) }
-        ensures unchanged { OnErr result (Stays (fault_content self.old) (fault_content self.new)) }
+        ensures syncs { SyncsAll fault_disk self.old self.new result }
         ensures named { IsNamed Sync self.old → IsErr result }
         ensures others { ¬ IsNamed Sync self.old → (IsErr result ↔ IsTrue (is_stopped self.new.disk.lives.life)) }
         ensures counted { self.new.left ≡ left_after Sync self.old }
         ensures lives { self.new.disk.lives ≡ plan_after_call self.old.disk.lives }
         ensures call { self.new.call ≡ self.old.call }
-        ensures failures { MatchResult result (λ _. fault_failures self.new ≡ fault_failures self.old)
-            (λ fault. (fault_failures self.new ≡ (fault_failures self.old + 1) % 2 ^ 64)
-            × fault_gave self.new fault Sync 0 (length self.new.disk.shown.items)) }
     {
         if self.is_named(Call::Sync) {
             return Err(self.disk.refuse_sync());

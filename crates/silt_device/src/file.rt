@@ -272,10 +272,11 @@ impl<F: RandomAccessFile> RandomAccessDisk<F> {
 }
 
 impl<F: RandomAccessFile + Send + Sync> Disk for RandomAccessDisk<F> {
-    ghost use Rattle.std.specs.Prelude.{OnOk, OnErr, IfErr, IsTrue, MatchResult, length, slice_range};
-    ghost use Rattle.silt_disk.specs.declared.disk.Call.TheVariants.{Read, Write, Sync};
-    ghost use Rattle.silt_disk.specs.Disk.{Makes, Tears, Writes, Settles, Stays, size};
-    ghost use Rattle.silt_device.specs.File.{file_gave, file_syncs, file_writes, random_access_content};
+    ghost use Rattle.std.specs.Prelude.{OnOk, OnErr, IfErr, IsTrue, length, slice_range};
+    ghost use Rattle.silt_disk.specs.declared.disk.Call.TheVariants.{Read};
+    ghost use Rattle.silt_disk.specs.Disk.{size};
+    ghost use Rattle.silt_device.specs.DiskCalls.{SyncsAll, WritesBytes};
+    ghost use Rattle.silt_device.specs.File.{file_gave, file_syncs, file_writes, random_access_content, random_access_disk};
 
     type Fault = FileFault;
 
@@ -310,15 +311,9 @@ impl<F: RandomAccessFile + Send + Sync> Disk for RandomAccessDisk<F> {
     fn write(&mut self, at: u64, buf: &[u8]) -> Result<(), FileFault>
         requires { at + length buf.now ≤ size (random_access_content F.content self.old) }
         ensures len { self.new.len ≡ self.old.len }
-        ensures size { size (random_access_content F.content self.new) ≡ size (random_access_content F.content self.old) }
-        ensures made { Makes file_writes file_syncs 1 0 self.old self.new }
-        ensures torn { Tears at (length buf.now) (random_access_content F.content self.old) (random_access_content F.content self.new) }
-        ensures written { OnOk result (Writes at buf.now (random_access_content F.content self.old) (random_access_content F.content self.new)) }
+        ensures writes { WritesBytes (random_access_disk F.content) at buf.now self.old self.new result }
         ensures wrote { OnOk result (F.written_at self.old.file at buf.now self.new.file) }
         ensures not_wrote { OnErr result (F.not_written_at self.old.file at buf.now self.new.file) }
-        ensures failures { MatchResult result (λ _. self.new.calls.failures ≡ self.old.calls.failures)
-            (λ fault. (self.new.calls.failures ≡ (self.old.calls.failures + 1) % 2 ^ 64)
-            × file_gave self.new fault Write at (length buf.now)) }
     {
         self.calls.count_write();
         match self.file.write_whole_at(buf, at) {
@@ -329,16 +324,10 @@ impl<F: RandomAccessFile + Send + Sync> Disk for RandomAccessDisk<F> {
 
     fn sync(&mut self) -> Result<(), FileFault>
         ensures len { self.new.len ≡ self.old.len }
-        ensures size { size (random_access_content F.content self.new) ≡ size (random_access_content F.content self.old) }
+        ensures syncs { SyncsAll (random_access_disk F.content) self.old self.new result }
         ensures all { size (random_access_content F.content self.new) ≡ self.new.len }
-        ensures made { Makes file_writes file_syncs 0 1 self.old self.new }
-        ensures settled { OnOk result (Settles (random_access_content F.content self.old) (random_access_content F.content self.new)) }
-        ensures unchanged { OnErr result (Stays (random_access_content F.content self.old) (random_access_content F.content self.new)) }
         ensures synced { OnOk result (F.data_synced self.old.file self.new.file) }
         ensures not_synced { OnErr result (F.not_data_synced self.old.file self.new.file) }
-        ensures failures { MatchResult result (λ _. self.new.calls.failures ≡ self.old.calls.failures)
-            (λ fault. (self.new.calls.failures ≡ (self.old.calls.failures + 1) % 2 ^ 64)
-            × file_gave self.new fault Sync 0 (size (random_access_content F.content self.new))) }
     {
         self.calls.count_sync();
         match self.file.settle_data() {

@@ -215,11 +215,11 @@ impl MemDisk {
 }
 
 impl Disk for MemDisk {
-    ghost use Rattle.std.specs.Prelude.{OnOk, OnErr, IfErr, IsErr, IsTrue, MatchResult, slice_range, ◌↔◌};
-    ghost use Rattle.silt_disk.specs.declared.disk.Call.TheVariants.{Read, Write, Sync};
-    ghost use Rattle.silt_disk.specs.Disk.{Tears, Writes, Settles, Stays};
+    ghost use Rattle.std.specs.Prelude.{OnOk, IfErr, IsErr, IsTrue, slice_range, ◌↔◌};
+    ghost use Rattle.silt_disk.specs.declared.disk.Call.TheVariants.{Read};
+    ghost use Rattle.silt_device.specs.DiskCalls.{SyncsAll, WritesBytes};
     ghost use Rattle.silt_device.specs.Lives.{is_stopped, plan_after_call};
-    ghost use Rattle.silt_device.specs.Memory.{memory_content, memory_failures, memory_gave, memory_syncs, memory_writes};
+    ghost use Rattle.silt_device.specs.Memory.{memory_content, memory_disk, memory_failures, memory_gave, memory_syncs, memory_writes};
 
     type Fault = MemFault;
 
@@ -254,14 +254,10 @@ impl Disk for MemDisk {
     // A write that fails shows its bytes too.
     fn write(&mut self, at: u64, buf: &[u8]) -> Result<(), MemFault>
         requires { at + length buf.now ≤ length self.old.shown.items }
-        ensures made { Makes memory_writes memory_syncs 1 0 self.old self.new }
-        ensures torn { Tears at (length buf.now) (memory_content self.old) (memory_content self.new) }
+        ensures writes { WritesBytes memory_disk at buf.now self.old self.new result }
         ensures written { self.new.shown.items ≡ splice at buf.now self.old.shown.items }
         ensures lives { self.new.lives ≡ plan_after_call self.old.lives }
         ensures fails { IsErr result ↔ IsTrue (is_stopped self.new.lives.life) }
-        ensures failures { MatchResult result (λ _. memory_failures self.new ≡ memory_failures self.old)
-            (λ fault. (memory_failures self.new ≡ (memory_failures self.old + 1) % 2 ^ 64)
-            × memory_gave self.new fault Write at (length buf.now)) }
     {
         overwrite(&mut self.shown, &mut self.pending, at as usize, buf);
         self.calls.count_write();
@@ -272,14 +268,9 @@ impl Disk for MemDisk {
     }
 
     fn sync(&mut self) -> Result<(), MemFault>
-        ensures made { Makes memory_writes memory_syncs 0 1 self.old self.new }
-        ensures settled { OnOk result (Settles (memory_content self.old) (memory_content self.new)) }
-        ensures unchanged { OnErr result (Stays (memory_content self.old) (memory_content self.new)) }
+        ensures syncs { SyncsAll memory_disk self.old self.new result }
         ensures lives { self.new.lives ≡ plan_after_call self.old.lives }
         ensures fails { IsErr result ↔ IsTrue (is_stopped self.new.lives.life) }
-        ensures failures { MatchResult result (λ _. memory_failures self.new ≡ memory_failures self.old)
-            (λ fault. (memory_failures self.new ≡ (memory_failures self.old + 1) % 2 ^ 64)
-            × memory_gave self.new fault Sync 0 (length self.new.shown.items)) }
     {
         self.calls.count_sync();
         if self.lives.count_call() {

@@ -1,5 +1,5 @@
 // A disk in a file of the system.
-ghost use Rattle.std.specs.Prelude.{⊤, ◌≡◌, ◌≤◌, ◌^◌, ◌+◌, ◌%◌, IfOk, OnOk, IsErr};
+ghost use Rattle.std.specs.Prelude.{⊤, ◌≤◌, ◌^◌, ◌+◌, IfOk, OnOk, IsErr};
 
 use crate::buffered_disk::{BufferFault, BufferedDisk};
 use crate::file::{FileFault, RandomAccessDisk};
@@ -142,11 +142,12 @@ impl FileDisk {
 }
 
 impl Disk for FileDisk {
-    ghost use Rattle.std.specs.Prelude.{length, MatchResult, OnErr, ◌⊎◌};
-    ghost use Rattle.silt_disk.specs.declared.disk.Call.TheVariants.{Write, Sync};
-    ghost use Rattle.silt_disk.specs.Disk.{Makes, Settles, Stays, Tears, Writes, size};
-    ghost use Rattle.silt_device.specs.File.{file_content, file_gave, file_syncs, file_writes};
-    ghost use Rattle.silt_device.specs.Buffered.{buffered_content, buffered_gave, SavesWrites, PassesOn, WritesOut};
+    ghost use Rattle.std.specs.Prelude.{length, MatchResult, ◌⊎◌};
+    ghost use Rattle.silt_assumption.specs.Files.{system_content};
+    ghost use Rattle.silt_disk.specs.Disk.{size};
+    ghost use Rattle.silt_device.specs.DiskCalls.{SyncsAll, WritesBytes};
+    ghost use Rattle.silt_device.specs.File.{file_content, file_gave, file_syncs, file_writes, random_access_disk};
+    ghost use Rattle.silt_device.specs.Buffered.{buffered_content, buffered_disk, buffered_gave, SavesWrites, PassesOn, WritesOut};
 
     type Fault = BufferFault<FileFault>;
 
@@ -170,30 +171,18 @@ impl Disk for FileDisk {
 
     fn write(&mut self, at: u64, buf: &[u8]) -> Result<(), BufferFault<FileFault>>
         requires { at + length buf.now ≤ size (buffered_content file_content self.old.inner) }
-        ensures size { size (buffered_content file_content self.new.inner) ≡ size (buffered_content file_content self.old.inner) }
-        ensures made { Makes (λ disk. disk.inner.calls.writes) (λ disk. disk.inner.calls.syncs) 1 0 self.old self.new }
-        ensures torn { Tears at (length buf.now) (buffered_content file_content self.old.inner) (buffered_content file_content self.new.inner) }
-        ensures written { OnOk result (Writes at buf.now (buffered_content file_content self.old.inner) (buffered_content file_content self.new.inner)) }
+        ensures writes { WritesBytes (buffered_disk (random_access_disk system_content)) at buf.now self.old.inner self.new.inner result }
         ensures passes { OnOk result (PassesOn file_writes file_syncs at buf.now self.old.inner self.new.inner) }
         ensures gathers { MatchResult result (λ _. SavesWrites file_writes file_syncs 1 0 self.old.inner self.new.inner)
             (λ _. SavesWrites file_writes file_syncs 2 0 self.old.inner self.new.inner) }
-        ensures failures { MatchResult result (λ _. self.new.inner.calls.failures ≡ self.old.inner.calls.failures)
-            (λ fault. (self.new.inner.calls.failures ≡ (self.old.inner.calls.failures + 1) % 2 ^ 64)
-            × buffered_gave file_gave self.new.inner fault Write at (length buf.now)) }
     {
         self.inner.write(at, buf)
     }
 
     fn sync(&mut self) -> Result<(), BufferFault<FileFault>>
-        ensures size { size (buffered_content file_content self.new.inner) ≡ size (buffered_content file_content self.old.inner) }
-        ensures made { Makes (λ disk. disk.inner.calls.writes) (λ disk. disk.inner.calls.syncs) 0 1 self.old self.new }
-        ensures settled { OnOk result (Settles (buffered_content file_content self.old.inner) (buffered_content file_content self.new.inner)) }
-        ensures unchanged { OnErr result (Stays (buffered_content file_content self.old.inner) (buffered_content file_content self.new.inner)) }
+        ensures syncs { SyncsAll (buffered_disk (random_access_disk system_content)) self.old.inner self.new.inner result }
         ensures gathers { MatchResult result (λ _. WritesOut file_writes file_syncs self.old.inner self.new.inner)
             (λ _. SavesWrites file_writes file_syncs 1 0 self.old.inner self.new.inner ⊎ SavesWrites file_writes file_syncs 0 1 self.old.inner self.new.inner) }
-        ensures failures { MatchResult result (λ _. self.new.inner.calls.failures ≡ self.old.inner.calls.failures)
-            (λ fault. (self.new.inner.calls.failures ≡ (self.old.inner.calls.failures + 1) % 2 ^ 64)
-            × buffered_gave file_gave self.new.inner fault Sync 0 (size (buffered_content file_content self.new.inner))) }
     {
         self.inner.sync()
     }

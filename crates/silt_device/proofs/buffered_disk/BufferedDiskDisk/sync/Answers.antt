@@ -28,29 +28,53 @@ loop-turn-preserved g c =
       }
     ]
 
-pub returns-in-Err-clause-size : goal.returns-in-Err-clause-size
-returns-in-Err-clause-size g c = rw (← c.self.view_is) (freed_sizes c.loop-turn.invariant.frees _ _ c.write.ensures.size)
-
-pub returns-in-Err-clause-unchanged : goal.returns-in-Err-clause-unchanged
-returns-in-Err-clause-unchanged g c = rw (← c.self.view_is) (not_freed c.loop-turn.invariant.frees _ _ _ c.last_at.ensures c.last_bytes.ensures c.write.ensures.torn)
+pub returns-in-Err-clause-syncs : goal.returns-in-Err-clause-syncs
+returns-in-Err-clause-syncs g c =
+    let calls = c.loop-turn.invariant.calls in
+    let same : c.loop-turn.self-inside.calls.failures ≡ c.args.self.now.calls.failures = search (rules, calls) in
+    let new = g.D.Disk.content c.write.new.self in
+    let long : c.len-size.result ≡ size (content_over_all c.loop-turn.self-inside.buffers new) =
+    c.len-size.ensures ∙ sym (size_over_all c.loop-turn.self-inside.buffers new ∙ c.write.ensures.size ∙ c.loop-turn.invariant.frees.size) in
+    record {
+      size = rw (← c.self.view_is) (freed_sizes c.loop-turn.invariant.frees _ _ c.write.ensures.size);
+      made = search rules;
+      settled = search rules;
+      unchanged = rw (← c.self.view_is) (not_freed c.loop-turn.invariant.frees _ _ _ c.last_at.ensures c.last_bytes.ensures c.write.ensures.torn);
+      failures = search (rules, same, long);
+    }
 
 pub returns-in-Err-clause-gathers : goal.returns-in-Err-clause-gathers
 returns-in-Err-clause-gathers g c =
     let frees = c.loop-turn.invariant.frees in
     rw (← c.self.view_is) (inl (gathers_so _ _ _ 1 0 (freed_makes frees _ 1 0 c.write.ensures.made) (omega (arith, freed_owes frees))))
 
-pub returns-in-Ok-clause-size : goal.returns-in-Ok-clause-size
-returns-in-Ok-clause-size g c = rw (← c.self.view_is) (freed_sizes c.loop-turn.invariant.frees _ _ c.sync.ensures.size)
-
-pub returns-in-Err-sync-clause-size : goal.returns-in-Err-sync-clause-size
-returns-in-Err-sync-clause-size g c = rw (← c.self.view_is) (freed_sizes c.loop-turn.invariant.frees _ _ c.sync.ensures.size)
-
-pub returns-in-Ok-clause-settled : goal.returns-in-Ok-clause-settled
-returns-in-Ok-clause-settled g c =
+pub returns-in-Ok-clause-syncs : goal.returns-in-Ok-clause-syncs
+returns-in-Ok-clause-syncs g c =
     let frees = c.loop-turn.invariant.frees in
     let all : c.loop-turn._turn ≡ 3 = omega (arith, c.loop-turn-test.false, c.loop-turn.invariant.upto) in
     let none : AreEmpty c.loop-turn.self-inside.buffers = rw (frees.buffers, all) (empty_thrice _) in
-    rw (← c.self.view_is) (stays_settles _ _ _ frees.stays (settles_over_all _ _ _ none c.in-Ok.ensures.settled))
+    record {
+      size = rw (← c.self.view_is) (freed_sizes c.loop-turn.invariant.frees _ _ c.sync.ensures.size);
+      made = search rules;
+      settled = rw (← c.self.view_is) (stays_settles _ _ _ frees.stays (settles_over_all _ _ _ none c.in-Ok.ensures.settled));
+      unchanged = search rules;
+      failures = search rules;
+    }
+
+pub returns-in-Err-sync-clause-syncs : goal.returns-in-Err-sync-clause-syncs
+returns-in-Err-sync-clause-syncs g c =
+    let calls = c.loop-turn.invariant.calls in
+    let same : c.loop-turn.self-inside.calls.failures ≡ c.args.self.now.calls.failures = search (rules, calls) in
+    let new = g.D.Disk.content c.sync.new.self in
+    let long : c.len-size.result ≡ size (content_over_all c.loop-turn.self-inside.buffers new) =
+    c.len-size.ensures ∙ sym (size_over_all c.loop-turn.self-inside.buffers new ∙ c.sync.ensures.size ∙ c.loop-turn.invariant.frees.size) in
+    record {
+      size = rw (← c.self.view_is) (freed_sizes c.loop-turn.invariant.frees _ _ c.sync.ensures.size);
+      made = search rules;
+      settled = search rules;
+      unchanged = search rules;
+      failures = search (rules, same, long);
+    }
 
 pub returns-in-Ok-clause-gathers : goal.returns-in-Ok-clause-gathers
 returns-in-Ok-clause-gathers g c =
@@ -65,21 +89,3 @@ pub returns-in-Err-sync-clause-gathers : goal.returns-in-Err-sync-clause-gathers
 returns-in-Err-sync-clause-gathers g c =
     let frees = c.loop-turn.invariant.frees in
     rw (← c.self.view_is) (inr (gathers_so _ _ _ 0 1 (freed_makes frees _ 0 1 c.sync.ensures.made) (omega (arith, freed_owes frees))))
-
-pub returns-in-Err-clause-failures : goal.returns-in-Err-clause-failures
-returns-in-Err-clause-failures g c =
-    let calls = c.loop-turn.invariant.calls in
-    let same : c.loop-turn.self-inside.calls.failures ≡ c.args.self.now.calls.failures = search (rules, calls) in
-    let new = g.D.Disk.content c.write.new.self in
-    let long : c.len-size.result ≡ size (content_over_all c.loop-turn.self-inside.buffers new) =
-    c.len-size.ensures ∙ sym (size_over_all c.loop-turn.self-inside.buffers new ∙ c.write.ensures.size ∙ c.loop-turn.invariant.frees.size) in
-    search (rules, same, long)
-
-pub returns-in-Err-sync-clause-failures : goal.returns-in-Err-sync-clause-failures
-returns-in-Err-sync-clause-failures g c =
-    let calls = c.loop-turn.invariant.calls in
-    let same : c.loop-turn.self-inside.calls.failures ≡ c.args.self.now.calls.failures = search (rules, calls) in
-    let new = g.D.Disk.content c.sync.new.self in
-    let long : c.len-size.result ≡ size (content_over_all c.loop-turn.self-inside.buffers new) =
-    c.len-size.ensures ∙ sym (size_over_all c.loop-turn.self-inside.buffers new ∙ c.sync.ensures.size ∙ c.loop-turn.invariant.frees.size) in
-    search (rules, same, long)

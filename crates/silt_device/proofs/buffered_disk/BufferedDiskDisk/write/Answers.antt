@@ -41,17 +41,19 @@ write-requires-in-Err g c =
     let now = subst (λ s. c.args.at + length c.args.buf.now ≤ size (buffered_content g.D.Disk.content s)) (sym c.self.view_is) fits in
     omega (arith, now, size_over_all b (g.D.Disk.content c.self.inside.inner), c.write.ensures.size, c.loop-turn.invariant.frees.size)
 
-pub returns-in-Err-clause-size : goal.returns-in-Err-clause-size
-returns-in-Err-clause-size g c =
-    rw (← c.self.view_is) (sizes_over_all c.self.inside.buffers c.loop-turn.self-inside.buffers (g.D.Disk.content c.self.inside.inner)
-    (g.D.Disk.content c.write-in-Err.new.self) (c.write-in-Err.ensures.size ∙ c.write.ensures.size ∙ c.loop-turn.invariant.frees.size))
-
-pub returns-in-Err-clause-torn : goal.returns-in-Err-clause-torn
-returns-in-Err-clause-torn g c =
+pub returns-in-Err-clause-writes : goal.returns-in-Err-clause-writes
+returns-in-Err-clause-writes g c =
     let stays = way_unwritten c.loop-turn.invariant.frees c.self.inside.buffers c.args.at (length c.args.buf.now)
     c.make_way-turn-end.ensures.order c.write.new.self _ _ c.last_at.ensures c.last_bytes.ensures c.write.ensures.torn in
-    rw (← c.self.view_is) (stays_tears _ _ _ _ _ stays
-    (tears_over_all c.loop-turn.self-inside.buffers _ _ (g.D.Disk.content c.write.new.self) (g.D.Disk.content c.write-in-Err.new.self) c.write-in-Err.ensures.torn))
+    record {
+      size = rw (← c.self.view_is) (sizes_over_all c.self.inside.buffers c.loop-turn.self-inside.buffers (g.D.Disk.content c.self.inside.inner)
+          (g.D.Disk.content c.write-in-Err.new.self) (c.write-in-Err.ensures.size ∙ c.write.ensures.size ∙ c.loop-turn.invariant.frees.size));
+      made = search rules;
+      torn = rw (← c.self.view_is) (stays_tears _ _ _ _ _ stays
+          (tears_over_all c.loop-turn.self-inside.buffers _ _ (g.D.Disk.content c.write.new.self) (g.D.Disk.content c.write-in-Err.new.self) c.write-in-Err.ensures.torn));
+      written = search rules;
+      failures = search rules;
+    }
 
 pub returns-in-Err-clause-gathers : goal.returns-in-Err-clause-gathers
 returns-in-Err-clause-gathers g c =
@@ -76,30 +78,25 @@ invariant_of-self-then-takes g c =
     rw (c.append.ensures) (appended_places g.D.Disk.content _ _ c.args.at c.args.buf.now frees.places room
     (omega (arith, now, size_over_all c.self.inside.buffers (g.D.Disk.content c.self.inside.inner), frees.size)))
 
-pub returns-then-takes-clause-size : goal.returns-then-takes-clause-size
-returns-then-takes-clause-size g c = rw (← c.self.view_is)
-    (sizes_over_all c.self.inside.buffers c.append.new.self (g.D.Disk.content c.self.inside.inner) (g.D.Disk.content c.loop-turn.self-inside.inner) c.loop-turn.invariant.frees.size)
-
-pub returns-then-takes-clause-torn : goal.returns-then-takes-clause-torn
-returns-then-takes-clause-torn g c =
+pub returns-then-takes-clause-writes : goal.returns-then-takes-clause-writes
+returns-then-takes-clause-writes g c =
     let fits : c.args.at + length c.args.buf.now ≤ size (buffered_content g.D.Disk.content c.args.self.now) = c.requires in
     let now = subst (λ s. c.args.at + length c.args.buf.now ≤ size (buffered_content g.D.Disk.content s)) (sym c.self.view_is) fits in
     let room : IsTrue (takes c.loop-turn.self-inside.buffers.first c.args.at (length c.args.buf.now)) = sym c.takes.ensures ∙ c.if-takes.true in
     let frees = c.loop-turn.invariant.frees in
     let stays = way_stays frees c.self.inside.buffers c.args.at (length c.args.buf.now) c.make_way-turn-end.ensures.order in
-    rw (← c.self.view_is, c.append.ensures) (stays_tears _ _ _ _ _ stays (appended_tears c.loop-turn.self-inside.buffers c.args.at c.args.buf.now (g.D.Disk.content c.loop-turn.self-inside.inner) room
-    (omega (arith, now, size_over_all c.self.inside.buffers (g.D.Disk.content c.self.inside.inner), frees.size))))
-
-pub returns-then-takes-clause-written : goal.returns-then-takes-clause-written
-returns-then-takes-clause-written g c =
-    let fits : c.args.at + length c.args.buf.now ≤ size (buffered_content g.D.Disk.content c.args.self.now) = c.requires in
-    let now = subst (λ s. c.args.at + length c.args.buf.now ≤ size (buffered_content g.D.Disk.content s)) (sym c.self.view_is) fits in
-    let room : IsTrue (takes c.loop-turn.self-inside.buffers.first c.args.at (length c.args.buf.now)) = sym c.takes.ensures ∙ c.if-takes.true in
-    let frees = c.loop-turn.invariant.frees in
-    let stays = way_stays frees c.self.inside.buffers c.args.at (length c.args.buf.now) c.make_way-turn-end.ensures.order in
-    rw (← c.self.view_is, c.append.ensures) (stays_writes _ _ _ _ _ stays
-    (appended_writes c.loop-turn.self-inside.buffers c.args.at c.args.buf.now (g.D.Disk.content c.loop-turn.self-inside.inner) room
-    (omega (arith, now, size_over_all c.self.inside.buffers (g.D.Disk.content c.self.inside.inner), frees.size))))
+    record {
+      size = rw (← c.self.view_is)
+          (sizes_over_all c.self.inside.buffers c.append.new.self (g.D.Disk.content c.self.inside.inner) (g.D.Disk.content c.loop-turn.self-inside.inner) c.loop-turn.invariant.frees.size);
+      made = search rules;
+      torn = rw (← c.self.view_is, c.append.ensures) (stays_tears _ _ _ _ _ stays
+          (appended_tears c.loop-turn.self-inside.buffers c.args.at c.args.buf.now (g.D.Disk.content c.loop-turn.self-inside.inner) room
+          (omega (arith, now, size_over_all c.self.inside.buffers (g.D.Disk.content c.self.inside.inner), frees.size))));
+      written = rw (← c.self.view_is, c.append.ensures) (stays_writes _ _ _ _ _ stays
+          (appended_writes c.loop-turn.self-inside.buffers c.args.at c.args.buf.now (g.D.Disk.content c.loop-turn.self-inside.inner) room
+          (omega (arith, now, size_over_all c.self.inside.buffers (g.D.Disk.content c.self.inside.inner), frees.size))));
+      failures = search rules;
+    }
 
 pub returns-then-takes-clause-gathers : goal.returns-then-takes-clause-gathers
 returns-then-takes-clause-gathers g c =
@@ -113,37 +110,39 @@ write-requires-2 g c =
     let now = subst (λ s. c.args.at + length c.args.buf.now ≤ size (buffered_content g.D.Disk.content s)) (sym c.self.view_is) fits in
     omega (arith, now, size_over_all c.self.inside.buffers (g.D.Disk.content c.self.inside.inner), c.loop-turn.invariant.frees.size)
 
-pub returns-in-Ok-clause-size : goal.returns-in-Ok-clause-size
-returns-in-Ok-clause-size g c = rw (← c.self.view_is)
-    (sizes_over_all c.self.inside.buffers c.loop-turn.self-inside.buffers (g.D.Disk.content c.self.inside.inner)
-    (g.D.Disk.content c.write-2.new.self) (c.write-2.ensures.size ∙ c.loop-turn.invariant.frees.size))
-
-pub returns-in-Err-write-clause-size : goal.returns-in-Err-write-clause-size
-returns-in-Err-write-clause-size g c = rw (← c.self.view_is)
-    (sizes_over_all c.self.inside.buffers c.loop-turn.self-inside.buffers (g.D.Disk.content c.self.inside.inner)
-    (g.D.Disk.content c.write-2.new.self) (c.write-2.ensures.size ∙ c.loop-turn.invariant.frees.size))
-
-pub returns-in-Ok-clause-torn : goal.returns-in-Ok-clause-torn
-returns-in-Ok-clause-torn g c =
+pub returns-in-Ok-clause-writes : goal.returns-in-Ok-clause-writes
+returns-in-Ok-clause-writes g c =
     let stays = way_stays c.loop-turn.invariant.frees c.self.inside.buffers c.args.at (length c.args.buf.now) c.make_way-turn-end.ensures.order in
-    rw (← c.self.view_is) (stays_tears _ _ _ _ _ stays
-    (tears_over_all c.loop-turn.self-inside.buffers _ _ (g.D.Disk.content c.loop-turn.self-inside.inner) (g.D.Disk.content c.write-2.new.self) c.write-2.ensures.torn))
-
-pub returns-in-Err-write-clause-torn : goal.returns-in-Err-write-clause-torn
-returns-in-Err-write-clause-torn g c =
-    let stays = way_stays c.loop-turn.invariant.frees c.self.inside.buffers c.args.at (length c.args.buf.now) c.make_way-turn-end.ensures.order in
-    rw (← c.self.view_is) (stays_tears _ _ _ _ _ stays
-    (tears_over_all c.loop-turn.self-inside.buffers _ _ (g.D.Disk.content c.loop-turn.self-inside.inner) (g.D.Disk.content c.write-2.new.self) c.write-2.ensures.torn))
-
-pub returns-in-Ok-clause-written : goal.returns-in-Ok-clause-written
-returns-in-Ok-clause-written g c =
     let frees = c.loop-turn.invariant.frees in
     let stays = way_stays frees c.self.inside.buffers c.args.at (length c.args.buf.now) c.make_way-turn-end.ensures.order in
     let all : c.loop-turn._turn ≡ to_free c.make_way-turn-end.new.self c.args.at (length c.args.buf.now) =
     omega (arith, c.loop-turn-test.false, c.loop-turn.invariant.upto, c.make_way-turn-end.ensures.frees) in
     let none = way_none frees c.self.inside.buffers c.args.at (length c.args.buf.now) c.make_way-turn-end.ensures.order all (sym c.takes.ensures ∙ c.if-takes.false) in
-    rw (← c.self.view_is) (stays_writes _ _ _ _ _ stays
-    (writes_over_all c.loop-turn.self-inside.buffers _ _ (g.D.Disk.content c.loop-turn.self-inside.inner) (g.D.Disk.content c.write-2.new.self) none c.in-Ok.ensures.written))
+    record {
+      size = rw (← c.self.view_is)
+          (sizes_over_all c.self.inside.buffers c.loop-turn.self-inside.buffers (g.D.Disk.content c.self.inside.inner)
+          (g.D.Disk.content c.write-2.new.self) (c.write-2.ensures.size ∙ c.loop-turn.invariant.frees.size));
+      made = search rules;
+      torn = rw (← c.self.view_is) (stays_tears _ _ _ _ _ stays
+          (tears_over_all c.loop-turn.self-inside.buffers _ _ (g.D.Disk.content c.loop-turn.self-inside.inner) (g.D.Disk.content c.write-2.new.self) c.write-2.ensures.torn));
+      written = rw (← c.self.view_is) (stays_writes _ _ _ _ _ stays
+          (writes_over_all c.loop-turn.self-inside.buffers _ _ (g.D.Disk.content c.loop-turn.self-inside.inner) (g.D.Disk.content c.write-2.new.self) none c.in-Ok.ensures.written));
+      failures = search rules;
+    }
+
+pub returns-in-Err-write-clause-writes : goal.returns-in-Err-write-clause-writes
+returns-in-Err-write-clause-writes g c =
+    let stays = way_stays c.loop-turn.invariant.frees c.self.inside.buffers c.args.at (length c.args.buf.now) c.make_way-turn-end.ensures.order in
+    record {
+      size = rw (← c.self.view_is)
+          (sizes_over_all c.self.inside.buffers c.loop-turn.self-inside.buffers (g.D.Disk.content c.self.inside.inner)
+          (g.D.Disk.content c.write-2.new.self) (c.write-2.ensures.size ∙ c.loop-turn.invariant.frees.size));
+      made = search rules;
+      torn = rw (← c.self.view_is) (stays_tears _ _ _ _ _ stays
+          (tears_over_all c.loop-turn.self-inside.buffers _ _ (g.D.Disk.content c.loop-turn.self-inside.inner) (g.D.Disk.content c.write-2.new.self) c.write-2.ensures.torn));
+      written = search rules;
+      failures = search rules;
+    }
 
 pub returns-in-Ok-clause-gathers : goal.returns-in-Ok-clause-gathers
 returns-in-Ok-clause-gathers g c =
