@@ -5,7 +5,7 @@ use Rattle.silt_disk.specs.Layout.{Shape}
 use Rattle.silt_disk.specs.declared.disk.Disk.{Ghosts}
 use Rattle.silt_event.specs.Commands.{Command, Map, map_after}
 use Rattle.silt_image.specs.Meaning.{StandsFor}
-use Rattle.silt_engine.specs.Calls.{HasBegun}
+use Rattle.silt_engine.specs.Calls.{HoldsPrefix}
 use Rattle.silt_store_set.specs.CoreState.{CoreState, map_of}
 use Rattle.silt_event.specs.Events.{Step, Counts, PlainReply, accepted_command, is_fault}
 use Rattle.silt_event.specs.declared.event.Event.{Event}
@@ -61,5 +61,5 @@ pub record SeenStep (old new : SeenStore) (event : Event) (reply : PlainReply) :
   pub settles : IsTrue old.content.honest → NoneWaits new reply
   -- each possible crash image represents the base, or, if the call failed, the old base after a first part of the waiting commands
   pub safe : new.failed ≡ false → LeavesOnly new.content (StandsFor new.shape new.base)
-  pub crash : old.failed ≡ false → new.failed ≡ true → LeavesOnly new.content (HasBegun old.shape old.base old.waiting)
+  pub crash : old.failed ≡ false → new.failed ≡ true → LeavesOnly new.content (HoldsPrefix old.shape old.base old.waiting)
   pub keeps_basis : old.failed ≡ false → new.failed ≡ true → (new.base ≡ old.base) × (new.waiting ≡ old.waiting)

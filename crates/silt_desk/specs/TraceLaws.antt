@@ -12,7 +12,7 @@ use Rattle.silt_event.specs.declared.reply.Reply.{Reply}
 use Rattle.silt_event.specs.declared.reply.Reply.TheVariants.{Accepted, Acknowledged, Found, Absent, Differs, Progress, Refused, Unsettled, NotServed}
 use Rattle.silt_event.specs.declared.refusal.Refusal.TheVariants.{Failed}
 use Rattle.silt_image.specs.Meaning.{StandsFor}
-use Rattle.silt_engine.specs.Calls.{HasBegun}
+use Rattle.silt_engine.specs.Calls.{HoldsPrefix}
 use Rattle.silt_store_set.proofs.Calls.{none_refused}
 use Rattle.silt_store_set.proofs.Keeps.{fault_adds}
 use Rattle.silt_store_set.specs.CoreState.{CoreState, map_of}
@@ -294,7 +294,7 @@ history_opens kept store none count entries has_map few safe = record {
 
 -- no call leads from a store to itself, failed or not
 pub leads_none : (store : SeenStore) → (IsTrue store.content.honest → store.map ≡ map_after store.base store.waiting) → (IsTrue store.content.honest → length store.waiting ≤ store.count)
-    → LeavesOnly store.content (HasBegun store.shape store.base store.waiting) → LeadsTo store [] store
+    → LeavesOnly store.content (HoldsPrefix store.shape store.base store.waiting) → LeadsTo store [] store
 leads_none store has_map few begun = record {
   honest = refl;
   shape = refl;
@@ -359,5 +359,5 @@ past_more named counts a b c s t law log past step =
 -- a store that did no call leaves its disk so
 pub leaves_none : {D F : Type 0} (facts : Ghosts D F) (core : CoreState D) (disk : D) → disk ≡ core.disk
     → (IsTrue (facts.content core.disk).honest → map_of core ≡ map_after core.base core.waiting) → (IsTrue (facts.content core.disk).honest → length core.waiting ≤ core.count)
-    → LeavesOnly (facts.content core.disk) (HasBegun core.shape core.base core.waiting) → LeavesCalls facts core disk
+    → LeavesOnly (facts.content core.disk) (HoldsPrefix core.shape core.base core.waiting) → LeavesCalls facts core disk
 leaves_none facts core disk is has_map few begun = (core, [], sym is, leads_none (seen facts core) has_map few begun)

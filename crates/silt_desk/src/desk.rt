@@ -114,7 +114,7 @@ impl<D: Disk, T: Trace, N: DeskId> Desk<D, T, N> {
     ghost use Rattle.std.specs.Prelude.{IsErrOf};
     ghost use Rattle.silt_disk.specs.Disk.{LeavesOnly};
     ghost use Rattle.silt_image.specs.Meaning.{StandsFor};
-    ghost use Rattle.silt_engine.specs.Calls.{HasBegun};
+    ghost use Rattle.silt_engine.specs.Calls.{HoldsPrefix};
     ghost use Rattle.silt_engine.specs.Lookup.{changes_key};
     ghost use Rattle.silt_store_set.specs.CoreInvariant.{LeavesBegun};
     ghost use Rattle.silt_event.specs.Commands.{map_after};
@@ -231,7 +231,7 @@ impl<D: Disk, T: Trace, N: DeskId> Desk<D, T, N> {
     /// keeps: see [`Desk::trace`].
     pub fn standing(&self)
         ensures safe { self.now.core.failed ≡ false → LeavesOnly (D.content self.now.core.disk) (StandsFor self.now.core.shape self.now.core.base) }
-        ensures begun { LeavesOnly (D.content self.now.core.disk) (HasBegun self.now.core.shape self.now.core.base self.now.core.waiting) }
+        ensures begun { LeavesOnly (D.content self.now.core.disk) (HoldsPrefix self.now.core.shape self.now.core.base self.now.core.waiting) }
         ensures has_map { IsTrue (D.content self.now.core.disk).honest → map_of self.now.core ≡ map_after self.now.core.base self.now.core.waiting }
         ensures few { IsTrue (D.content self.now.core.disk).honest → length self.now.core.waiting ≤ self.now.core.count }
     {
@@ -504,7 +504,7 @@ impl<D: Disk, T: Trace, N: DeskId> Desk<D, T, N> {
     pub fn close(self) -> D
         ensures disk { result ≡ self.core.disk }
         ensures safe { self.core.failed ≡ false → LeavesOnly (D.content result) (StandsFor self.core.shape self.core.base) }
-        ensures begun { LeavesOnly (D.content result) (HasBegun self.core.shape self.core.base self.core.waiting) }
+        ensures begun { LeavesOnly (D.content result) (HoldsPrefix self.core.shape self.core.base self.core.waiting) }
         ensures left { LeavesBegun (D.content result) self.core.shape }
     {
         self.into_core().close()

@@ -1,6 +1,6 @@
 -- One call after another.
 use Rattle.silt_engine.proofs.Common.{IsTrue, List, [], ◌++◌, refl, ap, sym, ◌∙◌, subst, append_assoc, Content, Shape, Command, Map, map_after, StandsFor}
-use Rattle.silt_engine.proofs.Common.{image_map, map_after-append, EngineState, Stands, base_map, full_image, waiting_commands, Advances, Breaks, HasBegun}
+use Rattle.silt_engine.proofs.Common.{image_map, map_after-append, EngineState, Stands, base_map, full_image, waiting_commands, Advances, Breaks, HoldsPrefix}
 use Rattle.silt_engine.proofs.Common.{MovesIntoBase, Remaps, SameDisk}
 use Rattle.std.proofs.lemmas.List.{append-nil}
 use Rattle.silt_engine.proofs.Facts.{base_safe, full_map}
@@ -42,7 +42,7 @@ pub breaks_after : (a b c : Content) (first second : EngineState) → SameDisk a
 breaks_after a b c first second same later m breaks = record {
   each = λ h image left.
       let moves = m.moves (honest_before a b same (honest_before b c later h)) in
-      let begun : HasBegun second.manifest.shape (base_map b second) (waiting_commands b second) image = breaks.each h image left in
+      let begun : HoldsPrefix second.manifest.shape (base_map b second) (waiting_commands b second) image = breaks.each h image left in
       record {
         kept = moves.moved ++ begun.kept;
         begins = record {

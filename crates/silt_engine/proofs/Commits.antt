@@ -6,7 +6,7 @@ use Rattle.silt_engine.proofs.Common.{spare_slot, Body, Digests, Stores, stores_
 use Rattle.silt_engine.proofs.Common.{map_of_rows, whole_law, NextLog, SortedState, AreWhole, IsHashOf, IsSettled, EngineState, oldest_log, region_of}
 use Rattle.silt_engine.proofs.Common.{sorted_named, IsFrozen, Stands, shown_stores, Advances, IsQuiet, own_digests, HasFrozen, IsEmptied, names_region}
 use Rattle.silt_engine.proofs.Common.{MayBecomeCurrent, BecomesCurrent, ◌-◌, ◌^◌, IsLowestFree, IsNextLog, empty_store, next_body, FreezesActive, freeze_law}
-use Rattle.silt_engine.proofs.Common.{new_active_law, new_log_law, frozen_law, active_replaced, StaysBehind}
+use Rattle.silt_engine.proofs.Common.{new_active_law, new_log_law, frozen_law, active_replaced, ChangesOnlyActive}
 use Rattle.silt_log.specs.Rows.{rows_from}
 use Rattle.silt_image.specs.Meaning.{with_new_log}
 use Rattle.silt_engine.proofs.Named.{named_body, named_shape, own_rows}
@@ -219,7 +219,7 @@ next_for s t next manifest frozen is = record {
 }
 
 -- the first log of later stores
-pub frozen_from : (next : NextLog) (content : Content) (first before after : EngineState) → StaysBehind first before
+pub frozen_from : (next : NextLog) (content : Content) (first before after : EngineState) → ChangesOnlyActive first before
     → before.charge ≡ first.charge → HasFrozen next content before after → HasFrozen next content first after
 frozen_from next content first before last behind charge has = record {
   quiet = has.quiet;

@@ -9,14 +9,15 @@ pub use Rattle.silt_conversion.specs.Conversion.{ConversionState, FailsStep, Has
 pub use Rattle.silt_conversion.specs.Laws.{IsTableOf}
 pub use Rattle.silt_cuckoo.specs.Index.{index_of_keys}
 pub use Rattle.silt_cuckoo.specs.Slots.{IsBucketCount, Slots}
-pub use Rattle.silt_disk.proofs.Costs.{made_both, most_both, most_made, most_none, none_made}
+pub use Rattle.silt_disk.proofs.Costs.{made_both, most_both, most_made, most_more, most_none, none_made}
 pub use Rattle.silt_disk.proofs.Images.{failed_sync_within, left_after_failed_sync, left_after_sync, left_at_rest, shown_left, sync_within, torn_slice_before}
 pub use Rattle.silt_disk.proofs.Images.{torn_splice, torn_trans, torn_wider, within_refl, within_trans, within_wider}
 pub use Rattle.silt_disk.proofs.Regions.{next_region, regions_apart, up_least}
 pub use Rattle.silt_disk.specs.Disk.{ChangesWithin, Content, CountsFault, GaveAny, LeavesOnly, Left, LiesOutside, Makes, MakesAtMost, Rests, Settles, Stays, Torn, size}
 pub use Rattle.silt_disk.specs.Layout.{InLimits, Shape, device_size, entries_len, entry_len, gates_at, hash_at, hash_size, log_len, log_size, row_len, slot_at, slots_len, sorted_at, sorted_size}
+pub use Rattle.silt_disk.specs.Wrote.{WroteOr}
 pub use Rattle.silt_disk.specs.declared.disk.Disk.{Ghosts}
-pub use Rattle.silt_engine.specs.Calls.{Advances, Breaks, BreaksOff, CannotTake, HasBegun, HasNoFreeLog, MovesIntoBase, Remaps, StaysBehind, Works}
+pub use Rattle.silt_engine.specs.Calls.{Advances, Breaks, BreaksOff, CannotTake, HoldsPrefix, HasNoFreeLog, MovesIntoBase, Remaps, ChangesOnlyActive, Works, WorksBy}
 pub use Rattle.silt_engine.specs.Conversion.{AreAllHashesNamed, AreConverted, ConvertErrorCause, Converts, EndsConversion, Finishes, HasConvertedRows}
 pub use Rattle.silt_engine.specs.Conversion.{IsLowestFreeHash, IsNextStep, MayReplace, ReplacesOldest, convert_turn, converted_body, is_work, oldest_replaced}
 pub use Rattle.silt_engine.specs.Conversion.{oldest_rows, progress_due, store_of, written_by}

@@ -9,6 +9,7 @@ use Rattle.silt_engine.proofs.Common.{FailsStep, Steps, Waiting, digests_with, C
 use Rattle.silt_engine.proofs.Common.{written_by}
 use Rattle.silt_conversion.specs.declared.conversion.StepError.TheVariants as step_error
 use Rattle.std.specs.Prelude.{slice_get}
+use Rattle.std.proofs.lemmas.Option.{slice_get_cases}
 use Rattle.silt_conversion.specs.declared.conversion.StepError.{StepError}
 use Rattle.silt_engine.specs.Conversion.{refusal_of_step}
 use Rattle.silt_engine.proofs.Counting.{hash_free, no_hash_free}
@@ -22,6 +23,13 @@ pub last_log : (s : EngineState) (log : LogStoreState) → Some log ≡ slice_ge
 last_log s log is =
     let inside = slice_get_within s.frozen (length s.frozen - 1) log (sym is) in
     (omega (arith, inside), sym (get_or_from_slice_get s.frozen (length s.frozen - 1) log s.active (sym is)))
+
+-- a list without a last element has none
+no_last : {X : Type 0} (xs : List X) → slice_get xs (length xs - 1) ≡ None → length xs ≡ 0
+no_last xs last = elim (slice_get_cases xs (length xs - 1)).1 [
+  | inl here ↦ absurd (let no : Some here.0 ≡ None = sym here.2 ∙ last in cc)
+  | inr past ↦ omega (arith, past.0)
+]
 
 -- ---- the progress that is due
 
@@ -46,6 +54,11 @@ module _ (s : EngineState) where
         let moved : convert_turn s ≡ Moved = ap due was ∙ ap (λ (b : Bool). if b then Finished else Moved) (ne_eqb conversion.next (4 * s.manifest.shape.buckets) more) in
         absurd (let no : Finished ≡ Moved = sym turn ∙ moved in cc)
   ]
+
+  -- without frozen logs, as the last one of what was read shows, and with no conversion in progress
+  pub idle_turn : s.converting ≡ None → (read : List LogStoreState) → read ≡ s.frozen → slice_get read (length read - 1) ≡ None → convert_turn s ≡ Idle
+  idle_turn none read same last = ap due none ∙ ap (λ (b : Bool). if b then Idle else if length s.hashes == s.manifest.shape.hashes then Waiting else Moved)
+      (eq-eqb (length s.frozen) 0 (ap length (sym same) ∙ no_last read last))
 
   -- with frozen logs, no conversion in progress, and this many hash stores
   pub begins_turn : s.converting ≡ None → 0 < length s.frozen → convert_turn s ≡ (if length s.hashes == s.manifest.shape.hashes then Waiting else Moved)

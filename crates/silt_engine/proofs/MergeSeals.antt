@@ -3,13 +3,13 @@ use Rattle.silt_engine.proofs.Common.{◌≡◌, ◌<◌, ◌-◌, ◌^◌, ℕ,
 use Rattle.silt_engine.proofs.Common.{within_refl, HashState, Finished, Body, Digests, HasMerged, Seals, merged_rows, MergeState, is_done, oldest_stores}
 use Rattle.silt_engine.proofs.Common.{sorted_in, IndexedState, IsIndexOf, HasDigest, SortedState, entries_of, MarkedCode, EngineState, IsMerging, Stands}
 use Rattle.silt_engine.proofs.Common.{Advances, Works, AreCompared, EndsMerge, EndsMerged, HasMergedEntries, Merges, SealsMerge, damaged_in, full_stores}
-use Rattle.silt_engine.proofs.Common.{merge_sources, merge_turn, merged_body, merged_digests}
+use Rattle.silt_engine.proofs.Common.{merge_sources, merge_turn, merged_body, merged_digests, none_made}
 use Rattle.silt_engine.proofs.MergeEntries.{entry_advances}
 use Rattle.silt_engine.proofs.MergeDone.{taken_sound}
 use Rattle.silt_engine.proofs.MergeSteps.{gathered_of, merging_of}
 use Rattle.silt_engine.proofs.Swaps.{same_merge}
 use Rattle.silt_engine.proofs.Tries.{compared_with_trie, merged_with_trie, way_with_trie, with_trie}
-use Rattle.silt_engine.proofs.Exits.{went}
+use Rattle.silt_engine.proofs.Exits.{went_so}
 
 -- the sealed merge is in progress
 pub sealed_way : (s : EngineState) (merge sealed : MergeState) → Seals merge sealed → IsMerging s merge → IsMerging s sealed
@@ -36,9 +36,10 @@ module _ (s t : EngineState) (seals : SealsMerge s t) where
   sealed_merging = ap (λ (v : EngineState). v.merging) sealed_is
 
   -- the step's work so far
-  pub sealed_works : {D F E : Type 0} (facts : Ghosts D F) (disk : D) → Stands (facts.content disk) s → Works {E = E} facts [] disk disk s t (Ok (tt {0}))
-  sealed_works {E = E} facts disk stands = subst (λ (v : EngineState). Works {E = E} facts [] disk disk s v (Ok (tt {0}))) (sym sealed_is)
-      (went facts [] disk disk s _ (Ok (tt {0})) (record { size = refl; honest = refl }) stands refl (seal_advances (facts.content disk) s seals.merge (Some seals.seals.made) seals.was stands))
+  pub sealed_works : {D F E : Type 0} (facts : Ghosts D F) (disk : D) → Stands (facts.content disk) s → Works {E = E} facts [] 0 0 disk disk s t (Ok (tt {0}))
+  sealed_works {E = E} facts disk stands = subst (λ (v : EngineState). Works {E = E} facts [] 0 0 disk disk s v (Ok (tt {0}))) (sym sealed_is)
+      (went_so facts [] disk disk s _ (Ok (tt {0})) (record { size = refl; honest = refl }) stands refl (seal_advances (facts.content disk) s seals.merge (Some seals.seals.made) seals.was stands)
+      none_made)
 
   pub sealed_stands : (content : Content) → Stands content s → Stands content t
   sealed_stands content stands = subst (Stands content) (sym sealed_is) (seal_advances content s seals.merge (Some seals.seals.made) seals.was stands).stands

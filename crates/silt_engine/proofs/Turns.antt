@@ -2,7 +2,7 @@
 use Rattle.silt_engine.proofs.Common.{◌≡◌, ◌<◌, ℕ, IsTrue, List, [], map, Some, Ok, refl, ap, sym, ◌∙◌, subst, ChangesWithin, Content, Torn, size, Shape}
 use Rattle.silt_engine.proofs.Common.{device_size, slot_at, StoredRow, KeepsRows, LogState, waiting_rows, waiting_kept, manifest_found, current_manifest}
 use Rattle.silt_engine.proofs.Common.{RecordIsCurrent, current_record, SlotRecord, Stores, image_stores, stores_named, Map, map_after, StandsFor, image_map}
-use Rattle.silt_engine.proofs.Common.{rows_of, command_of, map_of_rows, EngineState, Stands, base_map, full_image, shown_stores, waiting_commands, HasBegun}
+use Rattle.silt_engine.proofs.Common.{rows_of, command_of, map_of_rows, EngineState, Stands, base_map, full_image, shown_stores, waiting_commands, HoldsPrefix}
 use Rattle.silt_engine.proofs.Common.{IsQuiet, ◌+◌, All, IfSome, HasWritten, IsHashStore, spare_slot, oldest_log, HasGathered, IsDigested, IsFrozen, IsLocated}
 use Rattle.silt_engine.proofs.Common.{manifest_law}
 use Rattle.silt_log.specs.State as log
@@ -13,7 +13,7 @@ use Rattle.silt_engine.proofs.Freezes.{full_quiet, kept, quiet_map, slot_apart, 
 
 -- an image that represents the base represents it after none of what waited
 pub begun_none : (content : Content) (s : EngineState) (image : List ℕ) → StandsFor s.manifest.shape (base_map content s) image
-    → HasBegun s.manifest.shape (base_map content s) (waiting_commands content s) image
+    → HoldsPrefix s.manifest.shape (base_map content s) (waiting_commands content s) image
 begun_none content s image stands = record { kept = []; begins = record { rest = waiting_commands content s; is = refl }; stands = stands }
 
 module _ (old new : Content) (s : EngineState) (slot : ℕ) (below : slot < 2) (stands : Stands old s) (sizes : size new ≡ size old) (changes : ChangesWithin (slot_at slot) 4096 old new) where

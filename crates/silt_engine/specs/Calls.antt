@@ -1,8 +1,8 @@
 -- What the calls of the stores do.
-use Rattle.std.specs.Prelude.{◌≡◌, ◌+◌, ◌^◌, ◌-◌, ◌⊎◌, ℕ, IsTrue, List, [], ◌∷◌, ◌++◌, length, Some, None, Result, OnOk}
+use Rattle.std.specs.Prelude.{◌≡◌, ◌+◌, ◌^◌, ◌-◌, ◌⊎◌, ℕ, IsTrue, List, [], ◌∷◌, ◌++◌, length, Some, None, Result, OnOk, MatchResult}
 use Rattle.std.specs.FinMap.{get}
 use Rattle.silt_cuckoo.specs.Index.{index_of_keys}
-use Rattle.silt_disk.specs.Disk.{Content, CountsFault, LeavesOnly}
+use Rattle.silt_disk.specs.Disk.{Content, CountsFault, LeavesOnly, Makes, MakesAtMost}
 use Rattle.silt_disk.specs.Layout.{Shape}
 use Rattle.silt_disk.specs.declared.disk.Disk.{Ghosts}
 use Rattle.silt_event.specs.Commands.{Command, Map, map_after, Begins}
@@ -11,8 +11,8 @@ use Rattle.silt_frame.specs.Rows.{keys_of, StoredRow}
 use Rattle.silt_standing.specs.State.{EngineState}
 use Rattle.silt_standing.specs.Standing.{SameDisk, Stands, base_map, current_map, full_image, waiting_commands}
 
--- in memory all is as before, but for the active log and the charge
-pub record StaysBehind (before after : EngineState) : Type 0 where
+-- in memory nothing has changed but the active log and the charge
+pub record ChangesOnlyActive (before after : EngineState) : Type 0 where
   pub manifest : after.manifest ≡ before.manifest
   pub frozen : after.frozen ≡ before.frozen
   pub hashes : after.hashes ≡ before.hashes
@@ -34,23 +34,24 @@ pub record Advances (adds : List Command) (old new : Content) (before after : En
   pub shape : after.manifest.shape ≡ before.manifest.shape
   pub moves : IsTrue old.honest → MovesIntoBase adds old new before after
 
--- an image represents the base after a beginning of the commands that waited
-pub record HasBegun (shape : Shape) (base : Map) (waiting : List Command) (image : List ℕ) : Type 0 where
+-- an image represents the base after a prefix of the commands that waited
+pub record HoldsPrefix (shape : Shape) (base : Map) (waiting : List Command) (image : List ℕ) : Type 0 where
   pub kept : List Command
   pub begins : Begins kept waiting
   pub stands : StandsFor shape (map_after base kept) image
 
--- each possible crash image represents the base after a beginning of what waited
+-- each possible crash image represents the base after a prefix of what waited
 abbrev pub Breaks : Content → Content → EngineState → Type 0
-Breaks old new s = LeavesOnly new (HasBegun s.manifest.shape (base_map old s) (waiting_commands old s))
+Breaks old new s = LeavesOnly new (HoldsPrefix s.manifest.shape (base_map old s) (waiting_commands old s))
 
 -- with the gates of the waiting rows open, what is shown represents the earlier map after these commands
 abbrev pub Remaps : List Command → Content → Content → EngineState → EngineState → Type 0
 Remaps adds old new before after = IsTrue old.honest → image_map (full_image new after) ≡ map_after (image_map (full_image old before)) adds
 
--- What a call that writes and adds these commands does: what holds of every result, and what holds after Ok. What holds after an error is
--- in a clause of its own.
-pub record Works {D F T E : Type 0} (facts : Ghosts D F) (adds : List Command) (old new : D) (before after : EngineState) (result : Result T E) : Type 0 where
+-- What a call that writes and adds these commands does: what holds of every result, and what holds after Ok. `MadeOk` says how many writes
+-- and syncs each Ok stands for. The cause of an error is in a clause of its own.
+pub record WorksBy {D F T E : Type 0} (facts : Ghosts D F) (MadeOk : T → Type 0) (adds : List Command) (w s : ℕ) (old new : D) (before after : EngineState)
+    (result : Result T E) : Type 0 where
   -- the disk keeps its length, and whether it obeys the crash model
   pub same : SameDisk (facts.content old) (facts.content new)
   -- the shape of the stores is kept
@@ -61,12 +62,18 @@ pub record Works {D F T E : Type 0} (facts : Ghosts D F) (adds : List Command) (
   pub advances : OnOk result (Advances adds (facts.content old) (facts.content new) before after)
   -- after Ok the full image represents the earlier map after the added commands
   pub map : OnOk result (Remaps adds (facts.content old) (facts.content new) before after)
+  -- after Ok it has made as many writes and syncs as the Ok says, and after an error at most w and s
+  pub made : MatchResult result MadeOk (λ _. MakesAtMost facts.writes facts.syncs w s old new)
+
+-- The same if each Ok stands for exactly w writes and s syncs.
+abbrev pub Works : {D F T E : Type 0} → Ghosts D F → List Command → (w s : ℕ) → D → D → EngineState → EngineState → Result T E → Type 0
+Works facts adds w s old new before after result = WorksBy facts (λ _. Makes facts.writes facts.syncs w s old new) adds w s old new before after result
 
 -- What a call leaves whose write or sync failed with this fault.
 pub record BreaksOff {D F : Type 0} (facts : Ghosts D F) (old new : D) (before after : EngineState) (fault : F) : Type 0 where
   -- one more write or sync has failed, and the disk gave the fault for it
   pub counted : CountsFault facts.failures facts.gave old new fault
-  -- each possible crash image represents the base after a beginning of what waited
+  -- each possible crash image represents the base after a prefix of what waited
   pub breaks : Breaks (facts.content old) (facts.content new) before
   -- the full image represents the earlier map
   pub map : Remaps [] (facts.content old) (facts.content new) before after

@@ -1,5 +1,5 @@
 -- The merge of the oldest hash stores and the sorted store into a new sorted store, step by step.
-use Rattle.std.specs.Prelude.{◌≡◌, ◌≤◌, ◌<◌, ◌+◌, ◌*◌, ◌-◌, ◌^◌, ◌==◌, ◌⊎◌, ℕ, Bool, true, if◌then◌else◌, IsTrue, All, get_or, length, take, drop, sum_by, List, Option, Some, None, IfSome}
+use Rattle.std.specs.Prelude.{◌≡◌, ◌≤◌, ◌<◌, ◌+◌, ◌*◌, ◌-◌, ◌^◌, ◌==◌, ◌⊎◌, ℕ, Bool, true, if◌then◌else◌, IsTrue, All, get_or, length, [], take, drop, sum_by, List, Option, Result, Some, None, IfSome}
 use Rattle.std.specs.Option.{option_map}
 use Rattle.silt_disk.specs.Disk.{Content, GaveAny}
 use Rattle.silt_disk.specs.Layout.{entry_len, slots_len}
@@ -24,7 +24,8 @@ use Rattle.silt_merge.specs.declared.merge.StepError.{StepError}
 use Rattle.silt_merge.specs.declared.merge.StepError.TheVariants as step_error
 use Rattle.silt_engine.specs.declared.merge.MergeError.{MergeError}
 use Rattle.silt_engine.specs.declared.merge.MergeError.TheVariants.{Spent, NoMemory, Damaged, Read, Write}
-use Rattle.silt_engine.specs.Calls.{BreaksOff, IsLastGeneration}
+use Rattle.silt_engine.specs.Calls.{BreaksOff, IsLastGeneration, WorksBy}
+use Rattle.silt_engine.specs.Costs.{StepMakes, step_syncs, step_writes}
 use Rattle.silt_engine.specs.Digests.{merged_digests}
 use Rattle.silt_engine.specs.Conversion.{is_work}
 use Rattle.silt_standing.specs.Standing.{Stands, full_image}
@@ -140,6 +141,11 @@ module _ {D F : Type 0} (facts : Ghosts D F) (old new : D) (before after : Engin
       × (is_work (merge_turn before) ≡ true) × (IsTrue (facts.content old).honest → ⊥)
   MergeErrorCause (Read fault) = (after ≡ before) × (new ≡ old) × (merge_turn before ≡ Moved) × GaveAny facts.gave old fault
   MergeErrorCause (Write fault) = (is_work (merge_turn before) ≡ true) × BreaksOff facts old new before after fault
+
+-- what a step of merging does: it adds no command, and makes the writes and syncs that are due
+abbrev pub WorksOfMerge : {D F E : Type 0} → Ghosts D F → D → D → EngineState → EngineState → Result Progress E → Type 0
+WorksOfMerge facts old new before after result =
+    WorksBy facts (StepMakes facts old new before after) [] (step_writes (merge_turn before)) (step_syncs (merge_turn before)) old new before after result
 
 -- ---- between the steps
 

@@ -12,7 +12,7 @@ use Rattle.silt_engine.specs.declared.row_write.WriteError.{WriteError}
 use Rattle.silt_engine.specs.declared.row_write.WriteError.TheVariants.{Read, Write, NoRoom, Spent, NoMemory}
 use Rattle.silt_standing.specs.State.{EngineState}
 use Rattle.silt_standing.specs.Standing.{base_map, waiting_commands}
-use Rattle.silt_engine.specs.Calls.{BreaksOff, CannotTake, HasNoFreeLog, IsLastGeneration, StaysBehind}
+use Rattle.silt_engine.specs.Calls.{BreaksOff, CannotTake, HasNoFreeLog, IsLastGeneration, ChangesOnlyActive}
 use Rattle.silt_engine.specs.NextLog.{IsLowestFree, next_body}
 
 -- the active log cannot take a row of this key
@@ -27,7 +27,7 @@ HasPlace content s key = IsTrue content.honest → CannotTake s.manifest.shape (
 pub record JoinsActive (old new : Content) (before after : EngineState) (kind : Kind) (key : List ℕ) (command : Command) : Type 0 where
   pub place : HasPlace old before key
   pub waits : IsTrue old.honest → waiting_commands new after ≡ waiting_commands old before ++ command ∷ []
-  pub behind : StaysBehind before after
+  pub others : ChangesOnlyActive before after
   pub charge : after.charge ≡ before.charge + puts_of kind
 
 -- a row of this kind was taken: a put is charged, and background work in progress stays

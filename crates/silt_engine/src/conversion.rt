@@ -1,6 +1,6 @@
 // The conversion of the oldest frozen log into a hash store, one slot a step.
 ghost use Rattle.std.specs.Prelude.{◌≡◌, ◌<◌, ◌*◌, ◌-◌, ◌^◌, [], length, false, true, None, IsSome, IsTrue, IfOk, IfErr, IfSome, IfNone, OnOk};
-ghost use Rattle.silt_disk.specs.Disk.{Costs, Rests};
+ghost use Rattle.silt_disk.specs.Disk.{Rests};
 ghost use Rattle.silt_disk.specs.Layout.{most_hashes};
 ghost use Rattle.silt_engine.specs.Calls.{BreaksOff, Works};
 ghost use Rattle.silt_engine.specs.Conversion.{AreAllHashesNamed, ConvertErrorCause, Converts, EndsConversion, Finishes, HasConvertedRows, IsLowestFreeHash};
@@ -104,11 +104,10 @@ impl Engine {
     ) -> Result<Progress, ConvertError<D::Fault>>
         requires stands { Stands (D.content disk.old) self.old }
         requires none { self.old.converting ≡ None }
-        ensures works { Works D.Disk [] disk.old disk.new self.old self.new result }
+        ensures works { Works D.Disk [] (step_writes (convert_turn self.old)) (step_syncs (convert_turn self.old)) disk.old disk.new self.old self.new result }
         ensures converts { IfOk result (λ progress. Converts progress self.old self.new) }
         ensures moves { IfOk result (λ progress. progress ≡ Finished → ⊥) }
         ensures quiet { IfOk result (λ progress. is_work progress ≡ false → disk.new ≡ disk.old) }
-        ensures made { Costs D.writes D.syncs (step_writes (convert_turn self.old)) (step_syncs (convert_turn self.old)) disk.old disk.new result }
         ensures err { IfErr result (ConvertErrorCause D.Disk disk.old disk.new self.old self.new) }
     {
         let Some(oldest) = self.frozen.last() else {
@@ -131,10 +130,9 @@ impl Engine {
         requires stands { Stands (D.content disk.old) self.old }
         requires some { IsSome self.old.converting }
         requires turn { convert_turn self.old ≡ Moved }
-        ensures works { Works D.Disk [] disk.old disk.new self.old self.new result }
+        ensures works { Works D.Disk [] 1 0 disk.old disk.new self.old self.new result }
         ensures converts { IfOk result (λ progress. Converts progress self.old self.new) }
         ensures moves { IfOk result (λ progress. progress ≡ Moved) }
-        ensures made { Costs D.writes D.syncs 1 0 disk.old disk.new result }
         ensures err { IfErr result (ConvertErrorCause D.Disk disk.old disk.new self.old self.new) }
     {
         let Some(conversion) = &mut self.converting else {
@@ -150,10 +148,9 @@ impl Engine {
     // Syncs what a conversion or a merge has written, so that each possible crash image has it.
     pub(crate) fn settle_work<D: Disk>(&self, disk: &mut D) -> Result<(), D::Fault>
         requires stands { Stands (D.content disk.old) self.now }
-        ensures works { Works D.Disk [] disk.old disk.new self.now self.now result }
+        ensures works { Works D.Disk [] 0 1 disk.old disk.new self.now self.now result }
         ensures rests { OnOk result (Rests (D.content disk.new)) }
         ensures stores { OnOk result (IsTrue (D.content disk.old).honest → shown_stores (D.content disk.new) self.now ≡ shown_stores (D.content disk.old) self.now) }
-        ensures made { Costs D.writes D.syncs 0 1 disk.old disk.new result }
         ensures err { IfErr result (BreaksOff D.Disk disk.old disk.new self.now self.now) }
     {
         disk.sync()?;
@@ -191,10 +188,9 @@ impl Engine {
     ) -> Result<(), D::Fault>
         requires stands { Stands (D.content disk.old) self.old }
         requires ends { EndsConversion self.old body.now digests.now }
-        ensures works { Works D.Disk [] disk.old disk.new self.old self.new result }
+        ensures works { Works D.Disk [] 3 4 disk.old disk.new self.old self.new result }
         ensures finishes { OnOk result (Finishes self.old self.new) }
         ensures rows { OnOk result (IsTrue (D.content disk.old).honest → HasConvertedRows (D.content disk.old) (D.content disk.new) self.old self.new) }
-        ensures made { Costs D.writes D.syncs 3 4 disk.old disk.new result }
         ensures err { IfErr result (BreaksOff D.Disk disk.old disk.new self.old self.new) }
     {
         self.settle_work(disk)?;
@@ -210,10 +206,9 @@ impl Engine {
     ) -> Result<Progress, ConvertError<D::Fault>>
         requires stands { Stands (D.content disk.old) self.old }
         requires turn { convert_turn self.old ≡ Finished }
-        ensures works { Works D.Disk [] disk.old disk.new self.old self.new result }
+        ensures works { Works D.Disk [] 3 4 disk.old disk.new self.old self.new result }
         ensures converts { IfOk result (λ progress. Converts progress self.old self.new) }
         ensures rows { OnOk result (IsTrue (D.content disk.old).honest → HasConvertedRows (D.content disk.old) (D.content disk.new) self.old self.new) }
-        ensures made { Costs D.writes D.syncs 3 4 disk.old disk.new result }
         ensures err { IfErr result (ConvertErrorCause D.Disk disk.old disk.new self.old self.new) }
     {
         let current = self.manifest.current();
@@ -248,11 +243,10 @@ impl Engine {
         disk: &mut D,
     ) -> Result<Progress, ConvertError<D::Fault>>
         requires stands { Stands (D.content disk.old) self.old }
-        ensures works { Works D.Disk [] disk.old disk.new self.old self.new result }
+        ensures works { Works D.Disk [] (step_writes (convert_turn self.old)) (step_syncs (convert_turn self.old)) disk.old disk.new self.old self.new result }
         ensures converts { IfOk result (λ progress. Converts progress self.old self.new) }
         ensures rows { IfOk result (λ progress. progress ≡ Finished → IsTrue (D.content disk.old).honest → HasConvertedRows (D.content disk.old) (D.content disk.new) self.old self.new) }
         ensures quiet { IfOk result (λ progress. is_work progress ≡ false → disk.new ≡ disk.old) }
-        ensures made { Costs D.writes D.syncs (step_writes (convert_turn self.old)) (step_syncs (convert_turn self.old)) disk.old disk.new result }
         ensures err { IfErr result (ConvertErrorCause D.Disk disk.old disk.new self.old self.new) }
     {
         let Some(conversion) = &self.converting else {

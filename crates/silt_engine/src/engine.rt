@@ -1,8 +1,9 @@
 // The stores of a device in memory, and their calls.
 ghost use Rattle.std.specs.Prelude.{vec_capacity, ◌≡◌, ◌*◌, ◌<◌, ◌≤◌, [], None, IfOk, IfErr, OnOk, is_some, length};
-ghost use Rattle.silt_disk.specs.Disk.{Costs};
-ghost use Rattle.silt_disk.specs.Layout.{most_frozen, most_hashes};
+ghost use Rattle.silt_disk.specs.Layout.{most_frozen, most_hashes, sector, slot_at};
+ghost use Rattle.silt_disk.specs.Wrote.{WroteOr};
 ghost use Rattle.silt_engine.specs.Costs.{row_waits};
+ghost use Rattle.silt_manifest.specs.Standing.{spare_slot};
 
 use silt_conversion::Conversion;
 use silt_disk::{Disk, Geometry};
@@ -70,8 +71,8 @@ impl Model for Engine {
 
 impl Engine {
     ghost use Rattle.silt_standing.specs.State.{EngineState, AreHeld, AreWhole};
-    ghost use Rattle.silt_standing.specs.Standing.{IsQuiet, SameDisk, Stands};
-    ghost use Rattle.silt_engine.specs.Calls.{BreaksOff, Remaps, StaysBehind, Works};
+    ghost use Rattle.silt_standing.specs.Standing.{IsQuiet, Stands};
+    ghost use Rattle.silt_engine.specs.Calls.{BreaksOff, Remaps, ChangesOnlyActive, Works};
     ghost use Rattle.silt_engine.specs.Succession.{MayBecomeCurrent, BecomesCurrent};
 
     /// The stores with these parts. The frozen logs and the hash stores are in order from the newest, in `Vec`s with
@@ -160,12 +161,11 @@ impl Engine {
     /// The fault of a sync or of the write.
     pub fn flush<D: Disk>(&mut self, disk: &mut D) -> Result<(), D::Fault>
         requires { Stands (D.content disk.old) self.old }
-        ensures works { Works D.Disk [] disk.old disk.new self.old self.new result }
+        ensures works { Works D.Disk [] (row_waits self.old) (2 * row_waits self.old) disk.old disk.new self.old self.new result }
         ensures quiet { OnOk result (IsQuiet (D.content disk.new) self.new) }
-        ensures behind { StaysBehind self.old self.new }
+        ensures others { ChangesOnlyActive self.old self.new }
         ensures charge { self.new.charge ≡ self.old.charge }
         ensures idle { self.old.active.log.settled ≡ self.old.active.log.used → (disk.new ≡ disk.old) × (self.new ≡ self.old) }
-        ensures made { Costs D.writes D.syncs (row_waits self.old) (2 * row_waits self.old) disk.old disk.new result }
         ensures err { IfErr result (BreaksOff D.Disk disk.old disk.new self.old self.new) }
     {
         if !self.active.has_waiting() {
@@ -178,11 +178,10 @@ impl Engine {
     fn open_gates<D: Disk>(&mut self, disk: &mut D) -> Result<(), D::Fault>
         requires waiting { self.old.active.log.settled < self.old.active.log.used }
         requires stands { Stands (D.content disk.old) self.old }
-        ensures works { Works D.Disk [] disk.old disk.new self.old self.new result }
+        ensures works { Works D.Disk [] 1 2 disk.old disk.new self.old self.new result }
         ensures quiet { OnOk result (IsQuiet (D.content disk.new) self.new) }
-        ensures behind { StaysBehind self.old self.new }
+        ensures others { ChangesOnlyActive self.old self.new }
         ensures charge { self.new.charge ≡ self.old.charge }
-        ensures made { Costs D.writes D.syncs 1 2 disk.old disk.new result }
         ensures err { IfErr result (BreaksOff D.Disk disk.old disk.new self.old self.new) }
     {
         self.active.open_gates(disk)?;
@@ -200,12 +199,10 @@ impl Engine {
     ) -> Result<Manifest, D::Fault>
         requires stands { Stands (D.content disk.old) self.now }
         requires next { MayBecomeCurrent (D.content disk.old) self.now next.now digests.now }
-        ensures same { SameDisk (D.content disk.old) (D.content disk.new) }
-        ensures failures { OnOk result (D.failures disk.new ≡ D.failures disk.old) }
+        ensures wrote { WroteOr D.Disk (BreaksOff D.Disk disk.old disk.new self.now self.now) (slot_at (spare_slot self.now.manifest)) sector 3 3
+            disk.old disk.new result }
         ensures ok { IfOk result (BecomesCurrent (D.content disk.old) (D.content disk.new) self.now next.now digests.now) }
         ensures map { OnOk result (Remaps [] (D.content disk.old) (D.content disk.new) self.now self.now) }
-        ensures made { Costs D.writes D.syncs 3 3 disk.old disk.new result }
-        ensures err { IfErr result (BreaksOff D.Disk disk.old disk.new self.now self.now) }
     {
         let _known = self.manifest.current(); // the next body is well formed as it is
         let mut manifest = self.manifest;

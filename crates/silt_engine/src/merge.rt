@@ -1,15 +1,13 @@
 // The merge of the hash stores and the sorted store into a new sorted store, one slot or one key a step.
-ghost use Rattle.std.specs.Prelude.{◌≡◌, ◌<◌, ◌≤◌, ◌-◌, ◌^◌, [], length, false, true, None, Some, Err, IsSome, IsTrue, IfOk, IfErr, IfSome, IsSomeAnd, OnErr, OnOk, MatchResult};
-ghost use Rattle.silt_disk.specs.Disk.{Costs, MakesAtMost};
+ghost use Rattle.std.specs.Prelude.{◌≡◌, ◌<◌, ◌≤◌, ◌-◌, ◌^◌, [], length, false, true, None, Some, Err, IsSome, IsTrue, IfOk, IfErr, IfSome, IsSomeAnd, OnErr, OnOk};
 ghost use Rattle.silt_hasher.specs.Taking.{taken_after};
 ghost use Rattle.silt_event.specs.declared.progress.Progress.TheVariants.{Finished, Moved};
 ghost use Rattle.silt_engine.specs.Calls.{BreaksOff, Works};
 ghost use Rattle.silt_engine.specs.declared.merge.MergeError.TheVariants.{Damaged};
 ghost use Rattle.silt_event.specs.declared.place.Place.{Place};
 ghost use Rattle.silt_engine.specs.Conversion.{is_work};
-ghost use Rattle.silt_engine.specs.Costs.{StepMakes, step_syncs, step_writes};
 ghost use Rattle.silt_engine.specs.Digests.{merged_digests};
-ghost use Rattle.silt_engine.specs.Merge.{EndsMerge, EndsMerged, HasMergedEntries, MayStandFor, MergeErrorCause, Merges, SealsMerge, damaged_in, merge_turn, merged_body, puts_in, sorted_replaced};
+ghost use Rattle.silt_engine.specs.Merge.{EndsMerge, EndsMerged, HasMergedEntries, MayStandFor, MergeErrorCause, Merges, SealsMerge, WorksOfMerge, damaged_in, merge_turn, merged_body, puts_in, sorted_replaced};
 ghost use Rattle.silt_sorted_store.specs.Index.{IndexedState};
 ghost use Rattle.silt_standing.specs.State.{AreWhole, EngineState};
 ghost use Rattle.silt_standing.specs.Standing.{Stands};
@@ -126,12 +124,10 @@ impl Engine {
     ) -> Result<Progress, MergeError<D::Fault>>
         requires stands { Stands (D.content disk.old) self.old }
         requires none { self.old.merging ≡ None }
-        ensures works { Works D.Disk [] disk.old disk.new self.old self.new result }
+        ensures works { WorksOfMerge D.Disk disk.old disk.new self.old self.new result }
         ensures merges { IfOk result (λ progress. Merges progress self.old self.new) }
         ensures moves { IfOk result (λ progress. progress ≡ Finished → ⊥) }
         ensures quiet { IfOk result (λ progress. is_work progress ≡ false → disk.new ≡ disk.old) }
-        ensures made { MatchResult result (StepMakes D.Disk disk.old disk.new self.old self.new)
-            (λ _. MakesAtMost D.writes D.syncs (step_writes (merge_turn self.old)) (step_syncs (merge_turn self.old)) disk.old disk.new) }
         ensures err { IfErr result (MergeErrorCause D.Disk disk.old disk.new self.old self.new) }
     {
         if self.hashes.is_empty() {
@@ -154,11 +150,9 @@ impl Engine {
         requires stands { Stands (D.content disk.old) self.old }
         requires some { IsSome self.old.merging }
         requires turn { merge_turn self.old ≡ Moved }
-        ensures works { Works D.Disk [] disk.old disk.new self.old self.new result }
+        ensures works { WorksOfMerge D.Disk disk.old disk.new self.old self.new result }
         ensures merges { IfOk result (λ progress. Merges progress self.old self.new) }
         ensures moves { IfOk result (λ progress. progress ≡ Moved) }
-        ensures made { MatchResult result (StepMakes D.Disk disk.old disk.new self.old self.new)
-            (λ _. MakesAtMost D.writes D.syncs (step_writes (merge_turn self.old)) (step_syncs (merge_turn self.old)) disk.old disk.new) }
         ensures err { IfErr result (MergeErrorCause D.Disk disk.old disk.new self.old self.new) }
     {
         let Some(merge) = &mut self.merging else {
@@ -218,10 +212,9 @@ impl Engine {
     ) -> Result<(), D::Fault>
         requires stands { Stands (D.content disk.old) self.old }
         requires ends { (store : IndexedState) × (store.digest ≡ digest.0) × EndsMerge self.old body.now digests.now store }
-        ensures works { Works D.Disk [] disk.old disk.new self.old self.new result }
+        ensures works { Works D.Disk [] 3 4 disk.old disk.new self.old self.new result }
         ensures ends { OnOk result (EndsMerged self.old self.new) }
         ensures entries { OnOk result (IsTrue (D.content disk.old).honest → HasMergedEntries (D.content disk.old) (D.content disk.new) self.old self.new) }
-        ensures made { Costs D.writes D.syncs 3 4 disk.old disk.new result }
         ensures err { IfErr result (BreaksOff D.Disk disk.old disk.new self.old self.new) }
     {
         self.settle_work(disk)?;
@@ -250,10 +243,9 @@ impl Engine {
         requires sound { damaged_in self.old.merging ≡ None }
         requires unspent { self.old.manifest.current.generation < 2 ^ 63 - 1 }
         requires sealed { (before : EngineState) × SealsMerge before self.old }
-        ensures works { Works D.Disk [] disk.old disk.new self.old self.new result }
+        ensures works { Works D.Disk [] 3 4 disk.old disk.new self.old self.new result }
         ensures ends { OnOk result (EndsMerged self.old self.new) }
         ensures entries { OnOk result (IsTrue (D.content disk.old).honest → HasMergedEntries (D.content disk.old) (D.content disk.new) self.old self.new) }
-        ensures made { Costs D.writes D.syncs 3 4 disk.old disk.new result }
         ensures err { IfErr result (BreaksOff D.Disk disk.old disk.new self.old self.new) }
     {
         let Some(merge) = &self.merging else {
@@ -274,11 +266,10 @@ impl Engine {
         requires stands { Stands (D.content disk.old) self.old }
         requires turn { merge_turn self.old ≡ Finished }
         requires sound { damaged_in self.old.merging ≡ None }
-        ensures works { Works D.Disk [] disk.old disk.new self.old self.new result }
+        ensures works { Works D.Disk [] 3 4 disk.old disk.new self.old self.new result }
         ensures merges { IfOk result (λ progress. Merges progress self.old self.new) }
         ensures entries { OnOk result (IsTrue (D.content disk.old).honest → HasMergedEntries (D.content disk.old) (D.content disk.new) self.old self.new) }
         ensures finishes { IfOk result (λ progress. progress ≡ Finished) }
-        ensures made { Costs D.writes D.syncs 3 4 disk.old disk.new result }
         ensures err { IfErr result (MergeErrorCause D.Disk disk.old disk.new self.old self.new) }
     {
         let current = self.manifest.current();
@@ -312,12 +303,10 @@ impl Engine {
     ) -> Result<Progress, MergeError<D::Fault>>
         requires stands { Stands (D.content disk.old) self.old }
         requires sound { damaged_in self.old.merging ≡ None }
-        ensures works { Works D.Disk [] disk.old disk.new self.old self.new result }
+        ensures works { WorksOfMerge D.Disk disk.old disk.new self.old self.new result }
         ensures merges { IfOk result (λ progress. Merges progress self.old self.new) }
         ensures entries { IfOk result (λ progress. progress ≡ Finished → IsTrue (D.content disk.old).honest → HasMergedEntries (D.content disk.old) (D.content disk.new) self.old self.new) }
         ensures quiet { IfOk result (λ progress. is_work progress ≡ false → disk.new ≡ disk.old) }
-        ensures made { MatchResult result (StepMakes D.Disk disk.old disk.new self.old self.new)
-            (λ _. MakesAtMost D.writes D.syncs (step_writes (merge_turn self.old)) (step_syncs (merge_turn self.old)) disk.old disk.new) }
         ensures err { IfErr result (MergeErrorCause D.Disk disk.old disk.new self.old self.new) }
     {
         let Some(merge) = &self.merging else {
@@ -346,12 +335,10 @@ impl Engine {
         disk: &mut D,
     ) -> Result<Progress, MergeError<D::Fault>>
         requires stands { Stands (D.content disk.old) self.old }
-        ensures works { Works D.Disk [] disk.old disk.new self.old self.new result }
+        ensures works { WorksOfMerge D.Disk disk.old disk.new self.old self.new result }
         ensures merges { IfOk result (λ progress. Merges progress self.old self.new) }
         ensures entries { IfOk result (λ progress. progress ≡ Finished → IsTrue (D.content disk.old).honest → HasMergedEntries (D.content disk.old) (D.content disk.new) self.old self.new) }
         ensures quiet { IfOk result (λ progress. is_work progress ≡ false → disk.new ≡ disk.old) }
-        ensures made { MatchResult result (StepMakes D.Disk disk.old disk.new self.old self.new)
-            (λ _. MakesAtMost D.writes D.syncs (step_writes (merge_turn self.old)) (step_syncs (merge_turn self.old)) disk.old disk.new) }
         ensures err { IfErr result (MergeErrorCause D.Disk disk.old disk.new self.old self.new) }
         ensures stuck { (place : Place) → damaged_in self.old.merging ≡ Some place → result ≡ Err (Damaged place) }
     {

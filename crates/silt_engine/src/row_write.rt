@@ -1,13 +1,12 @@
 // A put or a delete as a whole: a row in the active log, which is frozen first if it cannot take the row.
-ghost use Rattle.std.specs.Prelude.{◌≡◌, ◌+◌, ◌*◌, ◌≤◌, [], ◌∷◌, IfOk, IfErr, OnOk, OnErr, MatchResult};
-ghost use Rattle.silt_disk.specs.Disk.{Costs, MakesAtMost};
+ghost use Rattle.std.specs.Prelude.{◌≡◌, ◌+◌, ◌*◌, ◌≤◌, [], ◌∷◌, IfOk, IfErr, OnOk, OnErr};
 ghost use Rattle.silt_event.specs.Rows.{command_of};
 ghost use Rattle.silt_frame.specs.Rows.{stored_row, puts_of};
 ghost use Rattle.silt_log.specs.Rows.{IsRowValue};
 ghost use Rattle.silt_log_store.specs.Calls.{IsFailedWrite};
 ghost use Rattle.silt_standing.specs.State.{AreWhole};
 ghost use Rattle.silt_standing.specs.Standing.{IsQuiet, Stands};
-ghost use Rattle.silt_engine.specs.Calls.{BreaksOff, Works};
+ghost use Rattle.silt_engine.specs.Calls.{BreaksOff, Works, WorksBy};
 ghost use Rattle.silt_engine.specs.Costs.{RowMakes, freeze_syncs, freeze_writes, row_waits};
 ghost use Rattle.silt_engine.specs.NextLog.{HasFrozen, IsEmptied, IsNextLog, NoNextCause, active_replaced};
 ghost use Rattle.silt_engine.specs.RowWrite.{CountsRow, JoinsActive, NeedsNext, TakeCause, TurnsFor, WriteCause, WritesKey};
@@ -56,11 +55,10 @@ impl Engine {
         requires stands { Stands (D.content disk.old) self.old }
         requires value { IsRowValue self.old.manifest.shape.value_len kind value.now }
         requires charge { self.old.charge + puts_of kind ≤ self.old.manifest.shape.sorted_capacity }
-        ensures works { Works D.Disk (command_of (stored_row kind key.now value.now) ∷ []) disk.old disk.new self.old self.new result }
+        ensures works { WorksBy D.Disk (λ _. RowMakes D.Disk disk.old disk.new self.old self.new) (command_of (stored_row kind key.now value.now) ∷ [])
+            (freeze_writes self.old) (freeze_syncs self.old) disk.old disk.new self.old self.new result }
         ensures row { OnOk result (CountsRow self.old self.new kind) }
         ensures current { OnOk result (WritesKey (D.content disk.old) (D.content disk.new) self.old self.new key.now.0 (command_of (stored_row kind key.now value.now))) }
-        ensures made { MatchResult result (λ _. RowMakes D.Disk disk.old disk.new self.old self.new)
-            (λ _. MakesAtMost D.writes D.syncs (freeze_writes self.old) (freeze_syncs self.old) disk.old disk.new) }
         ensures err { IfErr result (WriteCause D.Disk disk.old disk.new self.old self.new key.now.0) }
     {
         match self.write_active(disk, kind, key, value) {
@@ -83,9 +81,8 @@ impl Engine {
         requires stands { Stands (D.content disk.old) self.old }
         requires value { IsRowValue self.old.manifest.shape.value_len kind value.now }
         requires charge { self.old.charge + puts_of kind ≤ self.old.manifest.shape.sorted_capacity }
-        ensures works { Works D.Disk (command_of (stored_row kind key.now value.now) ∷ []) disk.old disk.new self.old self.new result }
+        ensures works { Works D.Disk (command_of (stored_row kind key.now value.now) ∷ []) 2 0 disk.old disk.new self.old self.new result }
         ensures row { OnOk result (JoinsActive (D.content disk.old) (D.content disk.new) self.old self.new kind key.now.0 (command_of (stored_row kind key.now value.now))) }
-        ensures made { Costs D.writes D.syncs 2 0 disk.old disk.new result }
         ensures err { IfErr result (TakeCause D.Disk disk.old disk.new self.old self.new key.now.0) }
         ensures first { self.old.active.log.used ≡ 0 → IfErr result IsFailedWrite }
         ensures unchanged { OnErr result (self.new ≡ self.old) }
@@ -109,10 +106,9 @@ impl Engine {
         requires value { IsRowValue self.old.manifest.shape.value_len kind value.now }
         requires charge { self.old.charge + puts_of kind ≤ self.old.manifest.shape.sorted_capacity }
         requires needs { NeedsNext (D.content disk.old) self.old key.now.0 }
-        ensures works { Works D.Disk (command_of (stored_row kind key.now value.now) ∷ []) disk.old disk.new self.old self.new result }
+        ensures works { Works D.Disk (command_of (stored_row kind key.now value.now) ∷ []) (freeze_writes self.old) (freeze_syncs self.old) disk.old disk.new self.old self.new result }
         ensures row { OnOk result (CountsRow self.old self.new kind) }
         ensures current { OnOk result (TurnsFor (D.content disk.old) (D.content disk.new) self.old self.new key.now.0 (command_of (stored_row kind key.now value.now))) }
-        ensures made { Costs D.writes D.syncs (freeze_writes self.old) (freeze_syncs self.old) disk.old disk.new result }
         ensures err { IfErr result (WriteCause D.Disk disk.old disk.new self.old self.new key.now.0) }
     {
         let next = match self.next_log(alloc) {
@@ -159,11 +155,10 @@ impl Engine {
         requires stands { Stands (D.content disk.old) self.now }
         requires quiet { IsQuiet (D.content disk.old) self.now }
         requires next { IsNextLog self.now next.old }
-        ensures works { Works D.Disk [] disk.old disk.new self.now self.now result }
+        ensures works { Works D.Disk [] 1 1 disk.old disk.new self.now self.now result }
         ensures quiet { OnOk result (IsQuiet (D.content disk.new) self.now) }
         ensures emptied { OnOk result (IsEmptied (D.content disk.new) self.now next.new) }
         ensures next { next.new ≡ next.old }
-        ensures made { Costs D.writes D.syncs 1 1 disk.old disk.new result }
         ensures err { IfErr result (BreaksOff D.Disk disk.old disk.new self.now self.now) }
     {
         next.store.prepare(disk)?;
@@ -187,9 +182,8 @@ impl Engine {
     fn freeze<D: Disk>(&mut self, disk: &mut D, mut next: NextLog) -> Result<(), D::Fault>
         requires stands { Stands (D.content disk.old) self.old }
         requires next { IsNextLog self.old next }
-        ensures works { Works D.Disk [] disk.old disk.new self.old self.new result }
+        ensures works { Works D.Disk [] (row_waits self.old + 4) (2 * row_waits self.old + 4) disk.old disk.new self.old self.new result }
         ensures frozen { OnOk result (HasFrozen next (D.content disk.new) self.old self.new) }
-        ensures made { Costs D.writes D.syncs (row_waits self.old + 4) (2 * row_waits self.old + 4) disk.old disk.new result }
         ensures err { IfErr result (BreaksOff D.Disk disk.old disk.new self.old self.new) }
     {
         self.flush(disk)?;

@@ -1,27 +1,16 @@
 -- What the calls of a store do, from what the calls of its stores in memory do.
-use Rattle.std.proofs.Common.{◌≡◌, ◌≤◌, ◌<◌, ℕ, ◌+◌, ◌%◌, ◌^◌, Bool, true, false, IsTrue, List, [], ◌++◌, length, refl, ap, sym, ◌∙◌, subst, arith, length-append}
-use Rattle.silt_disk.specs.Disk.{Content, LeavesOnly, MakesAtMost}
-use Rattle.silt_disk.specs.Layout.{device_size}
-use Rattle.silt_disk.specs.declared.disk.Disk.{Ghosts}
+use Rattle.silt_store_set.proofs.Common.{◌≡◌, ◌≤◌, ◌<◌, ℕ, ◌+◌, ◌%◌, ◌^◌, Bool, true, false, IsTrue, List, [], ◌++◌, length, refl, ap, sym, ◌∙◌, subst, arith}
+use Rattle.silt_store_set.proofs.Common.{Content, LeavesOnly, MakesAtMost, device_size, Ghosts, Command, Map, map_after, image_map, StandsFor, Advances, Breaks}
+use Rattle.silt_store_set.proofs.Common.{Remaps, SameDisk, Stands, base_map, full_image, waiting_commands, EngineState, meaning, Event, Put, Delete, Swap}
+use Rattle.silt_store_set.proofs.Common.{Flush, Get, Convert, Merge, Refusal, Failed, Reply, Refused, Step, Counts, accepted_command, is_failed, BasisState}
+use Rattle.silt_store_set.proofs.Common.{basis_kept, basis_of, IsCore, CoreState, map_of, Cause, Durable, Does, MadeFor, convert_work, is_convert, is_merge}
+use Rattle.silt_store_set.proofs.Common.{merge_work, most_syncs, most_writes}
+use Rattle.std.proofs.Common.{length-append}
 use Rattle.silt_disk.proofs.Costs.{most_none}
-use Rattle.silt_event.specs.Commands.{Command, Map, map_after}
-use Rattle.silt_image.specs.Meaning.{image_map, StandsFor}
-use Rattle.silt_engine.specs.Calls.{Advances, Breaks, HasBegun, Remaps}
-use Rattle.silt_standing.specs.Standing.{SameDisk}
+use Rattle.silt_engine.specs.Calls.{HoldsPrefix}
 use Rattle.silt_engine.specs.Laws.{IsGoodWith}
-use Rattle.silt_standing.specs.Standing.{Stands, base_map, full_image, waiting_commands}
-use Rattle.silt_standing.specs.State.{EngineState}
-use Rattle.silt_engine.proofs.Meaning.{meaning}
-use Rattle.silt_event.specs.declared.event.Event.{Event}
-use Rattle.silt_event.specs.declared.event.Event.TheVariants.{Put, Delete, Swap, Flush, Get, Convert, Merge}
-use Rattle.silt_event.specs.declared.refusal.Refusal.{Refusal}
-use Rattle.silt_event.specs.declared.refusal.Refusal.TheVariants.{Device, Failed}
-use Rattle.silt_event.specs.declared.reply.Reply.{Reply}
-use Rattle.silt_event.specs.declared.reply.Reply.TheVariants.{Refused}
-use Rattle.silt_event.specs.Events.{Step, Counts, accepted_command, is_failed}
-use Rattle.silt_store_set.specs.Basis.{BasisState, basis_kept, basis_of}
-use Rattle.silt_store_set.specs.CoreInvariant.{IsCore}
-use Rattle.silt_store_set.specs.CoreState.{CoreState, map_of, Cause, Durable, Does, MadeFor, convert_work, is_convert, is_finished, is_merge, is_refused, merge_work, most_syncs, most_writes}
+use Rattle.silt_event.specs.declared.refusal.Refusal.TheVariants.{Device}
+use Rattle.silt_store_set.specs.CoreState.{is_finished, is_refused}
 use Rattle.silt_store_set.proofs.Maps.{append_nil, map_after-append}
 
 -- what contracts see of a store with these fields that is not failed
@@ -73,7 +62,7 @@ stands_seen facts disk stores count stands = record {
 -- what is true of a store at every moment, as contracts see it
 pub record Endures {D F : Type 0} (facts : Ghosts D F) (core : CoreState D) : Type 0 where
   pub safe : core.failed ≡ false → LeavesOnly (facts.content core.disk) (StandsFor core.shape core.base)
-  pub begun : LeavesOnly (facts.content core.disk) (HasBegun core.shape core.base core.waiting)
+  pub begun : LeavesOnly (facts.content core.disk) (HoldsPrefix core.shape core.base core.waiting)
   pub has_map : IsTrue (facts.content core.disk).honest → map_of core ≡ map_after core.base core.waiting
   pub few : IsTrue (facts.content core.disk).honest → length core.waiting ≤ core.count
 
@@ -123,8 +112,8 @@ core_broke old new stores after count failed basis holds working same shape brea
       breaks = λ _. record {
         begun = record {
           each = λ h image left.
-              subst (λ s. HasBegun s (image_map old.shown) (waiting_commands old stores) image) (sym shape)
-              (subst (λ m. HasBegun stores.manifest.shape m (waiting_commands old stores) image) (sym (means.shown (back h))) (breaks.each h image left));
+              subst (λ s. HoldsPrefix s (image_map old.shown) (waiting_commands old stores) image) (sym shape)
+              (subst (λ m. HoldsPrefix stores.manifest.shape m (waiting_commands old stores) image) (sym (means.shown (back h))) (breaks.each h image left));
         };
         has_map = λ h. maps (back h) ∙ means.full (back h) ∙ ap (λ m. map_after m (waiting_commands old stores)) (sym (means.shown (back h)));
         few = λ h. holds.few working (back h);
@@ -327,7 +316,7 @@ module _ {D F : Type 0} (facts : Ghosts D F) where
       safe = λ f. absurd (cc);
       crash = λ _ _. record {
         each = λ h image left.
-            subst (λ m. HasBegun stores.manifest.shape m (waiting_commands (facts.content disk) stores) image)
+            subst (λ m. HoldsPrefix stores.manifest.shape m (waiting_commands (facts.content disk) stores) image)
             (sym ((meaning (facts.content disk) stores stands).shown (back h))) (breaks.each h image left);
       };
       keeps_basis = λ _ _. (refl, refl);

@@ -1,24 +1,13 @@
 -- What a step of conversion does, from what the same step of the stores in memory does.
-use Rattle.std.proofs.Common.{◌≡◌, ℕ, ◌+◌, ◌*◌, ◌%◌, ◌^◌, inl, inr, false, true, IsTrue, [], length, Option, Some, None, IfSome, refl, ap, sym, ◌∙◌, subst}
-use Rattle.std.proofs.lemmas.List.{length-map}
-use Rattle.silt_disk.specs.Disk.{GaveAny, Makes, MakesAtMost}
-use Rattle.silt_disk.proofs.Costs.{none_made}
-use Rattle.silt_disk.specs.declared.disk.Disk.{Ghosts}
-use Rattle.silt_conversion.specs.Conversion.{ConversionState}
-use Rattle.silt_hash_store.specs.Slots.{hash_rows}
-use Rattle.silt_engine.specs.Calls.{Advances, Breaks, IsLastGeneration, Remaps}
-use Rattle.silt_standing.specs.Standing.{SameDisk}
-use Rattle.silt_engine.specs.Costs.{step_syncs, step_writes}
-use Rattle.silt_engine.specs.Conversion.{AreConverted, Converts, Finishes, HasConvertedRows, IsNextStep, MovesOn, convert_turn, is_work, oldest_rows, progress_due, written_by}
-use Rattle.silt_standing.specs.Standing.{Stands, full_image}
-use Rattle.silt_standing.specs.State.{EngineState, hash_region_of, region_of}
+use Rattle.silt_store_set.proofs.Common.{◌≡◌, ℕ, ◌+◌, ◌*◌, ◌%◌, ◌^◌, inl, inr, false, true, IsTrue, [], length, Option, Some, None, IfSome, refl, ap, sym, ◌∙◌}
+use Rattle.silt_store_set.proofs.Common.{subst, length-map, GaveAny, Makes, MakesAtMost, none_made, Ghosts, ConversionState, hash_rows, Advances, Breaks}
+use Rattle.silt_store_set.proofs.Common.{IsLastGeneration, Remaps, SameDisk, step_syncs, step_writes, convert_turn, is_work, progress_due, Stands, full_image}
+use Rattle.silt_store_set.proofs.Common.{EngineState, hash_region_of, region_of, Idle, Waiting, Moved, Finished, Convert, Spent, Progress, Refused, basis_of}
+use Rattle.silt_store_set.proofs.Common.{CoreState, ConvertGoesOn, Does, MadeFor, convert_due, convert_work, written_of}
+use Rattle.silt_engine.specs.Conversion.{AreConverted, Converts, Finishes, HasConvertedRows, IsNextStep, MovesOn, oldest_rows, written_by}
 use Rattle.silt_event.specs.declared.progress.Progress.{Progress as ProgressOf}
-use Rattle.silt_event.specs.declared.progress.Progress.TheVariants.{Idle, Waiting, Moved, Finished}
-use Rattle.silt_event.specs.declared.event.Event.TheVariants.{Convert}
-use Rattle.silt_event.specs.declared.refusal.Refusal.TheVariants.{Device, NoMemory, Spent}
-use Rattle.silt_event.specs.declared.reply.Reply.TheVariants.{Progress, Refused}
-use Rattle.silt_store_set.specs.Basis.{basis_of}
-use Rattle.silt_store_set.specs.CoreState.{CoreState, ConvertGoesOn, ConvertsTo, Does, MadeFor, convert_due, convert_work, written_of}
+use Rattle.silt_event.specs.declared.refusal.Refusal.TheVariants.{Device, NoMemory}
+use Rattle.silt_store_set.specs.CoreState.{ConvertsTo}
 use Rattle.silt_store_set.proofs.Calls.{seen, seen_failed, advanced, answered, broke, refused}
 
 -- a conversion in memory and the contracts' view of it have written the same number of slots

@@ -1,18 +1,14 @@
 -- What the next step of merging reads, in the words of the manifest record.
-use Rattle.std.proofs.Common.{◌≡◌, ◌≢◌, ℕ, ◌+◌, ◌-◌, ◌*◌, ◌/◌, ◌<◌, ◌≤◌, nat_lt, if◌then◌else◌, Bool, true, false, List, drop, get_or, length, map, Option}
-use Rattle.std.proofs.Common.{Some, None, IfSome, inl, inr, refl, ap, sym, ◌∙◌, subst, arith}
-use Rattle.std.proofs.lemmas.Bool.{cases_lt, le-ltb, lt-ltb}
-use Rattle.std.proofs.lemmas.List.{drop-map, length-map}
+use Rattle.silt_store_set.proofs.Common.{◌≡◌, ◌≢◌, ℕ, ◌+◌, ◌-◌, ◌*◌, ◌<◌, ◌≤◌, nat_lt, if◌then◌else◌, Bool, true, false, List, drop, get_or, length, map}
+use Rattle.silt_store_set.proofs.Common.{Option, Some, None, IfSome, inl, inr, refl, ap, sym, ◌∙◌, subst, arith, cases_lt, length-map, Shape, Place, regions_of}
+use Rattle.silt_store_set.proofs.Common.{MergeState, oldest_stores, steps_of, place_read, IsMerging, EngineState, hash_region_of, merge_work, place_due}
+use Rattle.std.proofs.Common.{◌/◌}
+use Rattle.std.proofs.lemmas.Bool.{le-ltb, lt-ltb}
+use Rattle.std.proofs.lemmas.List.{drop-map}
 use Rattle.std.proofs.lemmas.Nat.{div-mul-add, mul-add-lt}
 use Rattle.std.proofs.Math.Nat.{mul_comm}
-use Rattle.silt_disk.specs.Layout.{Shape}
-use Rattle.silt_event.specs.declared.place.Place.{Place}
 use Rattle.silt_event.specs.declared.place.Place.TheVariants.{HashDigest, SortedDigest}
-use Rattle.silt_merge.specs.Rows.{regions_of}
-use Rattle.silt_merge.specs.State.{MergeState, oldest_stores, steps_of}
-use Rattle.silt_engine.specs.Merge.{place_read}
-use Rattle.silt_standing.specs.State.{AreWhole, IsMerging, EngineState, hash_region_of}
-use Rattle.silt_store_set.specs.CoreState.{merge_work, place_due}
+use Rattle.silt_standing.specs.State.{AreWhole}
 
 -- a slot before the end of the stores is a number below that of all slots
 pub slot_below : (store stores slot slots : ℕ) → store < stores → slot < slots → store * slots + slot < stores * slots

@@ -1,13 +1,10 @@
 -- The digests in memory, and the base, are those of the stores that are shown.
-use Rattle.std.proofs.Common.{◌≡◌, IsTrue, Some, sym}
-use Rattle.silt_disk.specs.Disk.{Content}
-use Rattle.silt_engine.proofs.Meaning.{meaning}
+use Rattle.silt_store_set.proofs.Common.{◌≡◌, IsTrue, Some, sym, Content, meaning, image_map, Stands, EngineState}
 use Rattle.silt_engine.proofs.Said.{frozen_said}
 use Rattle.silt_engine.specs.Digests.{own_digests}
 use Rattle.silt_event.specs.Rows.{map_of_rows}
-use Rattle.silt_image.specs.Meaning.{AreDigestsOf, image_map, rows_of, with_new_log}
-use Rattle.silt_standing.specs.Standing.{Stands, base_map, shown_stores}
-use Rattle.silt_standing.specs.State.{EngineState}
+use Rattle.silt_image.specs.Meaning.{AreDigestsOf, rows_of, with_new_log}
+use Rattle.silt_standing.specs.Standing.{base_map, shown_stores}
 
 -- those of the stores with any new log are, and a log has no digest
 pub own_said : (content : Content) (s : EngineState) → Stands content s → IsTrue content.honest → AreDigestsOf (Some (own_digests s)) (shown_stores content s)

@@ -1,10 +1,6 @@
 -- A store that failed after an acknowledged flush.
-use Rattle.std.proofs.Common.{◌≡◌, ℕ, Bool, true, false, IsTrue, List, [], ◌∷◌, ◌++◌, refl, ap, sym, ◌∙◌}
-use Rattle.silt_disk.specs.declared.disk.Disk.{Ghosts}
-use Rattle.silt_event.specs.Commands.{Command, map_after}
-use Rattle.silt_event.specs.declared.event.Event.TheVariants.{Flush}
-use Rattle.silt_event.specs.declared.reply.Reply.TheVariants.{Acknowledged}
-use Rattle.silt_store_set.specs.CoreState.{CoreState, Does}
+use Rattle.silt_store_set.proofs.Common.{◌≡◌, ℕ, Bool, true, false, IsTrue, List, [], ◌∷◌, ◌++◌, refl, ap, sym, ◌∙◌, Ghosts, Command, map_after, Flush}
+use Rattle.silt_store_set.proofs.Common.{Acknowledged, CoreState, Does}
 use Rattle.silt_store_set.specs.FailedLaw.{FailedLaw}
 
 -- a beginning of nothing is nothing

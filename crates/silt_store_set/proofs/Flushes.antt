@@ -1,18 +1,9 @@
 -- What a flush does.
-use Rattle.std.proofs.Common.{◌≡◌, ℕ, ◌+◌, ◌*◌, ◌%◌, ◌^◌, [], refl, ap, subst, ◌∙◌}
-use Rattle.silt_disk.specs.Disk.{GaveAny}
-use Rattle.silt_disk.specs.declared.disk.Disk.{Ghosts}
-use Rattle.silt_engine.specs.Calls.{Advances, Breaks, Remaps}
+use Rattle.silt_store_set.proofs.Common.{◌≡◌, ℕ, ◌+◌, ◌*◌, ◌%◌, ◌^◌, [], refl, ap, subst, ◌∙◌, GaveAny, Ghosts, Advances, Breaks, Remaps, SameDisk, Stands}
+use Rattle.silt_store_set.proofs.Common.{waiting_commands, EngineState, Flush, Acknowledged, Refused, basis_of, Makes, MakesAtMost, Does, some_wait}
 use Rattle.silt_engine.specs.Costs.{row_waits}
-use Rattle.silt_standing.specs.Standing.{IsQuiet, SameDisk}
-use Rattle.silt_standing.specs.Standing.{Stands, waiting_commands}
-use Rattle.silt_standing.specs.State.{EngineState}
-use Rattle.silt_event.specs.declared.event.Event.TheVariants.{Flush}
+use Rattle.silt_standing.specs.Standing.{IsQuiet}
 use Rattle.silt_event.specs.declared.refusal.Refusal.TheVariants.{Device}
-use Rattle.silt_event.specs.declared.reply.Reply.TheVariants.{Acknowledged, Refused}
-use Rattle.silt_store_set.specs.Basis.{basis_of}
-use Rattle.silt_disk.specs.Disk.{Makes, MakesAtMost}
-use Rattle.silt_store_set.specs.CoreState.{Does, some_wait}
 use Rattle.silt_store_set.proofs.Waits.{all_settled, waits_same}
 use Rattle.silt_store_set.proofs.Calls.{seen, seen_failed, advanced, broke}
 

@@ -1,32 +1,28 @@
 -- If a merge is out of memory, the slot that it gathers next has the first row of a key, or the key that it decides next has a value.
-use Rattle.std.proofs.Common.{◌≡◌, ℕ, zero, suc, ◌+◌, ◌-◌, ◌*◌, ◌<◌, ◌≤◌, true, IsTrue, cond, List, [], ◌∷◌, ◌++◌, drop, filter, flat_map, length, map, take}
-use Rattle.std.proofs.Common.{get_or, slice_get, Option, Some, None, IsSomeAnd, option_map, refl, sym, subst, ap, ◌∙◌, arith, append_assoc, suc-mul}
+use Rattle.silt_store_set.proofs.Common.{◌≡◌, ℕ, zero, suc, ◌+◌, ◌-◌, ◌*◌, ◌<◌, ◌≤◌, true, IsTrue, cond, List, [], ◌∷◌, ◌++◌, drop, length, map, take, get_or}
+use Rattle.silt_store_set.proofs.Common.{Option, Some, None, IsSomeAnd, refl, sym, subst, ap, ◌∙◌, arith, append_assoc, length-map, Content, Shape, StoredRow}
+use Rattle.silt_store_set.proofs.Common.{hash_rows, all_rows, Body, regions_of, MergeState, oldest_stores, steps_of, GathersRow, TakesKey, full_stores}
+use Rattle.silt_store_set.proofs.Common.{merge_sources, HasGathered, Stands, IsMerging, EngineState, sources_full, taken_sound}
+use Rattle.std.proofs.Common.{filter, flat_map}
+use Rattle.std.proofs.Common.{slice_get, option_map, suc-mul}
 use Rattle.std.specs.Option.{option_or}
-use Rattle.std.proofs.lemmas.List.{length-append, length-map, take-append-drop}
+use Rattle.std.proofs.lemmas.List.{length-append, take-append-drop}
 use Rattle.std.proofs.lemmas.List.Elements.{filter-append}
 use Rattle.std.proofs.lemmas.Option.{slice_get-get_or}
 use Rattle.std.proofs.Math.Seq.{get_or-append_seam, take-append_seam}
-use Rattle.silt_disk.specs.Disk.{Content}
-use Rattle.silt_disk.specs.Layout.{Shape}
 use Rattle.silt_event.specs.Rows.{newest_row}
-use Rattle.silt_frame.specs.Rows.{StoredRow, has_known_kind, is_put_row}
-use Rattle.silt_hash_store.specs.Slots.{hash_part, hash_rows, rows_before, slot_row}
+use Rattle.silt_frame.specs.Rows.{has_known_kind, is_put_row}
+use Rattle.silt_hash_store.specs.Slots.{hash_part, rows_before, slot_row}
 use Rattle.silt_hash_store.specs.State.{HashState}
 use Rattle.silt_hash_store.proofs.Slotting.{all_before, before_count, before_more, before_taken}
 use Rattle.silt_image.specs.Meaning.{with_log_rows}
 use Rattle.silt_image.specs.Stores.{Stores, stores_named}
-use Rattle.silt_log.specs.State.{all_rows}
 use Rattle.silt_log.specs.Parts.{known_rows, part_rows}
-use Rattle.silt_manifest.specs.declared.body.Body.{Body}
 use Rattle.silt_merge.specs.Merging.{IsMergedIn, decided_rows, gathered_rows, source_row}
-use Rattle.silt_merge.specs.Rows.{has_row_with, newest_rows, regions_of, rows_of_hashes}
-use Rattle.silt_merge.specs.State.{MergeState, oldest_stores, source_at, steps_of}
-use Rattle.silt_merge.specs.Steps.{GathersRow, TakesKey}
+use Rattle.silt_merge.specs.Rows.{has_row_with, newest_rows, rows_of_hashes}
+use Rattle.silt_merge.specs.State.{source_at}
 use Rattle.silt_merge.proofs.Newest.{newest_append}
-use Rattle.silt_engine.specs.Merge.{full_stores, merge_sources}
-use Rattle.silt_standing.specs.Standing.{HasGathered, Stands}
-use Rattle.silt_standing.specs.State.{IsMerging, EngineState}
-use Rattle.silt_engine.proofs.MergeDone.{full_is, sorted_shape, sources_full, taken_sound}
+use Rattle.silt_engine.proofs.MergeDone.{full_is, sorted_shape}
 use Rattle.silt_engine.proofs.MergeStores.{taken_named}
 use Rattle.silt_store_set.specs.CoreState.{HasNewKey}
 

@@ -1,24 +1,12 @@
 -- What a get returns.
-use Rattle.std.proofs.Common.{◌≡◌, ℕ, Bool, true, false, not, IsTrue, List, Option, Some, None, Ok, refl, ap, sym, ◌∙◌}
-use Rattle.std.specs.FinMap.{get}
-use Rattle.silt_disk.specs.Disk.{GaveAny}
-use Rattle.silt_disk.specs.declared.disk.Disk.{Ghosts}
-use Rattle.silt_frame.specs.declared.key.Key.{Key}
-use Rattle.silt_event.specs.Commands.{Map}
-use Rattle.silt_image.specs.Meaning.{image_map}
-use Rattle.silt_standing.specs.Standing.{Stands, base_map, current_map, full_image, waiting_commands}
-use Rattle.silt_standing.specs.State.{EngineState}
+use Rattle.silt_store_set.proofs.Common.{◌≡◌, ℕ, Bool, true, false, IsTrue, List, Option, Some, None, Ok, refl, ap, sym, ◌∙◌, get, GaveAny, Ghosts, Key, Map}
+use Rattle.silt_store_set.proofs.Common.{image_map, Stands, base_map, current_map, full_image, waiting_commands, EngineState, meaning, Step, Get, Refusal}
+use Rattle.silt_store_set.proofs.Common.{Found, Absent, Refused, Does, none_made}
+use Rattle.std.proofs.Common.{not}
 use Rattle.silt_engine.specs.Lookup.{changes_key}
-use Rattle.silt_engine.proofs.Meaning.{meaning}
 use Rattle.silt_engine.proofs.Waits.{others_stay}
-use Rattle.silt_event.specs.Events.{Step}
-use Rattle.silt_event.specs.declared.event.Event.TheVariants.{Get}
-use Rattle.silt_event.specs.declared.refusal.Refusal.{Refusal}
 use Rattle.silt_event.specs.declared.refusal.Refusal.TheVariants.{Device, NoMemory}
-use Rattle.silt_event.specs.declared.reply.Reply.TheVariants.{Found, Absent, Refused}
-use Rattle.silt_store_set.specs.CoreState.{Does}
 use Rattle.silt_store_set.specs.Replies.{ReadCause, get_reply}
-use Rattle.silt_disk.proofs.Costs.{none_made}
 use Rattle.silt_store_set.proofs.Calls.{seen, answered, refused}
 
 -- a test that is not passed

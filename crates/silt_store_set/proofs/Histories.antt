@@ -1,25 +1,12 @@
 -- Lives, from their openings, runs and crashes.
-use Rattle.std.proofs.Common.{◌≡◌, ℕ, ◌+◌, inl, inr, false, IsTrue, List, [], ◌∷◌, ◌++◌, length, Vec, refl, ap, sym, ◌∙◌, subst, arith}
-use Rattle.std.specs.declared.alloc.Global.{Global}
-use Rattle.silt_disk.specs.Disk.{Content, Left, LeavesOnly, Restarts}
-use Rattle.silt_disk.specs.Layout.{Shape}
+use Rattle.silt_store_set.proofs.Common.{◌≡◌, ℕ, ◌+◌, inl, inr, false, IsTrue, List, [], ◌∷◌, ◌++◌, length, Vec, refl, ap, sym, ◌∙◌, subst, arith, Global}
+use Rattle.silt_store_set.proofs.Common.{Content, Left, LeavesOnly, Restarts, Shape, Event, LifeReply, NotOpened, Opened, Refusal, Reply, Command, Map}
+use Rattle.silt_store_set.proofs.Common.{map_after, Legal, accepted_commands, LivesHistory, CoreState, map_of, Runs, Opens, IsSafe, Ghosts, StandsFor, SameDisk}
+use Rattle.silt_store_set.proofs.Common.{LeavesNoOther, OpeningCause}
 use Rattle.silt_disk.proofs.Images.{shown_left, left_at_rest}
-use Rattle.silt_event.specs.declared.event.Event.{Event}
-use Rattle.silt_event.specs.declared.reply.LifeReply.{LifeReply}
-use Rattle.silt_event.specs.declared.reply.LifeReply.TheVariants.{NotOpened, Opened}
-use Rattle.silt_event.specs.declared.refusal.Refusal.{Refusal}
 use Rattle.silt_event.specs.declared.refusal.Refusal.TheVariants.{NoMemory}
-use Rattle.silt_event.specs.declared.reply.Reply.{Reply}
-use Rattle.silt_event.specs.Commands.{Command, Map, map_after}
-use Rattle.silt_event.specs.Events.{Legal, accepted_commands, LifeHistory, LivesHistory}
-use Rattle.silt_store_set.specs.CoreState.{CoreState, map_of, Runs, Opens}
-use Rattle.silt_store_set.specs.CoreInvariant.{IsSafe}
+use Rattle.silt_event.specs.Events.{LifeHistory}
 use Rattle.silt_disk.specs.Header.{shape_of}
-use Rattle.silt_disk.specs.declared.disk.Disk.{Ghosts}
-use Rattle.silt_image.specs.Meaning.{StandsFor}
-use Rattle.silt_standing.specs.Standing.{SameDisk}
-use Rattle.silt_recovery.specs.Opening.{LeavesNoOther}
-use Rattle.silt_store_set.specs.Opening.{OpeningCause}
 use Rattle.silt_store_set.proofs.Keeps.{keeps_runs, nines}
 use Rattle.silt_store_set.proofs.Openings.{opening_refused}
 use Rattle.silt_store_set.proofs.Runs.{legal_runs}

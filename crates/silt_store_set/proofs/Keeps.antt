@@ -1,17 +1,12 @@
 -- What a crash keeps of a run.
-use Rattle.std.proofs.Common.{◌≡◌, ◌≤◌, ℕ, ◌+◌, ◌||◌, Bool, true, false, IsTrue, List, [], ◌∷◌, ◌++◌, length, Some, None, refl, ap, sym, ◌∙◌, subst, arith, append_assoc, length-append}
-use Rattle.silt_disk.specs.Disk.{Left, LeavesOnly}
-use Rattle.silt_disk.specs.Layout.{Shape}
-use Rattle.silt_disk.specs.declared.disk.Disk.{Ghosts}
-use Rattle.silt_image.specs.Meaning.{StandsFor}
-use Rattle.silt_event.specs.declared.event.Event.{Event}
-use Rattle.silt_event.specs.declared.event.Event.TheVariants.{Put, Delete, Swap, Flush, Get, Convert, Merge}
-use Rattle.silt_event.specs.declared.refusal.Refusal.TheVariants.{Failed}
-use Rattle.silt_event.specs.declared.reply.Reply.{Reply}
-use Rattle.silt_event.specs.declared.reply.Reply.TheVariants.{Accepted, Acknowledged, Found, Absent, Differs, Progress, Refused, Unsettled, NotServed}
-use Rattle.silt_event.specs.Commands.{Command, Map, map_after}
-use Rattle.silt_event.specs.Events.{Counts, accepted_command, accepted_commands, acknowledged_by, acknowledged_after, is_fault, is_failed, FailsAfterFault}
-use Rattle.silt_store_set.specs.CoreState.{CoreState, Cause, Does, Runs, Durable, StandsKept}
+use Rattle.silt_store_set.proofs.Common.{◌≡◌, ◌≤◌, ℕ, ◌+◌, ◌||◌, Bool, true, false, IsTrue, List, [], ◌∷◌, ◌++◌, length, Some, None, refl, ap, sym, ◌∙◌, subst}
+use Rattle.silt_store_set.proofs.Common.{arith, append_assoc, Left, LeavesOnly, Shape, Ghosts, StandsFor, Event, Put, Delete, Swap, Flush, Get, Convert, Merge}
+use Rattle.silt_store_set.proofs.Common.{Failed, Reply, Accepted, Acknowledged, Found, Absent, Differs, Progress, Refused, Command, Map, map_after, Counts}
+use Rattle.silt_store_set.proofs.Common.{accepted_command, accepted_commands, is_failed, CoreState, Cause, Does, Runs, Durable}
+use Rattle.std.proofs.Common.{length-append}
+use Rattle.silt_event.specs.declared.reply.Reply.TheVariants.{Unsettled, NotServed}
+use Rattle.silt_event.specs.Events.{acknowledged_by, acknowledged_after, is_fault, FailsAfterFault}
+use Rattle.silt_store_set.specs.CoreState.{StandsKept}
 use Rattle.silt_store_set.proofs.Maps.{map_after-append, append_nil}
 use Rattle.silt_store_set.proofs.Calls.{none_refused}
 

@@ -1,19 +1,8 @@
 -- What lives do, one after the other.
-use Rattle.std.proofs.Common.{◌≡◌, ◌≢◌, ℕ, inl, inr, List, [], ◌∷◌, ◌++◌, Vec, refl, subst}
-use Rattle.std.specs.declared.alloc.Global.{Global}
-use Rattle.silt_disk.specs.Disk.{Restarts}
-use Rattle.silt_disk.specs.declared.disk.Disk.{Ghosts}
-use Rattle.silt_recovery.specs.Opening.{LeavesNoOther}
-use Rattle.silt_standing.specs.Standing.{SameDisk}
-use Rattle.silt_event.specs.declared.event.Event.{Event}
-use Rattle.silt_event.specs.declared.reply.LifeReply.{LifeReply}
-use Rattle.silt_event.specs.declared.reply.LifeReply.TheVariants.{NotOpened, Opened}
-use Rattle.silt_event.specs.declared.refusal.Refusal.{Refusal}
+use Rattle.silt_store_set.proofs.Common.{◌≡◌, ◌≢◌, ℕ, inl, inr, List, [], ◌∷◌, ◌++◌, Vec, refl, subst, Global, Restarts, Ghosts, LeavesNoOther, SameDisk, Event}
+use Rattle.silt_store_set.proofs.Common.{LifeReply, NotOpened, Opened, Refusal, Reply, CoreState, Opens, Runs, OpeningCause}
 use Rattle.silt_event.specs.declared.refusal.Refusal.TheVariants.{NotFormatted, BadGeometry, Damaged, Crowded, Device, NoMemory}
-use Rattle.silt_event.specs.declared.reply.Reply.{Reply}
-use Rattle.silt_store_set.specs.CoreState.{CoreState, Opens, Runs}
 use Rattle.silt_store_set.specs.Living.{LifeEnds, LifeRun, LivesRun}
-use Rattle.silt_store_set.specs.Opening.{OpeningCause}
 
 module _ {D F : Type 0} (facts : Ghosts D F) (value_len : ℕ) where
   -- ---- one life

@@ -1,16 +1,12 @@
 -- Whether a step of merging may be done, by what is in memory.
-use Rattle.std.proofs.Common.{◌≡◌, ℕ, Bool, true, false, ◌&&◌, ◌||◌, Option, Some, None, length, refl, ap, sym, ◌∙◌}
-use Rattle.std.specs.Prelude.{is_some, nat_le}
-use Rattle.std.proofs.lemmas.List.{length-map}
-use Rattle.silt_disk.specs.declared.disk.Disk.{Ghosts}
+use Rattle.silt_store_set.proofs.Common.{◌≡◌, ℕ, Bool, true, false, ◌||◌, Option, Some, None, length, refl, ap, sym, ◌∙◌, is_some, length-map, Ghosts}
+use Rattle.silt_store_set.proofs.Common.{convert_turn, MergeState, Stands, EngineState, hash_region_of, CoreState, convert_due, awaits_region, merge_work}
+use Rattle.silt_store_set.proofs.Common.{BasisState}
+use Rattle.std.proofs.Common.{◌&&◌}
+use Rattle.std.specs.Prelude.{nat_le}
 use Rattle.silt_event.specs.declared.progress.Progress.{Progress as ProgressOf}
-use Rattle.silt_engine.specs.Conversion.{convert_turn}
-use Rattle.silt_merge.specs.State.{MergeState}
-use Rattle.silt_standing.specs.Standing.{Stands}
-use Rattle.silt_standing.specs.State.{EngineState, hash_region_of}
-use Rattle.silt_store_set.specs.CoreState.{CoreState, convert_due, awaits_region, may_merge, merge_work, wants_merge}
+use Rattle.silt_store_set.specs.CoreState.{may_merge, wants_merge}
 use Rattle.silt_store_set.proofs.Calls.{seen, seen_core}
-use Rattle.silt_store_set.specs.Basis.{BasisState}
 use Rattle.silt_store_set.proofs.Converts.{due_same}
 
 -- the contracts see a merge exactly if one is in progress

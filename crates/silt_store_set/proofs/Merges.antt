@@ -1,34 +1,24 @@
 -- What a step of merging does, from what the same step of the stores in memory does.
-use Rattle.std.proofs.Common.{◌≡◌, ◌<◌, ℕ, ◌+◌, ◌-◌, ◌*◌, ◌%◌, ◌^◌, ◌==◌, ◌⊎◌, inl, inr, Bool, false, true, IsTrue, IsSomeAnd, [], length, Option, Some, None, IfSome, refl, ap, sym, ◌∙◌, subst, arith}
+use Rattle.silt_store_set.proofs.Common.{◌≡◌, ◌<◌, ℕ, ◌+◌, ◌-◌, ◌*◌, ◌%◌, ◌^◌, ◌==◌, inl, inr, Bool, false, true, IsTrue, IsSomeAnd, [], length, Option, Some}
+use Rattle.silt_store_set.proofs.Common.{None, IfSome, refl, ap, sym, ◌∙◌, subst, arith, eqb-true, length-map, GaveAny, MakesAtMost, none_made, Shape, Ghosts}
+use Rattle.silt_store_set.proofs.Common.{Merge, Idle, Waiting, Moved, Finished, Place, Spent, Progress, Refused, key_count, MergeState, oldest_stores, steps_of}
+use Rattle.silt_store_set.proofs.Common.{GathersRow, TakesKey, Advances, Breaks, IsLastGeneration, Remaps, SameDisk, is_work, step_syncs, step_writes}
+use Rattle.silt_store_set.proofs.Common.{damaged_in, full_stores, merge_sources, place_read, HasGathered, Stands, IsMerging, EngineState, hash_region_of}
+use Rattle.silt_store_set.proofs.Common.{meaning, basis_of, CoreState, Does, MadeFor, entries_written, merge_work, place_due}
+use Rattle.std.proofs.Common.{◌⊎◌}
 use Rattle.std.specs.Option.{option_map}
-use Rattle.std.proofs.lemmas.Bool.{cases_Bool, eqb-true, eq-eqb}
-use Rattle.std.proofs.lemmas.List.{length-map}
-use Rattle.silt_disk.specs.Disk.{GaveAny, MakesAtMost}
-use Rattle.silt_disk.proofs.Costs.{most_more, none_made}
-use Rattle.silt_disk.specs.Layout.{Shape}
-use Rattle.silt_disk.specs.declared.disk.Disk.{Ghosts}
-use Rattle.silt_event.specs.declared.event.Event.TheVariants.{Merge}
+use Rattle.std.proofs.lemmas.Bool.{cases_Bool, eq-eqb}
+use Rattle.silt_disk.proofs.Costs.{most_more}
 use Rattle.silt_event.specs.declared.progress.Progress.{Progress as ProgressOf}
-use Rattle.silt_event.specs.declared.progress.Progress.TheVariants.{Idle, Waiting, Moved, Finished}
-use Rattle.silt_event.specs.declared.place.Place.{Place}
-use Rattle.silt_event.specs.declared.refusal.Refusal.TheVariants.{Damaged, Device, NoMemory, Spent}
-use Rattle.silt_event.specs.declared.reply.Reply.TheVariants.{Progress, Refused}
-use Rattle.silt_merge.specs.Rows.{key_count, merged_rows}
-use Rattle.silt_merge.specs.State.{MergeState, is_done, oldest_stores, steps_of}
-use Rattle.silt_merge.specs.Steps.{GathersRow, TakesKey, TakesMemory}
-use Rattle.silt_engine.specs.Calls.{Advances, Breaks, IsLastGeneration, Remaps}
-use Rattle.silt_standing.specs.Standing.{SameDisk}
-use Rattle.silt_engine.specs.Conversion.{is_work}
-use Rattle.silt_engine.specs.Costs.{step_syncs, step_writes}
+use Rattle.silt_event.specs.declared.refusal.Refusal.TheVariants.{Damaged, Device, NoMemory}
+use Rattle.silt_merge.specs.Rows.{merged_rows}
+use Rattle.silt_merge.specs.State.{is_done}
+use Rattle.silt_merge.specs.Steps.{TakesMemory}
 use Rattle.silt_engine.specs.Costs as engine
-use Rattle.silt_engine.specs.Merge.{EndsMerged, damaged_in, HasMergedEntries, IsDoneBySteps, IsNextMerge, MayLackMemory, Merges, MergesOn, full_stores}
-use Rattle.silt_engine.specs.Merge.{merge_progress, merge_sources, merge_turn, merged_body, place_read}
-use Rattle.silt_standing.specs.Standing.{HasGathered, Stands}
-use Rattle.silt_standing.specs.State.{IsMerging, EngineState, hash_region_of}
-use Rattle.silt_engine.proofs.Meaning.{meaning}
-use Rattle.silt_store_set.specs.Basis.{basis_of}
-use Rattle.silt_store_set.specs.CoreState.{CoreState, DecidesValue, Does, GathersNewKey, GathersNext, IsMergeDue, MadeFor, MergeGoesOn, MergeLacksMemory}
-use Rattle.silt_store_set.specs.CoreState.{MayFind, entries_written, found_damaged, has_decided, merge_due, merge_work, place_due}
+use Rattle.silt_engine.specs.Merge.{EndsMerged, HasMergedEntries, IsDoneBySteps, IsNextMerge, MayLackMemory, Merges, MergesOn}
+use Rattle.silt_engine.specs.Merge.{merge_progress, merge_turn, merged_body}
+use Rattle.silt_store_set.specs.CoreState.{DecidesValue, GathersNewKey, GathersNext, IsMergeDue, MergeGoesOn, MergeLacksMemory}
+use Rattle.silt_store_set.specs.CoreState.{MayFind, found_damaged, has_decided, merge_due}
 use Rattle.silt_store_set.proofs.Calls.{seen, seen_failed, advanced, answered, broke, refused}
 use Rattle.silt_store_set.proofs.Damages.{place_seen, slot_below}
 use Rattle.silt_store_set.proofs.Gatherings.{decides_next, new_key_next}

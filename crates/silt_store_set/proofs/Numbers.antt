@@ -1,9 +1,6 @@
 -- Work in progress as contracts see it has the numbers of the work in memory.
-use Rattle.std.proofs.Common.{◌≡◌, Option, Some, None, refl}
-use Rattle.silt_conversion.specs.Conversion.{ConversionState}
-use Rattle.silt_merge.specs.State.{MergeState}
+use Rattle.silt_store_set.proofs.Common.{◌≡◌, Option, Some, None, refl, ConversionState, MergeState, convert_work, merge_work}
 use Rattle.silt_engine.specs.Numbers.{merge_steps, slots_converted}
-use Rattle.silt_store_set.specs.CoreState.{convert_work, merge_work}
 use Rattle.silt_store_set.specs.Facts.{slots_written, steps_taken}
 
 pub same_slots : (conversion : Option ConversionState) → slots_converted conversion ≡ slots_written (convert_work conversion)

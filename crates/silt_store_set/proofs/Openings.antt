@@ -1,23 +1,14 @@
 -- What opening returns, from what recovery finds.
-use Rattle.std.proofs.Common.{◌≡◌, ◌-◌, IsTrue, [], Option, Some, None, refl, ap, sym, ◌∙◌, arith}
-use Rattle.silt_disk.specs.Disk.{Content, GaveAny}
-use Rattle.silt_disk.specs.declared.disk.Disk.{Ghosts}
-use Rattle.silt_event.specs.Commands.{map_after}
+use Rattle.silt_store_set.proofs.Common.{◌≡◌, ◌-◌, IsTrue, [], Option, Some, None, refl, ap, sym, ◌∙◌, arith, Content, GaveAny, Ghosts, map_after, LogState}
+use Rattle.silt_store_set.proofs.Common.{waiting_rows, waiting_commands, EngineState, meaning, Opens, convert_work, merge_work, OpeningCause, Refusal}
 use Rattle.silt_image.specs.Meaning.{IsGood}
 use Rattle.silt_log.specs.Rows.{rows_from}
-use Rattle.silt_log.specs.State.{LogState, waiting_rows}
 use Rattle.silt_recovery.specs.Opening.{IsUnwrittenUnlessFailed, TakesUp}
 use Rattle.silt_recovery.specs.Refusals.{IsFound, IsRefusedLook}
 use Rattle.silt_recovery.specs.declared.fault.OpenError.{OpenError}
 use Rattle.silt_recovery.specs.declared.fault.OpenError.TheVariants.{NotFormatted, Damaged, Crowded, Device, NoMemory}
-use Rattle.silt_standing.specs.Standing.{waiting_commands}
-use Rattle.silt_standing.specs.State.{EngineState}
-use Rattle.silt_engine.proofs.Meaning.{meaning}
-use Rattle.silt_store_set.specs.CoreState.{Opens, convert_work, merge_work}
 use Rattle.silt_event.specs.Events.{IsOpeningRefusal}
-use Rattle.silt_store_set.specs.Opening.{OpeningCause}
 use Rattle.silt_recovery.specs.Errors.{refusal_of_opening}
-use Rattle.silt_event.specs.declared.refusal.Refusal.{Refusal}
 use Rattle.silt_event.specs.declared.refusal.Refusal.TheVariants as refusal
 use Rattle.silt_store_set.proofs.Calls.{seen, stands_seen}
 

@@ -1,39 +1,24 @@
 -- What a put or a delete does, from what taking its row does.
-use Rattle.std.proofs.Common.{◌≡◌, ◌≢◌, ◌<◌, ◌≤◌, ℕ, ◌*◌, ◌==◌, Bool, true, if◌then◌else◌, Option, Some, None, ◌+◌, ◌%◌, ◌^◌, inl, inr, false, IsTrue, List, []}
-use Rattle.std.proofs.Common.{◌∷◌, length, refl, ap, sym, ◌∙◌, subst, arith}
+use Rattle.silt_store_set.proofs.Common.{◌≡◌, ◌≢◌, ◌<◌, ◌≤◌, ℕ, ◌*◌, ◌==◌, Bool, true, if◌then◌else◌, Option, Some, None, ◌+◌, ◌%◌, ◌^◌, inl, inr, false}
+use Rattle.silt_store_set.proofs.Common.{IsTrue, List, [], ◌∷◌, length, refl, ap, sym, ◌∙◌, subst, arith, length-map, GaveAny, Makes, MakesAtMost, Ghosts, Key}
+use Rattle.silt_store_set.proofs.Common.{Command, Map, map_after, command_of, StoredRow, all_rows, Body, Advances, Breaks, IsLastGeneration, Remaps, SameDisk}
+use Rattle.silt_store_set.proofs.Common.{Stands, full_image, waiting_commands, EngineState, region_of, meaning, Put, Delete, Refusal, Spent, Accepted, Refused}
+use Rattle.silt_store_set.proofs.Common.{is_failed, basis_of, progress_due, Idle, Waiting, Moved, Finished, Shape, CoreState, Cause, convert_due, convert_work}
+use Rattle.silt_store_set.proofs.Common.{written_of, Does, MakesRow, most_syncs, most_writes, some_wait}
 use Rattle.std.proofs.lemmas.Bool.{ne_eqb}
-use Rattle.std.proofs.lemmas.List.{length-map}
-use Rattle.silt_disk.specs.Disk.{GaveAny, Makes, MakesAtMost}
-use Rattle.silt_disk.specs.declared.disk.Disk.{Ghosts}
-use Rattle.silt_frame.specs.declared.key.Key.{Key}
 use Rattle.silt_frame.specs.declared.key.Kind.{Kind}
 use Rattle.silt_frame.specs.declared.key.Kind.TheVariants as kind
-use Rattle.silt_event.specs.Commands.{Command, Map, map_after}
-use Rattle.silt_event.specs.Rows.{command_of}
 use Rattle.silt_log.specs.Rows.{log_rows}
-use Rattle.silt_frame.specs.Rows.{stored_row, StoredRow}
-use Rattle.silt_log.specs.State.{all_rows}
-use Rattle.silt_manifest.specs.declared.body.Body.{Body}
-use Rattle.silt_engine.specs.Calls.{Advances, HasNoFreeLog as AllInUse, Breaks, CannotTake, IsLastGeneration, Remaps}
-use Rattle.silt_standing.specs.Standing.{SameDisk}
+use Rattle.silt_frame.specs.Rows.{stored_row}
+use Rattle.silt_engine.specs.Calls.{HasNoFreeLog as AllInUse, CannotTake}
 use Rattle.silt_engine.specs.NextLog.{IsLowestFree, next_body}
-use Rattle.silt_standing.specs.Standing.{Stands, full_image, waiting_commands}
-use Rattle.silt_standing.specs.State.{EngineState, region_of}
 use Rattle.silt_engine.specs.RowWrite.{NeedsNext, WritesKey}
 use Rattle.silt_engine.specs.Costs as engine
-use Rattle.silt_engine.proofs.Meaning.{meaning}
-use Rattle.silt_event.specs.declared.event.Event.TheVariants.{Put, Delete}
-use Rattle.silt_event.specs.declared.refusal.Refusal.{Refusal}
-use Rattle.silt_event.specs.declared.refusal.Refusal.TheVariants.{Device, NoMemory, NoRoom, Spent}
-use Rattle.silt_event.specs.declared.reply.Reply.TheVariants.{Accepted, Refused}
-use Rattle.silt_event.specs.Events.{is_failed}
-use Rattle.silt_store_set.specs.Basis.{basis_of}
-use Rattle.silt_engine.specs.Conversion.{progress_due}
+use Rattle.silt_event.specs.declared.refusal.Refusal.TheVariants.{Device, NoMemory, NoRoom}
 use Rattle.silt_event.specs.declared.progress.Progress.{Progress as ProgressOf}
-use Rattle.silt_event.specs.declared.progress.Progress.TheVariants.{Idle, Waiting, Moved, Finished}
-use Rattle.silt_disk.specs.Layout.{InLimits, Shape}
-use Rattle.silt_store_set.specs.CoreState.{CoreState, AreAllInUse, Cause, convert_due, convert_work, written_of, Does, FailsBy, FailsRead, Freezes, HasFreeLog}
-use Rattle.silt_store_set.specs.CoreState.{IsStuck, MakesRow, MayWrite, Takes, most_syncs, most_writes, row_event, some_wait}
+use Rattle.silt_disk.specs.Layout.{InLimits}
+use Rattle.silt_store_set.specs.CoreState.{AreAllInUse, FailsBy, FailsRead, Freezes, HasFreeLog}
+use Rattle.silt_store_set.specs.CoreState.{IsStuck, MayWrite, Takes, row_event}
 use Rattle.silt_store_set.proofs.Waits.{waits_same}
 use Rattle.silt_store_set.proofs.Calls.{seen, seen_failed, advanced, broke, refused}
 

@@ -1,24 +1,16 @@
 -- How many writes and syncs runs make, from what each call makes.
-use Rattle.std.proofs.Common.{◌≡◌, ◌≢◌, ◌≤◌, ℕ, zero, suc, ◌+◌, ◌*◌, ◌==◌, Bool, true, false, if◌then◌else◌, IsTrue, List, [], ◌∷◌, ◌++◌, length, Option, Some}
-use Rattle.std.proofs.Common.{None, inl, inr, refl, ap, sym, ◌∙◌, subst, arith}
+use Rattle.silt_store_set.proofs.Common.{◌≡◌, ◌≢◌, ◌≤◌, ℕ, zero, suc, ◌+◌, ◌*◌, ◌==◌, Bool, true, false, if◌then◌else◌, IsTrue, List, [], ◌∷◌, ◌++◌, length}
+use Rattle.silt_store_set.proofs.Common.{Option, Some, None, inl, inr, refl, ap, sym, ◌∙◌, subst, arith, Ghosts, none_made, Command, Event, Put, Delete, Swap}
+use Rattle.silt_store_set.proofs.Common.{Flush, Get, Convert, Merge, Moved, Finished, Reply, Accepted, Acknowledged, Found, Absent, Differs, Progress, Refused}
+use Rattle.silt_store_set.proofs.Common.{accepted_command, accepted_commands, ConvertGoesOn, CoreState, Does, MakesRow, Runs, entries_written, is_convert}
+use Rattle.silt_store_set.proofs.Common.{is_merge, some_wait, written_of, eqb-true, Body, progress_due}
 use Rattle.std.specs.Prelude.{◌&&◌}
 use Rattle.std.specs.List.{list_all}
-use Rattle.silt_disk.specs.declared.disk.Disk.{Ghosts}
-use Rattle.silt_disk.proofs.Costs.{made_both, none_made}
-use Rattle.silt_event.specs.Commands.{Command}
-use Rattle.silt_event.specs.declared.event.Event.{Event}
-use Rattle.silt_event.specs.declared.event.Event.TheVariants.{Put, Delete, Swap, Flush, Get, Convert, Merge}
-use Rattle.silt_event.specs.declared.progress.Progress.TheVariants.{Moved, Finished}
-use Rattle.silt_event.specs.declared.reply.Reply.{Reply}
-use Rattle.silt_event.specs.declared.reply.Reply.TheVariants.{Accepted, Acknowledged, Found, Absent, Differs, Progress, Refused}
-use Rattle.silt_event.specs.Events.{accepted_command, accepted_commands}
-use Rattle.silt_store_set.specs.CoreState.{ConvertGoesOn, ConvertWork, CoreState, Does, HasMade, MakesRow, Runs, WritesRow, entries_written, is_convert, is_merge, some_wait, written_of}
+use Rattle.silt_disk.proofs.Costs.{made_both}
+use Rattle.silt_store_set.specs.CoreState.{ConvertWork, HasMade, WritesRow}
 use Rattle.silt_store_set.specs.Costs.{RowsMade, RunMade, is_foreground, settles_by, settling, to_the_end, waits_after}
 use Rattle.silt_store_set.proofs.Calls.{none_refused}
 use Rattle.std.proofs.lemmas.List.{length-append}
-use Rattle.std.proofs.lemmas.Bool.{eqb-true}
-use Rattle.silt_manifest.specs.declared.body.Body.{Body}
-use Rattle.silt_engine.specs.Conversion.{progress_due}
 
 -- behind other commands a command waits
 waits_behind : (commands : List Command) (command : Command) → some_wait (commands ++ command ∷ []) ≡ 1

@@ -1,11 +1,6 @@
 -- Runs of events, from what each call does.
-use Rattle.std.proofs.Common.{◌≡◌, Bool, true, false, IsTrue, List, [], ◌∷◌, ◌++◌, refl, ap, sym, subst}
-use Rattle.silt_disk.specs.declared.disk.Disk.{Ghosts}
-use Rattle.silt_event.specs.declared.event.Event.{Event}
-use Rattle.silt_event.specs.declared.refusal.Refusal.TheVariants.{Failed}
-use Rattle.silt_event.specs.declared.reply.Reply.{Reply}
-use Rattle.silt_event.specs.Events.{Step, Legal}
-use Rattle.silt_store_set.specs.CoreState.{CoreState, map_of, Does, Runs}
+use Rattle.silt_store_set.proofs.Common.{◌≡◌, Bool, true, false, IsTrue, List, [], ◌∷◌, ◌++◌, refl, ap, sym, subst, Ghosts, Event, Failed, Reply, Step, Legal}
+use Rattle.silt_store_set.proofs.Common.{CoreState, map_of, Does, Runs}
 use Rattle.silt_store_set.proofs.Calls.{step_refused}
 
 module _ {D F : Type 0} (facts : Ghosts D F) where

@@ -1,17 +1,10 @@
 -- A merge in progress has a step left.
-use Rattle.std.proofs.Common.{◌≡◌, ◌≤◌, ℕ, ◌+◌, ◌*◌, Bool, false, IsTrue, Option, Some, None, IfSome, inl, inr, ap, subst, arith}
-use Rattle.std.proofs.lemmas.Bool.{cases_lt}
-use Rattle.silt_disk.specs.Layout.{Shape}
-use Rattle.silt_disk.specs.declared.disk.Disk.{Ghosts}
-use Rattle.silt_merge.specs.Rows.{key_count, sources}
-use Rattle.silt_merge.specs.State.{IsHeldMerge, MergeState, oldest_stores}
-use Rattle.silt_engine.specs.Merge.{full_stores, merge_sources}
-use Rattle.silt_engine.proofs.MergeDone.{sources_full, taken_sound}
-use Rattle.silt_standing.specs.Standing.{HasGathered, Stands}
-use Rattle.silt_standing.specs.State.{EngineState, IsMerging}
-use Rattle.silt_store_set.specs.Basis.{BasisState}
-use Rattle.silt_store_set.specs.CoreInvariant.{IsCore}
-use Rattle.silt_store_set.specs.CoreState.{CoreState, IsWithinSteps, merge_work}
+use Rattle.silt_store_set.proofs.Common.{◌≡◌, ◌≤◌, ℕ, ◌+◌, ◌*◌, Bool, false, IsTrue, Option, Some, None, IfSome, inl, inr, ap, subst, arith, cases_lt, Shape}
+use Rattle.silt_store_set.proofs.Common.{Ghosts, key_count, MergeState, oldest_stores, full_stores, merge_sources, sources_full, taken_sound, HasGathered}
+use Rattle.silt_store_set.proofs.Common.{Stands, EngineState, IsMerging, BasisState, IsCore, CoreState, merge_work}
+use Rattle.silt_merge.specs.Rows.{sources}
+use Rattle.silt_merge.specs.State.{IsHeldMerge}
+use Rattle.silt_store_set.specs.CoreState.{IsWithinSteps}
 use Rattle.silt_store_set.proofs.Calls.{seen, seen_core}
 use Rattle.silt_store_set.proofs.Damages.{slot_below}
 

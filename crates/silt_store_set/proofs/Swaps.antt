@@ -1,23 +1,13 @@
 -- What a swap does: that of a put or a delete if the key has the expected value, else nothing.
-use Rattle.std.proofs.Common.{◌≡◌, ◌≢◌, ◌↔◌, ℕ, Bool, true, false, IsTrue, inl, inr, List, Option, Some, None, refl, ap, sym, ◌∙◌, subst}
-use Rattle.std.specs.Prelude.{is_some, not}
+use Rattle.silt_store_set.proofs.Common.{◌≡◌, ◌≢◌, ℕ, Bool, true, false, IsTrue, inl, inr, List, Option, Some, None, refl, ap, sym, ◌∙◌, subst, is_some, get}
+use Rattle.silt_store_set.proofs.Common.{Ghosts, Key, Map, Event, Put, Delete, Swap, Refusal, Failed, Reply, Accepted, Differs, Refused, Step, accepted_command}
+use Rattle.silt_store_set.proofs.Common.{Stands, current_map, full_image, EngineState, image_map, CoreState, Cause, Does, MadeFor, is_convert, is_merge, map_of}
+use Rattle.silt_store_set.proofs.Common.{none_made}
+use Rattle.std.proofs.Common.{◌↔◌}
+use Rattle.std.specs.Prelude.{not}
 use Rattle.std.specs.Option.{option_map}
-use Rattle.std.specs.FinMap.{get}
-use Rattle.silt_disk.specs.declared.disk.Disk.{Ghosts}
-use Rattle.silt_frame.specs.declared.key.Key.{Key}
-use Rattle.silt_event.specs.Commands.{Map}
-use Rattle.silt_event.specs.declared.event.Event.{Event}
-use Rattle.silt_event.specs.declared.event.Event.TheVariants.{Put, Delete, Swap}
-use Rattle.silt_event.specs.declared.refusal.Refusal.{Refusal}
-use Rattle.silt_event.specs.declared.refusal.Refusal.TheVariants.{Device, Failed}
-use Rattle.silt_event.specs.declared.reply.Reply.{Reply}
-use Rattle.silt_event.specs.declared.reply.Reply.TheVariants.{Accepted, Differs, Refused}
-use Rattle.silt_event.specs.Events.{Step, accepted_command}
-use Rattle.silt_standing.specs.Standing.{Stands, current_map, full_image}
-use Rattle.silt_standing.specs.State.{EngineState}
-use Rattle.silt_image.specs.Meaning.{image_map}
-use Rattle.silt_store_set.specs.CoreState.{CoreState, Cause, Does, IsRefusedRead, MadeFor, Moves, is_convert, is_merge, map_of}
-use Rattle.silt_disk.proofs.Costs.{none_made}
+use Rattle.silt_event.specs.declared.refusal.Refusal.TheVariants.{Device}
+use Rattle.silt_store_set.specs.CoreState.{IsRefusedRead, Moves}
 use Rattle.silt_store_set.proofs.Calls.{seen, answered, refused}
 use Rattle.silt_store_set.proofs.Gets.{looked_up}
 

@@ -1,17 +1,11 @@
 -- Whether a command waits, by the numbers of the active log.
-use Rattle.std.proofs.Common.{◌≡◌, ◌<◌, ◌-◌, Bool, false, true, List, [], ◌∷◌, length, map, nat_lt, cond, refl, ap, sym, arith}
-use Rattle.std.proofs.lemmas.List.{length-map}
+use Rattle.silt_store_set.proofs.Common.{◌≡◌, ◌<◌, ◌-◌, Bool, false, true, List, [], ◌∷◌, length, map, nat_lt, cond, refl, ap, sym, arith, length-map, Content}
+use Rattle.silt_store_set.proofs.Common.{Command, command_of, LogState, waiting_rows, EngineState, waiting_commands, some_wait}
 use Rattle.std.proofs.lemmas.List.FromFn.{length-map-range_with_len}
 use Rattle.std.proofs.lemmas.Bool.Decides.{nat_tests}
-use Rattle.silt_disk.specs.Disk.{Content}
-use Rattle.silt_event.specs.Commands.{Command}
-use Rattle.silt_event.specs.Rows.{command_of}
 use Rattle.silt_log.specs.Rows.{row_at, rows_from}
-use Rattle.silt_log.specs.State.{InBounds, LogState, waiting_rows}
-use Rattle.silt_standing.specs.State.{EngineState}
-use Rattle.silt_standing.specs.Standing.{waiting_commands}
+use Rattle.silt_log.specs.State.{InBounds}
 use Rattle.silt_engine.specs.Costs as engine
-use Rattle.silt_store_set.specs.CoreState.{some_wait}
 use Rattle.silt_store_set.proofs.Openings.{none_wait}
 
 -- if no command waits, all rows are settled

@@ -5,7 +5,7 @@ use Rattle.silt_disk.specs.Layout.{Shape, device_size}
 use Rattle.silt_event.specs.Commands.{Command, Map, map_after}
 use Rattle.silt_disk.specs.Header.{shape_of}
 use Rattle.silt_image.specs.Meaning.{image_map, IsGood}
-use Rattle.silt_engine.specs.Calls.{HasBegun}
+use Rattle.silt_engine.specs.Calls.{HoldsPrefix}
 use Rattle.silt_standing.specs.Standing.{Stands, full_image, waiting_commands}
 use Rattle.silt_standing.specs.State.{EngineState}
 use Rattle.silt_store_set.specs.Basis.{BasisState}
@@ -15,12 +15,12 @@ use Rattle.silt_store_set.specs.Basis.{BasisState}
 pub record LeavesBegun (content : Content) (shape : Shape) : Type 0 where
   pub base : Map
   pub waiting : List Command
-  pub begun : LeavesOnly content (HasBegun shape base waiting)
+  pub begun : LeavesOnly content (HoldsPrefix shape base waiting)
 
 -- Each possible crash image represents the base after some first part of the waiting commands. The full image represents the base after
 -- all of them, and no more wait than the store accepted.
 pub record BreaksFrom (basis : BasisState) (content : Content) (stores : EngineState) (count : ℕ) : Type 0 where
-  pub begun : LeavesOnly content (HasBegun stores.manifest.shape basis.base basis.waiting)
+  pub begun : LeavesOnly content (HoldsPrefix stores.manifest.shape basis.base basis.waiting)
   pub has_map : IsTrue content.honest → image_map (full_image content stores) ≡ map_after basis.base basis.waiting
   pub few : IsTrue content.honest → length basis.waiting ≤ count
 

@@ -20,7 +20,7 @@ use Rattle.silt_log.specs.Parts.{part_rows}
 use Rattle.silt_manifest.specs.declared.body.Body.{Body}
 use Rattle.silt_merge.specs.Rows.{key_count, merged_rows, newest_rows}
 use Rattle.silt_merge.specs.State.{MergeState, steps_of}
-use Rattle.silt_engine.specs.Calls.{CannotTake, HasBegun}
+use Rattle.silt_engine.specs.Calls.{CannotTake, HoldsPrefix}
 use Rattle.silt_standing.specs.Standing.{SameDisk}
 use Rattle.silt_engine.specs.Conversion.{AreConverted, IsLowestFreeHash, converted_body, is_work, oldest_rows, progress_due}
 use Rattle.silt_engine.specs.Costs.{step_syncs, step_writes}
@@ -547,7 +547,7 @@ pub record Does {D F : Type 0} (facts : Ghosts D F) (old new : CoreState D) (eve
   pub settles : IsTrue (facts.content old.disk).honest → Durable new reply
   -- each possible crash image represents the base, or, if the call failed, the old base after a first part of the waiting commands
   pub safe : new.failed ≡ false → LeavesOnly (facts.content new.disk) (StandsFor new.shape new.base)
-  pub crash : old.failed ≡ false → new.failed ≡ true → LeavesOnly (facts.content new.disk) (HasBegun old.shape old.base old.waiting)
+  pub crash : old.failed ≡ false → new.failed ≡ true → LeavesOnly (facts.content new.disk) (HoldsPrefix old.shape old.base old.waiting)
   -- a store that fails keeps its base and its waiting commands
   pub keeps_basis : old.failed ≡ false → new.failed ≡ true → (new.base ≡ old.base) × (new.waiting ≡ old.waiting)
 

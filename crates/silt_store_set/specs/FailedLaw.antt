@@ -6,7 +6,7 @@ use Rattle.silt_event.specs.declared.event.Event.TheVariants.{Flush}
 use Rattle.silt_event.specs.declared.reply.Reply.{Reply}
 use Rattle.silt_event.specs.declared.reply.Reply.TheVariants.{Acknowledged}
 use Rattle.silt_image.specs.Meaning.{image_map}
-use Rattle.silt_engine.specs.Calls.{HasBegun}
+use Rattle.silt_engine.specs.Calls.{HoldsPrefix}
 use Rattle.silt_store_set.specs.CoreState.{CoreState, Does, map_of}
 
 -- If the call after an acknowledged flush fails, an image represents the failed store's base after a first part of the waiting commands
@@ -14,4 +14,4 @@ use Rattle.silt_store_set.specs.CoreState.{CoreState, Does, map_of}
 abbrev pub FailedLaw : {D F : Type 0} → Ghosts D F → Type 0
 FailedLaw {D} {F} facts =
     (old flushed failed : CoreState D) (n : ℕ) (event : Event) (reply : Reply F) → Does facts old flushed Flush (Acknowledged n) → Does facts flushed failed event reply → failed.failed ≡ true
-    → IsTrue (facts.content old.disk).honest → (image : List ℕ) → HasBegun failed.shape failed.base failed.waiting image → image_map image ≡ map_of flushed
+    → IsTrue (facts.content old.disk).honest → (image : List ℕ) → HoldsPrefix failed.shape failed.base failed.waiting image → image_map image ≡ map_of flushed

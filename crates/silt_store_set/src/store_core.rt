@@ -95,7 +95,7 @@ impl<D: Disk> Core<D> {
     ghost use Rattle.silt_event.specs.Commands.{map_after};
     ghost use Rattle.silt_image.specs.Meaning.{StandsFor};
     ghost use Rattle.silt_standing.specs.Standing.{SameDisk};
-    ghost use Rattle.silt_engine.specs.Calls.{HasBegun};
+    ghost use Rattle.silt_engine.specs.Calls.{HoldsPrefix};
     ghost use Rattle.silt_engine.specs.Lookup.{changes_key};
     ghost use Rattle.silt_store_set.specs.CoreInvariant.{LeavesBegun};
     ghost use Rattle.silt_frame.specs.Rows.{key_cmp};
@@ -210,7 +210,7 @@ impl<D: Disk> Core<D> {
     /// failing call began. A merge in progress has a step left.
     pub fn standing(&self)
         ensures safe { self.now.failed ≡ false → LeavesOnly (D.content self.now.disk) (StandsFor self.now.shape self.now.base) }
-        ensures begun { LeavesOnly (D.content self.now.disk) (HasBegun self.now.shape self.now.base self.now.waiting) }
+        ensures begun { LeavesOnly (D.content self.now.disk) (HoldsPrefix self.now.shape self.now.base self.now.waiting) }
         ensures has_map { IsTrue (D.content self.now.disk).honest → map_of self.now ≡ map_after self.now.base self.now.waiting }
         ensures few { IsTrue (D.content self.now.disk).honest → length self.now.waiting ≤ self.now.count }
         ensures merging { self.now.failed ≡ false → IsTrue (D.content self.now.disk).honest → IfSome self.now.merging (IsWithinSteps self.now) }
@@ -606,7 +606,7 @@ impl<D: Disk> Core<D> {
     pub fn close(self) -> D
         ensures disk { result ≡ self.disk }
         ensures safe { self.failed ≡ false → LeavesOnly (D.content result) (StandsFor self.shape self.base) }
-        ensures begun { LeavesOnly (D.content result) (HasBegun self.shape self.base self.waiting) }
+        ensures begun { LeavesOnly (D.content result) (HoldsPrefix self.shape self.base self.waiting) }
         ensures left { LeavesBegun (D.content result) self.shape }
     {
         let Core {

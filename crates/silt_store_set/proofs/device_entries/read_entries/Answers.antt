@@ -1,10 +1,6 @@
-use Rattle.std.proofs.Common.{sym, subst, ap, ◌∙◌}
-use Rattle.std.specs.FinMap.{get}
-use Rattle.silt_event.specs.Commands.{Map}
-use Rattle.silt_recovery.specs.Opening.{held_stores}
+use Rattle.silt_store_set.proofs.Common.{sym, subst, ap, ◌∙◌, get, Map, held_stores, EngineState, current_map}
 use Rattle.silt_recovery.proofs.Shown.{held_good, held_map, held_shown}
-use Rattle.silt_standing.specs.State.{EngineState}
-use Rattle.silt_standing.specs.Standing.{ShowsStores, current_map}
+use Rattle.silt_standing.specs.Standing.{ShowsStores}
 use Rattle.silt_store_set.proofs.device_entries.read_entries.Goals as goal
 
 pub returns-in-Ok-clause-entries : goal.returns-in-Ok-clause-entries

@@ -1,5 +1,5 @@
-use Rattle.std.proofs.Common.{◌≡◌, ℕ, slice_index_or, ap, sym, subst, ◌∙◌}
-use Rattle.silt_disk.specs.Layout.{Shape}
+use Rattle.silt_store_set.proofs.Common.{◌≡◌, ℕ, ap, sym, subst, ◌∙◌, Shape}
+use Rattle.std.proofs.Common.{slice_index_or}
 use Rattle.silt_event.specs.Events.{HasValueOf}
 use Rattle.silt_store_set.proofs.Histories.{life_unopened, life_idle, life_ran, opened_len}
 use Rattle.silt_store_set.proofs.Livings.{ends_idle, ends_other, ends_ran, ends_refused}

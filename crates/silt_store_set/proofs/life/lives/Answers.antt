@@ -1,7 +1,4 @@
-use Rattle.std.proofs.Common.{◌≡◌, ◌+◌, ◌++◌, ◌∷◌, [], IsTrue, Vec, take, ap, sym, ◌∙◌, refl}
-use Rattle.std.specs.declared.alloc.Global.{Global}
-use Rattle.std.proofs.lemmas.List.{take_more, take_all}
-use Rattle.silt_event.specs.declared.event.Event.{Event}
+use Rattle.silt_store_set.proofs.Common.{◌≡◌, ◌+◌, ◌++◌, ◌∷◌, [], IsTrue, Vec, take, ap, sym, ◌∙◌, refl, Global, take_more, take_all, Event}
 use Rattle.silt_store_set.proofs.Histories.{lives_more}
 use Rattle.silt_store_set.proofs.Livings.{lives_on, lives_ran}
 use Rattle.silt_store_set.proofs.life.lives.Goals as goal

@@ -1,8 +1,4 @@
-use Rattle.std.proofs.Common.{◌≡◌, take}
-use Rattle.silt_disk.specs.Disk.{LeavesOnly}
-use Rattle.silt_event.specs.Commands.{Map}
-use Rattle.silt_event.specs.Events.{LivesHistory}
-use Rattle.silt_store_set.specs.CoreInvariant.{IsSafe}
+use Rattle.silt_store_set.proofs.Common.{◌≡◌, take, LeavesOnly, Map, LivesHistory, IsSafe}
 use Rattle.silt_store_set.specs.Living.{StartsFrom}
 use Rattle.silt_store_set.proofs.Livings.{LivesTo}
 use Rattle.silt_store_set.proofs.life.lives.Given as goal

@@ -1,4 +1,4 @@
-use Rattle.std.proofs.Common.{◌∙◌}
+use Rattle.silt_store_set.proofs.Common.{◌∙◌}
 use Rattle.silt_store_set.proofs.replies.copied.Goals as goal
 
 pub returns : goal.returns

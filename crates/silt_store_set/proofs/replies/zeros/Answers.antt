@@ -1,4 +1,5 @@
-use Rattle.std.proofs.Common.{◌≡◌, ◌≤◌, ℕ, List, length, take, replicate, sym, ◌∙◌, ap, refl}
+use Rattle.silt_store_set.proofs.Common.{◌≡◌, ◌≤◌, ℕ, List, length, take, sym, ◌∙◌, ap, refl}
+use Rattle.std.proofs.Common.{replicate}
 use Rattle.std.proofs.lemmas.List.{length-replicate, take-replicate}
 use Rattle.silt_store_set.proofs.replies.zeros.Goals as goal
 

@@ -1,11 +1,11 @@
 use Rattle.silt_engine.proofs.Common.{◌≡◌, ◌-◌, List, [], length, None, refl, ap, sym, ◌∙◌, subst, arith, rules, option_copied, InLimits, Shape, device_size}
-use Rattle.silt_engine.proofs.Common.{LogStoreState, EngineState, Stands, convert_turn, Finished, Moved, MakesAtMost, most_none, Progress, step_syncs}
-use Rattle.silt_engine.proofs.Common.{step_writes, Makes, none_made}
+use Rattle.silt_engine.proofs.Common.{LogStoreState, EngineState, Stands, convert_turn, Finished, Moved, MakesAtMost, Progress, step_syncs}
+use Rattle.silt_engine.proofs.Common.{step_writes, Idle, Makes, none_made}
 use Rattle.silt_engine.proofs.engine.Engine.begin_conversion.Given as given
 use Rattle.std.specs.Prelude.{slice_get}
 use Rattle.silt_engine.specs.Conversion.{refusal_of_step}
-use Rattle.silt_engine.proofs.ConvertSteps.{begin_converts, begin_turn, begin_waits, first_advances, first_failed_breaks, first_failed_map, started_shape, step_cause, MayBegin}
-use Rattle.silt_engine.proofs.Exits.{on_error, state_of, nothing_done, went}
+use Rattle.silt_engine.proofs.ConvertSteps.{begin_converts, begin_turn, begin_waits, first_advances, first_failed_breaks, first_failed_map, idle_turn, started_shape, step_cause, MayBegin}
+use Rattle.silt_engine.proofs.Exits.{on_error, state_of, nothing_done, same_disk, went_off, went_so, refused}
 use Rattle.silt_engine.proofs.engine.Engine.begin_conversion.Goals.{After-lowest_free_hash}
 use Rattle.silt_engine.proofs.engine.Engine.begin_conversion.Goals as goal
 
@@ -70,10 +70,12 @@ pub returns-clause-works : goal.returns-clause-works
 returns-clause-works g c =
     let at = (goal.at.returns-clause-works g c).After-lowest_free_hash in
     let wrote = c.step.ensures.wrote in
-    rw (← c.self.view_is) (went g.D.Disk [] c.args.disk.now c.step.new.disk (state_of c.self.inside) _ _
-    (record { size = wrote.size; honest = wrote.changes.honest }) (stands g at) c.in_ok-step.ensures.wrote.failures
+    rw (← c.self.view_is) (went_so g.D.Disk [] c.args.disk.now c.step.new.disk (state_of c.self.inside) _ _
+    (same_disk wrote) (stands g at) c.in_ok-step.ensures.wrote.failures
     (first_advances _ _ _ _ _ (may g at) c.in-Some-lowest_free_hash.ensures.some _ c.in-Ok.ensures.start (limits g at) _ _ c.step.new.self (stands g at)
-    (c.in-Ok.ensures.written (g.D.Disk.content c.args.disk.now)) wrote.size wrote.changes c.in_ok-step.ensures.ok c.step.ensures.written))
+    (c.in-Ok.ensures.written (g.D.Disk.content c.args.disk.now)) wrote.size wrote.changes c.in_ok-step.ensures.ok c.step.ensures.written)
+    (subst (λ (p : Progress). Makes g.D.Disk.writes g.D.Disk.syncs (step_writes p) (step_syncs p) c.args.disk.now c.step.new.disk)
+    (sym (begin_turn _ _ _ _ _ (may g at) c.in-Some-lowest_free_hash.ensures.some)) c.in_ok-step.ensures.wrote.made))
 
 pub returns-clause-converts : goal.returns-clause-converts
 returns-clause-converts g c =
@@ -82,30 +84,28 @@ returns-clause-converts g c =
     c.step.new.self _ c.in_ok-step.ensures.ok.next)
 
 pub returns-in_default-clause-works : goal.returns-in_default-clause-works
-returns-in_default-clause-works g c = nothing_done g.D.Disk c.args.disk.now c.args.self.now _ c.requires.stands
+returns-in_default-clause-works g c =
+    let none = subst (λ (v : EngineState). v.converting ≡ None) (sym c.self.view_is) c.requires.none in
+    let last : slice_get c.deref.result.now (length c.deref.result.now - 1) ≡ None = search rules in
+    let turn = subst (λ (v : EngineState). convert_turn v ≡ Idle) c.self.view_is (idle_turn (state_of c.self.inside) none c.deref.result.now c.deref.ensures.value last) in
+    nothing_done g.D.Disk c.args.disk.now c.args.self.now _ c.requires.stands
+    (subst (λ (p : Progress). Makes g.D.Disk.writes g.D.Disk.syncs (step_writes p) (step_syncs p) c.args.disk.now c.args.disk.now) (sym turn) none_made)
 
 pub returns-in_default-lowest_free_hash-clause-works : goal.returns-in_default-lowest_free_hash-clause-works
 returns-in_default-lowest_free_hash-clause-works g c = nothing_done g.D.Disk c.args.disk.now c.args.self.now _ c.requires.stands
+    (subst (λ (p : Progress). Makes g.D.Disk.writes g.D.Disk.syncs (step_writes p) (step_syncs p) c.args.disk.now c.args.disk.now)
+    (returns-in_default-lowest_free_hash-clause-converts g c).due none_made)
 
 pub returns-clause-moves : goal.returns-clause-moves
 returns-clause-moves g c = λ is. let no : Moved ≡ Finished = is in cc
 
-pub returns-in_default-lowest_free_hash-clause-made : goal.returns-in_default-lowest_free_hash-clause-made
-returns-in_default-lowest_free_hash-clause-made g c =
-    subst (λ (p : Progress). Makes g.D.Disk.writes g.D.Disk.syncs (step_writes p) (step_syncs p) c.args.disk.now c.args.disk.now)
-    (returns-in_default-lowest_free_hash-clause-converts g c).due none_made
+pub returns-in_default-start-clause-works : goal.returns-in_default-start-clause-works
+returns-in_default-start-clause-works g c = refused g.D.Disk c.args.disk.now c.args.self.now _
 
-pub returns-in_default-start-clause-made : goal.returns-in_default-start-clause-made
-returns-in_default-start-clause-made g c = most_none
-
-pub returns-in_err-step-clause-made : goal.returns-in_err-step-clause-made
-returns-in_err-step-clause-made g c =
-    let turn = begin_turn _ _ _ _ _ (may g (goal.at.returns-in_err-step-clause-made g c).After-lowest_free_hash) c.in-Some-lowest_free_hash.ensures.some in
+pub returns-in_err-step-clause-works : goal.returns-in_err-step-clause-works
+returns-in_err-step-clause-works g c =
+    let turn = begin_turn _ _ _ _ _ (may g (goal.at.returns-in_err-step-clause-works g c).After-lowest_free_hash) c.in-Some-lowest_free_hash.ensures.some in
     let due : convert_turn c.args.self.now ≡ Moved = subst (λ (v : EngineState). convert_turn v ≡ Moved) c.self.view_is turn in
     let most = subst (λ (p : Progress). MakesAtMost g.D.Disk.writes g.D.Disk.syncs (step_writes p) (step_syncs p) c.args.disk.now c.step.new.disk) (sym due)
     c.in_err-step.ensures.wrote.made in
-    search (rules, most)
-
-pub returns-clause-made : goal.returns-clause-made
-returns-clause-made g c =
-    subst (λ (p : Progress). Makes g.D.Disk.writes g.D.Disk.syncs (step_writes p) (step_syncs p) c.args.disk.now c.step.new.disk) (returns-clause-converts g c).due c.in_ok-step.ensures.wrote.made
+    went_off g.D.Disk _ _ _ _ c.from_residual.result (refusal_of_step c.in_err-step.field-0.0) c.from_residual.ensures.1 (same_disk c.step.ensures.wrote) (search rules) most

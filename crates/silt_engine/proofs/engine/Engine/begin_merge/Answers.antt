@@ -1,5 +1,5 @@
 use Rattle.silt_engine.proofs.Common.{◌≡◌, ◌≤◌, ◌-◌, ℕ, false, List, [], length, Some, None, refl, ap, sym, ◌∙◌, subst, arith, All, length-map, Shape}
-use Rattle.silt_engine.proofs.Common.{HashState, Finished, Moved, is_done, oldest_stores, SortedState, EngineState, hash_region_of, Stands, most_none}
+use Rattle.silt_engine.proofs.Common.{HashState, Finished, Moved, is_done, oldest_stores, SortedState, EngineState, hash_region_of, Stands, none_made}
 use Rattle.silt_engine.proofs.Common.{HasGathered}
 use Rattle.silt_engine.proofs.engine.Engine.begin_merge.Given as given
 use Rattle.silt_engine.specs.Merge.{refusal_of_step}
@@ -7,7 +7,7 @@ use Rattle.silt_engine.proofs.Counting.{sound_hashes}
 use Rattle.silt_engine.proofs.MergeSteps.{begin_merges, begun, failed_map, first_lacks, found_by, most_made, some_stores, started_not_done, started_sound}
 use Rattle.silt_engine.proofs.MergeSteps.{started_way, started_written, step_advances, step_cause, step_disk, step_made, steps_in, taken_shapes, way_after}
 use Rattle.silt_engine.proofs.MergeSteps.{BeginsMerge, begins_turn}
-use Rattle.silt_engine.proofs.Exits.{on_error, on_refusal, state_of, nothing_done, went}
+use Rattle.silt_engine.proofs.Exits.{on_error, state_of, nothing_done, went, went_off, refused}
 use Rattle.silt_engine.proofs.Wholes.{whole_with}
 use Rattle.silt_engine.proofs.engine.Engine.begin_merge.Goals.{In-Ok}
 use Rattle.silt_engine.proofs.engine.Engine.begin_merge.Goals as goal
@@ -75,14 +75,16 @@ invariant_of-self g c =
 pub returns-clause-works : goal.returns-clause-works
 returns-clause-works g c =
     let at = (goal.at.returns-clause-works g c).In-Ok in
-    let way = started_way _ _ (begins g at) in
+    let started = begins g at in
+    let way = started_way _ _ started in
     let step = steps_in (state_of c.self.inside) _ _ _ c.deref-2.ensures.value c.entries-sorted.ensures c.digest.ensures c.in_ok-step.ensures in
     rw (← c.self.view_is) (went g.D.Disk [] c.args.disk.now c.step.new.disk (state_of c.self.inside) _ _
     (step_disk _ _ _ _ _ _ _ (stands g at) way step) (stands g at) step.goes.failures
-    (step_advances _ _ _ _ _ _ _ (stands g at) way step step.goes (gathered g at)))
+    (step_advances _ _ _ _ _ _ _ (stands g at) way step step.goes (gathered g at))
+    (step_made _ _ _ _ _ _ _ (stands g at) way step step.goes (started_written _ _ started)))
 
 pub returns-then-is_empty-clause-works : goal.returns-then-is_empty-clause-works
-returns-then-is_empty-clause-works g c = nothing_done g.D.Disk c.args.disk.now c.args.self.now _ c.requires.stands
+returns-then-is_empty-clause-works g c = nothing_done g.D.Disk c.args.disk.now c.args.self.now _ c.requires.stands none_made
 
 pub start-requires-clause-most : goal.start-requires-clause-most
 start-requires-clause-most g c =
@@ -105,20 +107,14 @@ returns-clause-merges g c =
 pub returns-clause-moves : goal.returns-clause-moves
 returns-clause-moves g c = λ is. let no : Moved ≡ Finished = is in cc
 
-pub returns-in_default-clause-made : goal.returns-in_default-clause-made
-returns-in_default-clause-made g c = most_none
+pub returns-in_default-clause-works : goal.returns-in_default-clause-works
+returns-in_default-clause-works g c = refused g.D.Disk c.args.disk.now c.args.self.now _
 
-pub returns-clause-made : goal.returns-clause-made
-returns-clause-made g c =
-    let at = (goal.at.returns-clause-made g c).In-Ok in
-    let started = begins g at in
-    let step = steps_in (state_of c.self.inside) _ _ _ c.deref-2.ensures.value c.entries-sorted.ensures c.digest.ensures c.in_ok-step.ensures in
-    rw (← c.self.view_is) (step_made _ _ _ _ _ _ _ (stands g at) (started_way _ _ started) step step.goes (started_written _ _ started))
-
-pub returns-in_err-step-clause-made : goal.returns-in_err-step-clause-made
-returns-in_err-step-clause-made g c =
-    let at = (goal.at.returns-in_err-step-clause-made g c).In-Ok in
+pub returns-in_err-step-clause-works : goal.returns-in_err-step-clause-works
+returns-in_err-step-clause-works g c =
+    let at = (goal.at.returns-in_err-step-clause-works g c).In-Ok in
     let started = begins g at in
     let step = steps_in (state_of c.self.inside) _ _ _ c.deref-2.ensures.value c.entries-sorted.ensures c.digest.ensures c.in_err-step.ensures in
-    rw (← c.self.view_is) (on_refusal c.from_residual.result (refusal_of_step c.in_err-step.field-0.0) _ c.from_residual.ensures.1
-    (most_made _ _ _ _ _ _ _ (stands g at) (started_way _ _ started) step (begins_turn _ _ started) step.most))
+    let way = started_way _ _ started in
+    rw (← c.self.view_is) (went_off g.D.Disk _ _ _ _ c.from_residual.result (refusal_of_step c.in_err-step.field-0.0) c.from_residual.ensures.1
+    (step_disk _ _ _ _ _ _ _ (stands g at) way step) refl (most_made _ _ _ _ _ _ _ (stands g at) way step (begins_turn _ _ started) step.most))

@@ -1,5 +1,5 @@
-use Rattle.silt_engine.proofs.Common.{◌+◌, ◌%◌, ◌^◌, ℕ, ap, sym, ◌∙◌, subst, rules, arith, EngineState, Stands, MayBecomeCurrent, MakesAtMost, most_both}
-use Rattle.silt_engine.proofs.Exits.{on_error, state_of}
+use Rattle.silt_engine.proofs.Common.{◌+◌, ◌%◌, ◌^◌, ℕ, ap, refl, sym, ◌∙◌, subst, arith, EngineState, Stands, MayBecomeCurrent, made_both, most_both, most_more}
+use Rattle.silt_engine.proofs.Exits.{state_of, wrote_off}
 use Rattle.silt_engine.proofs.NextBodies.{at_gate, before_gate, both_steps, manifest_breaks, manifest_map, becomes_current}
 use Rattle.silt_engine.proofs.engine.Engine.change_manifest.Goals as goal
 
@@ -8,12 +8,13 @@ prepare_next-requires-clause-next g c κs within =
     let may = subst (λ (v : EngineState). MayBecomeCurrent (g.D.Disk.content c.args.disk.now) v c.args.next.now c.args.digests.now) (sym c.self.view_is) c.requires.next in
     may.follows c.current-known.ensures.sound
 
-pub returns-in_err-prepare_next-clause-err : goal.returns-in_err-prepare_next-clause-err
-returns-in_err-prepare_next-clause-err g c =
+pub returns-in_err-prepare_next-clause-wrote : goal.returns-in_err-prepare_next-clause-wrote
+returns-in_err-prepare_next-clause-wrote g c =
     let stores : EngineState = state_of c.self.inside in
     let stands = subst (λ (v : EngineState). Stands (g.D.Disk.content c.args.disk.now) v) (sym c.self.view_is) c.requires.stands in
     let may = subst (λ (v : EngineState). MayBecomeCurrent (g.D.Disk.content c.args.disk.now) v c.args.next.now c.args.digests.now) (sym c.self.view_is) c.requires.next in
-    on_error c.from_residual.result c.in_err-prepare_next.field-0.0 _ c.from_residual.ensures.1 (rw (← c.self.view_is) (record {
+    rw (← c.self.view_is) (wrote_off c.from_residual.result c.in_err-prepare_next.field-0.0 c.from_residual.ensures.1 c.prepare_next.ensures.wrote.size c.prepare_next.ensures.wrote.changes
+    (most_more c.in_err-prepare_next.ensures.wrote.made (omega arith) (omega arith)) (record {
       counted = c.in_err-prepare_next.ensures.wrote.failures;
       breaks = manifest_breaks (g.D.Disk.content c.args.disk.now) (g.D.Disk.content c.prepare_next.new.disk) stores c.args.next.now
           c.args.digests.now stands may c.prepare_next.ensures.wrote.size c.prepare_next.ensures.wrote.changes
@@ -23,25 +24,23 @@ returns-in_err-prepare_next-clause-err g c =
           (before_gate (g.D.Disk.content c.prepare_next.new.disk) stores c.args.next.now c.args.digests.now c.prepare_next.ensures.each);
     }))
 
-pub returns-in_err-commit_next-clause-err : goal.returns-in_err-commit_next-clause-err
-returns-in_err-commit_next-clause-err g c =
+pub returns-in_err-commit_next-clause-wrote : goal.returns-in_err-commit_next-clause-wrote
+returns-in_err-commit_next-clause-wrote g c =
     let stores : EngineState = state_of c.self.inside in
     let stands = subst (λ (v : EngineState). Stands (g.D.Disk.content c.args.disk.now) v) (sym c.self.view_is) c.requires.stands in
     let may = subst (λ (v : EngineState). MayBecomeCurrent (g.D.Disk.content c.args.disk.now) v c.args.next.now c.args.digests.now) (sym c.self.view_is) c.requires.next in
-    on_error c.from_residual-in_err-commit_next.result c.in_err-commit_next.field-0.0 _ c.from_residual-in_err-commit_next.ensures.1 (rw (← c.self.view_is) (record {
+    let steps = both_steps stores c.args.next.now c.args.digests.now c.prepare_next.new.self c.in_ok-prepare_next.ensures.state (g.D.Disk.content c.args.disk.now)
+    (g.D.Disk.content c.prepare_next.new.disk) (g.D.Disk.content c.commit_next.new.disk) c.prepare_next.ensures.wrote.changes c.commit_next.ensures.wrote.changes in
+    let same = c.commit_next.ensures.wrote.size ∙ c.prepare_next.ensures.wrote.size in
+    rw (← c.self.view_is) (wrote_off c.from_residual-in_err-commit_next.result c.in_err-commit_next.field-0.0 c.from_residual-in_err-commit_next.ensures.1 same steps
+    (most_both c.prepare_next.new.disk c.in_ok-prepare_next.ensures.wrote.made c.in_err-commit_next.ensures.wrote.made (omega arith) (omega arith)) (record {
       counted = (c.in_err-commit_next.ensures.wrote.failures.0 ∙ ap (λ (n : ℕ). (n + 1) % 2 ^ 64) c.in_ok-prepare_next.ensures.wrote.failures, c.in_err-commit_next.ensures.wrote.failures.1);
       breaks = manifest_breaks (g.D.Disk.content c.args.disk.now) (g.D.Disk.content c.commit_next.new.disk) stores c.args.next.now
-          c.args.digests.now stands may (c.commit_next.ensures.wrote.size ∙ c.prepare_next.ensures.wrote.size)
-          (both_steps stores c.args.next.now c.args.digests.now c.prepare_next.new.self c.in_ok-prepare_next.ensures.state (g.D.Disk.content c.args.disk.now)
-          (g.D.Disk.content c.prepare_next.new.disk) (g.D.Disk.content c.commit_next.new.disk) c.prepare_next.ensures.wrote.changes
-          c.commit_next.ensures.wrote.changes)
+          c.args.digests.now stands may same steps
           (at_gate stores c.args.next.now c.args.digests.now c.prepare_next.new.self c.in_ok-prepare_next.ensures.state
           (g.D.Disk.content c.commit_next.new.disk) c.commit_next.ensures.each);
       map = manifest_map (g.D.Disk.content c.args.disk.now) (g.D.Disk.content c.commit_next.new.disk) stores c.args.next.now
-          c.args.digests.now stands may (c.commit_next.ensures.wrote.size ∙ c.prepare_next.ensures.wrote.size)
-          (both_steps stores c.args.next.now c.args.digests.now c.prepare_next.new.self c.in_ok-prepare_next.ensures.state (g.D.Disk.content c.args.disk.now)
-          (g.D.Disk.content c.prepare_next.new.disk) (g.D.Disk.content c.commit_next.new.disk) c.prepare_next.ensures.wrote.changes
-          c.commit_next.ensures.wrote.changes)
+          c.args.digests.now stands may same steps
           (at_gate stores c.args.next.now c.args.digests.now c.prepare_next.new.self c.in_ok-prepare_next.ensures.state
           (g.D.Disk.content c.commit_next.new.disk) c.commit_next.ensures.each);
     }))
@@ -65,8 +64,12 @@ returns-clause-map g c =
     (g.D.Disk.content c.prepare_next.new.disk) (g.D.Disk.content c.commit_next.new.disk) c.prepare_next.ensures.wrote.changes c.commit_next.ensures.wrote.changes)
     (at_gate stores c.args.next.now c.args.digests.now c.prepare_next.new.self c.in_ok-prepare_next.ensures.state (g.D.Disk.content c.commit_next.new.disk) c.commit_next.ensures.each))
 
-pub returns-in_err-commit_next-clause-made : goal.returns-in_err-commit_next-clause-made
-returns-in_err-commit_next-clause-made g c =
-    let most : MakesAtMost g.D.Disk.writes g.D.Disk.syncs 3 3 c.args.disk.now c.commit_next.new.disk =
-    most_both c.prepare_next.new.disk c.in_ok-prepare_next.ensures.wrote.made c.in_err-commit_next.ensures.wrote.made (omega arith) (omega arith) in
-    search (rules, most)
+pub returns-clause-wrote : goal.returns-clause-wrote
+returns-clause-wrote g c = rw (← c.self.view_is) (record {
+  size = c.commit_next.ensures.wrote.size ∙ c.prepare_next.ensures.wrote.size;
+  changes = both_steps (state_of c.self.inside) c.args.next.now c.args.digests.now c.prepare_next.new.self c.in_ok-prepare_next.ensures.state
+      (g.D.Disk.content c.args.disk.now) (g.D.Disk.content c.prepare_next.new.disk) (g.D.Disk.content c.commit_next.new.disk)
+      c.prepare_next.ensures.wrote.changes c.commit_next.ensures.wrote.changes;
+  made = made_both c.prepare_next.new.disk c.in_ok-prepare_next.ensures.wrote.made c.in_ok-commit_next.ensures.wrote.made refl refl;
+  failures = c.in_ok-commit_next.ensures.wrote.failures ∙ c.in_ok-prepare_next.ensures.wrote.failures;
+})

@@ -1,5 +1,5 @@
 use Rattle.silt_engine.proofs.Common.{[], refl}
-use Rattle.silt_engine.proofs.Exits.{on_error, broke_off, went}
+use Rattle.silt_engine.proofs.Exits.{on_error, broke_off, same_disk, went_so}
 use Rattle.silt_engine.proofs.Flushes.{quiet}
 use Rattle.silt_engine.proofs.Freezes.{clear_advances, clear_emptied}
 use Rattle.silt_engine.proofs.engine.Engine.clear_region.Goals as goal
@@ -8,13 +8,14 @@ pub returns-in_err-prepare-clause-err : goal.returns-in_err-prepare-clause-err
 returns-in_err-prepare-clause-err g c =
     on_error c.from_residual.result c.in_err-prepare.field-0.0 _ c.from_residual.ensures.1
     (broke_off g.D.Disk c.args.disk.now c.prepare.new.disk c.args.self.now c.args.self.now c.in_err-prepare.field-0.0
-    (record { size = c.prepare.ensures.wrote.size; honest = c.prepare.ensures.wrote.changes.honest }) c.requires.stands c.in_err-prepare.ensures.wrote.failures
+    (same_disk c.prepare.ensures.wrote) c.requires.stands c.in_err-prepare.ensures.wrote.failures
     (clear_advances _ _ c.args.self.now c.args.next.now c.requires.stands c.requires.next c.prepare.ensures.wrote.size c.prepare.ensures.wrote.changes))
 
 pub returns-clause-works : goal.returns-clause-works
-returns-clause-works g c = went g.D.Disk [] c.args.disk.now c.prepare.new.disk c.args.self.now c.args.self.now _
-    (record { size = c.prepare.ensures.wrote.size; honest = c.prepare.ensures.wrote.changes.honest }) c.requires.stands c.in_ok-prepare.ensures.wrote.failures
+returns-clause-works g c = went_so g.D.Disk [] c.args.disk.now c.prepare.new.disk c.args.self.now c.args.self.now _
+    (same_disk c.prepare.ensures.wrote) c.requires.stands c.in_ok-prepare.ensures.wrote.failures
     (clear_advances _ _ c.args.self.now c.args.next.now c.requires.stands c.requires.next c.prepare.ensures.wrote.size c.prepare.ensures.wrote.changes)
+    c.in_ok-prepare.ensures.wrote.made
 
 pub returns-clause-emptied : goal.returns-clause-emptied
 returns-clause-emptied g c = clear_emptied (g.D.Disk.content c.args.disk.now) _ c.args.self.now c.args.next.now c.requires.next c.prepare.new.self c.in_ok-prepare.ensures.ok _ refl

@@ -1,8 +1,8 @@
 use Rattle.silt_engine.proofs.Common.{◌≡◌, ◌<◌, length, Option, ap, sym, ◌∙◌, subst, arith, IfSome, length-map, Shape, ConversionState, Body, IsUnderWay}
-use Rattle.silt_engine.proofs.Common.{EngineState, region_of, Finished, convert_turn, converted_body, most_none}
+use Rattle.silt_engine.proofs.Common.{EngineState, region_of, Finished, convert_turn, converted_body}
 use Rattle.silt_engine.proofs.ConvertSteps.{may_finish}
 use Rattle.silt_engine.proofs.Counting.{before_last, hash_count, room_for_hash}
-use Rattle.silt_engine.proofs.Exits.{state_of}
+use Rattle.silt_engine.proofs.Exits.{state_of, refused}
 use Rattle.silt_engine.proofs.engine.Engine.finish_conversion.Goals as goal
 
 pub converted_body-body-requires-clause-hashed : goal.converted_body-body-requires-clause-hashed
@@ -41,5 +41,5 @@ end_conversion-requires-clause-ends g c κs within =
     c.digest.result c.digest-sorted.result.now c.deref.result.now c.self.invariant.whole c.in-Some.is turn unspent body
     c.digest.ensures c.deref.ensures.value c.digest-sorted.ensures c.digests_with-digests.ensures)
 
-pub returns-then-current-eq-LAST_GENERATION-clause-made : goal.returns-then-current-eq-LAST_GENERATION-clause-made
-returns-then-current-eq-LAST_GENERATION-clause-made g c = most_none
+pub returns-then-current-eq-LAST_GENERATION-clause-works : goal.returns-then-current-eq-LAST_GENERATION-clause-works
+returns-then-current-eq-LAST_GENERATION-clause-works g c = refused g.D.Disk c.args.disk.now c.args.self.now _

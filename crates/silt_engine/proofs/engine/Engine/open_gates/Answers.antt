@@ -1,6 +1,6 @@
 use Rattle.silt_engine.proofs.Common.{[], sym, subst, EngineState, Stands}
 use Rattle.silt_engine.proofs.Flushes.{flush_breaks, flush_failed_map, flushed, flushed_quiet}
-use Rattle.silt_engine.proofs.Exits.{on_error, state_of, went}
+use Rattle.silt_engine.proofs.Exits.{on_error, state_of, same_disk, went_so}
 use Rattle.silt_engine.proofs.engine.Engine.open_gates.Goals as goal
 
 pub returns-in_err-open_gates-clause-err : goal.returns-in_err-open_gates-clause-err
@@ -15,9 +15,10 @@ returns-in_err-open_gates-clause-err g c =
 pub returns-clause-works : goal.returns-clause-works
 returns-clause-works g c =
     let stands = subst (λ (v : EngineState). Stands (g.D.Disk.content c.args.disk.now) v) (sym c.self.view_is) c.requires.stands in
-    rw (← c.self.view_is) (went g.D.Disk [] c.args.disk.now c.open_gates.new.disk (state_of c.self.inside) _ _
-    (record { size = c.open_gates.ensures.wrote.size; honest = c.open_gates.ensures.wrote.changes.honest }) stands c.in_ok-open_gates.ensures.wrote.failures
-    (flushed _ _ _ c.open_gates.new.self stands c.open_gates.ensures.wrote.size c.open_gates.ensures.wrote.changes c.in_ok-open_gates.ensures.ok))
+    rw (← c.self.view_is) (went_so g.D.Disk [] c.args.disk.now c.open_gates.new.disk (state_of c.self.inside) _ _
+    (same_disk c.open_gates.ensures.wrote) stands c.in_ok-open_gates.ensures.wrote.failures
+    (flushed _ _ _ c.open_gates.new.self stands c.open_gates.ensures.wrote.size c.open_gates.ensures.wrote.changes c.in_ok-open_gates.ensures.ok)
+    c.in_ok-open_gates.ensures.wrote.made)
 
 pub returns-clause-quiet : goal.returns-clause-quiet
 returns-clause-quiet g c =

@@ -1,5 +1,5 @@
 use Rattle.silt_engine.proofs.Common.{[], rules, arith, MakesAtMost, most_made}
-use Rattle.silt_engine.proofs.Exits.{on_error, broke_off, went}
+use Rattle.silt_engine.proofs.Exits.{on_error, broke_off, went_so}
 use Rattle.silt_engine.proofs.ConvertSlots.{failed_advances, sync_advances}
 use Rattle.silt_engine.proofs.engine.Engine.settle_work.Goals as goal
 
@@ -11,11 +11,11 @@ returns-in_err-sync-clause-err g c =
     (failed_advances _ _ c.args.self.now c.requires.stands c.sync.ensures.size c.in_err-sync.ensures.unchanged))
 
 pub returns-clause-works : goal.returns-clause-works
-returns-clause-works g c = went g.D.Disk [] c.args.disk.now c.sync.new.self c.args.self.now c.args.self.now _
+returns-clause-works g c = went_so g.D.Disk [] c.args.disk.now c.sync.new.self c.args.self.now c.args.self.now _
     (record { size = c.sync.ensures.size; honest = c.in_ok-sync.ensures.settled.honest }) c.requires.stands c.in_ok-sync.ensures.failures
-    (sync_advances _ _ c.args.self.now c.requires.stands c.sync.ensures.size c.in_ok-sync.ensures.settled)
+    (sync_advances _ _ c.args.self.now c.requires.stands c.sync.ensures.size c.in_ok-sync.ensures.settled) c.sync.ensures.made
 
-pub returns-in_err-sync-clause-made : goal.returns-in_err-sync-clause-made
-returns-in_err-sync-clause-made g c =
+pub returns-in_err-sync-clause-works : goal.returns-in_err-sync-clause-works
+returns-in_err-sync-clause-works g c =
     let most : MakesAtMost g.D.Disk.writes g.D.Disk.syncs 0 1 c.args.disk.now c.sync.new.self = most_made c.in_err-sync.ensures.made (omega arith) (omega arith) in
     search (rules, most)

@@ -4,7 +4,7 @@ use Rattle.std.specs.Prelude.{slice_get}
 use Rattle.silt_engine.specs.Conversion.{refusal_of_step}
 use Rattle.silt_engine.proofs.ConvertDone.{way}
 use Rattle.silt_engine.proofs.ConvertSteps.{moves_below, next_advances, next_converts, next_failed_breaks, next_failed_map, step_cause}
-use Rattle.silt_engine.proofs.Exits.{on_error, state_of, went}
+use Rattle.silt_engine.proofs.Exits.{on_error, state_of, same_disk, went_so}
 use Rattle.silt_engine.proofs.engine.Engine.step_conversion.Goals.{In-Some-last}
 use Rattle.silt_engine.proofs.engine.Engine.step_conversion.Goals as goal
 
@@ -37,10 +37,10 @@ pub returns-clause-works : goal.returns-clause-works
 returns-clause-works g c =
     let at = (goal.at.returns-clause-works g c).In-Some-last in
     let wrote = c.step.ensures.wrote in
-    rw (← c.self.view_is) (went g.D.Disk [] c.args.disk.now c.step.new.disk (state_of c.self.inside) _ _
-    (record { size = wrote.size; honest = wrote.changes.honest }) (stands g at) c.in_ok-step.ensures.wrote.failures
+    rw (← c.self.view_is) (went_so g.D.Disk [] c.args.disk.now c.step.new.disk (state_of c.self.inside) _ _
+    (same_disk wrote) (stands g at) c.in_ok-step.ensures.wrote.failures
     (next_advances _ _ (state_of c.self.inside) _ _ c.step.new.self (stands g at) (read g at) c.in-Some.is (turn g at) wrote.size wrote.changes
-    c.in_ok-step.ensures.ok c.step.ensures.written))
+    c.in_ok-step.ensures.ok c.step.ensures.written) c.in_ok-step.ensures.wrote.made)
 
 pub step-requires-clause-more : goal.step-requires-clause-more
 step-requires-clause-more g c κs within =

@@ -3,7 +3,7 @@ use Rattle.silt_engine.proofs.Common.{EngineState, Stands, written_by_merge, dam
 use Rattle.silt_engine.proofs.engine.Engine.step_merge.Given as given
 use Rattle.silt_engine.specs.Merge.{refusal_of_step}
 use Rattle.silt_engine.proofs.MergeSteps.{failed_map, found_by, gathered_of, merging_of, most_made, next_merges, step_advances, step_cause, step_disk, step_made, steps_in, taken_shapes, way_after}
-use Rattle.silt_engine.proofs.Exits.{on_error, on_refusal, state_of, went}
+use Rattle.silt_engine.proofs.Exits.{on_error, state_of, went, went_off}
 use Rattle.silt_engine.proofs.Wholes.{whole_with}
 use Rattle.silt_engine.proofs.engine.Engine.step_merge.Goals.{In-Some}
 use Rattle.silt_engine.proofs.engine.Engine.step_merge.Goals as goal
@@ -74,7 +74,8 @@ returns-clause-works g c =
     let step = steps_in (state_of c.self.inside) _ _ _ c.deref.ensures.value c.entries.ensures c.digest.ensures c.in_ok-step.ensures in
     rw (← c.self.view_is) (went g.D.Disk [] c.args.disk.now c.step.new.disk (state_of c.self.inside) _ _
     (step_disk _ _ _ _ _ _ _ (stands g at) (way g at) step) (stands g at) step.goes.failures
-    (step_advances _ _ _ _ _ _ _ (stands g at) (way g at) step step.goes (gathered g at)))
+    (step_advances _ _ _ _ _ _ _ (stands g at) (way g at) step step.goes (gathered g at))
+    (step_made _ _ _ _ _ _ _ (stands g at) (way g at) step step.goes (ap written_by_merge c.in-Some.is)))
 
 pub returns-clause-merges : goal.returns-clause-merges
 returns-clause-merges g c =
@@ -82,15 +83,9 @@ returns-clause-merges g c =
     rw (← c.self.view_is) (next_merges (state_of c.self.inside) c.in-Some.merge c.step.new.self c.in-Some.is
     (turn g (goal.at.returns-clause-merges g c).In-Some) c.step.ensures.same c.in_ok-step.ensures.goes.steps (found_by step.goes))
 
-pub returns-clause-made : goal.returns-clause-made
-returns-clause-made g c =
-    let at = (goal.at.returns-clause-made g c).In-Some in
-    let step = steps_in (state_of c.self.inside) _ _ _ c.deref.ensures.value c.entries.ensures c.digest.ensures c.in_ok-step.ensures in
-    rw (← c.self.view_is) (step_made _ _ _ _ _ _ _ (stands g at) (way g at) step step.goes (ap written_by_merge c.in-Some.is))
-
-pub returns-in_err-step-clause-made : goal.returns-in_err-step-clause-made
-returns-in_err-step-clause-made g c =
-    let at = (goal.at.returns-in_err-step-clause-made g c).In-Some in
+pub returns-in_err-step-clause-works : goal.returns-in_err-step-clause-works
+returns-in_err-step-clause-works g c =
+    let at = (goal.at.returns-in_err-step-clause-works g c).In-Some in
     let step = steps_in (state_of c.self.inside) _ _ _ c.deref.ensures.value c.entries.ensures c.digest.ensures c.in_err-step.ensures in
-    rw (← c.self.view_is) (on_refusal c.from_residual.result (refusal_of_step c.in_err-step.field-0.0) _ c.from_residual.ensures.1
-    (most_made _ _ _ _ _ _ _ (stands g at) (way g at) step (turn g at) step.most))
+    rw (← c.self.view_is) (went_off g.D.Disk _ _ _ _ c.from_residual.result (refusal_of_step c.in_err-step.field-0.0) c.from_residual.ensures.1
+    (step_disk _ _ _ _ _ _ _ (stands g at) (way g at) step) refl (most_made _ _ _ _ _ _ _ (stands g at) (way g at) step (turn g at) step.most))

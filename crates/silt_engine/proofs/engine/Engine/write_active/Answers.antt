@@ -1,6 +1,6 @@
 use Rattle.silt_engine.proofs.Common.{◌≡◌, ◌≤◌, ◌+◌, ℕ, ap, sym, subst, rules, EngineState, Stands, puts_of}
 use Rattle.silt_engine.proofs.Appends.{appended, appended_waits, has_place, not_taken}
-use Rattle.silt_engine.proofs.Exits.{on_error, state_of, went}
+use Rattle.silt_engine.proofs.Exits.{on_error, state_of, same_disk, went_so}
 use Rattle.silt_engine.proofs.engine.Engine.write_active.Goals as goal
 
 pub invariant_of-self-2 : goal.invariant_of-self-2
@@ -26,10 +26,11 @@ pub returns-clause-works : goal.returns-clause-works
 returns-clause-works g c =
     let stands = subst (λ (v : EngineState). Stands (g.D.Disk.content c.args.disk.now) v) (sym c.self.view_is) c.requires.stands in
     let most = subst (λ (v : EngineState). v.charge + puts_of c.args.kind ≤ v.manifest.shape.sorted_capacity) (sym c.self.view_is) c.requires.charge in
-    rw (← c.self.view_is) (went g.D.Disk _ c.args.disk.now c.take.new.disk (state_of c.self.inside) _ _
-    (record { size = c.take.ensures.wrote.size; honest = c.take.ensures.wrote.changes.honest }) stands c.in_ok-take.ensures.wrote.failures
+    rw (← c.self.view_is) (went_so g.D.Disk _ c.args.disk.now c.take.new.disk (state_of c.self.inside) _ _
+    (same_disk c.take.ensures.wrote) stands c.in_ok-take.ensures.wrote.failures
     (appended _ _ _ c.take.new.self c.args.kind c.args.key.now c.args.value.now _ stands c.take.ensures.wrote.size c.in_ok-take.ensures.store.0.room
-    c.take.ensures.wrote.changes c.take.ensures.images c.in_ok-take.ensures.store.1 (ap (λ (n : ℕ). c.self.inside.charge + n) c.puts.ensures.value) most))
+    c.take.ensures.wrote.changes c.take.ensures.images c.in_ok-take.ensures.store.1 (ap (λ (n : ℕ). c.self.inside.charge + n) c.puts.ensures.value) most)
+    c.in_ok-take.ensures.wrote.made)
 
 pub returns-clause-row : goal.returns-clause-row
 returns-clause-row g c =
@@ -38,4 +39,4 @@ returns-clause-row g c =
     let place = has_place (g.D.Disk.content c.args.disk.now) (state_of c.self.inside) c.args.key.now.0 stands c.in_ok-take.ensures.store.0 in
     let waits = appended_waits _ _ _ c.take.new.self c.args.kind c.args.key.now c.args.value.now _ stands c.take.ensures.wrote.size
     c.in_ok-take.ensures.store.0.room c.take.ensures.wrote.changes c.take.ensures.images c.in_ok-take.ensures.store.1 (ap (λ (n : ℕ). c.self.inside.charge + n) c.puts.ensures.value) most in
-    rw (← c.self.view_is) (record { place = place; waits = waits; behind = search rules; charge = ap (λ (n : ℕ). c.self.inside.charge + n) c.puts.ensures.value })
+    rw (← c.self.view_is) (record { place = place; waits = waits; others = search rules; charge = ap (λ (n : ℕ). c.self.inside.charge + n) c.puts.ensures.value })

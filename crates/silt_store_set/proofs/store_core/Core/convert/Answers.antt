@@ -1,7 +1,6 @@
-use Rattle.std.proofs.Common.{[], arith}
+use Rattle.silt_store_set.proofs.Common.{[], arith, Convert}
 use Rattle.silt_store_set.proofs.Calls.{core_broke, core_stays, core_went, refused_failed, seen_core}
 use Rattle.silt_store_set.proofs.Converts.{step_broke, step_no_memory, step_spent, step_unread, stepped}
-use Rattle.silt_event.specs.declared.event.Event.TheVariants.{Convert}
 use Rattle.silt_store_set.proofs.store_core.Core.convert.Goals as goal
 
 pub returns-then-self : goal.returns-then-self
@@ -13,7 +12,7 @@ returns-in-Ok g c =
     let working = c.if-self.false in
     rw (← c.self.view_is, working) (stepped g.D.Disk c.self.inside.disk c.self.inside.engine c.self.inside.count
     (c.self.invariant.stands working) c.in-Ok.progress c.convert.new.disk c.convert.new.self c.convert.ensures.works.same
-    c.in-Ok.ensures.works.advances c.in-Ok.ensures.converts c.in-Ok.ensures.rows c.in-Ok.ensures.quiet c.in-Ok.ensures.works.failures c.in-Ok.ensures.made)
+    c.in-Ok.ensures.works.advances c.in-Ok.ensures.converts c.in-Ok.ensures.rows c.in-Ok.ensures.quiet c.in-Ok.ensures.works.failures c.in-Ok.ensures.works.made)
 
 pub returns-in-Err-Write : goal.returns-in-Err-Write
 returns-in-Err-Write g c =
@@ -21,7 +20,7 @@ returns-in-Err-Write g c =
     let err = rw c.in-Err-Write.field-0-is at c.in-Err-Write.ensures.err in
     rw (← c.self.view_is, working, c.of-basis.ensures) (step_broke g.D.Disk c.self.inside.disk c.self.inside.engine c.self.inside.count
     (c.self.invariant.stands working) c.convert.new.disk c.convert.new.self c.in-Err-Write.fault c.convert.ensures.works.same err.0
-    err.1.breaks err.1.map c.convert.ensures.works.shape err.1.counted.1 err.1.counted.0 c.in-Err-Write.ensures.made)
+    err.1.breaks err.1.map c.convert.ensures.works.shape err.1.counted.1 err.1.counted.0 c.in-Err-Write.ensures.works.made)
 
 pub returns-in-Err-Read : goal.returns-in-Err-Read
 returns-in-Err-Read g c =

@@ -1,6 +1,4 @@
-use Rattle.std.proofs.Common.{inl, refl}
-use Rattle.silt_event.specs.declared.event.Event.TheVariants.{Delete}
-use Rattle.silt_event.specs.declared.refusal.Refusal.TheVariants.{Spent}
+use Rattle.silt_store_set.proofs.Common.{inl, refl, Delete, Spent}
 use Rattle.silt_store_set.proofs.Calls.{refused, refused_failed, seen_core}
 use Rattle.silt_store_set.proofs.store_core.Core.delete.Goals as goal
 

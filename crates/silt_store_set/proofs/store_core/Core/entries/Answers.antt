@@ -1,8 +1,5 @@
-use Rattle.std.proofs.Common.{ap, sym, ◌∙◌}
-use Rattle.std.specs.FinMap.{get}
-use Rattle.silt_event.specs.Commands.{Map}
+use Rattle.silt_store_set.proofs.Common.{ap, sym, ◌∙◌, get, Map, meaning}
 use Rattle.silt_standing.proofs.Shown.{stands_shown}
-use Rattle.silt_engine.proofs.Meaning.{meaning}
 use Rattle.silt_store_set.proofs.store_core.Core.entries.Goals as goal
 
 pub returns-in-Ok-clause-entries : goal.returns-in-Ok-clause-entries

@@ -1,4 +1,4 @@
-use Rattle.std.proofs.Common.{refl}
+use Rattle.silt_store_set.proofs.Common.{refl}
 use Rattle.silt_store_set.proofs.Numbers.{same_slots, same_steps}
 use Rattle.silt_store_set.proofs.store_core.Core.facts.Goals as goal
 

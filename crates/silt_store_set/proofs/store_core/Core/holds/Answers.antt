@@ -1,4 +1,4 @@
-use Rattle.std.proofs.Common.{Ok, ap, refl}
+use Rattle.silt_store_set.proofs.Common.{Ok, ap, refl}
 use Rattle.std.proofs.lemmas.Bool.Decides.{Decides-eqb}
 use Rattle.std.proofs.lemmas.Slice.Eq.{slice_eq-Decides}
 use Rattle.silt_store_set.proofs.Swaps.{holds_found, holds_none, holds_other}

@@ -1,5 +1,5 @@
+use Rattle.silt_store_set.proofs.Common.{Get}
 use Rattle.silt_store_set.proofs.Gets.{get_answered, get_faulted, get_kept}
-use Rattle.silt_event.specs.declared.event.Event.TheVariants.{Get}
 use Rattle.silt_store_set.proofs.Calls.{refused_failed, seen_core}
 use Rattle.silt_store_set.proofs.store_core.Core.look.Goals as goal
 

@@ -1,6 +1,5 @@
-use Rattle.std.proofs.Common.{true, false, refl, ap, sym, ◌∙◌}
+use Rattle.silt_store_set.proofs.Common.{true, false, refl, ap, sym, ◌∙◌, awaits_region}
 use Rattle.std.proofs.lemmas.Bool.{le-leb, lt-leb}
-use Rattle.silt_store_set.specs.CoreState.{awaits_region}
 use Rattle.silt_store_set.proofs.MayMerge.{begins_if}
 use Rattle.silt_store_set.proofs.store_core.Core.may_merge.Goals as goal
 

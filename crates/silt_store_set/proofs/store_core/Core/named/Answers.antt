@@ -1,6 +1,5 @@
-use Rattle.std.proofs.Common.{Bool, ap, sym, ◌∙◌}
+use Rattle.silt_store_set.proofs.Common.{Bool, ap, sym, ◌∙◌, basis_kept, basis_of}
 use Rattle.silt_store_set.proofs.Digests.{own_said, shown_is_base}
-use Rattle.silt_store_set.specs.Basis.{basis_kept, basis_of}
 use Rattle.silt_store_set.proofs.store_core.Core.named.Goals as goal
 
 pub returns-clause-digests : goal.returns-clause-digests

@@ -1,7 +1,4 @@
-use Rattle.std.proofs.Common.{subst, sym}
-use Rattle.silt_recovery.specs.Opening.{held_stores}
-use Rattle.silt_standing.specs.State.{EngineState}
-use Rattle.silt_store_set.specs.CoreState.{Opens}
+use Rattle.silt_store_set.proofs.Common.{subst, sym, held_stores, EngineState, Opens}
 use Rattle.silt_store_set.proofs.Calls.{seen}
 use Rattle.silt_store_set.proofs.Openings.{opened}
 use Rattle.silt_store_set.proofs.store_core.Core.open.Goals as goal

@@ -1,7 +1,5 @@
-use Rattle.std.proofs.Common.{◌≡◌, inl, refl, ap, sym, ◌∙◌, arith}
-use Rattle.silt_disk.specs.Layout.{Shape}
-use Rattle.silt_event.specs.declared.event.Event.TheVariants.{Put}
-use Rattle.silt_event.specs.declared.refusal.Refusal.TheVariants.{Spent, StoreFull}
+use Rattle.silt_store_set.proofs.Common.{◌≡◌, inl, refl, ap, sym, ◌∙◌, arith, Shape, Put, Spent}
+use Rattle.silt_event.specs.declared.refusal.Refusal.TheVariants.{StoreFull}
 use Rattle.silt_store_set.proofs.Calls.{refused, refused_failed, seen_core}
 use Rattle.silt_store_set.proofs.store_core.Core.put.Goals as goal
 

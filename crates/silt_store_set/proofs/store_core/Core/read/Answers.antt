@@ -1,6 +1,5 @@
-use Rattle.std.proofs.Common.{Ok, Some, ap, sym, ◌∙◌}
+use Rattle.silt_store_set.proofs.Common.{Ok, Some, ap, sym, ◌∙◌, Get}
 use Rattle.silt_store_set.proofs.Gets.{get_absent, get_found, get_faulted, get_refused}
-use Rattle.silt_event.specs.declared.event.Event.TheVariants.{Get}
 use Rattle.silt_store_set.proofs.Calls.{refused_failed, seen_core}
 use Rattle.silt_store_set.proofs.store_core.Core.read.Goals as goal
 

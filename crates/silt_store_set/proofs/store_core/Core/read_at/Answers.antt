@@ -1,6 +1,4 @@
-use Rattle.std.proofs.Common.{◌≤◌, ◌+◌, length, subst, sym}
-use Rattle.silt_disk.specs.Layout.{device_size}
-use Rattle.silt_store_set.specs.CoreState.{CoreState}
+use Rattle.silt_store_set.proofs.Common.{◌≤◌, ◌+◌, length, subst, sym, device_size, CoreState}
 use Rattle.silt_store_set.proofs.store_core.Core.read_at.Goals as goal
 
 pub read-requires : goal.read-requires

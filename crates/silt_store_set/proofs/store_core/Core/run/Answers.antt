@@ -1,7 +1,5 @@
-use Rattle.std.proofs.Common.{◌≡◌, ◌+◌, ◌++◌, ◌∷◌, [], List, take, sym, ◌∙◌, ap, subst, rules}
-use Rattle.std.proofs.lemmas.List.{take_more, take_all}
-use Rattle.silt_event.specs.declared.event.Event.{Event}
-use Rattle.silt_store_set.specs.CoreState.{Runs}
+use Rattle.silt_store_set.proofs.Common.{◌≡◌, ◌+◌, ◌++◌, ◌∷◌, [], List, take, sym, ◌∙◌, ap, subst, take_more, take_all, Event, Runs}
+use Rattle.std.proofs.Common.{rules}
 use Rattle.silt_store_set.proofs.Calls.{endures_seen}
 use Rattle.silt_store_set.proofs.Keeps.{keeps_runs}
 use Rattle.silt_store_set.proofs.RunCosts.{run_made}

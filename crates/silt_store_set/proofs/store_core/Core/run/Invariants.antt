@@ -1,7 +1,6 @@
-use Rattle.std.proofs.Common.{◌≡◌, ◌≤◌, length, take, vec_len}
+use Rattle.silt_store_set.proofs.Common.{◌≡◌, ◌≤◌, length, take, SameDisk, Runs}
+use Rattle.std.proofs.Common.{vec_len}
 use Rattle.std.specs.Prelude.{vec_capacity}
-use Rattle.silt_standing.specs.Standing.{SameDisk}
-use Rattle.silt_store_set.specs.CoreState.{Runs}
 use Rattle.silt_store_set.proofs.store_core.Core.run.Given as goal
 
 -- the events so far were done, and each has its reply

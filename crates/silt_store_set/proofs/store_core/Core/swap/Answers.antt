@@ -1,8 +1,7 @@
-use Rattle.std.proofs.Common.{◌≡◌, true, false, sym, ◌∙◌}
+use Rattle.silt_store_set.proofs.Common.{◌≡◌, true, false, sym, ◌∙◌, Swap}
 use Rattle.std.specs.Option.{option_map}
 use Rattle.std.proofs.lemmas.Result.{err_from_is_err_and}
 use Rattle.silt_store_set.proofs.Swaps.{swap_differs, swap_unread}
-use Rattle.silt_event.specs.declared.event.Event.TheVariants.{Swap}
 use Rattle.silt_store_set.proofs.Calls.{refused_failed, seen_core}
 use Rattle.silt_store_set.proofs.store_core.Core.swap.Goals as goal
 

@@ -1,5 +1,4 @@
-use Rattle.std.proofs.Common.{ap, sym, ◌∙◌}
-use Rattle.silt_engine.specs.Conversion.{is_work}
+use Rattle.silt_store_set.proofs.Common.{ap, sym, ◌∙◌, is_work}
 use Rattle.silt_store_set.proofs.Merges.{work_same}
 use Rattle.silt_store_set.proofs.store_core.Core.wants_merge.Goals as goal
 

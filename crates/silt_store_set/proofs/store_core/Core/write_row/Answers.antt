@@ -1,4 +1,4 @@
-use Rattle.std.proofs.Common.{◌+◌, [], ◌∷◌, arith}
+use Rattle.silt_store_set.proofs.Common.{◌+◌, [], ◌∷◌, arith}
 use Rattle.silt_store_set.proofs.Calls.{core_broke, core_stays, core_went, seen_core}
 use Rattle.silt_store_set.proofs.Rows.{least_logs, may_count, may_working, row_taken, row_broke, row_unread, row_no_room, row_spent, row_no_memory}
 use Rattle.silt_store_set.proofs.store_core.Core.write_row.Goals as goal
@@ -10,7 +10,7 @@ returns-in-Ok g c =
     rw (← c.self.view_is, working) (row_taken g.D.Disk c.self.inside.disk c.self.inside.engine c.self.inside.count
     (c.self.invariant.stands working) c.write.new.disk c.write.new.self c.args.kind c.args.key.now c.args.value.now (rw working at may)
     c.write.ensures.works.same c.in-Ok.ensures.works.advances c.in-Ok.ensures.current c.in-Ok.ensures.row.converting
-    c.in-Ok.ensures.row.merging c.in-Ok.ensures.works.failures c.in-Ok.ensures.made)
+    c.in-Ok.ensures.row.merging c.in-Ok.ensures.works.failures c.in-Ok.ensures.works.made)
 
 pub returns-in-Err-Write : goal.returns-in-Err-Write
 returns-in-Err-Write g c =
@@ -19,7 +19,7 @@ returns-in-Err-Write g c =
     let working = may_working c.args.kind (seen_core g.D.Disk c.self.inside.disk c.self.inside.engine c.self.inside.count c.self.inside.failed c.self.inside.basis) may in
     rw (← c.self.view_is, working, c.of-basis.ensures) (row_broke g.D.Disk c.self.inside.disk c.self.inside.engine c.self.inside.count
     (c.self.invariant.stands working) c.write.new.disk c.write.new.self c.args.kind c.args.key.now c.args.value.now c.in-Err-Write.fault
-    (rw working at may) c.write.ensures.works.same err.breaks err.map c.write.ensures.works.shape err.counted.1 err.counted.0 c.in-Err-Write.ensures.made)
+    (rw working at may) c.write.ensures.works.same err.breaks err.map c.write.ensures.works.shape err.counted.1 err.counted.0 c.in-Err-Write.ensures.works.made)
 
 pub returns-in-Err-Read : goal.returns-in-Err-Read
 returns-in-Err-Read g c =
