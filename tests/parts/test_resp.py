@@ -199,6 +199,18 @@ class Letters(RespCase):
             self.assertIn(string("proto") + number(2), reply)
             self.assertTrue(reply.endswith(string("modules") + array()), reply)
 
+    def test_each_connection_has_a_number_of_its_own(self):
+        # A session has the number of its connection, by which the log of calls tells the sessions apart.
+        clients = [self.resp_client() for _ in range(3)]
+        numbers = [client.ask("CLIENT", "ID") for client in clients]
+        for _ in range(3):
+            client = self.resp_client()
+            numbers.append(client.ask("CLIENT", "ID"))
+            client.ask("QUIT")
+            client.rest()
+        self.assertEqual(len(set(numbers)), len(numbers), numbers)
+        self.assertEqual(numbers, sorted(numbers, key=lambda it: int(it[1:-2])), numbers)
+
     def test_quit_ends_the_connection(self):
         client = self.resp_client()
         client.send(command("SET", "a", "1") + command("QUIT") + command("SET", "a", "2"))

@@ -276,23 +276,23 @@ module _ {D F : Type 0} (facts : Ghosts D F) where
     module _ (agrees : T → SeenStore → Type 0) (law : agrees t0 (seen facts c0) → (c : RecordedCall) → trace.extends t0 c t1
         → SeenStep (seen facts c0) (seen facts c1) c.event c.reply → agrees t1 (seen facts c1)) where
       keeps_told : (reply : Reply F) → Does facts c0 c1 event reply → Notes trace t0 t1 totals after_totals seat after event (plain reply) → agrees t0 (seen facts c0) → agrees t1 (seen facts c1)
-      keeps_told (Accepted n) does notes held = law held (call seat.number event (plain {F = F} (Accepted n))) notes.0 (seen_step c0 c1 event (Accepted n) does)
-      keeps_told (Acknowledged n) does notes held = law held (call seat.number event (plain {F = F} (Acknowledged n))) notes.0 (seen_step c0 c1 event (Acknowledged n) does)
-      keeps_told (Found v) does notes held = law held (call seat.number event (plain {F = F} (Found v))) notes.0 (seen_step c0 c1 event (Found v) does)
-      keeps_told Absent does notes held = law held (call seat.number event (plain {F = F} Absent)) notes.0 (seen_step c0 c1 event Absent does)
-      keeps_told Differs does notes held = law held (call seat.number event (plain {F = F} Differs)) notes.0 (seen_step c0 c1 event Differs does)
-      keeps_told (Unsettled n) does notes held = law held (call seat.number event (plain {F = F} (Unsettled n))) notes.0 (seen_step c0 c1 event (Unsettled n) does)
-      keeps_told NotServed does notes held = law held (call seat.number event (plain {F = F} NotServed)) notes.0 (seen_step c0 c1 event NotServed does)
-      keeps_told (Progress progress) does notes held = law held (call seat.number event (plain {F = F} (Progress progress))) notes.0 (seen_step c0 c1 event (Progress progress) does)
-      keeps_told (Refused NotFormatted) does notes held = law held (call seat.number event (plain {F = F} (Refused NotFormatted))) notes.0 (seen_step c0 c1 event (Refused NotFormatted) does)
-      keeps_told (Refused BadGeometry) does notes held = law held (call seat.number event (plain {F = F} (Refused BadGeometry))) notes.0 (seen_step c0 c1 event (Refused BadGeometry) does)
-      keeps_told (Refused (Damaged place)) does notes held = law held (call seat.number event (plain {F = F} (Refused (Damaged place)))) notes.0 (seen_step c0 c1 event (Refused (Damaged place)) does)
-      keeps_told (Refused Crowded) does notes held = law held (call seat.number event (plain {F = F} (Refused Crowded))) notes.0 (seen_step c0 c1 event (Refused Crowded) does)
-      keeps_told (Refused (Device fault)) does notes held = law held (call seat.number event (plain {F = F} (Refused (Device fault)))) notes.0 (seen_step c0 c1 event (Refused (Device fault)) does)
-      keeps_told (Refused StoreFull) does notes held = law held (call seat.number event (plain {F = F} (Refused StoreFull))) notes.0 (seen_step c0 c1 event (Refused StoreFull) does)
-      keeps_told (Refused NoRoom) does notes held = law held (call seat.number event (plain {F = F} (Refused NoRoom))) notes.0 (seen_step c0 c1 event (Refused NoRoom) does)
-      keeps_told (Refused Failed) does notes held = law held (call seat.number event (plain {F = F} (Refused Failed))) notes.0 (seen_step c0 c1 event (Refused Failed) does)
-      keeps_told (Refused Spent) does notes held = law held (call seat.number event (plain {F = F} (Refused Spent))) notes.0 (seen_step c0 c1 event (Refused Spent) does)
+      keeps_told (Accepted n) does notes held = law held (call seat.caller event (plain {F = F} (Accepted n))) notes.0 (seen_step c0 c1 event (Accepted n) does)
+      keeps_told (Acknowledged n) does notes held = law held (call seat.caller event (plain {F = F} (Acknowledged n))) notes.0 (seen_step c0 c1 event (Acknowledged n) does)
+      keeps_told (Found v) does notes held = law held (call seat.caller event (plain {F = F} (Found v))) notes.0 (seen_step c0 c1 event (Found v) does)
+      keeps_told Absent does notes held = law held (call seat.caller event (plain {F = F} Absent)) notes.0 (seen_step c0 c1 event Absent does)
+      keeps_told Differs does notes held = law held (call seat.caller event (plain {F = F} Differs)) notes.0 (seen_step c0 c1 event Differs does)
+      keeps_told (Unsettled n) does notes held = law held (call seat.caller event (plain {F = F} (Unsettled n))) notes.0 (seen_step c0 c1 event (Unsettled n) does)
+      keeps_told NotServed does notes held = law held (call seat.caller event (plain {F = F} NotServed)) notes.0 (seen_step c0 c1 event NotServed does)
+      keeps_told (Progress progress) does notes held = law held (call seat.caller event (plain {F = F} (Progress progress))) notes.0 (seen_step c0 c1 event (Progress progress) does)
+      keeps_told (Refused NotFormatted) does notes held = law held (call seat.caller event (plain {F = F} (Refused NotFormatted))) notes.0 (seen_step c0 c1 event (Refused NotFormatted) does)
+      keeps_told (Refused BadGeometry) does notes held = law held (call seat.caller event (plain {F = F} (Refused BadGeometry))) notes.0 (seen_step c0 c1 event (Refused BadGeometry) does)
+      keeps_told (Refused (Damaged place)) does notes held = law held (call seat.caller event (plain {F = F} (Refused (Damaged place)))) notes.0 (seen_step c0 c1 event (Refused (Damaged place)) does)
+      keeps_told (Refused Crowded) does notes held = law held (call seat.caller event (plain {F = F} (Refused Crowded))) notes.0 (seen_step c0 c1 event (Refused Crowded) does)
+      keeps_told (Refused (Device fault)) does notes held = law held (call seat.caller event (plain {F = F} (Refused (Device fault)))) notes.0 (seen_step c0 c1 event (Refused (Device fault)) does)
+      keeps_told (Refused StoreFull) does notes held = law held (call seat.caller event (plain {F = F} (Refused StoreFull))) notes.0 (seen_step c0 c1 event (Refused StoreFull) does)
+      keeps_told (Refused NoRoom) does notes held = law held (call seat.caller event (plain {F = F} (Refused NoRoom))) notes.0 (seen_step c0 c1 event (Refused NoRoom) does)
+      keeps_told (Refused Failed) does notes held = law held (call seat.caller event (plain {F = F} (Refused Failed))) notes.0 (seen_step c0 c1 event (Refused Failed) does)
+      keeps_told (Refused Spent) does notes held = law held (call seat.caller event (plain {F = F} (Refused Spent))) notes.0 (seen_step c0 c1 event (Refused Spent) does)
       keeps_told (Refused NoMemory) does notes held =
           subst (λ (t : T). agrees t (seen facts c1)) (sym notes.0) (subst (λ (c : CoreState D). agrees t0 (seen facts c)) (sym (lacks c0 c1 event does)) held)
       keeps_told (Refused HistoryFull) does notes held = absurd (never_full c0 c1 event does.cause)
@@ -323,22 +323,22 @@ module _ {T : Type 0} (counts : T → ℕ → ℕ → Type 0) (trace : TraceOf T
 
   -- the trace counts on
   pub keeps_counting : (reply : Reply (Unit {0})) → Notes trace t0 t1 totals after_totals seat after event reply → CountsCalls counts t0 totals → CountsCalls counts t1 after_totals
-  keeps_counting (Accepted n) notes held = counts_more (call seat.number event (Accepted n)) notes.0 notes.2 held
-  keeps_counting (Acknowledged n) notes held = counts_more (call seat.number event (Acknowledged n)) notes.0 notes.2 held
-  keeps_counting (Found v) notes held = counts_more (call seat.number event (Found v)) notes.0 notes.2 held
-  keeps_counting Absent notes held = counts_more (call seat.number event Absent) notes.0 notes.2 held
-  keeps_counting Differs notes held = counts_more (call seat.number event Differs) notes.0 notes.2 held
-  keeps_counting (Unsettled n) notes held = counts_more (call seat.number event (Unsettled n)) notes.0 notes.2 held
-  keeps_counting NotServed notes held = counts_more (call seat.number event NotServed) notes.0 notes.2 held
-  keeps_counting (Progress progress) notes held = counts_more (call seat.number event (Progress progress)) notes.0 notes.2 held
-  keeps_counting (Refused NotFormatted) notes held = counts_more (call seat.number event (Refused NotFormatted)) notes.0 notes.2 held
-  keeps_counting (Refused BadGeometry) notes held = counts_more (call seat.number event (Refused BadGeometry)) notes.0 notes.2 held
-  keeps_counting (Refused (Damaged place)) notes held = counts_more (call seat.number event (Refused (Damaged place))) notes.0 notes.2 held
-  keeps_counting (Refused Crowded) notes held = counts_more (call seat.number event (Refused Crowded)) notes.0 notes.2 held
-  keeps_counting (Refused (Device fault)) notes held = counts_more (call seat.number event (Refused (Device fault))) notes.0 notes.2 held
-  keeps_counting (Refused StoreFull) notes held = counts_more (call seat.number event (Refused StoreFull)) notes.0 notes.2 held
-  keeps_counting (Refused NoRoom) notes held = counts_more (call seat.number event (Refused NoRoom)) notes.0 notes.2 held
-  keeps_counting (Refused Failed) notes held = counts_more (call seat.number event (Refused Failed)) notes.0 notes.2 held
-  keeps_counting (Refused Spent) notes held = counts_more (call seat.number event (Refused Spent)) notes.0 notes.2 held
+  keeps_counting (Accepted n) notes held = counts_more (call seat.caller event (Accepted n)) notes.0 notes.2 held
+  keeps_counting (Acknowledged n) notes held = counts_more (call seat.caller event (Acknowledged n)) notes.0 notes.2 held
+  keeps_counting (Found v) notes held = counts_more (call seat.caller event (Found v)) notes.0 notes.2 held
+  keeps_counting Absent notes held = counts_more (call seat.caller event Absent) notes.0 notes.2 held
+  keeps_counting Differs notes held = counts_more (call seat.caller event Differs) notes.0 notes.2 held
+  keeps_counting (Unsettled n) notes held = counts_more (call seat.caller event (Unsettled n)) notes.0 notes.2 held
+  keeps_counting NotServed notes held = counts_more (call seat.caller event NotServed) notes.0 notes.2 held
+  keeps_counting (Progress progress) notes held = counts_more (call seat.caller event (Progress progress)) notes.0 notes.2 held
+  keeps_counting (Refused NotFormatted) notes held = counts_more (call seat.caller event (Refused NotFormatted)) notes.0 notes.2 held
+  keeps_counting (Refused BadGeometry) notes held = counts_more (call seat.caller event (Refused BadGeometry)) notes.0 notes.2 held
+  keeps_counting (Refused (Damaged place)) notes held = counts_more (call seat.caller event (Refused (Damaged place))) notes.0 notes.2 held
+  keeps_counting (Refused Crowded) notes held = counts_more (call seat.caller event (Refused Crowded)) notes.0 notes.2 held
+  keeps_counting (Refused (Device fault)) notes held = counts_more (call seat.caller event (Refused (Device fault))) notes.0 notes.2 held
+  keeps_counting (Refused StoreFull) notes held = counts_more (call seat.caller event (Refused StoreFull)) notes.0 notes.2 held
+  keeps_counting (Refused NoRoom) notes held = counts_more (call seat.caller event (Refused NoRoom)) notes.0 notes.2 held
+  keeps_counting (Refused Failed) notes held = counts_more (call seat.caller event (Refused Failed)) notes.0 notes.2 held
+  keeps_counting (Refused Spent) notes held = counts_more (call seat.caller event (Refused Spent)) notes.0 notes.2 held
   keeps_counting (Refused NoMemory) notes held = counts_same notes.0 notes.1 held
   keeps_counting (Refused HistoryFull) notes held = counts_same notes.0 notes.1 held

@@ -4,6 +4,8 @@ use mathlib.Core.List.{IsPrefix}
 use Rattle.logbook.specs.Pages.{Book, Cell, Named, Step, View}
 use Rattle.silt_event.specs.Events.{PlainReply}
 use Rattle.silt_event.specs.declared.event.Event.{Event}
+use Rattle.silt_event.specs.declared.event.Event.TheVariants as event
+use Rattle.silt_desk.specs.declared.call.Caller.{Caller}
 use Rattle.silt_desk.specs.declared.call.RecordedCall.{RecordedCall}
 use Rattle.silt_desk.specs.History.{call}
 
@@ -38,9 +40,19 @@ pub record PlaceState : Type 0 where
 abbrev pub PlacesCall : Option Book → RecordedCall → Option PlaceState → Type 0
 PlacesCall named c place = IfSome place (λ p. (Some p.book ≡ named) × (p.at ≡ Some c))
 
--- the place, if there is one, is in the log that is named, and has a call of this event with this reply
-abbrev pub PlacesEvent : Option Book → Event → PlainReply → Option PlaceState → Type 0
-PlacesEvent named event reply place = IfSome place (λ p. (Some p.book ≡ named) × ((seat : ℕ) × (p.at ≡ Some (call seat event reply))))
+-- the call of an event was made for this session, unless it is a flush: that is made for all that wait
+abbrev pub IsMadeFor : ℕ → Event → Caller → Type 0
+IsMadeFor session event.Flush caller = Unit {0}
+IsMadeFor session e caller = caller.session ≡ Some session
+
+-- the place, if there is one, is in the log that is named, and has a call of this event with this reply, made for the session
+abbrev pub PlacesEvent : Option Book → ℕ → Event → PlainReply → Option PlaceState → Type 0
+PlacesEvent named session e reply place =
+    IfSome place (λ p. (Some p.book ≡ named) × ((caller : Caller) × IsMadeFor session e caller × (p.at ≡ Some (call caller e reply))))
+
+-- the place, if there is one, is in the log that is named, and has a flush with this reply; it is made for all, so for any session
+abbrev pub PlacesFlush : Option Book → PlainReply → Option PlaceState → Type 0
+PlacesFlush named reply place = PlacesEvent named 0 event.Flush reply place
 
 -- no calls are logged
 abbrev pub LogsNone : (List RecordedCall → Type 0) → Type 0

@@ -18,11 +18,11 @@ pub record DeskState (D T : Type 0) : Type 0 where
   pub trace : T
 
 module _ {D F T : Type 0} (facts : Ghosts D F) (trace : TraceOf T) (old new : DeskState D T) (seat after : SeatState) (event : Event) (reply : Reply F) where
-  -- the store did the event and gave the reply, and the trace recorded exactly this call, for this seat
+  -- the store did the event and gave the reply, and the trace recorded exactly this call, for the caller at this seat
   pub record Records : Type 0 where
     pub done : Does facts old.core new.core event reply
-    pub recorded : trace.extends old.trace (call seat.number event (plain reply)) new.trace
-    pub seated : IsSeatedAfter trace.log seat (call seat.number event (plain reply)) after
+    pub recorded : trace.extends old.trace (call seat.caller event (plain reply)) new.trace
+    pub seated : IsSeatedAfter trace.log seat (call seat.caller event (plain reply)) after
 
   -- why a call is not recorded: the history is full, or the trace or the store was out of memory
   abbrev pub UnrecordedCause : Reply F → Type 0
@@ -49,5 +49,5 @@ CountsCalls counts trace books =
 abbrev pub Notes : {T : Type 0} → TraceOf T → T → T → Option Totals → Option Totals → SeatState → SeatState → Event → Reply (Unit {0}) → Type 0
 Notes trace old new books after_books seat after event reply =
     MatchBool (is_recorded reply)
-    (trace.extends old (call seat.number event reply) new × IsSeatedAfter trace.log seat (call seat.number event reply) after × (after_books ≡ option_map (counted (accepted_by reply)) books))
+    (trace.extends old (call seat.caller event reply) new × IsSeatedAfter trace.log seat (call seat.caller event reply) after × (after_books ≡ option_map (counted (accepted_by reply)) books))
     ((new ≡ old) × (after_books ≡ books) × (after ≡ seat))

@@ -1,16 +1,25 @@
 -- Recorded calls, and what they do to a map.
-use Rattle.std.specs.Prelude.{◌≡◌, ◌≢◌, ℕ, ◌+◌, ◌==◌, Bool, true, false, List, [], ◌∷◌, ◌++◌, map, if◌then◌else◌}
+use Rattle.std.specs.Prelude.{◌≡◌, ◌≢◌, ℕ, ◌+◌, ◌==◌, Bool, true, false, List, [], ◌∷◌, ◌++◌, map, if◌then◌else◌, Some, None}
 use Rattle.silt_event.specs.Commands.{Command, Map}
 use Rattle.silt_event.specs.Events.{Legal, accepted_commands}
 use Rattle.silt_event.specs.declared.event.Event.{Event}
 use Rattle.silt_event.specs.declared.refusal.Refusal.TheVariants.{NoMemory, HistoryFull}
 use Rattle.silt_event.specs.declared.reply.Reply.{Reply}
 use Rattle.silt_event.specs.declared.reply.Reply.TheVariants.{Accepted, Refused}
+use Rattle.silt_desk.specs.declared.call.Caller.{Caller}
 use Rattle.silt_desk.specs.declared.call.RecordedCall.{RecordedCall}
 
--- a call: its seat, its event and its reply
-abbrev pub call : ℕ → Event → Reply (Unit {0}) → RecordedCall
-call seat event reply = record { seat = seat; event = event; reply = reply }
+-- a caller at the seat of this number, for no session
+abbrev pub caller_alone : ℕ → Caller
+caller_alone number = record { seat = number; session = None }
+
+-- a caller at the seat of this number, for a session
+abbrev pub caller_for : ℕ → ℕ → Caller
+caller_for number session = record { seat = number; session = Some session }
+
+-- a call: its caller, its event and its reply
+abbrev pub call : Caller → Event → Reply (Unit {0}) → RecordedCall
+call caller event reply = record { caller = caller; event = event; reply = reply }
 
 -- whether a call with this reply is recorded: every call is, unless it was out of memory or the history was full
 abbrev pub is_recorded : {F : Type 0} → Reply F → Bool
@@ -43,11 +52,11 @@ commands_of calls = accepted_commands (called_events calls) (replies_of calls)
 -- the calls of one seat, in order
 abbrev pub calls_of_seat : ℕ → List RecordedCall → List RecordedCall
 calls_of_seat seat [] = []
-calls_of_seat seat (c ∷ calls) = if c.seat == seat then c ∷ calls_of_seat seat calls else calls_of_seat seat calls
+calls_of_seat seat (c ∷ calls) = if c.caller.seat == seat then c ∷ calls_of_seat seat calls else calls_of_seat seat calls
 
 -- a call of one seat leaves the calls of every other seat as they are
 abbrev pub OthersStayLaw : Type 0
-OthersStayLaw = (other : ℕ) (calls : List RecordedCall) (c : RecordedCall) → c.seat ≢ other → calls_of_seat other (calls ++ c ∷ []) ≡ calls_of_seat other calls
+OthersStayLaw = (other : ℕ) (calls : List RecordedCall) (c : RecordedCall) → c.caller.seat ≢ other → calls_of_seat other (calls ++ c ∷ []) ≡ calls_of_seat other calls
 
 -- The calls are a history of one thread: a plain map that does them one after the other gives these replies, and goes from the first
 -- count and map to the last.

@@ -229,17 +229,17 @@ survives_on a c opening base waiting s t survives step =
 -- ---- the calls of a seat
 
 -- a call of one seat leaves those of every other one
-pub others_stay : (other : ℕ) (calls : List RecordedCall) (c : RecordedCall) → (c.seat == other) ≡ false → calls_of_seat other (calls ++ c ∷ []) ≡ calls_of_seat other calls
+pub others_stay : (other : ℕ) (calls : List RecordedCall) (c : RecordedCall) → (c.caller.seat == other) ≡ false → calls_of_seat other (calls ++ c ∷ []) ≡ calls_of_seat other calls
 others_stay other [] c apart = rw apart refl
 others_stay other (x ∷ calls) c apart =
-    let go : (b : Bool) → (x.seat == other) ≡ b → calls_of_seat other (x ∷ calls ++ c ∷ []) ≡ calls_of_seat other (x ∷ calls) = elim [
+    let go : (b : Bool) → (x.caller.seat == other) ≡ b → calls_of_seat other (x ∷ calls ++ c ∷ []) ≡ calls_of_seat other (x ∷ calls) = elim [
       | true ↦ λ is. rw is (ap (λ (rest : List RecordedCall). x ∷ rest) (others_stay other calls c apart))
       | false ↦ λ is. rw is (others_stay other calls c apart)
     ] in
-    go (x.seat == other) refl
+    go (x.caller.seat == other) refl
 
 pub others_stay_law : OthersStayLaw
-others_stay_law other calls c apart = others_stay other calls c (ne_eqb c.seat other apart)
+others_stay_law other calls c apart = others_stay other calls c (ne_eqb c.caller.seat other apart)
 
 -- ---- a kept trace
 

@@ -3,7 +3,7 @@ ghost use Rattle.std.specs.Prelude.{◌≡◌, [], Some};
 ghost use Rattle.silt_desk.specs.Anchors.{HasPast};
 ghost use Rattle.silt_desk.specs.Seeing.{seen};
 
-use crate::call::Note;
+use crate::call::{Caller, Note};
 use crate::call_log::{CallLog, CallView, NotedCall};
 use crate::trace::{NotPrepared, Room, Trace};
 use silt_disk::Disk;
@@ -106,9 +106,9 @@ impl<T: Trace, N: Anchor> Trace for Anchored<T, N> {
         self.trace.prepare(alloc, len, second)
     }
 
-    fn record(&mut self, seat: u64, note: Note, value: &[u8], second: &[u8], room: Room) {
+    fn record(&mut self, caller: Caller, note: Note, value: &[u8], second: &[u8], room: Room) {
         let noted = NotedCall {
-            seat,
+            caller,
             note,
             value,
             second,
@@ -120,7 +120,7 @@ impl<T: Trace, N: Anchor> Trace for Anchored<T, N> {
         if !is_logged {
             self.log = None; // another owner added to it: this never happens, and if it did, no reply would come
         }
-        self.trace.record(seat, note, value, second, room);
+        self.trace.record(caller, note, value, second, room);
     }
 
     fn numbers(&self) -> (u64, u64) {

@@ -9,10 +9,17 @@ use silt_event::{Event, Progress, Refusal, Reply};
 use silt_frame::{Key, Value};
 use silt_store_set::{accepted, progressed, swapped};
 
-/// A recorded call: its seat, its event and its reply.
+/// Who makes a call: the number of its seat, and that of the session for which it is made, if it is made for one.
+#[derive(Clone, Copy, Debug, PartialEq, Eq)]
+pub struct Caller {
+    pub seat: u64,
+    pub session: Option<u64>,
+}
+
+/// A recorded call: its caller, its event and its reply.
 #[derive(Debug, Drop)]
 pub struct RecordedCall {
-    pub seat: u64,
+    pub caller: Caller,
     pub event: Event,
     pub reply: Reply<()>,
 }

@@ -7,7 +7,7 @@ ghost use Rattle.silt_desk.specs.History.{call};
 ghost use Rattle.silt_desk.specs.Notes.{noted_event, reply_of};
 ghost use Rattle.silt_desk.specs.declared.call.RecordedCall.{RecordedCall as Recorded};
 
-use crate::call::{Note, RecordedCall};
+use crate::call::{Caller, Note, RecordedCall};
 use logbook::{Gain, Offer, Plain, Play, Rule, Seen, Start, Word};
 use std::marker::Model;
 
@@ -56,7 +56,7 @@ impl Play<RecordedCall, u64> for Append {
 /// A call that is to be recorded, with the bytes of its value and, for a swap, of its new value.
 #[derive(Drop)]
 pub(crate) struct NotedCall<'a> {
-    pub seat: u64,
+    pub caller: Caller,
     pub note: Note,
     pub value: &'a [u8],
     pub second: &'a [u8],
@@ -67,7 +67,7 @@ impl Plain<NotedCall<'_>, RecordedCall, u64> for Append {
     ghost use Rattle.silt_desk.specs.History.{call};
     ghost use Rattle.silt_desk.specs.Notes.{noted_event, reply_of};
 
-    ghost ask = { λ c. call c.seat (noted_event c.note c.value.now c.second.now) (reply_of c.note c.value.now) };
+    ghost ask = { λ c. call c.caller (noted_event c.note c.value.now c.second.now) (reply_of c.note c.value.now) };
 
     ghost state = { λ c. None };
 }
@@ -112,7 +112,7 @@ impl CallView {
     fn append(&mut self, head: &Word<RecordedCall, u64, IsLength>, noted: &NotedCall<'_>) -> bool
         requires head { head.now ≡ log_word self.old.book }
         requires room { length self.old.calls < 2 ^ 62 }
-        ensures calls { MatchBool result (self.new.calls ≡ self.old.calls ++ call noted.now.seat (noted_event noted.now.note noted.now.value.now noted.now.second.now) (reply_of noted.now.note noted.now.value.now) ∷ []) (Unit {0}) }
+        ensures calls { MatchBool result (self.new.calls ≡ self.old.calls ++ call noted.now.caller (noted_event noted.now.note noted.now.value.now noted.now.second.now) (reply_of noted.now.note noted.now.value.now) ∷ []) (Unit {0}) }
         ensures book { self.new.book ≡ self.old.book }
     {
         let mut offer: Offer<RecordedCall, u64, IsLength, GivesNothing> = self
@@ -187,7 +187,7 @@ impl CallLog {
 
     /// Appends a call if the log has no more than was seen, and has room. Returns whether it did.
     pub(crate) fn append(&mut self, noted: &NotedCall<'_>) -> bool
-        ensures calls { MatchBool result (self.new.calls ≡ self.old.calls ++ call noted.now.seat (noted_event noted.now.note noted.now.value.now noted.now.second.now) (reply_of noted.now.note noted.now.value.now) ∷ []) (Unit {0}) }
+        ensures calls { MatchBool result (self.new.calls ≡ self.old.calls ++ call noted.now.caller (noted_event noted.now.note noted.now.value.now noted.now.second.now) (reply_of noted.now.note noted.now.value.now) ∷ []) (Unit {0}) }
         ensures book { self.new.book ≡ self.old.book }
     {
         self.view.len() < MOST_CALLS && self.view.append(&self.head, noted)

@@ -1,7 +1,7 @@
 // A trace that counts.
 ghost use Rattle.std.specs.Prelude.{◌≡◌};
 
-use crate::call::Note;
+use crate::call::{Caller, Note};
 use crate::call_log::CallView;
 use crate::trace::{NotPrepared, Room, Trace};
 use std::alloc::Global;
@@ -60,7 +60,7 @@ impl Trace for Count {
         })
     }
 
-    fn record(&mut self, _seat: u64, note: Note, _value: &[u8], _second: &[u8], _room: Room) {
+    fn record(&mut self, _caller: Caller, note: Note, _value: &[u8], _second: &[u8], _room: Room) {
         self.calls = self.calls.wrapping_add(1);
         self.accepted = self.accepted.wrapping_add(note.acceptance());
     }

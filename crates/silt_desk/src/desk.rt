@@ -67,7 +67,7 @@ fn note_both<T: Trace, N: DeskId>(
     ensures { Notes T.Trace trace.old trace.new ledgers.old ledgers.new seat.old seat.new (noted_event note value.now second.now) (reply_of note value.now) }
 {
     if note.is_recorded() {
-        trace.record(seat.number(), note, value, second, room);
+        trace.record(seat.caller(), note, value, second, room);
         ledgers.count(seat, note.acceptance());
         seat.note_last(trace.view());
     }

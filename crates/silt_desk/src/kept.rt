@@ -4,7 +4,7 @@ ghost use Rattle.silt_store_set.specs.CoreState.{EntriesCause, map_of};
 ghost use Rattle.silt_desk.specs.Seeing.{seen};
 ghost use Rattle.silt_desk.specs.Traces.{ListsMap, IsHistory};
 
-use crate::call::{Note, RecordedCall};
+use crate::call::{Caller, Note, RecordedCall};
 use crate::call_log::CallView;
 use crate::trace::{NotPrepared, Room, Trace};
 use silt_disk::Disk;
@@ -131,13 +131,16 @@ impl Trace for Kept {
     }
 
     #[tactic(auto, using(crate::specs::TraceLaws::accepted_laws))]
-    fn record(&mut self, seat: u64, note: Note, value: &[u8], second: &[u8], room: Room) {
+    fn record(&mut self, caller: Caller, note: Note, value: &[u8], second: &[u8], room: Room) {
         let acceptance = note.acceptance();
         let values = (filled(room.value, value), filled(room.second, second));
         let (event, reply) = note.with_values(values.0, values.1);
         self.accepted += acceptance;
-        self.calls
-            .push_reserved(RecordedCall { seat, event, reply });
+        self.calls.push_reserved(RecordedCall {
+            caller,
+            event,
+            reply,
+        });
     }
 
     #[tactic(auto, using(crate::specs::TraceLaws::accepted_laws))]

@@ -1,7 +1,7 @@
 //! One store for many threads: a desk under one lock, at which each caller has a seat.
 //!
 //! A [`Desk`] is a store with a [`Trace`] of its calls. Each caller has a [`Seat`]. A call at the desk does the store's
-//! call and records its seat's number, its event and its reply. So the recorded calls are a history of one thread,
+//! call and records who made it, its event and its reply: the number of the seat, and that of the session that it serves. So the recorded calls are a history of one thread,
 //! whatever threads made them. [`Kept`] keeps all of them, and the entries at which they began; its type says that
 //! their replay is the store's map. [`Count`] keeps only their number. [`Anchored`] is another trace whose type says that some calls
 //! lead from the store with which it began to the one that the desk has: those of its [`CallLog`], of which only the length is kept
@@ -33,7 +33,7 @@ mod wakes;
 mod worker;
 
 pub use anchored::{Anchor, Anchored};
-pub use call::{Note, RecordedCall, plain};
+pub use call::{Caller, Note, RecordedCall, plain};
 pub use call_log::{CallLog, CallPlace, CallView};
 pub use count::Count;
 pub use desk::{Desk, NotMade};

@@ -2,9 +2,10 @@
 ghost use Rattle.std.specs.Prelude.{◌≡◌, ◌≢◌, ℕ, ◌+◌, ◌<◌, ◌++◌, ◌∷◌, [], List, Some, None, false, true, is_some, IfOk, IfSome, MatchResult, vec_len, slice_get};
 ghost use Rattle.std.specs.Option.{option_map};
 ghost use Rattle.silt_inbox.specs.Books.{has_books};
-ghost use Rattle.silt_desk.specs.Seats.{accepted_of, after_call, calls_of, counted, counts_of, fresh, unbooked};
+ghost use Rattle.silt_desk.specs.Seats.{accepted_of, after_call, calls_of, counted, counts_of, for_session, fresh, unbooked};
 ghost use Rattle.silt_desk.specs.declared.call.RecordedCall.{RecordedCall as Recorded};
 
+use crate::call::Caller;
 use crate::call_log::{CallPlace, CallView};
 use std::alloc::{AllocError, Global};
 use std::marker::{Brand, Model, PhantomData};
@@ -70,11 +71,11 @@ impl<N: DeskId> Model for Shares<N> {
     ghost invariant = { λ s. (s.calls.parts ≡ 1) × (s.accepted.parts ≡ 1) };
 }
 
-/// A place at a desk. Contracts see its number, how many calls from it are recorded and are accepted commands, if the desk keeps
+/// A place at a desk. Contracts see who calls from it, how many calls from it are recorded and are accepted commands, if the desk keeps
 /// books, and where its last recorded call stands, if the trace has a log. It fits only the desk that gave it out.
 #[derive(Drop)]
 pub struct Seat<N: DeskId> {
-    number: u64,
+    caller: Caller,
     shares: Option<Shares<N>>,
     last: Option<CallPlace>,
 }
@@ -86,7 +87,7 @@ impl<N: DeskId> Model for Seat<N> {
 
     ghost Value = { SeatState };
 
-    ghost view = { λ s. record { number = s.number; counts = s.shares; last = s.last } };
+    ghost view = { λ s. record { caller = s.caller; counts = s.shares; last = s.last } };
 
     ghost invariant = { λ s. is_some s.shares ≡ has_books N.seats };
 }
@@ -94,9 +95,23 @@ impl<N: DeskId> Model for Seat<N> {
 impl<N: DeskId> Seat<N> {
     /// Its number. The seats of a desk are numbered from 0.
     pub fn number(&self) -> u64
-        ensures { result ≡ self.now.number }
+        ensures { result ≡ self.now.caller.seat }
     {
-        self.number
+        self.caller.seat
+    }
+
+    /// Who calls from it.
+    pub(crate) fn caller(&self) -> Caller
+        ensures { result ≡ self.now.caller }
+    {
+        self.caller
+    }
+
+    /// Its calls are made for the session of this number from now on.
+    pub fn serve(&mut self, session: u64)
+        ensures { self.new ≡ for_session session self.old }
+    {
+        self.caller.session = Some(session);
     }
 
     /// Where its last recorded call stands in the trace's log. None if it has none, or if the trace has no log.
@@ -111,7 +126,7 @@ impl<N: DeskId> Seat<N> {
 
     // Notes that its last recorded call is the last one of these.
     pub(crate) fn note_last(&mut self, view: Option<CallView>)
-        ensures number { self.new.number ≡ self.old.number }
+        ensures caller { self.new.caller ≡ self.old.caller }
         ensures counts { self.new.counts ≡ self.old.counts }
         ensures last { IfSome self.new.last (λ place. IfSome view (λ seen. (place.book ≡ seen.book) × ((before : List Recorded) (c : Recorded) → seen.calls ≡ before ++ c ∷ [] → place.at ≡ Some c))) }
         ensures none { view ≡ None → self.new.last ≡ None }
@@ -129,7 +144,7 @@ impl<N: DeskId> Seat<N> {
         ensures accepted { (accepted.new.parts ≡ accepted.old.parts + 1) × (accepted.new.amount ≡ accepted.old.amount + (counts_of self).accepted) }
     {
         let Seat {
-            number: _,
+            caller: _,
             shares,
             last,
         } = self;
@@ -232,7 +247,10 @@ impl<N: DeskId> Ledgers<N> {
                 accepted: accepted_left.split_off(1, 0),
             };
             places.push_reserved(Seat {
-                number,
+                caller: Caller {
+                    seat: number,
+                    session: None,
+                },
                 shares: Some(shares),
                 last: None,
             });
@@ -259,7 +277,10 @@ impl<N: DeskId> Ledgers<N> {
         let mut places = Vec::with_capacity(alloc, seats as usize)?;
         for number in 0..seats {
             places.push_reserved(Seat {
-                number,
+                caller: Caller {
+                    seat: number,
+                    session: None,
+                },
                 shares: None,
                 last: None,
             });

@@ -8,7 +8,7 @@ ghost use Rattle.silt_desk.specs.Seeing.{SeenStore, SeenStep};
 ghost use Rattle.silt_desk.specs.Preparing.{NotPreparedCause};
 ghost use Rattle.silt_desk.specs.declared.call.RecordedCall.{RecordedCall as Recorded};
 
-use crate::call::Note;
+use crate::call::{Caller, Note};
 use crate::call_log::CallView;
 use std::alloc::Global;
 
@@ -60,12 +60,12 @@ pub trait Trace: Drop {
         ensures { MatchResult result (λ room. (is_full self.now → ⊥) × fits (vec_capacity room.value) len × fits (vec_capacity room.second) second)
             (NotPreparedCause (is_full self.now) (takes_memory self.now)) };
 
-    /// Records a call of a seat, with the bytes of its value and, for a swap, of its new value, if it has one.
-    fn record(&mut self, seat: u64, note: Note, value: &[u8], second: &[u8], room: Room)
+    /// Records a call of a caller, with the bytes of its value and, for a swap, of its new value, if it has one.
+    fn record(&mut self, caller: Caller, note: Note, value: &[u8], second: &[u8], room: Room)
         requires room { is_full self.old → ⊥ }
         requires fits { fits (vec_capacity room.value) (length value.now) }
         requires fits_second { fits (vec_capacity room.second) (length second.now) }
-        ensures { extends self.old (call seat (noted_event note value.now second.now) (reply_of note value.now)) self.new };
+        ensures { extends self.old (call caller (noted_event note value.now second.now) (reply_of note value.now)) self.new };
 
     /// How many calls are recorded, and how many of them are accepted commands, both modulo 2^64.
     fn numbers(&self) -> (u64, u64)

@@ -279,7 +279,7 @@ pub fn converter<D: Disk, T: Trace, N: DeskId, G: Gate, W: Hears, R: Wait + Cloc
     gate: &G,
     ends: WorkerEnds<W>,
 ) -> Seat<N>
-    ensures number { result.number ≡ seat.number }
+    ensures caller { result.caller ≡ seat.caller }
     ensures ended { W.has_ended ends.wakes }
 {
     for _ in rt.forever() {
@@ -304,7 +304,7 @@ fn merge_turn<D: Disk, T: Trace, N: DeskId, G: Gate, R: Wait>(
     gate: &G,
     lent: &mut Option<LentBytes>,
 ) -> (Turn, bool)
-    ensures { seat.new.number ≡ seat.old.number }
+    ensures { seat.new.caller ≡ seat.old.caller }
 {
     if gate.is_closed() {
         return (Turn::Wait, false);
@@ -325,7 +325,7 @@ pub fn merger<D: Disk, T: Trace, N: DeskId, G: Gate, W: Hears, R: Wait + Clock>(
     gate: &G,
     ends: WorkerEnds<W>,
 ) -> Seat<N>
-    ensures number { result.number ≡ seat.number }
+    ensures caller { result.caller ≡ seat.caller }
     ensures ended { W.has_ended ends.wakes }
 {
     let mut lent = LentBytes::new(alloc).ok();

@@ -6,7 +6,7 @@ use crate::limits::{Limits, Protocol};
 use crate::written::{lack_thread, turn_away};
 use silt_event::Counter;
 use silt_inbox::InboxId;
-use silt_session::{Board, SessionSlot, free_slot};
+use silt_session::{Board, Newcomer, SessionSlot, free_slot};
 use std::alloc::Global;
 use std::io::{self, ErrorKind};
 use std::net::TcpStream;
@@ -75,19 +75,19 @@ impl<N: InboxId> Door<'_, N> {
         &self.slots[..count]
     }
 
-    // Gives a connection to a free slot, and returns its number. If there is none, the client gets a line that says so,
-    // and the connection is closed.
-    fn admit<R: Wait>(&self, rt: &R, stream: TcpStream) -> Option<usize>
+    // Gives a connection to a free slot, and returns the number of that. If there is none, the client gets a line that says
+    // so, and the connection is closed.
+    fn admit<R: Wait>(&self, rt: &R, newcomer: Newcomer) -> Option<usize>
         ensures slot { IfSome result (λ number. number < length self.now.slots.now) }
         ensures few { IfSome result (λ number. number < self.now.limits.clients) }
     {
         match free_slot(rt, self.open_slots()) {
             Some(number) => {
-                self.slots[number].lock(rt).connect(stream);
+                self.slots[number].lock(rt).connect(newcomer);
                 Some(number)
             }
             None => {
-                self.turn_away(&stream);
+                self.turn_away(&newcomer.stream);
                 None
             }
         }
@@ -100,8 +100,8 @@ impl<N: InboxId> Door<'_, N> {
         };
         self.board.count(Counter::RefusedConnections, 1);
         let mut slot = slot.lock(rt);
-        if let Some(stream) = slot.connection() {
-            lack(self.limits.protocol, &stream);
+        if let Some(newcomer) = slot.connection() {
+            lack(self.limits.protocol, &newcomer.stream);
         }
         slot.leave();
     }
@@ -134,7 +134,7 @@ impl<N: InboxId> Door<'_, N> {
         ensures least { listener.old.accepted ≤ listener.new.accepted }
     {
         match listener.accept() {
-            Ok(stream) => Ok(self.admit(rt, stream)),
+            Ok(newcomer) => Ok(self.admit(rt, newcomer)),
             Err(error) => pass(error),
         }
     }

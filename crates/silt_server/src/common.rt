@@ -1,5 +1,10 @@
 // What the threads of a server share, and what each of them does.
-ghost use Rattle.std.specs.Prelude.{◌≡◌};
+ghost use Rattle.std.specs.Prelude.{◌≡◌, ◌∷◌, [], IfOk, OnOk};
+ghost use Rattle.std.specs.List.{AllZip};
+ghost use Rattle.silt_session.specs.Sessions.{IsAnswer};
+ghost use Rattle.silt_session.specs.Tolds.{AreInOrder, AsksBehind};
+ghost use Rattle.silt_store_set.specs.CoreState.{CoreState};
+ghost use Rattle.silt_store_set.specs.Facts.{facts_of};
 
 use crate::admission::{Door, accept_clients};
 use crate::care::Cares;
@@ -16,8 +21,8 @@ use silt_disk::Disk;
 use silt_event::{Event, Facts, Reply};
 use silt_inbox::{Inbox, InboxId, Taker};
 use silt_session::{
-    AskBy, Asking, Board, Job, JobLog, LogId, RoomGate, RoomWait, Session, SessionSlot, Told,
-    Unanswered, Workplace, WriterLink,
+    AskBy, Asking, Board, Job, JobLog, LogId, Newcomer, RoomGate, RoomWait, Session, SessionSlot,
+    Told, Unanswered, Workplace, WriterLink,
 };
 use std::alloc::Global;
 use std::io;
@@ -99,7 +104,7 @@ impl<D: Viewed, T: Trace, N: DeskId + InboxId + LogId, G: Gate, R: Wait + Clock>
     // Does steps of conversion until the converter is told to end, and gives its seat back. The writer hears when there
     // may be room.
     fn convert(&self, worker: Worker<N>) -> Seat<N>
-        ensures { result.number ≡ worker.seat.number }
+        ensures { result.caller ≡ worker.seat.caller }
     {
         let view = self.view();
         let gate = RoomGate {
@@ -118,7 +123,7 @@ impl<D: Viewed, T: Trace, N: DeskId + InboxId + LogId, G: Gate, R: Wait + Clock>
     // Does steps of merging until the merger is told to end, and gives its seat back. The writer hears when there may be
     // room.
     fn merge(&self, worker: Worker<N>) -> Seat<N>
-        ensures { result.number ≡ worker.seat.number }
+        ensures { result.caller ≡ worker.seat.caller }
     {
         let view = self.view();
         let gate = RoomGate {
@@ -137,7 +142,7 @@ impl<D: Viewed, T: Trace, N: DeskId + InboxId + LogId, G: Gate, R: Wait + Clock>
     // Does the requests of the sessions until there are no more, and gives the writer's seat back. A command waits for room
     // as long as the limits say.
     fn write(&self, parts: WriterParts<D, T, N>, taker: Taker<N>) -> Seat<N>
-        ensures { result.number ≡ parts.seat.number }
+        ensures { result.caller.seat ≡ parts.seat.caller.seat }
     {
         let room = RoomWait {
             wakes: parts.wakes,
@@ -165,13 +170,14 @@ impl<D: Viewed, T: Trace, N: DeskId + InboxId + LogId, G: Gate, R: Wait + Clock>
         }
     }
 
-    /// The session of a slot. With `settles_gets` a get waits for a flush if a crash may take away what it shows.
+    /// The session of this number, in a slot. With `settles_gets` a get waits for a flush if a crash may take away what it shows.
     pub fn session<'b>(
         &'b self,
         slot: &'b Mutex<SessionSlot<N>>,
+        number: u64,
         settles_gets: bool,
     ) -> Session<'b, D, T, N, R>
-        ensures { result.settles_gets ≡ settles_gets }
+        ensures { (result.number ≡ number) × (result.settles_gets ≡ settles_gets) }
     {
         Session {
             rt: self.rt,
@@ -184,6 +190,7 @@ impl<D: Viewed, T: Trace, N: DeskId + InboxId + LogId, G: Gate, R: Wait + Clock>
                 log: self.log,
                 slot,
             },
+            number,
             settles_gets,
         }
     }
@@ -197,7 +204,7 @@ impl<D: Viewed, T: Trace, N: DeskId + InboxId + LogId, G: Gate, R: Wait + Clock>
     }
 
     // Replies to the connection of this number, with events asked this way.
-    fn answer<A: Asking>(&self, number: usize, stream: &TcpStream, asking: A)
+    fn answer<A: Asking>(&self, number: u64, stream: &TcpStream, asking: A)
         requires { A.can_ask asking }
     {
         let connection = Connection {
@@ -213,14 +220,18 @@ impl<D: Viewed, T: Trace, N: DeskId + InboxId + LogId, G: Gate, R: Wait + Clock>
     }
 
     // Runs the session in the slot of this number, and then frees the slot.
-    fn serve_slot(&self, number: usize) {
-        let Some(slot) = self.slots.get(number) else {
+    fn serve_slot(&self, slot: usize) {
+        let Some(slot) = self.slots.get(slot) else {
             return;
         };
-        let stream = slot.lock(self.rt).connection();
-        if let Some(stream) = stream {
-            let session = self.session(slot, self.limits.protocol.settles_gets());
-            let one = |event: Event, told: &Told<T>| -> (Result<Reply<()>, Unanswered>, Told<T>) {
+        let newcomer = slot.lock(self.rt).connection();
+        if let Some(Newcomer { stream, number }) = newcomer {
+            let session = self.session(slot, number, self.limits.protocol.settles_gets());
+            let one = |event: Event, told: &Told<T>| -> (Result<Reply<()>, Unanswered>, Told<T>)
+                ensures told { OnOk result.0 (AsksBehind told.now result.1) }
+                ensures reply { IfOk result.0 (IsAnswer D.Disk T.Trace result.1 session.entry.settles_gets event) }
+                ensures order { IfOk result.0 (λ reply. AreInOrder result.1 (event ∷ []) (reply ∷ [])) }
+            {
                 let mut now = told.again();
                 let given = session.answer(event, &mut now);
                 (given, now)
@@ -228,12 +239,18 @@ impl<D: Viewed, T: Trace, N: DeskId + InboxId + LogId, G: Gate, R: Wait + Clock>
             let all = |events: Vec<Event>, told: &Told<T>| -> (
                 Result<Vec<Reply<()>>, Unanswered>,
                 Told<T>,
-            ) {
+            )
+                ensures told { OnOk result.0 (AsksBehind told.now result.1) }
+                ensures replies { IfOk result.0 (λ replies. AllZip (IsAnswer D.Disk T.Trace result.1 session.entry.settles_gets) events.items replies.items) }
+                ensures order { IfOk result.0 (λ replies. AreInOrder result.1 events.items replies.items) }
+            {
                 let mut now = told.again();
                 let given = session.answer_all(events, &mut now);
                 (given, now)
             };
-            let facts = || -> Facts { session.facts() };
+            let facts = || -> Facts
+                ensures { (core : CoreState D) × (result ≡ facts_of core) }
+            { session.facts() };
             let asking = AskBy {
                 one: &one,
                 all: &all,
@@ -266,8 +283,8 @@ impl<
             listener,
             &door,
             self,
-            &|serving: &Serving<'_, Shared<D, T, N>, Job<D, T, N>, N, G, R>, number: usize| {
-                serving.serve_slot(number)
+            &|serving: &Serving<'_, Shared<D, T, N>, Job<D, T, N>, N, G, R>, slot: usize| {
+                serving.serve_slot(slot)
             },
         );
         self.inbox.close(self.rt);

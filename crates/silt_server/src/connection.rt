@@ -39,8 +39,8 @@ pub struct Connection<'a, R> {
     pub board: &'a Board,
     pub limits: Limits,
     pub value_len: usize,
-    /// Its number.
-    pub number: usize,
+    /// Its number, which no other connection of the server has.
+    pub number: u64,
     pub stream: &'a TcpStream,
 }
 

@@ -1,6 +1,7 @@
 // Where connections come from.
 ghost use Rattle.std.specs.Prelude.{◌≡◌, ℕ, ◌+◌, ◌<◌, ◌≤◌, ◌^◌, IfOk, MatchResult};
 
+use silt_session::Newcomer;
 use std::io;
 use std::net::{TcpListener, TcpStream};
 
@@ -54,13 +55,17 @@ impl<'a, L: Listens> CountingListener<'a, L> {
         }
     }
 
-    /// Waits for a connection, and counts it.
-    pub fn accept(&mut self) -> io::Result<TcpStream>
+    /// Waits for a connection, and counts it: this is its number.
+    pub fn accept(&mut self) -> io::Result<Newcomer>
+        ensures number { IfOk result (λ newcomer. newcomer.number ≡ self.new.accepted) }
         ensures more { MatchResult result (λ _. self.old.accepted < 2 ^ 32 → self.new.accepted ≡ self.old.accepted + 1) (λ _. self.new.accepted ≡ self.old.accepted) }
         ensures least { self.old.accepted ≤ self.new.accepted }
     {
         let stream = self.listener.wait()?;
         self.accepted = self.accepted.saturating_add(1);
-        Ok(stream)
+        Ok(Newcomer {
+            stream,
+            number: self.accepted,
+        })
     }
 }

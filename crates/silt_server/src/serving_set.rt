@@ -1,6 +1,13 @@
 // What the threads of a server of a set share: what those of each shard share, in the order of the shards.
-ghost use Rattle.std.specs.Prelude.{◌≡◌, All, IfSome, length, true, vec_len};
+ghost use Rattle.std.specs.Prelude.{◌≡◌, All, IfOk, IfSome, List, length, true, vec_len};
+ghost use Rattle.std.specs.List.{AllZip};
+ghost use Rattle.silt_event.specs.declared.event.Event.{Event as EventOf};
+ghost use Rattle.silt_session.specs.Handing.{AreAsked};
+ghost use Rattle.silt_session.specs.Sessions.{IsAnswer};
+ghost use Rattle.silt_session.specs.Tolds.{AsksBehind, ToldState};
 ghost use Rattle.silt_shards.specs.Routing.{IsShardCount};
+ghost use Rattle.silt_store_set.specs.CoreState.{CoreState};
+ghost use Rattle.silt_store_set.specs.Facts.{facts_of};
 
 use crate::admission::{Door, accept_clients};
 use crate::care::Cares;
@@ -15,7 +22,7 @@ use silt_disk::Disk;
 use silt_event::{Event, Facts, Reply};
 use silt_inbox::{InboxId, Taker};
 use silt_session::{
-    AskAheadBy, AskedEvents, Board, Job, LogId, Session, SetAsking, Told, Unanswered,
+    AskAheadBy, AskedEvents, Board, Job, LogId, Newcomer, Session, SetAsking, Told, Unanswered,
 };
 use std::alloc::Global;
 use std::io;
@@ -62,19 +69,24 @@ impl<D: Disk, T: Trace, N: DeskId + InboxId + LogId, G: Gate, R: Wait + Clock> S
         };
         for at in sessions {
             shards.push_reserved(AskAheadBy {
-                one: move |event: Event| -> Result<Reply<()>, Unanswered> {
-                    at.session.answer(event, &mut at.told.again())
-                },
-                begin: move |events: Vec<Event>| -> Result<AskedEvents<D, T, N>, Unanswered> {
-                    at.session.begin(events, &at.told)
-                },
-                finish: move |asked: AskedEvents<D, T, N>| -> Result<Vec<Reply<()>>, Unanswered> {
+                one: move |event: Event| -> Result<Reply<()>, Unanswered>
+                    ensures { IfOk result (λ reply. (told : ToldState) × AsksBehind at.entry.now.told told × IsAnswer D.Disk T.Trace told at.entry.now.session.settles_gets event reply) }
+                { at.session.answer(event, &mut at.told.again()) },
+                begin: move |events: Vec<Event>| -> Result<AskedEvents<D, T, N>, Unanswered>
+                    ensures { IfOk result (AreAsked D.Disk at.entry.now.session.settles_gets T.Trace at.entry.now.told events.items) }
+                { at.session.begin(events, &at.told) },
+                finish: move |asked: AskedEvents<D, T, N>| -> Result<Vec<Reply<()>>, Unanswered>
+                    ensures { (events : List EventOf) → AreAsked D.Disk at.entry.now.session.settles_gets T.Trace at.entry.now.told events asked
+                        → IfOk result (λ replies. (told : ToldState) × AsksBehind at.entry.now.told told × AllZip (IsAnswer D.Disk T.Trace told at.entry.now.session.settles_gets) events replies.items) }
+                {
                     match at.session.finish(asked) {
                         Ok((replies, _)) => Ok(replies),
                         Err(lack) => Err(lack),
                     }
                 },
-                facts: move || -> Facts { at.session.facts() },
+                facts: move || -> Facts
+                    ensures { (core : CoreState D) × (result ≡ facts_of core) }
+                { at.session.facts() },
                 of: PhantomData,
             });
         }
@@ -90,16 +102,16 @@ impl<D: Viewed, T: Trace, N: DeskId + InboxId + LogId, G: Gate, R: Wait + Clock>
     '_,
     Serving<'_, Shared<D, T, N>, Job<D, T, N>, N, G, R>,
 > {
-    // The sessions of the slot of this number, one at each shard, in their order. Their gets show only what a crash keeps. None if out of
+    // The sessions of this number in a slot, one at each shard, in their order. Their gets show only what a crash keeps. None if out of
     // memory.
-    fn sessions(&self, number: usize) -> Option<Vec<ShardSession<'_, D, T, N, R>>>
+    fn sessions(&self, slot: usize, number: u64) -> Option<Vec<ShardSession<'_, D, T, N, R>>>
         ensures count { IfSome result (λ sessions. vec_len sessions ≡ length self.now.shards.now) }
         ensures settle { IfSome result (λ sessions. All (λ at. at.session.settles_gets ≡ true) sessions.items) }
     {
         let mut sessions = Vec::with_capacity(self.alloc, self.shards.len()).ok()?;
         for shard in self.shards {
-            let slot = shard.slots.get(number)?;
-            let session = shard.session(slot, true);
+            let slot = shard.slots.get(slot)?;
+            let session = shard.session(slot, number, true);
             let told = session.told();
             sessions.push_reserved(ShardSession { session, told });
         }
@@ -114,16 +126,22 @@ impl<D: Viewed, T: Trace, N: DeskId + InboxId + LogId, G: Gate, R: Wait + Clock>
         let Some(slot) = first.slots.get(number) else {
             return;
         };
-        let stream = slot.lock(first.rt).connection();
-        if let Some(stream) = stream {
-            if let Some(sessions) = self.sessions(number) {
+        let newcomer = slot.lock(first.rt).connection();
+        if let Some(
+            Newcomer {
+                stream,
+                number: session,
+            },
+        ) = newcomer
+        {
+            if let Some(sessions) = self.sessions(number, session) {
                 let connection = Connection {
                     rt: first.rt,
                     alloc: first.alloc,
                     board: first.board,
                     limits: first.limits,
                     value_len: first.value_len,
-                    number,
+                    number: session,
                     stream: &stream,
                 };
                 self.answer(sessions.as_slice(), &connection);

@@ -18,16 +18,18 @@ use Rattle.silt_desk.specs.History.{is_recorded}
 use Rattle.silt_inbox.specs.Books.{counted}
 use Rattle.silt_desk.specs.Notes.{plain_answer}
 use Rattle.silt_desk.specs.Seats.{SeatState}
+use Rattle.silt_desk.specs.declared.call.Caller.{Caller}
 use Rattle.silt_desk.specs.declared.trace.Trace.{Ghosts as TraceOf}
 use Rattle.silt_desk.specs.declared.worker.Due.{Due}
 use Rattle.silt_session.specs.Tolds.{CallsAt, answer_place}
 use Rattle.silt_desk.specs.CallLogs.{PlaceState}
+use Rattle.silt_session.proofs.Callers.{again_caller, flush_caller, last_caller, none_caller}
 use Rattle.silt_session.proofs.Tolds.{done_place}
 use Rattle.silt_session.specs.Requests.{Answer, Flushed, TaskState, compared, requests_of}
 use Rattle.silt_session.specs.Origins.{Flushes, HasDone, Performs, WasFlushed}
 use Rattle.silt_session.specs.Batches.{FindsNoRoom, FindsNoRoomTimes, IsBatch, IsDueAt, KeepsLeft, MayMakeRoom, PerformsAll, PerformsAtOnce, PerformsJob}
 use Rattle.silt_session.specs.Batches.{PerformsLast, PerformsLater, PerformsRequest, PerformsTask, RepliesTo, RepliesToAll, ServesBatch, ServesBatches}
-use Rattle.silt_session.specs.Batches.{StepsThrough, TriesAgain, TriesOnce, WriterState, done_in, lacks_room, left_in, may_get_room, writer_at}
+use Rattle.silt_session.specs.Batches.{StepsThrough, TriesAgain, TriesOnce, WriterState, done_in, lacks_room, left_in, may_get_room, serving, writer_at}
 use Rattle.silt_session.specs.declared.held.Batch.{Batch}
 use Rattle.silt_session.specs.declared.job.Job.{Job}
 use Rattle.silt_session.specs.declared.job.Request.{Request}
@@ -37,50 +39,6 @@ use Rattle.silt_session.proofs.Lists.{steps_keep, steps_more}
 -- ---- a batch is done from one seat
 
 module _ {D F T : Type 0} (facts : Ghosts D F) (trace : TraceOf T) where
-  serves_number : (old new : DeskState D T) (seat after : SeatState) (e : Event) (reply : Reply F)
-      → Serves facts trace old new seat after e reply → after.number ≡ seat.number
-  serves_number old new seat after e reply serves =
-      let go : (b : Bool) → MatchBool b (Records facts trace old new seat after e reply) (Refuses facts trace old new seat after e reply) → after.number ≡ seat.number = elim [
-        | true ↦ λ records. records.seated.number
-        | false ↦ λ refuses. ap (λ (s : SeatState). s.number) refuses.seated
-      ] in
-      go (is_recorded reply) serves
-
-  performs_number : (old new : DeskState D T) (seat after : SeatState) (request : Request) (answer : Option Answer)
-      → Performs facts trace old new seat after request answer → after.number ≡ seat.number
-  performs_number old new seat after (Put key value) (Some answer) does = serves_number old new seat after (event.Put key value) (change_reply does.0) does.2
-  performs_number old new seat after (Delete key) (Some answer) does = serves_number old new seat after (event.Delete key) (change_reply does.0) does.2
-  performs_number old new seat after (Swap key expected value) (Some answer) does =
-      serves_number old new seat after (event.Swap key expected value) (swap_reply does.0) does.2
-  performs_number old new seat after Flush (Some answer) does = absurd does
-  performs_number old new seat after (Put key value) None does = ap (λ (s : SeatState). s.number) does.2
-  performs_number old new seat after (Delete key) None does = absurd does
-  performs_number old new seat after (Swap key expected value) None does = ap (λ (s : SeatState). s.number) does.2
-  performs_number old new seat after Flush None does = ap (λ (s : SeatState). s.number) does.1
-
-  last_number : (seat after : SeatState) (request : Request) (answer : Option Answer) → PerformsLast facts trace seat request answer after → after.number ≡ seat.number
-  last_number seat after request answer does = performs_number does.0 does.1 seat after request answer does.2
-
-  none_number : (seat after : SeatState) (request : Request) → FindsNoRoom facts trace seat request after → after.number ≡ seat.number
-  none_number seat after request does = performs_number does.0 does.1 seat after request (Some (Err NoRoom)) does.2
-
-  times_number : (times : ℕ) (seat after : SeatState) (request : Request) → FindsNoRoomTimes facts trace times seat request after → after.number ≡ seat.number
-  times_number zero seat after request all = ap (λ (s : SeatState). s.number) all
-  times_number (suc times) seat after request all = none_number all.0 after request all.2 ∙ times_number times seat all.0 request all.1
-
-  again_number : (is_over : Type 0) (seat after : SeatState) (request : Request) (answer : Option Answer) → TriesAgain facts trace is_over seat request answer after
-      → after.number ≡ seat.number
-  again_number is_over seat after request answer all =
-      let go : PerformsLast facts trace all.1 request answer after ⊎ ((answer ≡ Some (Err NoRoom)) × FindsNoRoom facts trace all.1 request after × ((all.0 ≡ 6) ⊎ is_over))
-      → after.number ≡ (all.1).number = elim [
-        | inl does ↦ last_number all.1 after request answer does
-        | inr none ↦ none_number all.1 after request none.1
-      ] in
-      go all.4 ∙ times_number all.0 seat all.1 request all.3
-
-  pub flush_number : (old new : DeskState D T) (seat after : SeatState) (answer : Flushed) → Flushes facts trace old new seat after answer → after.number ≡ seat.number
-  flush_number old new seat after answer does = serves_number old new seat after event.Flush (flush_reply does.0) does.2
-
   -- a call that did a request with this result
   performs_done : (before then : DeskState D T) (seat after : SeatState) (request : Request) (answer : Option Answer)
       → Performs facts trace before then seat after request answer → HasDone facts trace request answer
@@ -108,33 +66,37 @@ module _ {D F T : Type 0} (facts : Ghosts D F) (trace : TraceOf T) where
   pub flush_done : (old new : DeskState D T) (seat after : SeatState) (answer : Flushed) → Flushes facts trace old new seat after answer → WasFlushed facts trace answer
   flush_done old new seat after answer does = record { before = old; then = new; seat = seat; after = after; done = does }
 
-  -- the number stays
-  abbrev Numbered : {N : Type 0} → WriterState D T N F → WriterState D T N F → Type 0
-  Numbered before after = after.seat.number ≡ before.seat.number
+  -- the seat stays
+  abbrev Seated : {N : Type 0} → WriterState D T N F → WriterState D T N F → Type 0
+  Seated before after = after.seat.caller.seat ≡ before.seat.caller.seat
 
-  numbered_both : {N : Type 0} (a b c : WriterState D T N F) → Numbered a b → Numbered b c → Numbered a c
-  numbered_both a b c first second = second ∙ first
+  seated_both : {N : Type 0} (a b c : WriterState D T N F) → Seated a b → Seated b c → Seated a c
+  seated_both a b c first second = second ∙ first
 
   module _ {N : Type 0} (seconds : ℕ) (is_over : Type 0) where
-    at_once_number : (before after : WriterState D T N F) (request : Request) (answer : Option Answer) → PerformsAtOnce facts trace seconds is_over before request answer after → Numbered before after
-    at_once_number before after request answer does =
+    -- the same one calls from the seat
+    at_once_caller : (before after : WriterState D T N F) (request : Request) (answer : Option Answer) → PerformsAtOnce facts trace seconds is_over before request answer after
+        → after.seat.caller ≡ before.seat.caller
+    at_once_caller before after request answer does =
         let go : PerformsLast facts trace before.seat request answer after.seat
-        ⊎ ((answer ≡ Some (Err NoRoom)) × FindsNoRoom facts trace before.seat request after.seat × (seconds ≡ 0)) → Numbered before after = elim [
-          | inl last ↦ last_number before.seat after.seat request answer last
-          | inr none ↦ none_number before.seat after.seat request none.1
+        ⊎ ((answer ≡ Some (Err NoRoom)) × FindsNoRoom facts trace before.seat request after.seat × (seconds ≡ 0)) → after.seat.caller ≡ before.seat.caller = elim [
+          | inl last ↦ last_caller facts trace before.seat after.seat request answer last
+          | inr none ↦ none_caller facts trace before.seat after.seat request none.1
         ] in
         go does.1
 
-    later_number : (before after : WriterState D T N F) (request : Request) (answer : Option Answer) → PerformsLater facts trace seconds is_over before request answer after → Numbered before after
-    later_number before after request answer does =
+    later_caller : (before after : WriterState D T N F) (request : Request) (answer : Option Answer) → PerformsLater facts trace seconds is_over before request answer after
+        → after.seat.caller ≡ before.seat.caller
+    later_caller before after request answer does =
         let (sure, first, second, none, round, empty, again) = does in
-        again_number is_over second after.seat request answer again
-        ∙ (flush_number round.1 round.2 first second round.0 round.3 ∙ none_number before.seat first request none)
+        again_caller facts trace is_over second after.seat request answer again
+        ∙ (flush_caller facts trace round.1 round.2 first second round.0 round.3 ∙ none_caller facts trace before.seat first request none)
 
-    request_number : (before after : WriterState D T N F) (request : Request) (answer : Option Answer) → PerformsRequest facts trace seconds is_over before request answer after → Numbered before after
-    request_number before after request answer = elim [
-      | inl does ↦ at_once_number before after request answer does
-      | inr does ↦ later_number before after request answer does
+    request_caller : (before after : WriterState D T N F) (request : Request) (answer : Option Answer) → PerformsRequest facts trace seconds is_over before request answer after
+        → after.seat.caller ≡ before.seat.caller
+    request_caller before after request answer = elim [
+      | inl does ↦ at_once_caller before after request answer does
+      | inr does ↦ later_caller before after request answer does
     ]
 
     -- the result of a request comes from a call that did it
@@ -166,26 +128,35 @@ module _ {D F T : Type 0} (facts : Ghosts D F) (trace : TraceOf T) where
     task_done before after asked request answer is does = subst (λ (r : Request). HasDone facts trace r answer) is (request_done before after asked answer does)
 
     -- where a task's call stands
-    pub task_placed : (before after : WriterState D T N F) (asked request : Request) (answer : Option Answer) (place : Option PlaceState) → asked ≡ request
-        → place ≡ answer_place answer after.seat.last → PerformsRequest facts trace seconds is_over before asked answer after → CallsAt trace.log request answer place
-    task_placed before after asked request answer place is at does =
-        subst (λ (r : Request). CallsAt trace.log r answer place) is
-        (subst (λ (p : Option PlaceState). CallsAt trace.log asked answer p) (sym at) (done_place facts trace seconds is_over before after asked answer does))
+    pub task_placed : (session : ℕ) (before after : WriterState D T N F) (asked request : Request) (answer : Option Answer) (place : Option PlaceState)
+        → before.seat.caller.session ≡ Some session → asked ≡ request → place ≡ answer_place answer after.seat.last
+        → PerformsRequest facts trace seconds is_over before asked answer after → CallsAt trace.log session request answer place
+    task_placed session before after asked request answer place for is at does =
+        subst (λ (r : Request). CallsAt trace.log session r answer place) is
+        (subst (λ (p : Option PlaceState). CallsAt trace.log session asked answer p) (sym at)
+        (done_place facts trace session seconds is_over before after asked answer for does))
 
-    pub task_performed : (before after : WriterState D T N F) (asked : Request) (old new : TaskState) (answer : Option Answer) → asked ≡ old.request
-        → new ≡ record old { answer = answer } → PerformsRequest facts trace seconds is_over before asked answer after
+    pub task_performed : (before served after : WriterState D T N F) (asked : Request) (old new : TaskState) (answer : Option Answer) → served ≡ serving old.session before
+        → asked ≡ old.request → new ≡ record old { answer = answer } → PerformsRequest facts trace seconds is_over served asked answer after
         → PerformsTask facts trace seconds is_over before old new after
-    task_performed before after asked old new answer is same does =
-        subst (λ (t : TaskState). PerformsTask facts trace seconds is_over before old t after) (sym same)
-        (subst (λ (r : Request). PerformsRequest facts trace seconds is_over before r answer after) is does, refl, refl)
+    task_performed before served after asked old new answer seated is same does =
+        subst (λ (t : TaskState). PerformsTask facts trace seconds is_over before old t after) (sym same) (
+          subst (λ (w : WriterState D T N F). PerformsRequest facts trace seconds is_over w old.request answer after) seated
+              (subst (λ (r : Request). PerformsRequest facts trace seconds is_over served r answer after) is does),
+          refl,
+          refl,
+          refl,
+        )
 
-    job_number : (before after : WriterState D T N F) (x y : Job D T N F) → PerformsJob facts trace seconds is_over before x y after → Numbered before after
-    job_number before after x y does =
-        steps_keep (PerformsTask facts trace seconds is_over) Numbered (λ s. refl) numbered_both
-        (λ a b old new one. request_number a b old.request new.answer one.0) before (record { seat = after.seat; done = does.0 }) x.tasks.items y.tasks.items does.1
+    job_seated : (before after : WriterState D T N F) (x y : Job D T N F) → PerformsJob facts trace seconds is_over before x y after → Seated before after
+    job_seated before after x y does =
+        steps_keep (PerformsTask facts trace seconds is_over) Seated (λ s. refl) seated_both
+        (λ a b old new one. ap (λ (c : Caller). c.seat) (request_caller (serving old.session a) b old.request new.answer one.0))
+        before (record { seat = after.seat; done = does.0 }) x.tasks.items y.tasks.items does.1
 
-    pub all_number : (before after : WriterState D T N F) (xs ys : List (Job D T N F)) → PerformsAll facts trace seconds is_over before xs ys after → after.seat.number ≡ before.seat.number
-    all_number before after xs ys all = steps_keep (PerformsJob facts trace seconds is_over) Numbered (λ s. refl) numbered_both job_number before after xs ys all
+    pub all_seated : (before after : WriterState D T N F) (xs ys : List (Job D T N F)) → PerformsAll facts trace seconds is_over before xs ys after
+        → after.seat.caller.seat ≡ before.seat.caller.seat
+    all_seated before after xs ys all = steps_keep (PerformsJob facts trace seconds is_over) Seated (λ s. refl) seated_both job_seated before after xs ys all
 
 -- ---- a request that is refused for want of room
 

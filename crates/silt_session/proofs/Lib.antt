@@ -1,4 +1,5 @@
 mod Batches
+mod Callers
 mod Clients
 mod Lists
 mod Marks
@@ -6,3 +7,4 @@ mod Pipelines
 mod JobLogs
 mod Sets
 mod Tolds
+mod Ledgers

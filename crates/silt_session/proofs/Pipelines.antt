@@ -27,10 +27,10 @@ use Rattle.silt_session.specs.Marks.{IsMarked, mark_of}
 use Rattle.silt_session.specs.Pipelines.{AddsFlush, AnswersSoFar, AwaitsFlush, Fills, FillsAll, FillsOne, GathersTask, HasRoom, IsFlushedBy, IsFree, IsNoGetOf}
 use Rattle.silt_session.specs.Pipelines.{IsPlaceOf, IsSettled, IsShown, IsTaskOf, Looks, MarksToo, MaySettle, MovesPlaces, NoneOvertakes, NothingWaits}
 use Rattle.silt_session.specs.Pipelines.{SettlesAll, SettlesEach, SettlesShown, flush_if, given_after, given_by, reply_without_tasks, shown_of, waiting_events}
-use Rattle.silt_session.specs.Requests.{TaskState, asked_event, changed_key, requests_of}
+use Rattle.silt_session.specs.Requests.{IsNoRequest, TaskState, asked_event, changed_key, requests_of}
 use Rattle.silt_session.specs.Sessions.{IsAnswer, IsKept, IsReplyOf, IsToldTo}
 use Rattle.silt_session.specs.Tolds.{AreInOrder, AreToldBetween, IsToldBetween, IsToldMore, PassesOn, ToldState, own_reply}
-use Rattle.silt_session.proofs.Tolds.{answers_more, more_both, more_passed, order_append, order_cons, order_none, order_same, order_stays}
+use Rattle.silt_session.proofs.Tolds.{answers_more, more_both, more_passed, order_append, order_one, order_shown, order_cons, order_none, order_same, order_stays}
 use Rattle.silt_session.specs.declared.job.Request.{Request}
 use Rattle.silt_session.specs.declared.job.Request.TheVariants.{Put, Delete, Swap, Flush}
 use Rattle.silt_session.specs.declared.key_marks.KeyMarks.{KeyMarks}
@@ -83,6 +83,35 @@ module _ {D F T : Type 0} (facts : Ghosts D F) (trace : TraceOf T) (told : ToldS
       → found ≡ given_by flushed shown → found ≡ result_ok given → IfOk given (SettlesShown facts trace told shown)
   given_settles shown flushed found (Ok reply) came by is = inr (flushed, came, sym by ∙ is)
   given_settles shown flushed found (Err e) came by is = tt
+
+-- the command of a task that came back alone is in order
+pub task_order : (old new : ToldState) → old.from ≤ old.next → PassesOn old new → (task : TaskState) (tasks : List TaskState) (found : Option PlainReply)
+    → tasks ≡ task ∷ [] → IfSome found (λ reply. IsToldBetween old old.next (asked_event task.request) reply new.next)
+    → IfSome found (λ reply. (t : TaskState) × (tasks ≡ t ∷ []) × AreInOrder new (asked_event t.request ∷ []) (reply ∷ []))
+task_order old new le passed task tasks None alone takes = tt
+task_order old new le passed task tasks (Some reply) alone takes = (task, alone, order_one old new le passed (asked_event task.request) reply takes)
+
+-- and so is that of the request that was asked
+pub alone_order : {E : Type 0} (told : ToldState) (request : Request) (sent tasks : List TaskState) (found : Option PlainReply) (given : Result PlainReply E)
+    → requests_of sent ≡ request ∷ [] → requests_of tasks ≡ requests_of sent → found ≡ result_ok given
+    → IfSome found (λ reply. (task : TaskState) × (tasks ≡ task ∷ []) × AreInOrder told (asked_event task.request ∷ []) (reply ∷ []))
+    → IfOk given (λ reply. AreInOrder told (asked_event request ∷ []) (reply ∷ []))
+alone_order told request sent tasks found (Ok reply) one same is all =
+    let (task, alone, has) = subst (λ (o : Option PlainReply). IfSome o (λ r. (t : TaskState) × (tasks ≡ t ∷ []) × AreInOrder told (asked_event t.request ∷ []) (r ∷ []))) is all in
+    let its : task.request ∷ [] ≡ request ∷ [] = ap requests_of (sym alone) ∙ same ∙ one in
+    let one_request : task.request ≡ request = cc in
+    subst (λ (r : Request). AreInOrder told (asked_event r ∷ []) (reply ∷ [])) one_request has
+alone_order told request sent tasks found (Err e) one same is all = tt
+
+-- and so is what was asked, whatever it was
+pub asked_order : {E : Type 0} (told : ToldState) (request : Request) (e : Event) (given : Result PlainReply E) → asked_event request ≡ e
+    → IfOk given (λ reply. AreInOrder told (asked_event request ∷ []) (reply ∷ [])) → IfOk given (λ reply. AreInOrder told (e ∷ []) (reply ∷ []))
+asked_order told request e given is all = subst (λ (x : Event). IfOk given (λ reply. AreInOrder told (x ∷ []) (reply ∷ []))) is all
+
+pub shown_order : {E : Type 0} (told : ToldState) (e : Event) (given : Result PlainReply E) → told.from ≤ told.next → IsNoRequest e
+    → IfOk given (λ reply. AreInOrder told (e ∷ []) (reply ∷ []))
+shown_order told e (Ok reply) le is = order_shown told le e is reply
+shown_order told e (Err lack) le is = tt
 
 -- ---- looks
 

@@ -20,9 +20,10 @@ use Rattle.silt_event.specs.declared.refusal.Refusal.TheVariants.{NotFormatted, 
 use Rattle.silt_event.specs.declared.reply.Reply.{Reply}
 use Rattle.silt_event.specs.declared.reply.Reply.TheVariants.{Accepted, Acknowledged, Found, Absent, Differs, Progress, Refused, Unsettled, NotServed}
 use Rattle.silt_store_set.specs.Replies.{change_reply, flush_reply, swap_reply}
+use Rattle.silt_desk.specs.declared.call.Caller.{Caller}
 use Rattle.silt_desk.specs.declared.call.RecordedCall.{RecordedCall}
 use Rattle.silt_desk.specs.declared.trace.Trace.{Ghosts as TraceOf}
-use Rattle.silt_desk.specs.CallLogs.{CallsSeen, LogsNone, PlaceState, PlacesCall, PlacesEvent}
+use Rattle.silt_desk.specs.CallLogs.{CallsSeen, IsMadeFor, LogsNone, PlaceState, PlacesCall, PlacesEvent, PlacesFlush}
 use Rattle.silt_desk.specs.DeskState.{DeskState, Refuses, Records, Serves}
 use Rattle.silt_desk.specs.History.{call, is_recorded}
 use Rattle.silt_desk.specs.Notes.{plain_answer}
@@ -30,11 +31,12 @@ use Rattle.silt_desk.specs.Seats.{SeatState}
 use Rattle.silt_session.specs.Batches.{FindsNoRoom, PerformsLast, PerformsRequest, WriterState}
 use Rattle.silt_session.specs.Origins.{Flushes, HasDone, HasOrigin, Performs, WasFlushed}
 use Rattle.silt_session.specs.declared.task.Placed.{Placed}
-use Rattle.silt_session.specs.Requests.{Answer, Flushed, acknowledged, asked_event, changed, compared, reply_due}
+use Rattle.silt_session.specs.Requests.{Answer, Flushed, IsNoRequest, acknowledged, asked_event, changed, compared, reply_due}
 use Rattle.silt_session.specs.Sessions.{IsAnswer, IsKept, IsToldTo}
-use Rattle.silt_session.specs.Tolds.{AreToldBetween, AsksBehind, CallsAt, ExtendsCalls, HasCallAt, IsInLog, IsTold, IsToldBetween, IsToldMore, PassesOn}
+use Rattle.silt_session.specs.Tolds.{AreInOrder, AreToldBetween, AsksBehind, CallsAt, ExtendsCalls, HasCallAt, IsInLog, IsTold, IsToldBetween, IsToldMore, PassesOn}
 use Rattle.silt_session.specs.Tolds.{RisesThrough, TakesPlace, TellsAt, ToldOf, ToldState, answer_place, own_reply, reply_place}
 use Rattle.silt_session.specs.declared.job.Request.{Request}
+use Rattle.silt_session.proofs.Callers.{flush_caller, none_caller, times_caller}
 use Rattle.silt_session.specs.declared.job.Request.TheVariants.{Put, Delete, Swap, Flush}
 
 -- ---- all calls of a trace
@@ -61,13 +63,13 @@ get_more [] zs k x at = absurd (cc)
 get_more (y ∷ xs) zs zero x at = at
 get_more (y ∷ xs) zs (suc k) x at = get_more xs zs k x at
 
-module _ (from : ℕ) (calls more : List RecordedCall) (begins : IsPrefix calls more) where
-  stands_more : (k : ℕ) (e : Event) (r : PlainReply) → HasCallAt from calls k e r → HasCallAt from more k e r
+module _ (session from : ℕ) (calls more : List RecordedCall) (begins : IsPrefix calls more) where
+  stands_more : (k : ℕ) (e : Event) (r : PlainReply) → HasCallAt session from calls k e r → HasCallAt session from more k e r
   stands_more k e r (late, at) =
-      (late, (at.0, subst (λ (l : List RecordedCall). slice_get l k ≡ Some (call at.0 e r)) begins.1 (get_more calls begins.0 k (call at.0 e r) at.1)))
+      (late, (at.0, at.1, subst (λ (l : List RecordedCall). slice_get l k ≡ Some (call at.0 e r)) begins.1 (get_more calls begins.0 k (call at.0 e r) at.2)))
 
   -- what stands in a beginning of the calls stands in them
-  pub told_more : (e : Event) (r : PlainReply) → IsTold from calls e r → IsTold from more e r
+  pub told_more : (e : Event) (r : PlainReply) → IsTold session from calls e r → IsTold session from more e r
   told_more e (Accepted n) (place, at, (behind, m, order, covers, flush)) =
       (place, stands_more place e (Accepted n) at, (behind, m, order, covers, stands_more behind event.Flush (Acknowledged m) flush))
   told_more e (Unsettled n) (place, at) = (place, stands_more place e (Accepted n) at)
@@ -89,17 +91,18 @@ module _ (from : ℕ) (calls more : List RecordedCall) (begins : IsPrefix calls 
   told_more e (Progress progress) told = tt
   told_more e NotServed told = tt
 
-of_more : (from : ℕ) (e : Event) (r : PlainReply) (old new : Option (List RecordedCall)) → ExtendsCalls old new
-    → IfSome old (λ calls. IsTold from calls e r) → IfSome new (λ calls. IsTold from calls e r)
-of_more from e r None None goes told = tt
-of_more from e r None (Some more) goes told = absurd (cc)
-of_more from e r (Some calls) None goes told = absurd goes
-of_more from e r (Some calls) (Some more) goes told = told_more from calls more goes e r told
+of_more : (session from : ℕ) (e : Event) (r : PlainReply) (old new : Option (List RecordedCall)) → ExtendsCalls old new
+    → IfSome old (λ calls. IsTold session from calls e r) → IfSome new (λ calls. IsTold session from calls e r)
+of_more session from e r None None goes told = tt
+of_more session from e r None (Some more) goes told = absurd (cc)
+of_more session from e r (Some calls) None goes told = absurd goes
+of_more session from e r (Some calls) (Some more) goes told = told_more session from calls more goes e r told
 
 -- what was told stays told
 pub told_stays : (old new : ToldState) → IsToldMore old new → (e : Event) (r : PlainReply) → ToldOf old e r → ToldOf new e r
 told_stays old new more e r told =
-    subst (λ (n : ℕ). IfSome new.calls (λ calls. IsTold n calls e r)) (sym more.from) (of_more old.from e r old.calls new.calls more.calls told)
+    subst (λ (n : ℕ). IfSome new.calls (λ calls. IsTold new.session n calls e r)) (sym more.from)
+    (subst (λ (s : ℕ). IfSome new.calls (λ calls. IsTold s old.from calls e r)) (sym more.session) (of_more old.session old.from e r old.calls new.calls more.calls told))
 
 -- ---- what goes on
 
@@ -116,10 +119,15 @@ goes_both (Some calls) (Some more) (Some most) first second =
     (first.0 ++ second.0, sym (append_assoc calls first.0 second.0) ∙ ap (λ (l : List RecordedCall). l ++ second.0) first.1 ∙ second.1)
 
 pub more_none : (told : ToldState) → IsToldMore told told
-more_none told = record { from = refl; next = omega arith; calls = goes_none told.calls }
+more_none told = record { session = refl; from = refl; next = omega arith; calls = goes_none told.calls }
 
 pub more_both : (a b c : ToldState) → IsToldMore a b → IsToldMore b c → IsToldMore a c
-more_both a b c first second = record { from = second.from ∙ first.from; next = omega (arith, first.next, second.next); calls = goes_both a.calls b.calls c.calls first.calls second.calls }
+more_both a b c first second = record {
+  session = second.session ∙ first.session;
+  from = second.from ∙ first.from;
+  next = omega (arith, first.next, second.next);
+  calls = goes_both a.calls b.calls c.calls first.calls second.calls;
+}
 
 asked_from : (old : Option (List RecordedCall)) (a b : ℕ) → b ≡ a → IfSome old (λ calls. a ≡ length calls) → IfSome old (λ calls. b ≡ length calls)
 asked_from None a b same is = tt
@@ -127,8 +135,12 @@ asked_from (Some calls) a b same is = same ∙ is
 
 -- events that were asked behind what was told, and more is told then
 pub asked_more : (a b c : ToldState) → AsksBehind a b → IsToldMore b c → AsksBehind a c
-asked_more a b c asks more =
-    record { from = asked_from a.calls b.from c.from more.from asks.from; next = omega (arith, asks.next, more.from, more.next); calls = goes_both a.calls b.calls c.calls asks.calls more.calls }
+asked_more a b c asks more = record {
+  session = more.session ∙ asks.session;
+  from = asked_from a.calls b.from c.from more.from asks.from;
+  next = omega (arith, asks.next, more.from, more.next);
+  calls = goes_both a.calls b.calls c.calls asks.calls more.calls;
+}
 
 -- ---- commands take their places
 
@@ -141,6 +153,7 @@ passes_both a b c first second = record { same = second.same ∙ ap (λ (s : Tol
 -- no less is told then
 pub more_passed : (old new : ToldState) → PassesOn old new → IsToldMore old new
 more_passed old new passed = record {
+  session = ap (λ (s : ToldState). s.session) passed.same;
   from = ap (λ (s : ToldState). s.from) passed.same;
   next = passed.next;
   calls = subst (λ (s : ToldState). ExtendsCalls old.calls s.calls) (sym passed.same) (goes_none old.calls);
@@ -154,67 +167,85 @@ if_holds : {X : Type 0} (A : Type 0) → A → (o : Option X) → IfSome o (λ x
 if_holds A holds None = tt
 if_holds A holds (Some x) = holds
 
--- where an own call stands
-abbrev OwnAt : ℕ → List RecordedCall → Event → ℕ → PlainReply → Type 0
-OwnAt next calls e after made = (place : ℕ) × HasCallAt next calls place e made × (place < after)
+module _ (session : ℕ) where
+  -- where an own call stands
+  abbrev OwnAt : ℕ → List RecordedCall → Event → ℕ → PlainReply → Type 0
+  OwnAt next calls e after made = (place : ℕ) × HasCallAt session next calls place e made × (place < after)
 
-takes_more : (calls more : List RecordedCall) → IsPrefix calls more → (next after : ℕ) (e : Event) (r : PlainReply) → TakesPlace next calls e r after → TakesPlace next more e r after
-takes_more calls more begins next after e r takes =
-    match_more (OwnAt next calls e after) (OwnAt next more e after) (λ (le : next ≤ after). le)
-    (λ made here. (here.0, stands_more next calls more begins here.0 e made here.1, here.2)) (own_reply e r) takes
+  takes_more : (calls more : List RecordedCall) → IsPrefix calls more → (next after : ℕ) (e : Event) (r : PlainReply) → TakesPlace session next calls e r after → TakesPlace session next more e r after
+  takes_more calls more begins next after e r takes =
+      match_more (OwnAt next calls e after) (OwnAt next more e after) (λ (le : next ≤ after). le)
+      (λ made here. (here.0, stands_more session next calls more begins here.0 e made here.1, here.2)) (own_reply e r) takes
 
-takes_from : (calls : List RecordedCall) (a b after : ℕ) → a ≤ b → (e : Event) (r : PlainReply) → TakesPlace b calls e r after → TakesPlace a calls e r after
-takes_from calls a b after le e r takes =
-    match_more (OwnAt b calls e after) (OwnAt a calls e after) (λ (more : b ≤ after). let all : a ≤ after = omega arith in all)
-    (λ made here. (here.0, (omega (arith, le, here.1.0), here.1.1), here.2)) (own_reply e r) takes
+  takes_from : (calls : List RecordedCall) (a b after : ℕ) → a ≤ b → (e : Event) (r : PlainReply) → TakesPlace session b calls e r after → TakesPlace session a calls e r after
+  takes_from calls a b after le e r takes =
+      match_more (OwnAt b calls e after) (OwnAt a calls e after) (λ (more : b ≤ after). let all : a ≤ after = omega arith in all)
+      (λ made here. (here.0, (omega (arith, le, here.1.0), here.1.1), here.2)) (own_reply e r) takes
 
-through_more : (calls more : List RecordedCall) → IsPrefix calls more → (next after : ℕ) (events : List Event) (replies : List PlainReply)
-    → RisesThrough next calls events replies after → RisesThrough next more events replies after
-through_more calls more begins next after [] [] rises = rises
-through_more calls more begins next after (e ∷ events) (r ∷ replies) (mid, takes, rest) =
-    (mid, takes_more calls more begins next mid e r takes, through_more calls more begins mid after events replies rest)
-through_more calls more begins next after [] (r ∷ replies) rises = absurd rises
-through_more calls more begins next after (e ∷ events) [] rises = absurd rises
+  through_more : (calls more : List RecordedCall) → IsPrefix calls more → (next after : ℕ) (events : List Event) (replies : List PlainReply)
+      → RisesThrough session next calls events replies after → RisesThrough session next more events replies after
+  through_more calls more begins next after [] [] rises = rises
+  through_more calls more begins next after (e ∷ events) (r ∷ replies) (mid, takes, rest) =
+      (mid, takes_more calls more begins next mid e r takes, through_more calls more begins mid after events replies rest)
+  through_more calls more begins next after [] (r ∷ replies) rises = absurd rises
+  through_more calls more begins next after (e ∷ events) [] rises = absurd rises
 
-through_from : (calls : List RecordedCall) (a b after : ℕ) → a ≤ b → (events : List Event) (replies : List PlainReply)
-    → RisesThrough b calls events replies after → RisesThrough a calls events replies after
-through_from calls a b after le [] [] rises = omega (arith, le, rises)
-through_from calls a b after le (e ∷ events) (r ∷ replies) (mid, takes, rest) = (mid, takes_from calls a b mid le e r takes, rest)
-through_from calls a b after le [] (r ∷ replies) rises = absurd rises
-through_from calls a b after le (e ∷ events) [] rises = absurd rises
+  through_from : (calls : List RecordedCall) (a b after : ℕ) → a ≤ b → (events : List Event) (replies : List PlainReply)
+      → RisesThrough session b calls events replies after → RisesThrough session a calls events replies after
+  through_from calls a b after le [] [] rises = omega (arith, le, rises)
+  through_from calls a b after le (e ∷ events) (r ∷ replies) (mid, takes, rest) = (mid, takes_from calls a b mid le e r takes, rest)
+  through_from calls a b after le [] (r ∷ replies) rises = absurd rises
+  through_from calls a b after le (e ∷ events) [] rises = absurd rises
 
-through_append : (calls : List RecordedCall) (a b c : ℕ) (xs ys : List Event) (rs ss : List PlainReply)
-    → RisesThrough a calls xs rs b → RisesThrough b calls ys ss c → RisesThrough a calls (xs ++ ys) (rs ++ ss) c
-through_append calls a b c [] ys [] ss first second = through_from calls a b c first ys ss second
-through_append calls a b c (x ∷ xs) ys (r ∷ rs) ss (mid, takes, rest) second = (mid, takes, through_append calls mid b c xs ys rs ss rest second)
-through_append calls a b c [] ys (r ∷ rs) ss first second = absurd first
-through_append calls a b c (x ∷ xs) ys [] ss first second = absurd first
+  through_append : (calls : List RecordedCall) (a b c : ℕ) (xs ys : List Event) (rs ss : List PlainReply)
+      → RisesThrough session a calls xs rs b → RisesThrough session b calls ys ss c → RisesThrough session a calls (xs ++ ys) (rs ++ ss) c
+  through_append calls a b c [] ys [] ss first second = through_from calls a b c first ys ss second
+  through_append calls a b c (x ∷ xs) ys (r ∷ rs) ss (mid, takes, rest) second = (mid, takes, through_append calls mid b c xs ys rs ss rest second)
+  through_append calls a b c [] ys (r ∷ rs) ss first second = absurd first
+  through_append calls a b c (x ∷ xs) ys [] ss first second = absurd first
 
-between_more : (next after : ℕ) (events : List Event) (replies : List PlainReply) (old new : Option (List RecordedCall)) → ExtendsCalls old new
-    → IfSome old (λ calls. RisesThrough next calls events replies after) → IfSome new (λ calls. RisesThrough next calls events replies after)
-between_more next after events replies None None goes told = tt
-between_more next after events replies None (Some more) goes told = absurd (cc)
-between_more next after events replies (Some calls) None goes told = absurd goes
-between_more next after events replies (Some calls) (Some more) goes told = through_more calls more goes next after events replies told
+  takes_less : (calls : Option (List RecordedCall)) (a b after : ℕ) → a ≤ b → (e : Event) (r : PlainReply)
+      → IfSome calls (λ l. TakesPlace session b l e r after) → IfSome calls (λ l. TakesPlace session a l e r after)
+  takes_less None a b after le e r takes = tt
+  takes_less (Some l) a b after le e r takes = takes_from l a b after le e r takes
 
-between_append : (calls : Option (List RecordedCall)) (a b c : ℕ) (xs ys : List Event) (rs ss : List PlainReply)
-    → IfSome calls (λ l. RisesThrough a l xs rs b) → IfSome calls (λ l. RisesThrough b l ys ss c) → IfSome calls (λ l. RisesThrough a l (xs ++ ys) (rs ++ ss) c)
-between_append None a b c xs ys rs ss first second = tt
-between_append (Some l) a b c xs ys rs ss first second = through_append l a b c xs ys rs ss first second
+  between_more : (next after : ℕ) (events : List Event) (replies : List PlainReply) (old new : Option (List RecordedCall)) → ExtendsCalls old new
+      → IfSome old (λ calls. RisesThrough session next calls events replies after) → IfSome new (λ calls. RisesThrough session next calls events replies after)
+  between_more next after events replies None None goes told = tt
+  between_more next after events replies None (Some more) goes told = absurd (cc)
+  between_more next after events replies (Some calls) None goes told = absurd goes
+  between_more next after events replies (Some calls) (Some more) goes told = through_more calls more goes next after events replies told
 
-between_cons : (calls : Option (List RecordedCall)) (next mid after : ℕ) (e : Event) (r : PlainReply) (events : List Event) (replies : List PlainReply)
-    → IfSome calls (λ l. TakesPlace next l e r mid) → IfSome calls (λ l. RisesThrough mid l events replies after) → IfSome calls (λ l. RisesThrough next l (e ∷ events) (r ∷ replies) after)
-between_cons None next mid after e r events replies takes rest = tt
-between_cons (Some l) next mid after e r events replies takes rest = (mid, takes, rest)
+  between_append : (calls : Option (List RecordedCall)) (a b c : ℕ) (xs ys : List Event) (rs ss : List PlainReply)
+      → IfSome calls (λ l. RisesThrough session a l xs rs b) → IfSome calls (λ l. RisesThrough session b l ys ss c) → IfSome calls (λ l. RisesThrough session a l (xs ++ ys) (rs ++ ss) c)
+  between_append None a b c xs ys rs ss first second = tt
+  between_append (Some l) a b c xs ys rs ss first second = through_append l a b c xs ys rs ss first second
 
-takes_none : (calls : Option (List RecordedCall)) (next : ℕ) (e : Event) (r : PlainReply) → own_reply e r ≡ None → IfSome calls (λ l. TakesPlace next l e r next)
-takes_none None next e r none = tt
-takes_none (Some l) next e r none = subst (λ (o : Option PlainReply). MatchOption o (next ≤ next) (OwnAt next l e next)) (sym none) (omega arith)
+  between_cons : (calls : Option (List RecordedCall)) (next mid after : ℕ) (e : Event) (r : PlainReply) (events : List Event) (replies : List PlainReply)
+      → IfSome calls (λ l. TakesPlace session next l e r mid) → IfSome calls (λ l. RisesThrough session mid l events replies after)
+      → IfSome calls (λ l. RisesThrough session next l (e ∷ events) (r ∷ replies) after)
+  between_cons None next mid after e r events replies takes rest = tt
+  between_cons (Some l) next mid after e r events replies takes rest = (mid, takes, rest)
+
+  takes_none : (calls : Option (List RecordedCall)) (next : ℕ) (e : Event) (r : PlainReply) → own_reply e r ≡ None → IfSome calls (λ l. TakesPlace session next l e r next)
+  takes_none None next e r none = tt
+  takes_none (Some l) next e r none = subst (λ (o : Option PlainReply). MatchOption o (next ≤ next) (OwnAt next l e next)) (sym none) (omega arith)
+
+own_none : (e : Event) (r : PlainReply) → IsNoRequest e → own_reply e r ≡ None
+own_none (event.Get key) r is = refl
+own_none event.Convert r is = refl
+own_none event.Merge r is = refl
+own_none event.Flush r is = refl
+own_none (event.Put key value) r is = absurd is
+own_none (event.Delete key) r is = absurd is
+own_none (event.Swap key expected value) r is = absurd is
 
 -- what stands in order stands so in more calls
 pub order_stays : (old new : ToldState) → IsToldMore old new → (next after : ℕ) (events : List Event) (replies : List PlainReply)
     → AreToldBetween old next events replies after → AreToldBetween new next events replies after
-order_stays old new more next after events replies rises = between_more next after events replies old.calls new.calls more.calls rises
+order_stays old new more next after events replies rises =
+    subst (λ (s : ℕ). IfSome new.calls (λ calls. RisesThrough s next calls events replies after)) (sym more.session)
+    (between_more old.session next after events replies old.calls new.calls more.calls rises)
 
 module _ (told : ToldState) where
   -- nothing is in order
@@ -224,16 +255,33 @@ module _ (told : ToldState) where
   -- one event is in front
   pub order_cons : (next mid after : ℕ) (e : Event) (r : PlainReply) (events : List Event) (replies : List PlainReply)
       → IsToldBetween told next e r mid → AreToldBetween told mid events replies after → AreToldBetween told next (e ∷ events) (r ∷ replies) after
-  order_cons next mid after e r events replies takes rest = between_cons told.calls next mid after e r events replies takes rest
+  order_cons next mid after e r events replies takes rest = between_cons told.session told.calls next mid after e r events replies takes rest
 
   -- others are behind
   pub order_append : (a b c : ℕ) (xs ys : List Event) (rs ss : List PlainReply)
       → AreToldBetween told a xs rs b → AreToldBetween told b ys ss c → AreToldBetween told a (xs ++ ys) (rs ++ ss) c
-  order_append a b c xs ys rs ss first second = between_append told.calls a b c xs ys rs ss first second
+  order_append a b c xs ys rs ss first second = between_append told.session told.calls a b c xs ys rs ss first second
 
   -- an event with no call of its own takes no place
   pub order_same : (next : ℕ) (e : Event) (r : PlainReply) → own_reply e r ≡ None → IsToldBetween told next e r next
-  order_same next e r none = takes_none told.calls next e r none
+  order_same next e r none = takes_none told.session told.calls next e r none
+
+-- one command that took its place is in order
+pub order_one : (old new : ToldState) → old.from ≤ old.next → PassesOn old new → (e : Event) (r : PlainReply)
+    → IsToldBetween old old.next e r new.next → AreInOrder new (e ∷ []) (r ∷ [])
+order_one old new le passed e r takes =
+    let from_here : IsToldBetween old old.from e r new.next = takes_less old.session old.calls old.from old.next new.next le e r takes in
+    subst (λ (s : ToldState). AreToldBetween s s.from (e ∷ []) (r ∷ []) new.next) (sym passed.same)
+    (order_cons old old.from new.next new.next e r [] [] from_here (order_none old new.next new.next (omega arith)))
+
+-- and so is a reply to one event with no call of its own
+pub order_shown : (told : ToldState) → told.from ≤ told.next → (e : Event) → IsNoRequest e → (r : PlainReply) → AreInOrder told (e ∷ []) (r ∷ [])
+order_shown told le e is r =
+    order_cons told told.from told.from told.next e r [] [] (order_same told told.from e r (own_none e r is)) (order_none told told.from told.next le)
+
+-- more is told of what is asked in order
+pub starts_before : (old new : ToldState) → IsToldMore old new → old.from ≤ old.next → new.from ≤ new.next
+starts_before old new more le = omega (arith, more.from, more.next, le)
 
 -- ---- answers
 
@@ -270,10 +318,21 @@ module _ {D F T : Type 0} (facts : Ghosts D F) (trace : TraceOf T) (settles : Bo
 
 -- ---- where a call stands
 
+-- an event's call by this caller was made for the session
+made_for : (session : ℕ) (caller : Caller) → caller.session ≡ Some session → (e : Event) → IsMadeFor session e caller
+made_for session caller is event.Flush = tt
+made_for session caller is (event.Put key value) = is
+made_for session caller is (event.Delete key) = is
+made_for session caller is (event.Swap key expected value) = is
+made_for session caller is (event.Get key) = is
+made_for session caller is event.Convert = is
+made_for session caller is event.Merge = is
+
 -- what a place is known by
-places_event : (named : Option Book) (seat : ℕ) (e : Event) (r : PlainReply) (place : Option PlaceState) → PlacesCall named (call seat e r) place → PlacesEvent named e r place
-places_event named seat e r None places = tt
-places_event named seat e r (Some place) places = (places.0, (seat, places.1))
+places_event : (named : Option Book) (session : ℕ) (caller : Caller) (e : Event) (r : PlainReply) (place : Option PlaceState) → IsMadeFor session e caller
+    → PlacesCall named (call caller e r) place → PlacesEvent named session e r place
+places_event named session caller e r None made places = tt
+places_event named session caller e r (Some place) made places = (places.0, (caller, made, places.1))
 
 recorded_plain : {F : Type 0} (r : Reply F) → is_recorded (plain r) ≡ is_recorded r
 recorded_plain (Accepted n) = refl
@@ -298,15 +357,15 @@ recorded_plain (Refused HistoryFull) = refl
 
 module _ {D F T : Type 0} (facts : Ghosts D F) (trace : TraceOf T) where
   -- the seat has the place of a call that was recorded
-  served_place : (old new : DeskState D T) (seat after : SeatState) (e : Event) (r : Reply F) → Serves facts trace old new seat after e r
-      → PlacesEvent trace.log e (plain r) (reply_place (plain r) after.last)
-  served_place old new seat after e r serves =
+  served_place : (session : ℕ) (old new : DeskState D T) (seat after : SeatState) (e : Event) (r : Reply F) → IsMadeFor session e seat.caller
+      → Serves facts trace old new seat after e r → PlacesEvent trace.log session e (plain r) (reply_place (plain r) after.last)
+  served_place session old new seat after e r made serves =
       let go : (b : Bool) → is_recorded r ≡ b → MatchBool b (Records facts trace old new seat after e r) (Refuses facts trace old new seat after e r)
-      → PlacesEvent trace.log e (plain r) (if b then after.last else None) = elim [
-        | true ↦ λ is records. places_event trace.log seat.number e (plain r) after.last records.seated.place
+      → PlacesEvent trace.log session e (plain r) (if b then after.last else None) = elim [
+        | true ↦ λ is records. places_event trace.log session seat.caller e (plain r) after.last made records.seated.place
         | false ↦ λ is refuses. tt
       ] in
-      subst (λ (b : Bool). PlacesEvent trace.log e (plain r) (if b then after.last else None)) (sym (recorded_plain r)) (go (is_recorded r) refl serves)
+      subst (λ (b : Bool). PlacesEvent trace.log session e (plain r) (if b then after.last else None)) (sym (recorded_plain r)) (go (is_recorded r) refl serves)
 
   change_told : (answer : Result ℕ (Refusal F)) → swap_reply (compared (plain_answer answer)) ≡ plain (change_reply answer)
   change_told (Ok n) = refl
@@ -321,125 +380,136 @@ module _ {D F T : Type 0} (facts : Ghosts D F) (trace : TraceOf T) where
   flush_told (Ok n) = refl
   flush_told (Err refusal) = refl
 
-  place_as : (e : Event) (r s : PlainReply) (last : Option PlaceState) → s ≡ r → PlacesEvent trace.log e r (reply_place r last) → PlacesEvent trace.log e s (reply_place s last)
-  place_as e r s last is places = subst (λ (x : PlainReply). PlacesEvent trace.log e x (reply_place x last)) (sym is) places
-
-  -- the seat has the place of a request's call
-  performed_place : (old new : DeskState D T) (seat after : SeatState) (request : Request) (answer : Option Answer) → Performs facts trace old new seat after request answer
-      → CallsAt trace.log request answer (answer_place answer after.last)
-  performed_place old new seat after request None performs = refl
-  performed_place old new seat after (Put key value) (Some answer) (reported, is, serves, agrees) =
-      place_as (event.Put key value) (plain (change_reply reported)) (swap_reply answer) after.last (ap swap_reply is ∙ change_told reported)
-      (served_place old new seat after (event.Put key value) (change_reply reported) serves)
-  performed_place old new seat after (Delete key) (Some answer) (reported, is, serves, agrees) =
-      place_as (event.Delete key) (plain (change_reply reported)) (swap_reply answer) after.last (ap swap_reply is ∙ change_told reported)
-      (served_place old new seat after (event.Delete key) (change_reply reported) serves)
-  performed_place old new seat after (Swap key expected value) (Some answer) (reported, is, serves, agrees) =
-      place_as (event.Swap key expected value) (plain (swap_reply reported)) (swap_reply answer) after.last (ap swap_reply is ∙ swap_told reported)
-      (served_place old new seat after (event.Swap key expected value) (swap_reply reported) serves)
-  performed_place old new seat after Flush (Some answer) performs = absurd performs
+  place_as : (session : ℕ) (e : Event) (r s : PlainReply) (last : Option PlaceState) → s ≡ r → PlacesEvent trace.log session e r (reply_place r last)
+      → PlacesEvent trace.log session e s (reply_place s last)
+  place_as session e r s last is places = subst (λ (x : PlainReply). PlacesEvent trace.log session e x (reply_place x last)) (sym is) places
 
   -- the seat has the place of a flush
   pub flushed_place : (old new : DeskState D T) (seat after : SeatState) (flushed : Flushed) → Flushes facts trace old new seat after flushed
-      → PlacesEvent trace.log event.Flush (acknowledged flushed) (reply_place (acknowledged flushed) after.last)
+      → PlacesFlush trace.log (acknowledged flushed) (reply_place (acknowledged flushed) after.last)
   flushed_place old new seat after flushed (reported, is, serves, agrees) =
-      place_as event.Flush (plain (flush_reply reported)) (acknowledged flushed) after.last (ap acknowledged is ∙ flush_told reported)
-      (served_place old new seat after event.Flush (flush_reply reported) serves)
+      place_as 0 event.Flush (plain (flush_reply reported)) (acknowledged flushed) after.last (ap acknowledged is ∙ flush_told reported)
+      (served_place 0 old new seat after event.Flush (flush_reply reported) tt serves)
 
-  last_place : (seat after : SeatState) (request : Request) (answer : Option Answer) → PerformsLast facts trace seat request answer after
-      → CallsAt trace.log request answer (answer_place answer after.last)
-  last_place seat after request answer (before, later, performs, none) = performed_place before later seat after request answer performs
+  module _ (session : ℕ) where
+    -- the seat has the place of a request's call, if its calls are made for the session
+    performed_place : (old new : DeskState D T) (seat after : SeatState) (request : Request) (answer : Option Answer) → seat.caller.session ≡ Some session
+        → Performs facts trace old new seat after request answer → CallsAt trace.log session request answer (answer_place answer after.last)
+    performed_place old new seat after request None for performs = refl
+    performed_place old new seat after (Put key value) (Some answer) for (reported, is, serves, agrees) =
+        place_as session (event.Put key value) (plain (change_reply reported)) (swap_reply answer) after.last (ap swap_reply is ∙ change_told reported)
+        (served_place session old new seat after (event.Put key value) (change_reply reported) for serves)
+    performed_place old new seat after (Delete key) (Some answer) for (reported, is, serves, agrees) =
+        place_as session (event.Delete key) (plain (change_reply reported)) (swap_reply answer) after.last (ap swap_reply is ∙ change_told reported)
+        (served_place session old new seat after (event.Delete key) (change_reply reported) for serves)
+    performed_place old new seat after (Swap key expected value) (Some answer) for (reported, is, serves, agrees) =
+        place_as session (event.Swap key expected value) (plain (swap_reply reported)) (swap_reply answer) after.last (ap swap_reply is ∙ swap_told reported)
+        (served_place session old new seat after (event.Swap key expected value) (swap_reply reported) for serves)
+    performed_place old new seat after Flush (Some answer) for performs = absurd performs
 
-  refused_place : (seat after : SeatState) (request : Request) (answer : Option Answer) → answer ≡ Some (Err NoRoom) → FindsNoRoom facts trace seat request after
-      → CallsAt trace.log request answer (answer_place answer after.last)
-  refused_place seat after request answer is (before, later, performs, same, work) =
-      subst (λ (a : Option Answer). CallsAt trace.log request a (answer_place a after.last)) (sym is) (performed_place before later seat after request (Some (Err NoRoom)) performs)
+    last_place : (seat after : SeatState) (request : Request) (answer : Option Answer) → seat.caller.session ≡ Some session
+        → PerformsLast facts trace seat request answer after → CallsAt trace.log session request answer (answer_place answer after.last)
+    last_place seat after request answer for (before, later, performs, none) = performed_place before later seat after request answer for performs
 
-  -- the seat has the place of the last call of a request that was done
-  pub done_place : {N : Type 0} (seconds : ℕ) (is_over : Type 0) (writer after : WriterState D T N F) (request : Request) (answer : Option Answer)
-      → PerformsRequest facts trace seconds is_over writer request answer after → CallsAt trace.log request answer (answer_place answer after.seat.last)
-  done_place seconds is_over writer after request answer (inl (same, inl last)) = last_place writer.seat after.seat request answer last
-  done_place seconds is_over writer after request answer (inl (same, inr (is, finds, none))) = refused_place writer.seat after.seat request answer is finds
-  done_place seconds is_over writer after request answer (inr (waits, first, second, finds, ends, none, (times, mid, few, tried, inl last))) = last_place mid after.seat request answer last
-  done_place seconds is_over writer after request answer (inr (waits, first, second, finds, ends, none, (times, mid, few, tried, inr (is, again, over)))) =
-      refused_place mid after.seat request answer is again
+    refused_place : (seat after : SeatState) (request : Request) (answer : Option Answer) → seat.caller.session ≡ Some session → answer ≡ Some (Err NoRoom)
+        → FindsNoRoom facts trace seat request after → CallsAt trace.log session request answer (answer_place answer after.last)
+    refused_place seat after request answer for is (before, later, performs, same, work) =
+        subst (λ (a : Option Answer). CallsAt trace.log session request a (answer_place a after.last)) (sym is)
+        (performed_place before later seat after request (Some (Err NoRoom)) for performs)
+
+    -- the seat has the place of the last call of a request that was done, if its calls were made for the session before
+    pub done_place : {N : Type 0} (seconds : ℕ) (is_over : Type 0) (writer after : WriterState D T N F) (request : Request) (answer : Option Answer)
+        → writer.seat.caller.session ≡ Some session → PerformsRequest facts trace seconds is_over writer request answer after
+        → CallsAt trace.log session request answer (answer_place answer after.seat.last)
+    done_place seconds is_over writer after request answer for (inl (same, inl last)) = last_place writer.seat after.seat request answer for last
+    done_place seconds is_over writer after request answer for (inl (same, inr (is, finds, none))) = refused_place writer.seat after.seat request answer for is finds
+    done_place seconds is_over writer after request answer for (inr (waits, first, second, finds, ends, none, (times, mid, few, tried, ended))) =
+        let same = times_caller facts trace times second mid request tried ∙ flush_caller facts trace ends.1 ends.2 first second ends.0 ends.3
+        ∙ none_caller facts trace writer.seat first request finds in
+        let still : mid.caller.session ≡ Some session = ap (λ (c : Caller). c.session) same ∙ for in
+        let go : PerformsLast facts trace mid request answer after.seat ⊎ ((answer ≡ Some (Err NoRoom)) × FindsNoRoom facts trace mid request after.seat × ((times ≡ 6) ⊎ is_over))
+        → CallsAt trace.log session request answer (answer_place answer after.seat.last) = elim [
+          | inl last ↦ last_place mid after.seat request answer still last
+          | inr none ↦ refused_place mid after.seat request answer still none.0 none.1
+        ] in
+        go ended
 
 -- ---- the reply of a task
 
 -- the reply that is due to a command speaks of its call and of the flush
-changed_tells : (named : Option Book) (e : Event) (answer : Answer) (flushed : Flushed) (call flush : Option PlaceState)
-    → ((refusal : Refusal (Unit {0})) → PlacesEvent named e (Refused refusal) call → TellsAt named e (Refused refusal) call flush)
-    → PlacesEvent named e (swap_reply answer) call → PlacesEvent named event.Flush (acknowledged flushed) flush → TellsAt named e (changed answer flushed) call flush
-changed_tells named e (Err refusal) flushed call flush refused at behind = refused refusal at
-changed_tells named e (Ok None) flushed call flush refused at behind = at
-changed_tells named e (Ok (Some n)) (Ok m) call flush refused at behind =
-    let go : (b : Bool) → nat_le n m ≡ b → TellsAt named e (cond b (Accepted n) (Unsettled n)) call flush = elim [
+changed_tells : (named : Option Book) (session : ℕ) (e : Event) (answer : Answer) (flushed : Flushed) (call flush : Option PlaceState)
+    → ((refusal : Refusal (Unit {0})) → PlacesEvent named session e (Refused refusal) call → TellsAt named session e (Refused refusal) call flush)
+    → PlacesEvent named session e (swap_reply answer) call → PlacesFlush named (acknowledged flushed) flush → TellsAt named session e (changed answer flushed) call flush
+changed_tells named session e (Err refusal) flushed call flush refused at behind = refused refusal at
+changed_tells named session e (Ok None) flushed call flush refused at behind = at
+changed_tells named session e (Ok (Some n)) (Ok m) call flush refused at behind =
+    let go : (b : Bool) → nat_le n m ≡ b → TellsAt named session e (cond b (Accepted n) (Unsettled n)) call flush = elim [
       | true ↦ λ covers. (at, (m, leb-true n m covers, behind))
       | false ↦ λ few. at
     ] in
     go (nat_le n m) refl
-changed_tells named e (Ok (Some n)) (Err refusal) call flush refused at behind = at
+changed_tells named session e (Ok (Some n)) (Err refusal) call flush refused at behind = at
 
-flush_tells : (named : Option Book) (flushed : Flushed) (call flush : Option PlaceState) → PlacesEvent named event.Flush (acknowledged flushed) flush
-    → TellsAt named event.Flush (acknowledged flushed) call flush
-flush_tells named (Ok m) call flush behind = behind
-flush_tells named (Err refusal) call flush behind = behind
+flush_tells : (named : Option Book) (session : ℕ) (flushed : Flushed) (call flush : Option PlaceState) → PlacesFlush named (acknowledged flushed) flush
+    → TellsAt named session event.Flush (acknowledged flushed) call flush
+flush_tells named session (Ok m) call flush behind = behind
+flush_tells named session (Err refusal) call flush behind = behind
 
-module _ (named : Option Book) (flushed : Flushed) (reply : PlainReply) (call flush : Option PlaceState) (behind : PlacesEvent named event.Flush (acknowledged flushed) flush) where
-  its_reply : (e : Event) (due : PlainReply) → Some due ≡ Some reply → TellsAt named e due call flush → TellsAt named e reply call flush
-  its_reply e due is tells = let same : due ≡ reply = cc in subst (λ (r : PlainReply). TellsAt named e r call flush) same tells
+module _ (named : Option Book) (session : ℕ) (flushed : Flushed) (reply : PlainReply) (call flush : Option PlaceState) (behind : PlacesFlush named (acknowledged flushed) flush) where
+  its_reply : (e : Event) (due : PlainReply) → Some due ≡ Some reply → TellsAt named session e due call flush → TellsAt named session e reply call flush
+  its_reply e due is tells = let same : due ≡ reply = cc in subst (λ (r : PlainReply). TellsAt named session e r call flush) same tells
 
   -- a task's reply speaks of its call and of the flush
-  pub due_tells : (request : Request) (answer : Option Answer) → reply_due request answer flushed ≡ Some reply → CallsAt named request answer call
-      → TellsAt named (asked_event request) reply call flush
-  due_tells Flush answer due at = its_reply event.Flush (acknowledged flushed) due (flush_tells named flushed call flush behind)
+  pub due_tells : (request : Request) (answer : Option Answer) → reply_due request answer flushed ≡ Some reply → CallsAt named session request answer call
+      → TellsAt named session (asked_event request) reply call flush
+  due_tells Flush answer due at = its_reply event.Flush (acknowledged flushed) due (flush_tells named session flushed call flush behind)
   due_tells (Put key value) None due at = absurd (cc)
   due_tells (Put key value) (Some (Ok None)) due at = absurd (cc)
   due_tells (Put key value) (Some (Ok (Some n))) due at =
-      its_reply (event.Put key value) (changed (Ok (Some n)) flushed) due (changed_tells named (event.Put key value) (Ok (Some n)) flushed call flush (λ refusal is. is) at behind)
+      its_reply (event.Put key value) (changed (Ok (Some n)) flushed) due (changed_tells named session (event.Put key value) (Ok (Some n)) flushed call flush (λ refusal is. is) at behind)
   due_tells (Put key value) (Some (Err refusal)) due at =
-      its_reply (event.Put key value) (changed (Err refusal) flushed) due (changed_tells named (event.Put key value) (Err refusal) flushed call flush (λ refusal is. is) at behind)
+      its_reply (event.Put key value) (changed (Err refusal) flushed) due (changed_tells named session (event.Put key value) (Err refusal) flushed call flush (λ refusal is. is) at behind)
   due_tells (Delete key) None due at = absurd (cc)
   due_tells (Delete key) (Some (Ok None)) due at = absurd (cc)
   due_tells (Delete key) (Some (Ok (Some n))) due at =
-      its_reply (event.Delete key) (changed (Ok (Some n)) flushed) due (changed_tells named (event.Delete key) (Ok (Some n)) flushed call flush (λ refusal is. is) at behind)
+      its_reply (event.Delete key) (changed (Ok (Some n)) flushed) due (changed_tells named session (event.Delete key) (Ok (Some n)) flushed call flush (λ refusal is. is) at behind)
   due_tells (Delete key) (Some (Err refusal)) due at =
-      its_reply (event.Delete key) (changed (Err refusal) flushed) due (changed_tells named (event.Delete key) (Err refusal) flushed call flush (λ refusal is. is) at behind)
+      its_reply (event.Delete key) (changed (Err refusal) flushed) due (changed_tells named session (event.Delete key) (Err refusal) flushed call flush (λ refusal is. is) at behind)
   due_tells (Swap key old new) None due at = absurd (cc)
   due_tells (Swap key old new) (Some answer) due at =
-      its_reply (event.Swap key old new) (changed answer flushed) due (changed_tells named (event.Swap key old new) answer flushed call flush (λ refusal is. is) at behind)
+      its_reply (event.Swap key old new) (changed answer flushed) due (changed_tells named session (event.Swap key old new) answer flushed call flush (λ refusal is. is) at behind)
 
-named_place : (named : Option Book) (e : Event) (r : PlainReply) (place : Option PlaceState) → PlacesEvent named e r place → IsInLog named place
-named_place named e r None places = tt
-named_place named e r (Some place) places = places.0
+named_place : (named : Option Book) (session : ℕ) (e : Event) (r : PlainReply) (place : Option PlaceState) → PlacesEvent named session e r place → IsInLog named place
+named_place named session e r None places = tt
+named_place named session e r (Some place) places = places.0
 
-named_call : (named : Option Book) (request : Request) (answer : Option Answer) (place : Option PlaceState) → CallsAt named request answer place → IsInLog named place
-named_call named request None place at = subst (λ (p : Option PlaceState). IsInLog named p) (sym at) tt
-named_call named request (Some answer) place at = named_place named (asked_event request) (swap_reply answer) place at
+named_call : (named : Option Book) (session : ℕ) (request : Request) (answer : Option Answer) (place : Option PlaceState) → CallsAt named session request answer place → IsInLog named place
+named_call named session request None place at = subst (λ (p : Option PlaceState). IsInLog named p) (sym at) tt
+named_call named session request (Some answer) place at = named_place named session (asked_event request) (swap_reply answer) place at
 
-module _ {D F T : Type 0} (facts : Ghosts D F) (trace : TraceOf T) (request : Request) (answer : Option Answer) (call : Option PlaceState) where
+module _ {D F T : Type 0} (facts : Ghosts D F) (trace : TraceOf T) (session : ℕ) (request : Request) (answer : Option Answer) (call : Option PlaceState) where
   -- what a task with a reply knows
   abbrev pub IsReplied : Option Placed → Type 0
   IsReplied placed =
-      HasDone facts trace request answer × HasOrigin facts trace request (option_map (λ (p : Placed). p.reply) placed) × CallsAt trace.log request answer call
-      × IfSome placed (λ p. TellsAt trace.log (asked_event request) p.reply p.call p.flush × IsInLog trace.log p.call × IsInLog trace.log p.flush)
+      HasDone facts trace request answer × HasOrigin facts trace request (option_map (λ (p : Placed). p.reply) placed) × CallsAt trace.log session request answer call
+      × IfSome placed (λ p. TellsAt trace.log session (asked_event request) p.reply p.call p.flush × IsInLog trace.log p.call × IsInLog trace.log p.flush)
 
   -- a reply with these places
   abbrev pub placed_at : PlainReply → Option PlaceState → Option PlaceState → Option Placed
   placed_at reply at behind = Some (record { reply = reply; call = at; flush = behind })
 
   -- it is given its reply
-  pub replies_so : (flushed : Flushed) (flush : Option PlaceState) (reply : PlainReply) (placed : Option Placed) → HasDone facts trace request answer → CallsAt trace.log request answer call
-      → WasFlushed facts trace flushed → PlacesEvent trace.log event.Flush (acknowledged flushed) flush → reply_due request answer flushed ≡ Some reply
+  pub replies_so : (flushed : Flushed) (flush : Option PlaceState) (reply : PlainReply) (placed : Option Placed) → HasDone facts trace request answer → CallsAt trace.log session request answer call
+      → WasFlushed facts trace flushed → PlacesFlush trace.log (acknowledged flushed) flush → reply_due request answer flushed ≡ Some reply
       → placed ≡ placed_at reply call flush → IsReplied placed
   replies_so flushed flush reply placed done at flushes behind due is = subst IsReplied (sym is) (
     done,
     record { answer = answer; flushed = flushed; done = done; flush = flushes; due = due },
     at,
     (
-      due_tells trace.log flushed reply call flush behind request answer due at,
-      named_call trace.log request answer call at,
-      named_place trace.log event.Flush (acknowledged flushed) flush behind,
+      due_tells trace.log session flushed reply call flush behind request answer due at,
+      named_call trace.log session request answer call at,
+      named_place trace.log 0 event.Flush (acknowledged flushed) flush behind,
     ),
   )
 

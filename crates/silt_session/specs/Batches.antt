@@ -6,7 +6,7 @@ use Rattle.silt_inbox.specs.Books.{counted}
 use Rattle.silt_event.specs.declared.refusal.Refusal.TheVariants.{NoRoom}
 use Rattle.silt_store_set.specs.CoreState.{may_merge, wants_convert, wants_merge}
 use Rattle.silt_desk.specs.DeskState.{DeskState}
-use Rattle.silt_desk.specs.Seats.{SeatState}
+use Rattle.silt_desk.specs.Seats.{SeatState, for_session}
 use Rattle.silt_desk.specs.declared.trace.Trace.{Ghosts as TraceOf}
 use Rattle.silt_desk.specs.declared.worker.Due.{Due}
 use Rattle.silt_session.specs.Origins.{Flushes, Performs}
@@ -23,7 +23,8 @@ StepsThrough Steps before xs ys after = ⊥
 
 -- a task has its reply after this flush, and is otherwise as it was
 abbrev pub RepliesTo : Flushed → TaskState → TaskState → Type 0
-RepliesTo flushed old new = (new.reply ≡ reply_due old.request old.answer flushed) × (new.request ≡ old.request) × (new.answer ≡ old.answer)
+RepliesTo flushed old new =
+    (new.reply ≡ reply_due old.request old.answer flushed) × (new.request ≡ old.request) × (new.answer ≡ old.answer) × (new.session ≡ old.session)
 
 -- the same of each task of a job
 abbrev pub RepliesToJob : {D T N F : Type 0} → Flushed → Job D T N F → Job D T N F → Type 0
@@ -77,6 +78,10 @@ pub record KeepsLeft {D T N F : Type 0} (old new : Batch D T N F) : Type 0 where
 pub record WriterState (D T N F : Type 0) : Type 0 where
   pub seat : SeatState
   pub done : List (Job D T N F)
+
+-- the writer, whose calls are made for this session
+abbrev pub serving : {D T N F : Type 0} → ℕ → WriterState D T N F → WriterState D T N F
+serving session writer = record { seat = for_session session writer.seat; done = writer.done }
 
 -- a writer at this seat with the jobs of this batch
 abbrev pub writer_at : {D T N F : Type 0} → SeatState → Batch D T N F → WriterState D T N F
@@ -138,10 +143,11 @@ module _ {D F T : Type 0} (facts : Ghosts D F) (trace : TraceOf T) where
     abbrev pub PerformsRequest : WriterState D T N F → Request → Option Answer → WriterState D T N F → Type 0
     PerformsRequest writer request answer after = PerformsAtOnce writer request answer after ⊎ PerformsLater writer request answer after
 
-    -- the desk does a task's request, and the task has the result
+    -- the desk does a task's request for its session, and the task has the result
     abbrev pub PerformsTask : WriterState D T N F → TaskState → TaskState → WriterState D T N F → Type 0
     PerformsTask writer old new after =
-        PerformsRequest writer old.request new.answer after × (new.request ≡ old.request) × (new.reply ≡ old.reply)
+        PerformsRequest (serving old.session writer) old.request new.answer after
+        × (new.request ≡ old.request) × (new.reply ≡ old.reply) × (new.session ≡ old.session)
 
     -- the same for each task of a job, one after the other; then the job waits for a flush, behind the others
     abbrev pub PerformsJob : WriterState D T N F → Job D T N F → Job D T N F → WriterState D T N F → Type 0

@@ -1,6 +1,7 @@
 pub mod Requests
 pub mod Origins
 pub mod Tolds
+pub mod Ledgers
 pub mod JobLogs
 pub mod Batches
 pub mod Marks

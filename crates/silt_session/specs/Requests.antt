@@ -73,8 +73,9 @@ reply_due (Delete key) (Some answer) flushed = Some (changed answer flushed)
 reply_due (Swap key old new) (Some answer) flushed = Some (changed answer flushed)
 reply_due request None flushed = None
 
--- what contracts see of a task: the request, its result at the desk if it was done, and its reply if there is one
+-- what contracts see of a task: the number of the session that asks, the request, its result at the desk if it was done, and its reply if there is one
 pub record TaskState : Type 0 where
+  pub session : ℕ
   pub request : Request
   pub answer : Option Answer
   pub reply : Option PlainReply

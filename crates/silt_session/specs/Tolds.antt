@@ -1,5 +1,5 @@
 -- What a session is told of the calls at the desk.
-use Rattle.std.specs.Prelude.{◌≡◌, ℕ, ◌≤◌, ◌<◌, if◌then◌else◌, IfSome, List, [], ◌∷◌, length, MatchOption, Option, Some, None, slice_get}
+use Rattle.std.specs.Prelude.{◌≡◌, ℕ, ◌+◌, ◌≤◌, ◌<◌, if◌then◌else◌, IfSome, List, [], ◌∷◌, length, MatchOption, Option, Some, None, slice_get}
 use mathlib.Core.List.{IsPrefix}
 use Rattle.logbook.specs.Pages.{Book}
 use Rattle.silt_event.specs.Events.{PlainReply}
@@ -7,17 +7,19 @@ use Rattle.silt_event.specs.declared.event.Event.{Event}
 use Rattle.silt_event.specs.declared.event.Event.TheVariants as event
 use Rattle.silt_event.specs.declared.refusal.Refusal.TheVariants.{NoMemory, HistoryFull}
 use Rattle.silt_event.specs.declared.reply.Reply.TheVariants.{Accepted, Acknowledged, Differs, Refused, Unsettled}
+use Rattle.silt_desk.specs.declared.call.Caller.{Caller}
 use Rattle.silt_desk.specs.declared.call.RecordedCall.{RecordedCall}
 use Rattle.silt_desk.specs.declared.trace.Trace.{Ghosts as TraceOf}
-use Rattle.silt_desk.specs.CallLogs.{LogsNone, PlaceState, PlacesEvent}
+use Rattle.silt_desk.specs.CallLogs.{IsMadeFor, LogsNone, PlaceState, PlacesEvent, PlacesFlush}
 use Rattle.silt_desk.specs.History.{call, is_recorded}
 use Rattle.silt_store_set.specs.Replies.{swap_reply}
 use Rattle.silt_session.specs.Requests.{Answer, asked_event}
 use Rattle.silt_session.specs.declared.job.Request.{Request}
 
--- the first place at which a call of the present events can stand, the first one for the next command among them, and a beginning of the
--- desk's calls, if its trace has a log
+-- the number of a session, the first place at which a call of its present events can stand, the first one for the next command among them,
+-- and a beginning of the desk's calls, if its trace has a log
 pub record ToldState : Type 0 where
+  pub session : ℕ
   pub from : ℕ
   pub next : ℕ
   pub calls : Option (List RecordedCall)
@@ -34,10 +36,10 @@ IsInLog named place = IfSome place (λ p. Some p.book ≡ named)
 
 -- ---- a request, and its call
 
--- a result is recorded with its call, and no other place is known
-abbrev pub CallsAt : Option Book → Request → Option Answer → Option PlaceState → Type 0
-CallsAt named request None place = place ≡ None
-CallsAt named request (Some answer) place = PlacesEvent named (asked_event request) (swap_reply answer) place
+-- a result is recorded with its call, which was made for the session, and no other place is known
+abbrev pub CallsAt : Option Book → ℕ → Request → Option Answer → Option PlaceState → Type 0
+CallsAt named session request None place = place ≡ None
+CallsAt named session request (Some answer) place = PlacesEvent named session (asked_event request) (swap_reply answer) place
 
 -- the place of the last call, if a call with this reply is recorded
 abbrev pub reply_place : PlainReply → Option PlaceState → Option PlaceState
@@ -50,37 +52,39 @@ answer_place (Some answer) last = reply_place (swap_reply answer) last
 
 -- ---- a reply, and the calls that it speaks of
 
--- The places have what this reply to an event says: an accepted command, and behind it a flush that acknowledged it; a command that no flush
--- settled; a flush; a swap that differs; a refusal.
-abbrev pub TellsAt : Option Book → Event → PlainReply → Option PlaceState → Option PlaceState → Type 0
-TellsAt named e (Accepted n) call flush = PlacesEvent named e (Accepted n) call × ((m : ℕ) × (n ≤ m) × PlacesEvent named event.Flush (Acknowledged m) flush)
-TellsAt named e (Unsettled n) call flush = PlacesEvent named e (Accepted n) call
-TellsAt named e Differs call flush = PlacesEvent named e Differs call
-TellsAt named e (Acknowledged m) call flush = PlacesEvent named event.Flush (Acknowledged m) flush
-TellsAt named event.Flush (Refused refusal) call flush = PlacesEvent named event.Flush (Refused refusal) flush
-TellsAt named e (Refused refusal) call flush = PlacesEvent named e (Refused refusal) call
-TellsAt named e reply call flush = Unit {0}
+-- The places have what this reply to an event of a session says: an accepted command, and behind it a flush that acknowledged it; a command
+-- that no flush settled; a flush; a swap that differs; a refusal.
+abbrev pub TellsAt : Option Book → ℕ → Event → PlainReply → Option PlaceState → Option PlaceState → Type 0
+TellsAt named session e (Accepted n) call flush = PlacesEvent named session e (Accepted n) call × ((m : ℕ) × (n ≤ m) × PlacesFlush named (Acknowledged m) flush)
+TellsAt named session e (Unsettled n) call flush = PlacesEvent named session e (Accepted n) call
+TellsAt named session e Differs call flush = PlacesEvent named session e Differs call
+TellsAt named session e (Acknowledged m) call flush = PlacesFlush named (Acknowledged m) flush
+TellsAt named session event.Flush (Refused refusal) call flush = PlacesFlush named (Refused refusal) flush
+TellsAt named session e (Refused refusal) call flush = PlacesEvent named session e (Refused refusal) call
+TellsAt named session e reply call flush = Unit {0}
 
--- at this place, which is no earlier than the first one, the calls have this event with this reply
-abbrev pub HasCallAt : ℕ → List RecordedCall → ℕ → Event → PlainReply → Type 0
-HasCallAt from calls place e reply = (from ≤ place) × ((seat : ℕ) × (slice_get calls place ≡ Some (call seat e reply)))
+-- at this place, which is no earlier than the first one, the calls have this event with this reply, made for the session
+abbrev pub HasCallAt : ℕ → ℕ → List RecordedCall → ℕ → Event → PlainReply → Type 0
+HasCallAt session from calls place e reply =
+    (from ≤ place) × ((caller : Caller) × IsMadeFor session e caller × (slice_get calls place ≡ Some (call caller e reply)))
 
--- The calls have what this reply to an event says, from this place on: an accepted command, and behind it a flush that acknowledged it; a
--- command that no flush settled; a flush; a swap that differs; a refusal, unless it was out of memory or the history was full.
-abbrev pub IsTold : ℕ → List RecordedCall → Event → PlainReply → Type 0
-IsTold from calls e (Accepted n) =
-    (place : ℕ) × HasCallAt from calls place e (Accepted n) × ((behind : ℕ) × (m : ℕ) × (place < behind) × (n ≤ m) × HasCallAt from calls behind event.Flush (Acknowledged m))
-IsTold from calls e (Unsettled n) = (place : ℕ) × HasCallAt from calls place e (Accepted n)
-IsTold from calls e Differs = (place : ℕ) × HasCallAt from calls place e Differs
-IsTold from calls e (Acknowledged m) = (place : ℕ) × HasCallAt from calls place event.Flush (Acknowledged m)
-IsTold from calls e (Refused NoMemory) = Unit {0}
-IsTold from calls e (Refused HistoryFull) = Unit {0}
-IsTold from calls e (Refused refusal) = (place : ℕ) × HasCallAt from calls place e (Refused refusal)
-IsTold from calls e reply = Unit {0}
+-- The calls have what this reply to an event of a session says, from this place on: an accepted command, and behind it a flush that
+-- acknowledged it; a command that no flush settled; a flush; a swap that differs; a refusal, unless it was out of memory or the history was full.
+abbrev pub IsTold : ℕ → ℕ → List RecordedCall → Event → PlainReply → Type 0
+IsTold session from calls e (Accepted n) =
+    (place : ℕ) × HasCallAt session from calls place e (Accepted n)
+    × ((behind : ℕ) × (m : ℕ) × (place < behind) × (n ≤ m) × HasCallAt session from calls behind event.Flush (Acknowledged m))
+IsTold session from calls e (Unsettled n) = (place : ℕ) × HasCallAt session from calls place e (Accepted n)
+IsTold session from calls e Differs = (place : ℕ) × HasCallAt session from calls place e Differs
+IsTold session from calls e (Acknowledged m) = (place : ℕ) × HasCallAt session from calls place event.Flush (Acknowledged m)
+IsTold session from calls e (Refused NoMemory) = Unit {0}
+IsTold session from calls e (Refused HistoryFull) = Unit {0}
+IsTold session from calls e (Refused refusal) = (place : ℕ) × HasCallAt session from calls place e (Refused refusal)
+IsTold session from calls e reply = Unit {0}
 
 -- the same, if the desk's trace has a log
 abbrev pub ToldOf : ToldState → Event → PlainReply → Type 0
-ToldOf told e reply = IfSome told.calls (λ calls. IsTold told.from calls e reply)
+ToldOf told e reply = IfSome told.calls (λ calls. IsTold told.session told.from calls e reply)
 
 -- ---- commands in their order
 
@@ -102,32 +106,33 @@ own_reply event.Convert reply = None
 own_reply event.Merge reply = None
 own_reply e reply = call_reply reply
 
--- an event's own call, if it has one, stands at a place from the first number on, and before the second
-abbrev pub TakesPlace : ℕ → List RecordedCall → Event → PlainReply → ℕ → Type 0
-TakesPlace next calls e reply after =
-    MatchOption (own_reply e reply) (next ≤ after) (λ made. (place : ℕ) × HasCallAt next calls place e made × (place < after))
+-- an event's own call, if it has one, was made for the session, and stands at a place from the first number on, and before the second
+abbrev pub TakesPlace : ℕ → ℕ → List RecordedCall → Event → PlainReply → ℕ → Type 0
+TakesPlace session next calls e reply after =
+    MatchOption (own_reply e reply) (next ≤ after) (λ made. (place : ℕ) × HasCallAt session next calls place e made × (place < after))
 
 -- the own calls of events stand at rising places, in the order of the events, from the first number on, and before the second
-abbrev pub RisesThrough : ℕ → List RecordedCall → List Event → List PlainReply → ℕ → Type 0
-RisesThrough next calls [] [] after = next ≤ after
-RisesThrough next calls (e ∷ events) (reply ∷ replies) after = (mid : ℕ) × TakesPlace next calls e reply mid × RisesThrough mid calls events replies after
-RisesThrough next calls events replies after = ⊥
+abbrev pub RisesThrough : ℕ → ℕ → List RecordedCall → List Event → List PlainReply → ℕ → Type 0
+RisesThrough session next calls [] [] after = next ≤ after
+RisesThrough session next calls (e ∷ events) (reply ∷ replies) after =
+    (mid : ℕ) × TakesPlace session next calls e reply mid × RisesThrough session mid calls events replies after
+RisesThrough session next calls events replies after = ⊥
 
 -- an event's own call is told of, at a place between these numbers, if the desk's trace has a log
 abbrev pub IsToldBetween : ToldState → ℕ → Event → PlainReply → ℕ → Type 0
-IsToldBetween told next e reply after = IfSome told.calls (λ calls. TakesPlace next calls e reply after)
+IsToldBetween told next e reply after = IfSome told.calls (λ calls. TakesPlace told.session next calls e reply after)
 
 -- the same of events in their order
 abbrev pub AreToldBetween : ToldState → ℕ → List Event → List PlainReply → ℕ → Type 0
-AreToldBetween told next events replies after = IfSome told.calls (λ calls. RisesThrough next calls events replies after)
+AreToldBetween told next events replies after = IfSome told.calls (λ calls. RisesThrough told.session next calls events replies after)
 
 -- the commands among the present events stand at rising places, in their order, before the place for the next one
 abbrev pub AreInOrder : ToldState → List Event → List PlainReply → Type 0
 AreInOrder told events replies = AreToldBetween told told.from events replies told.next
 
--- the place is one of these calls, no earlier than a command of the present events can stand, and before this number
+-- the place is one of these calls, no earlier than the next command of the present events can stand, and the number behind it is this one
 abbrev pub IsTakenAt : ToldState → List RecordedCall → PlaceState → ℕ → Type 0
-IsTakenAt told calls p after = (told.from ≤ p.number) × (told.next ≤ p.number) × (p.number < after) × (slice_get calls p.number ≡ p.at)
+IsTakenAt told calls p after = (told.from ≤ p.number) × (told.next ≤ p.number) × (after ≡ p.number + 1) × (slice_get calls p.number ≡ p.at)
 
 -- ---- more that is told
 
@@ -142,12 +147,14 @@ ExtendsCalls old new = MatchOption old (new ≡ None) (λ calls. MatchOption new
 
 -- more calls are told
 pub record IsToldMore (old new : ToldState) : Type 0 where
+  pub session : new.session ≡ old.session
   pub from : new.from ≡ old.from
   pub next : old.next ≤ new.next
   pub calls : ExtendsCalls old.calls new.calls
 
--- events are asked now: a call of theirs stands behind all that was told
+-- events of the session are asked now: a call of theirs stands behind all that was told
 pub record AsksBehind (old new : ToldState) : Type 0 where
+  pub session : new.session ≡ old.session
   pub from : IfSome old.calls (λ calls. new.from ≡ length calls)
   pub next : new.from ≤ new.next
   pub calls : ExtendsCalls old.calls new.calls

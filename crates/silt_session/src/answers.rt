@@ -5,7 +5,7 @@ ghost use Rattle.silt_event.specs.declared.event.Event.{Event as EventOf};
 ghost use Rattle.silt_event.specs.declared.event.Event.TheVariants as event_case;
 ghost use Rattle.silt_session.specs.Handing.{AreAsked};
 ghost use Rattle.silt_session.specs.Pipelines.{AnswersSoFar, HasRoom, IsFree, IsSettled, IsShown, Looks, MaySettle, SettlesShown, awaited, shown_of};
-ghost use Rattle.silt_session.specs.Requests.{IsNoRequest, requests_of};
+ghost use Rattle.silt_session.specs.Requests.{IsNoRequest, asked_event, requests_of};
 ghost use Rattle.silt_session.specs.Sessions.{IsAnswer, IsToldTo};
 ghost use Rattle.silt_session.specs.Tolds.{AreInOrder, AsksBehind, IsToldMore, TellsAll, ToldState};
 ghost use Rattle.silt_store_set.specs.CoreState.{CoreState};
@@ -86,19 +86,24 @@ fn find<D: Disk, T: Trace, N: DeskId>(
     }
 }
 
-// The task of one request.
-fn alone<D: Disk, T: Trace>(alloc: Global, request: Request) -> Result<Vec<Task<D, T>>, AllocError>
+// The task of one request of a session.
+fn alone<D: Disk, T: Trace>(
+    alloc: Global,
+    session: u64,
+    request: Request,
+) -> Result<Vec<Task<D, T>>, AllocError>
     ensures { IfOk result (λ tasks. requests_of tasks.items ≡ request ∷ []) }
 {
-    Ok(vec![in alloc; Task::new(request)]?)
+    Ok(vec![in alloc; Task::new(session, request)]?)
 }
 
 impl<D: Disk, T: Trace, N: DeskId + InboxId + LogId, R: Wait> Session<'_, D, T, N, R> {
-    /// All calls that the desk's trace logs now. Nothing is told only if it logs none.
+    /// What the session is told when it begins: all calls that the desk's trace logs now. Nothing is told only if it logs none.
     pub fn told(&self) -> Told<T>
-        ensures { (trace : T) × TellsAll T.Trace trace result }
+        ensures all { (trace : T) × TellsAll T.Trace trace result }
+        ensures session { result.session ≡ self.now.number }
     {
-        Told::of(self.desk.read(self.rt).trace())
+        Told::of(self.desk.read(self.rt).trace(), self.number)
     }
 
     /// The facts of the desk's store at this moment.
@@ -110,10 +115,12 @@ impl<D: Disk, T: Trace, N: DeskId + InboxId + LogId, R: Wait> Session<'_, D, T, 
 
     // Has one request done, and returns its reply.
     fn request(&self, request: Request, told: &mut Told<T>) -> Result<Reply<()>, Unanswered>
+        requires { told.old.from ≤ told.old.next }
         ensures told { IsToldMore told.old told.new }
         ensures reply { IfOk result (IsToldTo D.Disk T.Trace told.new request) }
+        ensures order { IfOk result (λ reply. AreInOrder told.new (asked_event request ∷ []) (reply ∷ [])) }
     {
-        let Ok(tasks) = alone(self.alloc, request) else {
+        let Ok(tasks) = alone(self.alloc, told.session(), request) else {
             return Err(Unanswered::NoMemory);
         };
         match self.writer.commit(tasks) {
@@ -124,6 +131,7 @@ impl<D: Disk, T: Trace, N: DeskId + InboxId + LogId, R: Wait> Session<'_, D, T, 
 
     // The reply to an event that is not for the writer, after a flush if it waits for one.
     fn give(&self, shown: Shown, told: &mut Told<T>) -> Result<Reply<()>, Unanswered>
+        requires { told.old.from ≤ told.old.next }
         ensures told { IsToldMore told.old told.new }
         ensures reply { IfOk result (SettlesShown D.Disk T.Trace told.new shown) }
     {
@@ -173,6 +181,7 @@ impl<D: Disk, T: Trace, N: DeskId + InboxId + LogId, R: Wait> Session<'_, D, T, 
     pub fn answer(&self, event: Event, told: &mut Told<T>) -> Result<Reply<()>, Unanswered>
         ensures told { AsksBehind told.old told.new }
         ensures reply { IfOk result (IsAnswer D.Disk T.Trace told.new self.now.settles_gets event) }
+        ensures order { IfOk result (λ reply. AreInOrder told.new (event ∷ []) (reply ∷ [])) }
     {
         *told = told.asked();
         match Request::of(event) {

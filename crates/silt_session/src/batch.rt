@@ -269,7 +269,7 @@ impl<D: Disk, T: Trace, N: DeskId + LogId, G: Gate, H: HearsRoom, R: Wait + Cloc
         self.try_again(seat, request)
     }
 
-    // Does each task's request, in order.
+    // Does each task's request for its session, in order.
     fn perform_tasks(
         &self,
         seat: &mut Seat<N>,
@@ -281,6 +281,7 @@ impl<D: Disk, T: Trace, N: DeskId + LogId, G: Gate, H: HearsRoom, R: Wait + Cloc
         ensures left { KeepsLeft batch.old batch.new }
     {
         for task in tasks.iter_mut() {
+            seat.serve(task.session());
             let answer = self.perform_request(seat, batch, task.request());
             let call = call_place(&answer, seat);
             task.finish(answer, call);
@@ -335,7 +336,7 @@ impl<D: Disk, T: Trace, N: DeskId + LogId, G: Gate, H: HearsRoom, R: Wait + Cloc
         seat: &mut Seat<N>,
         jobs: Vec<Job<D, T, N>>,
     ) -> (Vec<Job<D, T, N>>, Due)
-        ensures number { seat.new.number ≡ seat.old.number }
+        ensures number { seat.new.caller.seat ≡ seat.old.caller.seat }
         ensures batch { ServesBatch D.Disk T.Trace self.now.room.now.seconds (H.has_ended self.now.room.now.heard) seat.old jobs.items result.0.items seat.new result.1 }
     {
         let mut batch = Batch::new(jobs);

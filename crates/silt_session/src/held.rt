@@ -2,8 +2,7 @@
 ghost use Rattle.std.specs.Prelude.{◌≡◌, ◌+◌, ◌<◌, ◌++◌, ◌∷◌, [], List, MatchOption, vec_capacity, vec_len};
 ghost use Rattle.std.specs.List.{AllZip};
 ghost use Rattle.silt_session.specs.Batches.{IsBatch, KeepsLeft, RepliesTo, RepliesToAll, done_in, left_in};
-ghost use Rattle.silt_desk.specs.CallLogs.{PlacesEvent};
-ghost use Rattle.silt_event.specs.declared.event.Event.TheVariants as event_case;
+ghost use Rattle.silt_desk.specs.CallLogs.{PlacesFlush};
 ghost use Rattle.silt_session.specs.Origins.{WasFlushed};
 ghost use Rattle.silt_session.specs.Requests.{acknowledged};
 ghost use Rattle.silt_session.specs.declared.job.Job.{Job as JobOf};
@@ -71,7 +70,7 @@ impl<D: Disk, T: Trace, N: LogId> Batch<D, T, N> {
     )
         requires within { IsBatch self.old }
         requires flushed { WasFlushed D.Disk T.Trace flushed.now }
-        requires flush { PlacesEvent T.log event_case.Flush (acknowledged flushed.now) flush.now }
+        requires flush { PlacesFlush T.log (acknowledged flushed.now) flush.now }
         ensures replies { (replied : List (JobOf D T N D.Fault)) × RepliesToAll flushed.now (done_in self.old) replied }
         ensures none { done_in self.new ≡ [] }
         ensures left { KeepsLeft self.old self.new }
@@ -101,7 +100,7 @@ fn reply_to_tasks<D: Disk, T: Trace>(
     flush: &Option<CallPlace>,
 )
     requires flushed { WasFlushed D.Disk T.Trace flushed.now }
-    requires flush { PlacesEvent T.log event_case.Flush (acknowledged flushed.now) flush.now }
+    requires flush { PlacesFlush T.log (acknowledged flushed.now) flush.now }
     ensures { AllZip (RepliesTo flushed.now) tasks.old.items tasks.new.items }
 {
     for task in tasks.iter_mut() {
@@ -116,7 +115,7 @@ fn reply_to_job<D: Disk, T: Trace, N: LogId>(
     flush: &Option<CallPlace>,
 )
     requires flushed { WasFlushed D.Disk T.Trace flushed.now }
-    requires flush { PlacesEvent T.log event_case.Flush (acknowledged flushed.now) flush.now }
+    requires flush { PlacesFlush T.log (acknowledged flushed.now) flush.now }
     ensures replies { AllZip (RepliesTo flushed.now) tasks.old.items tasks.new.items }
     ensures ticket { tasks.new.ticket ≡ tasks.old.ticket }
 {
@@ -130,7 +129,7 @@ pub(crate) fn reply_to_all<D: Disk, T: Trace, N: LogId>(
     flush: &Option<CallPlace>,
 )
     requires flushed { WasFlushed D.Disk T.Trace flushed.now }
-    requires flush { PlacesEvent T.log event_case.Flush (acknowledged flushed.now) flush.now }
+    requires flush { PlacesFlush T.log (acknowledged flushed.now) flush.now }
     ensures { RepliesToAll flushed.now jobs.old.items jobs.new.items }
 {
     for job in jobs.iter_mut() {

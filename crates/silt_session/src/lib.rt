@@ -20,7 +20,9 @@
 //!
 //! The contract of [`Workplace::serve_batch`] states the replies to a batch of jobs, and that of [`Session::answer_all`] that each
 //! reply comes from its own request: a [`Task`] keeps which calls its reply comes from, and where they stand in the log of the desk's calls; a
-//! [`Ticket`] says whose job it is; and [`Told`] is what a session was told of the calls, among which those of its replies are.
+//! [`Ticket`] says whose job it is; and [`Told`] is what a session was told of the calls, among which those of its replies are. The log names
+//! the session for which each call was made, so sessions share no call: all together are told of no more accepted commands than the log has
+//! ([`ledger_law`]).
 //! Nothing is proved of whether messages arrive.
 #![tactic(auto)]
 
@@ -34,6 +36,7 @@ mod inlet;
 mod job;
 mod job_log;
 mod key_marks;
+mod laws;
 mod outlet;
 mod pipeline;
 mod place;
@@ -56,11 +59,12 @@ pub use client::{AskBy, Asking, Client};
 pub use inlet::{Inlet, end_gently, wait_by_ticks};
 pub use job::{Awaited, Job, Request, Tasks};
 pub use job_log::{JobLog, LogId, LogStart, LogView};
+pub use laws::ledger_law;
 pub use outlet::Outlet;
 pub use replier::{replier_channel, send_batches, send_replies};
 pub use room::{HearsRoom, RoomGate, RoomWait, room_channel};
 pub use session::{Session, WriterLink};
-pub use session_slots::{SessionSlot, free_slot, slots_of};
+pub use session_slots::{Newcomer, SessionSlot, free_slot, slots_of};
 pub use set::{AskAheadBy, AskingAhead, SetAsking};
 pub use task::Task;
 pub use ticket::Ticket;

@@ -7,7 +7,7 @@ ghost use Rattle.silt_session.specs.Pipelines.{AddsFlush, Fills, FillsAll, Gathe
 ghost use Rattle.silt_session.specs.Pipelines.{SettlesAll, TakesLast, reply_without_tasks};
 ghost use Rattle.silt_session.specs.Requests.{TaskState, asked_event, changed_key, requests_of};
 ghost use Rattle.silt_session.specs.Sessions.{IsReplyOf};
-ghost use Rattle.silt_session.specs.Tolds.{IsToldMore};
+ghost use Rattle.silt_session.specs.Tolds.{AreInOrder, IsToldMore};
 ghost use Rattle.silt_session.specs.declared.job.Request.{Request as RequestOf};
 ghost use Rattle.silt_session.specs.declared.pipeline.Pipeline.{Pipeline as PipelineOf};
 ghost use Rattle.silt_session.specs.declared.place.Place.TheVariants as place;
@@ -105,7 +105,7 @@ impl<D: Disk, T: Trace> Pipeline<D, T> {
     {
         self.mark(&request);
         self.places.push_back_reserved(Place::Waits);
-        let Ok(()) = self.tasks.push(Task::new(request)) else {
+        let Ok(()) = self.tasks.push(Task::new(self.told.session(), request)) else {
             self.lacks_memory = true;
             return;
         };
@@ -220,7 +220,7 @@ impl<D: Disk, T: Trace> Pipeline<D, T> {
         self.marks.clear();
         match (lacks_memory, needs_flush) {
             (true, _) => None,
-            (false, true) => with_flush(tasks),
+            (false, true) => with_flush(self.told.session(), tasks),
             (false, false) => Some(tasks),
         }
     }
@@ -308,12 +308,12 @@ impl<D: Disk, T: Trace> Pipeline<D, T> {
     }
 }
 
-// Adds the task of a flush. None if out of memory for it.
-fn with_flush<D: Disk, T: Trace>(tasks: Vec<Task<D, T>>) -> Option<Vec<Task<D, T>>>
+// Adds the task of a flush for a session. None if out of memory for it.
+fn with_flush<D: Disk, T: Trace>(session: u64, tasks: Vec<Task<D, T>>) -> Option<Vec<Task<D, T>>>
     ensures { IfSome result (λ all. AddsFlush true tasks.items all.items) }
 {
     let mut tasks = tasks;
-    match tasks.push(Task::new(Request::Flush)) {
+    match tasks.push(Task::new(session, Request::Flush)) {
         Ok(()) => Some(tasks),
         Err(_) => None,
     }
@@ -334,8 +334,10 @@ pub(crate) fn reply_alone<D: Disk, T: Trace>(
     tasks: Vec<Task<D, T>>,
     told: &mut Told<T>,
 ) -> Option<Reply<()>>
+    requires { told.old.from ≤ told.old.next }
     ensures told { IsToldMore told.old told.new }
     ensures reply { IfSome result (λ reply. (task : TaskState) × (tasks.items ≡ task ∷ []) × IsReplyOf D.Disk T.Trace told.new task reply) }
+    ensures order { IfSome result (λ reply. (task : TaskState) × (tasks.items ≡ task ∷ []) × AreInOrder told.new (asked_event task.request ∷ []) (reply ∷ [])) }
 {
     let mut tasks = tasks;
     if tasks.len() != 1 {

@@ -31,6 +31,8 @@ pub struct Session<'a, D: Disk, T: Trace, N: DeskId + InboxId + LogId, R> {
     pub alloc: Global,
     pub desk: &'a Shared<D, T, N>,
     pub writer: WriterLink<'a, D, T, N, R>,
+    /// Its number, which no other session of the server has.
+    pub number: u64,
     /// Whether a get waits for a flush if a crash may take away what it shows.
     pub settles_gets: bool,
 }

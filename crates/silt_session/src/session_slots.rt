@@ -7,12 +7,19 @@ use std::mem;
 use std::net::TcpStream;
 use std::sync::{Mutex, Wait};
 
+/// A connection that was accepted, and its number: that of its session.
+#[derive(Drop)]
+pub struct Newcomer {
+    pub stream: TcpStream,
+    pub number: u64,
+}
+
 /// The slot of one session: its feeder, whether a session has it, and the connection that waits for its thread.
 #[derive(Drop)]
 pub struct SessionSlot<P: InboxId> {
     feeder: Feeder<P>,
     is_taken: bool,
-    stream: Option<TcpStream>,
+    newcomer: Option<Newcomer>,
 }
 
 impl<P: InboxId> SessionSlot<P> {
@@ -20,7 +27,7 @@ impl<P: InboxId> SessionSlot<P> {
     fn take(&mut self) -> bool
         ensures taken { self.new.is_taken ≡ true }
         ensures free { result ≡ not self.old.is_taken }
-        ensures others { (self.new.feeder ≡ self.old.feeder) × (self.new.stream ≡ self.old.stream) }
+        ensures others { (self.new.feeder ≡ self.old.feeder) × (self.new.newcomer ≡ self.old.newcomer) }
     {
         let was_free = !self.is_taken;
         self.is_taken = true;
@@ -28,30 +35,30 @@ impl<P: InboxId> SessionSlot<P> {
     }
 
     /// Gives a connection to the session that will have this slot.
-    pub fn connect(&mut self, stream: TcpStream)
-        ensures given { self.new.stream ≡ Some stream }
+    pub fn connect(&mut self, newcomer: Newcomer)
+        ensures given { self.new.newcomer ≡ Some newcomer }
         ensures others { (self.new.feeder ≡ self.old.feeder) × (self.new.is_taken ≡ self.old.is_taken) }
     {
-        self.stream = Some(stream);
+        self.newcomer = Some(newcomer);
     }
 
     /// The connection that was given.
-    pub fn connection(&mut self) -> Option<TcpStream>
-        ensures given { result ≡ self.old.stream }
-        ensures none { self.new.stream ≡ None }
+    pub fn connection(&mut self) -> Option<Newcomer>
+        ensures given { result ≡ self.old.newcomer }
+        ensures none { self.new.newcomer ≡ None }
         ensures others { (self.new.feeder ≡ self.old.feeder) × (self.new.is_taken ≡ self.old.is_taken) }
     {
-        mem::replace(&mut self.stream, None)
+        mem::replace(&mut self.newcomer, None)
     }
 
     /// Gives the slot back, with its feeder. A connection that still waits is closed.
     pub fn leave(&mut self)
         ensures free { self.new.is_taken ≡ false }
-        ensures none { self.new.stream ≡ None }
+        ensures none { self.new.newcomer ≡ None }
         ensures feeder { self.new.feeder ≡ self.old.feeder }
     {
         self.is_taken = false;
-        self.stream = None;
+        self.newcomer = None;
     }
 
     /// The feeder with which the session puts its jobs.
@@ -77,7 +84,7 @@ pub fn slots_of<P: InboxId>(
         slots.push(Mutex::new(SessionSlot {
             feeder,
             is_taken: false,
-            stream: None,
+            newcomer: None,
         }))?;
     }
     Ok(slots)

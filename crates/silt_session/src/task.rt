@@ -1,7 +1,6 @@
 // A request in progress, and its reply.
 ghost use Rattle.std.specs.Prelude.{◌≡◌, None, IfNone, IfSome, true};
-ghost use Rattle.silt_desk.specs.CallLogs.{PlacesEvent};
-ghost use Rattle.silt_event.specs.declared.event.Event.TheVariants as event_case;
+ghost use Rattle.silt_desk.specs.CallLogs.{PlacesFlush};
 ghost use Rattle.silt_session.specs.Batches.{RepliesTo};
 ghost use Rattle.silt_session.specs.Origins.{HasDone, WasFlushed};
 ghost use Rattle.silt_session.specs.Requests.{IsNew, acknowledged, asked_event, changed, reply_due};
@@ -26,11 +25,12 @@ struct Placed {
     flush: Option<CallPlace>,
 }
 
-/// A request in progress: its result at the desk, and its reply. Its type says where they come from: a desk of a store on
+/// A request of a session in progress: its result at the desk, and its reply. Its type says where they come from: a desk of a store on
 /// such a disk, with such a trace, did this request with this result, and the reply is due by that and a flush of the desk.
-/// If the trace has a log, the task knows where the call and the flush stand in it.
+/// If the trace has a log, the task knows where the call, which was made for the session, and the flush stand in it.
 #[derive(Drop)]
 pub struct Task<D: Disk, T: Trace> {
+    session: u64,
     request: Request,
     answer: Option<Answer>,
     call: Option<CallPlace>,
@@ -47,25 +47,34 @@ impl<D: Disk, T: Trace> Model for Task<D, T> {
 
     ghost Value = { TaskState };
 
-    ghost view = { λ t. record { request = t.request; answer = t.answer; reply = option_map (λ placed. placed.reply) t.reply } };
+    ghost view = { λ t. record { session = t.session; request = t.request; answer = t.answer; reply = option_map (λ placed. placed.reply) t.reply } };
 
     ghost invariant = { λ t. HasDone D.Disk T.Trace t.request t.answer × HasOrigin D.Disk T.Trace t.request (option_map (λ placed. placed.reply) t.reply)
-        × CallsAt T.log t.request t.answer t.call
-        × IfSome t.reply (λ placed. TellsAt T.log (asked_event t.request) placed.reply placed.call placed.flush × IsInLog T.log placed.call × IsInLog T.log placed.flush) };
+        × CallsAt T.log t.session t.request t.answer t.call
+        × IfSome t.reply (λ placed. TellsAt T.log t.session (asked_event t.request) placed.reply placed.call placed.flush × IsInLog T.log placed.call × IsInLog T.log placed.flush) };
 }
 
 impl<D: Disk, T: Trace> Task<D, T> {
-    /// A request for which nothing is done yet.
-    pub fn new(request: Request) -> Task<D, T>
-        ensures { IsNew request result }
+    /// A request of the session of this number, for which nothing is done yet.
+    pub fn new(session: u64, request: Request) -> Task<D, T>
+        ensures new { IsNew request result }
+        ensures session { result.session ≡ session }
     {
         Task {
+            session,
             request,
             answer: None,
             call: None,
             reply: None,
             of: PhantomData,
         }
+    }
+
+    /// The number of the session that asks.
+    pub(crate) fn session(&self) -> u64
+        ensures { result ≡ self.now.session }
+    {
+        self.session
     }
 
     /// The request.
@@ -78,7 +87,7 @@ impl<D: Disk, T: Trace> Task<D, T> {
     /// The request is done with this result, at this place of the trace's log, or no result is to be had.
     pub(crate) fn finish(&mut self, answer: Option<Answer>, call: Option<CallPlace>)
         requires done { HasDone D.Disk T.Trace self.old.request answer }
-        requires call { CallsAt T.log self.old.request answer call }
+        requires call { CallsAt T.log self.old.session self.old.request answer call }
         ensures { self.new ≡ record self.old { answer = answer } }
     {
         self.answer = answer;
@@ -88,7 +97,7 @@ impl<D: Disk, T: Trace> Task<D, T> {
     /// Gives the task its reply, by its own result and that of the flush at this place of the trace's log.
     pub(crate) fn reply(&mut self, flushed: &Result<u64, Refusal<()>>, flush: &Option<CallPlace>)
         requires flushed { WasFlushed D.Disk T.Trace flushed.now }
-        requires flush { PlacesEvent T.log event_case.Flush (acknowledged flushed.now) flush.now }
+        requires flush { PlacesFlush T.log (acknowledged flushed.now) flush.now }
         ensures { RepliesTo flushed.now self.old self.new }
     {
         self.reply = match reply_after(&self.request, &self.answer, flushed) {
@@ -112,8 +121,8 @@ impl<D: Disk, T: Trace> Task<D, T> {
         }
     }
 
-    /// The reply, if there is one, and if the calls that it speaks of are among those that were told. A command takes the place of its call,
-    /// which is none before that for the next command.
+    /// The reply, if there is one, and if the calls that it speaks of are among those that were told, that of a command for the session that
+    /// is told. A command takes the place of its call, which is none before that for the next command.
     pub fn tell(self, told: &mut Told<T>) -> Option<Reply<()>>
         ensures told { PassesOn told.old told.new }
         ensures reply { IfSome result (IsReplyOf D.Disk T.Trace told.old self) }
@@ -121,7 +130,7 @@ impl<D: Disk, T: Trace> Task<D, T> {
         ensures none { told.old.calls ≡ None → IfNone result (self.reply ≡ None) }
     {
         let Placed { reply, call, flush } = self.reply?;
-        stands(told, &self.request, &reply, &call, &flush).then_some(reply)
+        stands(told, self.session, &self.request, &reply, &call, &flush).then_some(reply)
     }
 }
 
@@ -135,15 +144,16 @@ fn again(place: &Option<CallPlace>) -> Option<CallPlace>
     }
 }
 
-// Whether the calls that a reply speaks of are among those that were told. A command takes the place of its call.
+// Whether the calls that a reply to this session speaks of are among those that were told to it. A command takes the place of its call.
 fn stands<T: Trace>(
     told: &mut Told<T>,
+    session: u64,
     request: &Request,
     reply: &Reply<()>,
     call: &Option<CallPlace>,
     flush: &Option<CallPlace>,
 ) -> bool
-    requires tells { TellsAt T.log (asked_event request.now) reply.now call.now flush.now }
+    requires tells { TellsAt T.log session (asked_event request.now) reply.now call.now flush.now }
     requires named { IsInLog T.log call.now × IsInLog T.log flush.now }
     ensures passes { PassesOn told.old told.new }
     ensures told { result ≡ true → ToldOf told.old (asked_event request.now) reply.now }
@@ -151,12 +161,12 @@ fn stands<T: Trace>(
     ensures all { told.old.calls ≡ None → result ≡ true }
 {
     match (reply, request) {
-        (Reply::Accepted(_), _) => told.takes_before(call, flush),
-        (Reply::Unsettled(_) | Reply::Differs, _) => told.takes(call),
+        (Reply::Accepted(_), _) => told.takes_before(session, call, flush),
+        (Reply::Unsettled(_) | Reply::Differs, _) => told.takes(session, call),
         (Reply::Acknowledged(_), _) => told.has(flush),
         (Reply::Refused(Refusal::NoMemory | Refusal::HistoryFull), _) => true,
         (Reply::Refused(_), Request::Flush) => told.has(flush),
-        (Reply::Refused(_), _) => told.takes(call),
+        (Reply::Refused(_), _) => told.takes(session, call),
         (_, _) => true,
     }
 }

@@ -5,10 +5,11 @@ ghost use Rattle.silt_session.specs.Tolds.{AsksBehind, IsInLog, IsTakenAt, IsTol
 use silt_desk::{CallPlace, CallView, Trace};
 use std::marker::{Model, PhantomData};
 
-/// A beginning of the calls at a desk, if its trace has a log, the first place at which a call of the present events can stand, and the
-/// first one for the next command among them. Its type says that it is of the trace's log.
+/// The number of a session, a beginning of the calls at a desk, if its trace has a log, the first place at which a call of the session's
+/// present events can stand, and the first one for the next command among them. Its type says that it is of the trace's log.
 #[derive(Drop)]
 pub struct Told<T: Trace> {
+    session: u64,
     from: u64,
     next: u64,
     view: Option<CallView>,
@@ -22,22 +23,31 @@ impl<T: Trace> Model for Told<T> {
 
     ghost Value = { ToldState };
 
-    ghost view = { λ t. record { from = t.from; next = t.next; calls = option_map (λ seen. seen.calls) t.view } };
+    ghost view = { λ t. record { session = t.session; from = t.from; next = t.next; calls = option_map (λ seen. seen.calls) t.view } };
 
     ghost invariant = { λ t. IfSome t.view (λ seen. Some seen.book ≡ T.log) × (t.from ≤ t.next) };
 }
 
 impl<T: Trace> Told<T> {
-    /// All calls that a trace logs now. Nothing is told only if it logs none.
-    pub fn of(trace: &T) -> Told<T>
-        ensures { TellsAll T.Trace trace.now result }
+    /// A session of this number, which is told all calls that a trace logs now. Nothing is told only if it logs none.
+    pub fn of(trace: &T, session: u64) -> Told<T>
+        ensures all { TellsAll T.Trace trace.now result }
+        ensures session { result.session ≡ session }
     {
         Told {
+            session,
             from: 0,
             next: 0,
             view: trace.view(),
             of: PhantomData,
         }
+    }
+
+    /// The number of the session.
+    pub(crate) fn session(&self) -> u64
+        ensures { result ≡ self.now.session }
+    {
+        self.session
     }
 
     /// A copy.
@@ -46,12 +56,14 @@ impl<T: Trace> Told<T> {
     {
         match &self.view {
             Some(view) => Told {
+                session: self.session,
                 from: self.from,
                 next: self.next,
                 view: Some(view.again()),
                 of: PhantomData,
             },
             None => Told {
+                session: self.session,
                 from: self.from,
                 next: self.next,
                 view: None,
@@ -66,12 +78,14 @@ impl<T: Trace> Told<T> {
     {
         match &self.view {
             Some(view) => Told {
+                session: self.session,
                 from: view.len(),
                 next: view.len(),
                 view: Some(view.again()),
                 of: PhantomData,
             },
             None => Told {
+                session: self.session,
                 from: self.from,
                 next: self.next,
                 view: None,
@@ -124,15 +138,24 @@ impl<T: Trace> Told<T> {
         }
     }
 
-    /// Whether the place is one of what was told, and none before that for the next command. If so, it is taken: the command behind it
-    /// stands behind it.
-    pub(crate) fn takes(&mut self, place: &Option<CallPlace>) -> bool
+    // Whether the session has this number, if anything is told.
+    fn is_of(&self, session: u64) -> bool
+        ensures same { result ≡ true → IfSome self.now.calls (λ calls. session ≡ self.now.session) }
+        ensures all { self.now.calls ≡ None → result ≡ true }
+    {
+        self.view.is_none() || self.session == session
+    }
+
+    /// Whether the place of a call for this session is one of what was told, and none before that for the next command. If so, it is
+    /// taken: the command behind it stands behind it.
+    pub(crate) fn takes(&mut self, session: u64, place: &Option<CallPlace>) -> bool
         requires { IsInLog T.log place.now }
         ensures told { PassesOn self.old self.new }
+        ensures session { result ≡ true → IfSome self.old.calls (λ calls. session ≡ self.old.session) }
         ensures place { result ≡ true → IfSome self.old.calls (λ calls. MatchOption place.now ⊥ (λ p. IsTakenAt self.old calls p self.new.next)) }
         ensures all { self.old.calls ≡ None → result ≡ true }
     {
-        if !self.has_from(self.next, place) {
+        if !self.is_of(session) || !self.has_from(self.next, place) {
             return false;
         }
         if let (Some(_), Some(place)) = (&self.view, place) {
@@ -144,11 +167,13 @@ impl<T: Trace> Told<T> {
     /// The same, if another place behind it is one of what was told too.
     pub(crate) fn takes_before(
         &mut self,
+        session: u64,
         place: &Option<CallPlace>,
         behind: &Option<CallPlace>,
     ) -> bool
         requires { IsInLog T.log place.now × IsInLog T.log behind.now }
         ensures told { PassesOn self.old self.new }
+        ensures session { result ≡ true → IfSome self.old.calls (λ calls. session ≡ self.old.session) }
         ensures place { result ≡ true → IfSome self.old.calls (λ calls. MatchOption place.now ⊥ (λ p. IsTakenAt self.old calls p self.new.next)) }
         ensures behind { result ≡ true → IfSome self.old.calls (λ calls. MatchOption behind.now ⊥ (λ p. (self.old.from ≤ p.number) × (slice_get calls p.number ≡ p.at))) }
         ensures order { result ≡ true → IfSome self.old.calls (λ calls. IfSome place.now (λ p. IfSome behind.now (λ q. p.number < q.number))) }
@@ -157,6 +182,6 @@ impl<T: Trace> Told<T> {
         if !self.has(behind) || !self.are_in_order(place, behind) {
             return false;
         }
-        self.takes(place)
+        self.takes(session, place)
     }
 }

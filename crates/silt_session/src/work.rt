@@ -71,7 +71,7 @@ impl<
         mut taker: Taker<N>,
         replier: Sender<Vec<Job<D, T, N>>>,
     ) -> (Seat<N>, Taker<N>)
-        ensures number { result.0.number ≡ seat.number }
+        ensures number { result.0.caller.seat ≡ seat.caller.seat }
         ensures ended { I.has_ended inbox.now }
         ensures batches { (batches : List (List (JobOf D T N D.Fault))) × ServesBatches D.Disk T.Trace self.now.room.now.seconds (H.has_ended self.now.room.now.heard) seat taker batches result.0 result.1 }
     {

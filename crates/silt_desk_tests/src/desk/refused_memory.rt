@@ -3,7 +3,9 @@ ghost use Rattle.std.specs.Prelude.{◌≡◌};
 
 use crate::desk::{Look, NO_MEMORY, get, look, plain, put, swap};
 use crate::same;
-use silt_desk::{CallView, Count, Desk, DeskId, Kept, NotPrepared, Note, Room, Seat, Trace};
+use silt_desk::{
+    CallView, Caller, Count, Desk, DeskId, Kept, NotPrepared, Note, Room, Seat, Trace,
+};
 use silt_device::Disk;
 use silt_event::Refusal;
 use silt_fixtures::{key, opened};
@@ -46,8 +48,8 @@ impl<T: Trace> Trace for Lacking<T> {
         Err(NotPrepared::NoMemory)
     }
 
-    fn record(&mut self, seat: u64, note: Note, value: &[u8], second: &[u8], room: Room) {
-        self.trace.record(seat, note, value, second, room);
+    fn record(&mut self, caller: Caller, note: Note, value: &[u8], second: &[u8], room: Room) {
+        self.trace.record(caller, note, value, second, room);
     }
 
     fn numbers(&self) -> (u64, u64) {

@@ -35,7 +35,7 @@ struct Sending<N: LogId> {
 fn flushes(alloc: Global, count: usize) -> Result<Vec<Task<MemDisk, Count>>, AllocError> {
     let mut tasks = Vec::new(alloc);
     for _ in 0..count {
-        tasks.push(Task::new(Request::Flush))?;
+        tasks.push(Task::new(1, Request::Flush))?;
     }
     Ok(tasks)
 }

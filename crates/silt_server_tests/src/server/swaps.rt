@@ -45,6 +45,8 @@ fn swap_of(alloc: Global, old: &[u8], new: &[u8]) -> Result<Request, AllocError>
 
 /// How many requests there are.
 const REQUESTS: usize = 11;
+/// The session that asks.
+const SESSION: u64 = 1;
 
 // A put, a swap that is accepted, one that differs, and two with a value of another length. Then one
 // for no value and one from it, which are accepted, one from it that differs, and two with a value of
@@ -73,7 +75,7 @@ fn tasks_of<D: Disk>(
 ) -> Result<Vec<Task<D, Count>>, AllocError> {
     let mut tasks = Vec::new(alloc);
     for number in first..last {
-        tasks.push(Task::new(request_of(alloc, number)?))?;
+        tasks.push(Task::new(SESSION, request_of(alloc, number)?))?;
     }
     Ok(tasks)
 }
@@ -132,7 +134,7 @@ fn got_of(reply: Reply<()>) -> Got {
 
 // The reply to this task.
 fn got_by<D: Disk>(task: Task<D, Count>) -> Got {
-    match task.tell(&mut Told::of(&Count::new())) {
+    match task.tell(&mut Told::of(&Count::new(), SESSION)) {
         Some(reply) => got_of(reply),
         None => Got::Nothing,
     }

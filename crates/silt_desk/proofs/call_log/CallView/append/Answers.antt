@@ -16,6 +16,6 @@ compare_exchange-found-requires c =
       pen.0 ∙ sym (ap (λ w. w.book) h),
       offer.0,
       rw (ap (λ w. w.key) h, pen.1, offer.1, offer.3)
-          (adds_moves c.self.inside.seen.log (call noted.seat (noted_event noted.note noted.value.now noted.second.now) (reply_of noted.note noted.value.now))
+          (adds_moves c.self.inside.seen.log (call noted.caller (noted_event noted.note noted.value.now noted.second.now) (reply_of noted.note noted.value.now))
           c.self.inside.count (sym c.self.invariant)),
     )

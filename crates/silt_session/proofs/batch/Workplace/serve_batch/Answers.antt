@@ -1,13 +1,15 @@
 use Rattle.std.proofs.Common.{◌∙◌, ◌≤◌, List, length, ap, arith, subst}
 use Rattle.silt_session.specs.Batches.{RepliesToAll}
 use Rattle.silt_session.specs.declared.job.Job.{Job}
-use Rattle.silt_session.proofs.Batches.{all_number, batch_served, flush_number}
+use Rattle.silt_desk.specs.declared.call.Caller.{Caller}
+use Rattle.silt_session.proofs.Callers.{flush_caller}
+use Rattle.silt_session.proofs.Batches.{all_seated, batch_served}
 use Rattle.silt_session.proofs.batch.Workplace.serve_batch.Goals as goal
 
 pub returns-clause-number : goal.returns-clause-number
 returns-clause-number g c =
-    flush_number g.D.Disk g.T.Trace _ _ _ _ _ c.flush-flushed.ensures.flushes
-    ∙ all_number g.D.Disk g.T.Trace _ _ _ _ _ _ c.perform_all.ensures.steps.1
+    ap (λ (w : Caller). w.seat) (flush_caller g.D.Disk g.T.Trace _ _ _ _ _ c.flush-flushed.ensures.flushes)
+    ∙ all_seated g.D.Disk g.T.Trace _ _ _ _ _ _ c.perform_all.ensures.steps.1
 
 pub returns-clause-batch : goal.returns-clause-batch
 returns-clause-batch g c =

@@ -12,7 +12,9 @@ use Rattle.silt_session.proofs.task.Task.tell.Goals as goal
 pub returns-clause-reply : goal.returns-clause-reply
 returns-clause-reply g c =
     let placed = c.in_ok-reply.field-0 in
-    let task : TaskState = record { request = c.self.inside.request; answer = c.self.inside.answer; reply = option_map (λ (p : Placed). p.reply) c.self.inside.reply } in
+    let inside = c.self.inside in
+    let reply = option_map (λ (p : Placed). p.reply) inside.reply in
+    let task : TaskState = record { session = inside.session; request = inside.request; answer = inside.answer; reply = reply } in
     rw (← c.self.view_is)
     (shows_then (IsReplyOf g.D.Disk g.T.Trace c.args.told.now task) c.stands.result placed.reply c.then_some.result c.then_some.ensures
     (λ stands. (
