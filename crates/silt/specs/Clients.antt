@@ -10,10 +10,10 @@ use Rattle.silt_resp.specs.Texts.{string_text}
 use Rattle.silt_wire.specs.Numbers.{number_of}
 use Rattle.silt_words.specs.Jobs.{NamedContact}
 use Rattle.silt_jobs.specs.Ended.{Refuses}
-use Rattle.silt_jobs.specs.declared.ended.Ended.{Ended}
-use Rattle.silt_jobs.specs.declared.ended.Why.TheVariants.{NoReply, NotAsked}
-use Rattle.silt_jobs.specs.declared.streams.StreamError.{StreamError}
-use Rattle.silt_jobs.specs.declared.urgent.Urgent.{Urgent}
+use Rattle.silt_jobs.specs.declared.people.ended.Ended.{Ended}
+use Rattle.silt_jobs.specs.declared.people.ended.Why.TheVariants.{NoReply, NotAsked}
+use Rattle.silt_jobs.specs.declared.people.streams.StreamError.{StreamError}
+use Rattle.silt_jobs.specs.declared.people.urgent.Urgent.{Urgent}
 use Rattle.silt.specs.Passwords.{ReadsLine}
 use Rattle.silt.specs.Services.{TellsWhy}
 use Rattle.silt.specs.declared.client_text.Call.{Call}

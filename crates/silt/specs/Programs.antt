@@ -23,14 +23,14 @@ use Rattle.silt_jobs.specs.SetJobs.{DoesSet, DumpsSet}
 use Rattle.silt_jobs.specs.SetPlans.{PlansSet}
 use Rattle.silt_jobs.specs.PlanCosts.{Plans}
 use Rattle.silt_jobs.specs.Plans.{bucket_counts, first_planned}
-use Rattle.silt_jobs.specs.declared.ended.Ended.{Ended}
-use Rattle.silt_jobs.specs.declared.ended.Ends.{Ends}
-use Rattle.silt_jobs.specs.declared.ended.Why.TheVariants.{NoJob, NoRandom, Refused}
-use Rattle.silt_jobs.specs.declared.failures.Failures.{Failures}
-use Rattle.silt_jobs.specs.declared.set_jobs.ShardJob.TheVariants as each
-use Rattle.silt_jobs.specs.declared.streams.StreamError.{StreamError}
-use Rattle.silt_jobs.specs.declared.tally.Tally.{Tally}
-use Rattle.silt_jobs.specs.declared.urgent.Urgent.{Urgent}
+use Rattle.silt_jobs.specs.declared.people.ended.Ended.{Ended}
+use Rattle.silt_jobs.specs.declared.people.ended.Ends.{Ends}
+use Rattle.silt_jobs.specs.declared.people.ended.Why.TheVariants.{NoJob, NoRandom, Refused}
+use Rattle.silt_jobs.specs.declared.people.failures.Failures.{Failures}
+use Rattle.silt_jobs.specs.declared.jobs.set_jobs.ShardJob.TheVariants as each
+use Rattle.silt_jobs.specs.declared.people.streams.StreamError.{StreamError}
+use Rattle.silt_jobs.specs.declared.people.tally.Tally.{Tally}
+use Rattle.silt_jobs.specs.declared.people.urgent.Urgent.{Urgent}
 use Rattle.silt.specs.Clashes.{RefusesClash}
 use Rattle.silt.specs.Clients.{AsksServer}
 use Rattle.silt.specs.Services.{ServesFile}

@@ -15,11 +15,11 @@ use Rattle.silt_words.specs.declared.job.Service.{Service}
 use Rattle.silt_jobs.specs.Ended.{Refuses}
 use Rattle.silt_jobs.specs.Jobs.{RefusesFewRegions}
 use Rattle.silt_jobs.specs.Openings.{RefusesDisk, RefusesNoDisk}
-use Rattle.silt_jobs.specs.declared.ended.Ended.{Ended}
-use Rattle.silt_jobs.specs.declared.ended.Why.TheVariants.{ShortValues}
-use Rattle.silt_jobs.specs.declared.failures.Failures.{Failures}
-use Rattle.silt_jobs.specs.declared.urgent.Urgent.{Urgent}
-use Rattle.silt_jobs.specs.declared.urgent.Urgent.TheVariants.{NoAddress, NoPassword, NoPort}
+use Rattle.silt_jobs.specs.declared.people.ended.Ended.{Ended}
+use Rattle.silt_jobs.specs.declared.people.ended.Why.TheVariants.{ShortValues}
+use Rattle.silt_jobs.specs.declared.people.failures.Failures.{Failures}
+use Rattle.silt_jobs.specs.declared.people.urgent.Urgent.{Urgent}
+use Rattle.silt_jobs.specs.declared.people.urgent.Urgent.TheVariants.{NoAddress, NoPassword, NoPort}
 use Rattle.silt.specs.declared.listener.NoEntrance.{NoEntrance}
 use Rattle.silt.specs.declared.listener.NoEntrance.TheVariants.{Password, Address, Socket, Page}
 

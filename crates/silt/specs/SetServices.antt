@@ -16,11 +16,11 @@ use Rattle.silt_words.specs.declared.job.Service.{Service}
 use Rattle.silt_jobs.specs.Ended.{Refuses, none_failed}
 use Rattle.silt_jobs.specs.Openings.{IsWhy}
 use Rattle.silt_jobs.specs.SetFiles.{HasFewRegions, HasRegions, OpensFiles, OpensNot, RefusesAt, set_value_len}
-use Rattle.silt_jobs.specs.declared.ended.Ended.{Ended}
-use Rattle.silt_jobs.specs.declared.ended.Why.{Why}
-use Rattle.silt_jobs.specs.declared.ended.Why.TheVariants.{FewRegions, NoJob, Refused, ShortValues}
-use Rattle.silt_jobs.specs.declared.failures.Failures.{Failures}
-use Rattle.silt_jobs.specs.declared.urgent.Urgent.{Urgent}
+use Rattle.silt_jobs.specs.declared.people.ended.Ended.{Ended}
+use Rattle.silt_jobs.specs.declared.people.ended.Why.{Why}
+use Rattle.silt_jobs.specs.declared.people.ended.Why.TheVariants.{FewRegions, NoJob, Refused, ShortValues}
+use Rattle.silt_jobs.specs.declared.people.failures.Failures.{Failures}
+use Rattle.silt_jobs.specs.declared.people.urgent.Urgent.{Urgent}
 use Rattle.silt.specs.Services.{TellsEntrance}
 
 module _ {D : Type 0} (Failed : D → Failures → Type 0) where

@@ -7,8 +7,8 @@ use Rattle.silt_words.specs.Jobs.{job_file, job_shards}
 use Rattle.silt_words.specs.declared.job.Job.{Job}
 use Rattle.silt.specs.declared.clash.Clash.{Clash}
 use Rattle.silt.specs.declared.standard_streams.SameStreams.{SameStreams}
-use Rattle.silt_jobs.specs.declared.streams.Stream.{Stream}
-use Rattle.silt_jobs.specs.declared.streams.Stream.TheVariants.{Input, Output, Error}
+use Rattle.silt_jobs.specs.declared.people.streams.Stream.{Stream}
+use Rattle.silt_jobs.specs.declared.people.streams.Stream.TheVariants.{Input, Output, Error}
 
 abbrev pub null_device : List ℕ
 null_device = codes "/dev/null"

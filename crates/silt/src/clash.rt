@@ -1,7 +1,7 @@
 // Jobs whose file is a standard stream of the program.
 ghost use Rattle.std.specs.Prelude.{◌≡◌, ◌<◌, ℕ, None, Ok, IfErr, IfOk, IfSome, is_some, option_map, true};
 ghost use Rattle.silt_jobs.specs.SetFiles.{shard_file};
-ghost use Rattle.silt_jobs.specs.declared.ended.Found.TheVariants.{Shard};
+ghost use Rattle.silt_jobs.specs.declared.people.ended.Found.TheVariants.{Shard};
 ghost use Rattle.silt_words.specs.Jobs.{job_shards};
 ghost use Rattle.silt.specs.Clashes.{PrintsClash, RefusesClash, SaysClash};
 ghost use Rattle.silt.specs.Streams.{AreStreams, IsApart, IsClash, IsClashAmong, IsNoStream};

@@ -11,14 +11,14 @@ use crate::standard_streams::StandardStreams;
 use silt_device::DiskSources;
 use silt_disk::Disk;
 use silt_jobs::{
-    Ended, Ends, KeepsError, KeepsLines, KeepsTally, NewSet, NewStore, SetFiles, ShardJob,
-    StreamError, Tells, Tended, Watched, Why, check_file, do_each, dump_file, dump_set,
-    format_file, format_set, run_file, run_script, run_set, tend_file, write_plan, write_set_plan,
+    Ended, Ends, KeepsLines, KeepsTally, NewSet, NewStore, SetFiles, ShardJob, StreamError, Tells,
+    Tended, Watched, Why, check_file, do_each, dump_file, dump_set, format_file, format_set,
+    run_file, run_script, run_set, tend_file, write_plan, write_set_plan,
 };
 use silt_store_set::Refusal;
 use silt_words::{Job, Service, SetJob, SetWork, WordsError, read_words};
 use std::alloc::Global;
-use std::io::{Read, Write};
+use std::io::Write;
 use std::net::{Net, TcpListener, TcpStream};
 use std::sync::Wait;
 use std::thread::Threads;
@@ -43,12 +43,7 @@ where
     /// Does the job that the words name. Returns the name of its file, if it has one, and how it ended, with the status 0 if it is
     /// done, 1 if it is refused, 2 if the words name no job, and 3 if it is a strict run and a line was refused. The first word is
     /// the program's own. A job is refused if one of its files is a standard stream, before anything is opened, read or printed.
-    pub fn do_words<
-        'a,
-        R: Read + KeepsError + KeepsLines,
-        W: Write + KeepsError + KeepsTally,
-        T: Tells,
-    >(
+    pub fn do_words<'a, R: KeepsLines, W: KeepsTally, T: Tells>(
         self,
         words: &'a [String],
         reader: &mut R,
@@ -69,7 +64,7 @@ where
     }
 
     // Does a job, unless one of its files is a standard stream.
-    fn answer<R: Read + KeepsError + KeepsLines, W: Write + KeepsError + KeepsTally, T: Tells>(
+    fn answer<R: KeepsLines, W: KeepsTally, T: Tells>(
         self,
         job: Job<'_>,
         reader: &mut R,
@@ -92,7 +87,7 @@ where
     }
 
     // Does a job.
-    fn do_job<R: Read + KeepsError + KeepsLines, W: Write + KeepsError + KeepsTally, T: Tells>(
+    fn do_job<R: KeepsLines, W: KeepsTally, T: Tells>(
         self,
         job: Job<'_>,
         reader: &mut R,
@@ -147,7 +142,7 @@ where
     }
 
     // Does a job on the files of a set.
-    fn do_set_job<R: Read + KeepsError + KeepsLines, W: Write + KeepsError + KeepsTally, T: Tells>(
+    fn do_set_job<R: KeepsLines, W: KeepsTally, T: Tells>(
         self,
         job: &SetJob<'_>,
         reader: &mut R,

@@ -1,24 +1,21 @@
 -- Steps of background work, one more at a time.
-use Rattle.std.proofs.Common.{◌≡◌, ◌≢◌, ◌+◌, ◌≤◌, ◌<◌, ◌&&◌, ◌||◌, not, ℕ, Bool, true, false, cond, IsTrue, List, [], ◌∷◌, ◌++◌, length, Option, Some, None}
-use Rattle.std.proofs.Common.{option_map, Result, Ok, Err, refl, sym, ap, ◌∙◌, subst, arith, inl, inr}
+use Rattle.silt_jobs.proofs.Common.{◌≡◌, ◌≢◌, ◌+◌, ◌≤◌, ◌<◌, ℕ, Bool, true, false, IsTrue, List, [], ◌∷◌, ◌++◌, length, Option, Some, None, Result, Ok, refl, sym, ap, ◌∙◌, subst}
+use Rattle.silt_jobs.proofs.Common.{arith, inl, inr, All-nil, All-push, Ghosts, Shape, HasValueOf, Convert, Merge, Refusal, CoreState, DoesPlain, is_refused, PlainRefusal}
+use Rattle.silt_jobs.proofs.Common.{TendsDue, TendsThenDoes, begins, due_at_once, is_idle}
+use Rattle.std.proofs.Common.{◌&&◌, ◌||◌, not, cond}
+use Rattle.std.proofs.Common.{option_map, Err}
 use Rattle.std.specs.Prelude.{IsErrAnd, is_some}
 use Rattle.std.proofs.lemmas.List.{length-append}
-use Rattle.std.proofs.lemmas.List.Elements.{All-nil, All-push}
-use Rattle.silt_disk.specs.declared.disk.Disk.{Ghosts}
-use Rattle.silt_disk.specs.Layout.{Shape}
-use Rattle.silt_event.specs.Events.{HasValueOf, PlainReply, plain, plain_refusal}
-use Rattle.silt_event.specs.declared.event.Event.{Event}
-use Rattle.silt_event.specs.declared.event.Event.TheVariants.{Convert, Delete, Flush, Get, Merge, Put, Swap}
+use Rattle.silt_jobs.specs.Common.{PlainReply, plain_refusal, Event, Idle, Waiting, Reply, NoRoom, Spent, Refused}
+use Rattle.silt_jobs.specs.Common.{Does, awaits_region, convert_due, is_convert, is_merge, wants_convert}
+use Rattle.silt_event.specs.Events.{plain}
+use Rattle.silt_event.specs.declared.event.Event.TheVariants.{Delete, Put, Swap}
 use Rattle.silt_event.specs.declared.progress.Progress.{Progress as ProgressOf}
-use Rattle.silt_event.specs.declared.progress.Progress.TheVariants.{Idle, Waiting, Moved, Finished}
-use Rattle.silt_event.specs.declared.reply.Reply.{Reply}
-use Rattle.silt_event.specs.declared.refusal.Refusal.{Refusal}
-use Rattle.silt_event.specs.declared.refusal.Refusal.TheVariants.{NotFormatted, BadGeometry, Damaged, Crowded, Device, NoMemory, StoreFull, NoRoom, Failed, Spent, HistoryFull}
-use Rattle.silt_event.specs.declared.reply.Reply.TheVariants.{Accepted, Acknowledged, Found, Absent, Differs, Progress, Refused, Unsettled, NotServed}
-use Rattle.silt_store_set.specs.CoreState.{Cause, ConvertsTo, CoreState, Does, DoesPlain, awaits_region, convert_due, is_convert, is_merge, is_refused, wants_convert}
-use Rattle.silt_jobs.specs.BackgroundWork.{AreDone, PlainRefusal, RunsDue, StopsAt, TakesSteps, TendsAll, TendsDue, TendsPlain, TendsThenDoes, begins, count_of}
-use Rattle.silt_jobs.specs.BackgroundWork.{due_at_once, due_between, error_of, is_idle, is_paused, merges, most_steps}
-use Rattle.silt_jobs.specs.declared.background_work.Steps.{Steps}
+use Rattle.silt_event.specs.declared.reply.Reply.TheVariants.{Progress}
+use Rattle.silt_store_set.specs.CoreState.{Cause, ConvertsTo}
+use Rattle.silt_jobs.specs.BackgroundWork.{AreDone, RunsDue, StopsAt, TakesSteps, TendsAll, TendsPlain, count_of}
+use Rattle.silt_jobs.specs.BackgroundWork.{due_between, error_of, is_paused, merges, most_steps}
+use Rattle.silt_jobs.specs.declared.jobs.background_work.Steps.{Steps}
 
 -- one event more is one more of its kind
 pub count_more : (is_kind : Event → Bool) (events : List Event) (event : Event) → count_of is_kind (events ++ event ∷ []) ≡ count_of is_kind events + cond (is_kind event) 1 0
@@ -113,8 +110,7 @@ module _ {D F : Type 0} (facts : Ghosts D F) where
       → (is_idle progress && not (begins new least)) ≡ false → IsTrue (due_between least new Merge)
   merge_due_after least mid new Idle is same paused rests = idle_due (awaits_region (convert_due new)) (begins new least) rests
   merge_due_after least mid new Waiting is same paused rests = ap (λ (p : ProgressOf). awaits_region p || begins new least) (ap (λ (c : CoreState D). convert_due c) same ∙ sym is)
-  merge_due_after least mid new Moved is same paused rests = absurd (cc)
-  merge_due_after least mid new Finished is same paused rests = absurd (cc)
+  merge_due_after least mid new progress is same paused rests = absurd (cc)
 
   pub paused_due : (least : Option ℕ) (mid new : CoreState D) (progress : ProgressOf) → Does facts mid new Convert (Progress progress) → is_paused progress ≡ true
       → (is_idle progress && not (begins new least)) ≡ false → IsTrue (due_between least new Merge)
@@ -123,9 +119,7 @@ module _ {D F : Type 0} (facts : Ghosts D F) where
   -- if a conversion finds nothing to do, no step is due
   progress_idle : (mid new : CoreState D) (progress : ProgressOf) → progress ≡ convert_due mid → ConvertsTo facts mid new progress → is_idle progress ≡ true → convert_due new ≡ Idle
   progress_idle mid new Idle is same idle = ap (λ (c : CoreState D). convert_due c) same ∙ sym is
-  progress_idle mid new Waiting is same idle = absurd (cc)
-  progress_idle mid new Moved is same idle = absurd (cc)
-  progress_idle mid new Finished is same idle = absurd (cc)
+  progress_idle mid new progress is same idle = absurd (cc)
 
   -- all that is due
   pub due_done : (least : Option ℕ) (old mid new : CoreState D) (progress : ProgressOf) (turn : ℕ) → Going least old mid turn → Does facts mid new Convert (Progress progress)
@@ -155,27 +149,11 @@ module _ {D F : Type 0} (facts : Ghosts D F) where
   -- a refusal for lack of room is one with its fault too
   refusal_for_room : (refusal : Refusal F) → plain_refusal refusal ≡ NoRoom → refusal ≡ NoRoom
   refusal_for_room NoRoom is = refl
-  refusal_for_room NotFormatted is = absurd (cc)
-  refusal_for_room BadGeometry is = absurd (cc)
-  refusal_for_room (Damaged place) is = absurd (cc)
-  refusal_for_room Crowded is = absurd (cc)
-  refusal_for_room (Device fault) is = absurd (cc)
-  refusal_for_room NoMemory is = absurd (cc)
-  refusal_for_room StoreFull is = absurd (cc)
-  refusal_for_room Failed is = absurd (cc)
-  refusal_for_room Spent is = absurd (cc)
-  refusal_for_room HistoryFull is = absurd (cc)
+  refusal_for_room refusal is = absurd (cc)
 
   reply_for_room : (reported : Reply F) → plain reported ≡ Refused NoRoom → reported ≡ Refused NoRoom
   reply_for_room (Refused refusal) is = ap (λ (r : Refusal F). Refused r) (refusal_for_room refusal (cc))
-  reply_for_room (Accepted n) is = absurd (cc)
-  reply_for_room (Acknowledged n) is = absurd (cc)
-  reply_for_room (Found value) is = absurd (cc)
-  reply_for_room Absent is = absurd (cc)
-  reply_for_room Differs is = absurd (cc)
-  reply_for_room (Progress progress) is = absurd (cc)
-  reply_for_room (Unsettled n) is = absurd (cc)
-  reply_for_room NotServed is = absurd (cc)
+  reply_for_room reported is = absurd (cc)
 
   -- an event is refused for lack of room only while a conversion is due or waits
   room_cause : (mid new : CoreState D) (event : Event) → Cause facts mid new event (Refused NoRoom) → convert_due mid ≢ Idle
@@ -183,10 +161,7 @@ module _ {D F : Type 0} (facts : Ghosts D F) where
   room_cause mid new (Delete key) cause = cause.1.2
   room_cause mid new (Swap key before (Some value)) cause = cause.1.1.2
   room_cause mid new (Swap key before None) cause = cause.1.1.2
-  room_cause mid new (Get key) cause = absurd cause
-  room_cause mid new Flush cause = absurd cause
-  room_cause mid new Convert cause = absurd cause
-  room_cause mid new Merge cause = absurd cause
+  room_cause mid new event cause = absurd cause
 
   has_room : (mid new : CoreState D) (event : Event) (reply : PlainReply) → DoesPlain facts mid new event reply → convert_due mid ≡ Idle → reply ≢ Refused NoRoom
   has_room mid new event reply does idle is =
@@ -233,24 +208,15 @@ module _ {D F : Type 0} (facts : Ghosts D F) where
   pub none_counted : (least : Option ℕ) (core : CoreState D) → Counted least core core 0 0 0
   none_counted least core = record { taken = none_taken facts (due_at_once least) core; fine = All-nil (λ reply. is_refused reply ≡ false); converts = refl; merges = refl; all = refl }
 
-  pub convert_counted : (least : Option ℕ) (old mid new : CoreState D) (reply : Reply F) (converted merged turn : ℕ) → Counted least old mid converted merged turn → wants_convert mid ≡ true
-      → is_refused reply ≡ false → Does facts mid new Convert reply → Counted least old new (converted + 1) merged (turn + 1)
-  convert_counted least old mid new reply converted merged turn counted due fine does = record {
-    taken = one_more facts (due_at_once least) old mid new Convert reply due counted.taken does;
+  pub counted_more : (least : Option ℕ) (old mid new : CoreState D) (event : Event) (reply : Reply F) (converted merged more even_more turn : ℕ) → Counted least old mid converted merged turn
+      → IsTrue (due_at_once least mid event) → more ≡ converted + cond (is_convert event) 1 0 → even_more ≡ merged + cond (is_merge event) 1 0 → more + even_more ≡ converted + merged + 1
+      → is_refused reply ≡ false → Does facts mid new event reply → Counted least old new more even_more (turn + 1)
+  counted_more least old mid new event reply converted merged more even_more turn counted due converts merges one fine does = record {
+    taken = one_more facts (due_at_once least) old mid new event reply due counted.taken does;
     fine = done_more counted.taken.replies reply counted.fine fine;
-    converts = omega (arith, counted.converts, count_more is_convert counted.taken.events Convert);
-    merges = omega (arith, counted.merges, count_more is_merge counted.taken.events Convert);
-    all = omega (arith, counted.all);
-  }
-
-  pub merge_counted : (least : Option ℕ) (old mid new : CoreState D) (reply : Reply F) (converted merged turn : ℕ) → Counted least old mid converted merged turn → merges mid least ≡ true
-      → is_refused reply ≡ false → Does facts mid new Merge reply → Counted least old new converted (merged + 1) (turn + 1)
-  merge_counted least old mid new reply converted merged turn counted due fine does = record {
-    taken = one_more facts (due_at_once least) old mid new Merge reply due counted.taken does;
-    fine = done_more counted.taken.replies reply counted.fine fine;
-    converts = omega (arith, counted.converts, count_more is_convert counted.taken.events Merge);
-    merges = omega (arith, counted.merges, count_more is_merge counted.taken.events Merge);
-    all = omega (arith, counted.all);
+    converts = omega (arith, converts, counted.converts, count_more is_convert counted.taken.events event);
+    merges = omega (arith, merges, counted.merges, count_more is_merge counted.taken.events event);
+    all = omega (arith, one, counted.all);
   }
 
   -- then all work is done, or the most steps were taken

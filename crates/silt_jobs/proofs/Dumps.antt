@@ -1,20 +1,15 @@
 -- The lines of entries, written piece by piece.
-use Rattle.std.proofs.Common.{◌≡◌, ◌++◌, ℕ, IfOk, IsTrue, List, [], ◌∷◌, Option, Some, None, Result, Ok, Err, inl, inr, refl, ap, sym, subst, ◌∙◌, append-nil, append_assoc}
-use Rattle.std.specs.Io.KnownBytes.{Appends}
+use Rattle.silt_jobs.proofs.Common.{◌≡◌, ◌++◌, ℕ, IsTrue, List, [], ◌∷◌, Option, Some, None, Result, Ok, inl, inr, refl, ap, sym, subst, ◌∙◌, append_assoc, Appends, Content}
+use Rattle.silt_jobs.proofs.Common.{GaveAny, Ghosts, Key, image_map, OpenError, IsNextEntry, PassesTo, Appends-append, Dumps, Ended}
+use Rattle.std.proofs.Common.{IfOk, Err, append-nil}
 use Rattle.std.proofs.lemmas.Grind.{flat_map-append}
-use Rattle.silt_disk.specs.Disk.{Content, GaveAny}
-use Rattle.silt_disk.specs.declared.disk.Disk.{Ghosts}
-use Rattle.silt_frame.specs.declared.key.Key.{Key}
-use Rattle.silt_image.specs.Meaning.{image_map}
-use Rattle.silt_recovery.specs.declared.fault.OpenError.{OpenError}
-use Rattle.silt_wire.proofs.Streams.{Appends-append, Appends-none}
-use Rattle.silt_dump.specs.Order.{AreFirstEntries, AreOrderedTo, IsNextEntry}
-use Rattle.silt_dump.specs.Pieces.{EndsEarly}
-use Rattle.silt_dump.specs.Stream.{PassesTo, Streams, value_len_of}
+use Rattle.silt_jobs.specs.Common.{AreFirstEntries, EndsEarly}
+use Rattle.silt_wire.proofs.Streams.{Appends-none}
+use Rattle.silt_dump.specs.Order.{AreOrderedTo}
+use Rattle.silt_dump.specs.Stream.{Streams, value_len_of}
 use Rattle.silt_dump.specs.declared.stream.EntryStream.{EntryStream}
 use Rattle.silt_dump.proofs.Firsts.{all_first, first_more, no_entries, no_first, ordered_more, with_entry}
-use Rattle.silt_jobs.specs.Dump.{Dumps, EndsDump, GathersLines, WritesLines, entry_lines, put_line}
-use Rattle.silt_jobs.specs.declared.ended.Ended.{Ended}
+use Rattle.silt_jobs.specs.Dump.{EndsDump, GathersLines, WritesLines, entry_lines, put_line}
 
 -- a stream has given these entries, and their lines are written and gathered
 pub record HasGathered (content : Content) (stream : EntryStream) (len : ℕ) (before after : Option (List ℕ)) (lines : List ℕ) : Type 0 where

@@ -1,17 +1,15 @@
--- Why a new store on a disk in memory is refused.
-use Rattle.std.proofs.Common.{◌≡◌, ◌∙◌, ℕ, ap, length, replicate}
+-- New stores on disks in memory: why one is refused, and which crash images it has.
+use Rattle.silt_jobs.proofs.Common.{◌≡◌, ◌∙◌, ℕ, ap, length, List, get_or, IsTrue, subst, GaveAny, size, Content, LeavesOnly, Shape, device_size, memory_content, MemFault, IsSafe}
+use Rattle.silt_jobs.proofs.Common.{NewStoreCause, empty}
+use Rattle.std.proofs.Common.{replicate}
 use Rattle.std.proofs.lemmas.List.{length-replicate}
-use Rattle.silt_disk.specs.Disk.{GaveAny, size}
-use Rattle.silt_disk.specs.Layout.{Shape, device_size}
-use Rattle.silt_device.specs.Memory.{memory_content, memory_gave, IsFresh}
-use Rattle.silt_device.specs.declared.memory.MemDisk.{MemDisk}
-use Rattle.silt_device.specs.declared.memory.MemFault.{MemFault}
+use Rattle.silt_jobs.specs.Common.{memory_gave, MemDisk, FormatCause, FormatError}
+use Rattle.silt_jobs.specs.Common.{refusal_of_formatting, StandsFor}
+use Rattle.silt_disk.specs.Disk.{Stays}
+use Rattle.silt_device.specs.Memory.{IsFresh}
 use Rattle.silt_standing.specs.Standing.{SameDisk}
-use Rattle.silt_recovery.specs.Format.{FormatCause}
-use Rattle.silt_recovery.specs.declared.fault.FormatError.{FormatError}
 use Rattle.silt_recovery.specs.declared.fault.FormatError.TheVariants.{BadGeometry, Device, NoMemory}
-use Rattle.silt_recovery.specs.Errors.{refusal_of_formatting}
-use Rattle.silt_jobs.specs.NewStores.{NewStoreCause}
+use Rattle.silt_disk.proofs.Laws.{leaves_weaker}
 
 -- a new disk of this length, in bytes
 pub fresh_size : (len : ℕ) (disk : MemDisk) → IsFresh (replicate len 0) disk → size (memory_content disk) ≡ len
@@ -23,3 +21,23 @@ pub format_cause : (shape : Shape) (old new : MemDisk) (error : FormatError MemF
 format_cause shape old new BadGeometry fits same cause = cause.0 fits
 format_cause shape old new NoMemory fits same cause = tt
 format_cause shape old new (Device fault) fits same cause = (new, same.size ∙ fits, cause.1)
+
+-- an unchanged disk has the same possible crash images
+pub stays_leaves : (old new : Content) (P : List ℕ → Type 0) → Stays old new → LeavesOnly old P → LeavesOnly new P
+stays_leaves old new P stays leaves = record {
+  each = λ honest image left.
+      let before : IsTrue old.honest = subst IsTrue stays.honest honest in
+      leaves.each before image (record {
+        size = left.size ∙ ap length (stays.settled before);
+        same = λ place settled. left.same place (stays.pending before place ∙ settled) ∙ ap (λ bytes. get_or bytes place 0) (stays.settled before);
+      });
+}
+
+-- an image that represents the empty map is safe for it
+pub new_is_safe : (content : Content) (shape : Shape) → LeavesOnly content (StandsFor shape empty) → LeavesOnly content (IsSafe shape.value_len empty)
+new_is_safe content shape leaves =
+    leaves_weaker content (StandsFor shape empty) (IsSafe shape.value_len empty) leaves (λ image stands. record {
+      good = stands.good;
+      has_len = ap (λ (s : Shape). s.value_len) stands.has_shape;
+      has_map = stands.has_map;
+    })

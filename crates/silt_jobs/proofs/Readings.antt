@@ -1,18 +1,20 @@
--- Taking bytes in two parts is taking them at once.
-use Rattle.std.proofs.Common.{◌≡◌, ◌≢◌, ◌+◌, take, drop, ℕ, true, false, MatchBool, None, Result, Err, inl, inr, List, [], ◌∷◌, ◌++◌, refl, sym, subst}
+-- Taking bytes in two parts is taking them at once, and the values of a script's puts and swaps have their length.
+use Rattle.silt_jobs.proofs.Common.{◌≡◌, ◌≢◌, ◌+◌, take, drop, ℕ, true, false, None, Result, inl, inr, List, [], ◌∷◌, ◌++◌, refl, sym, subst, Ok, HoldsBytes, lines_after}
+use Rattle.silt_jobs.proofs.Common.{rest_after, HasValueOf, TakesBytes, Fits, All-push, All-nil}
+use Rattle.std.proofs.Common.{MatchBool, Err}
 use Rattle.std.proofs.Math.Seq.{take-add}
-use Rattle.silt_event.specs.declared.event.Event.{Event}
-use Rattle.silt_wire.specs.declared.line.LineFault.{LineFault}
+use Rattle.silt_jobs.specs.Common.{Event, LineFault, asked_by, is_blank}
 use Rattle.silt_wire.specs.declared.line.LineFault.TheVariants.{NoMemory}
 use Rattle.silt_wire.specs.declared.line_buffer.LineBuffer.{LineBuffer}
 use Rattle.silt_wire.specs.declared.line_buffer.Taken.{Taken}
-use Rattle.silt_wire.specs.LineBuffer.{HoldsBytes, TakesPiece}
-use Rattle.silt_wire.specs.Lines.{Parses, asked_by, is_blank}
-use Rattle.silt_wire.specs.Sessions.{lines_after, rest_after}
+use Rattle.silt_wire.specs.LineBuffer.{TakesPiece}
+use Rattle.silt_wire.specs.Lines.{Parses}
 use Rattle.silt_jobs.specs.Stops.{stop_of}
 use Rattle.silt_wire.proofs.Streams.{lines_after-append, piece-line, piece-open}
-use Rattle.silt_jobs.specs.declared.script_lines.Reading.{Reading}
-use Rattle.silt_jobs.specs.Scripts.{TakesAsked, TakesLine, TakesLines, TakesBytes, TakesRequest}
+use Rattle.silt_jobs.specs.declared.jobs.script_lines.Reading.{Reading}
+use Rattle.silt_jobs.specs.Scripts.{TakesAsked, TakesLine, TakesLines, TakesRequest, EndsReading, HasReadNothing}
+use Rattle.std.specs.Prelude.{All, IfOk, OnOk}
+use Rattle.silt_jobs.specs.declared.jobs.script_lines.Script.{Script}
 
 -- if memory did not run out, a line was parsed as what it asks for
 parsed-is : (asked parsed : Result Event LineFault) → Parses asked parsed → parsed ≢ Err NoMemory → parsed ≡ asked
@@ -54,3 +56,37 @@ pub TakesBytes-part : (value_len : ℕ) (p : List ℕ) (a b c : Reading) (bytes 
     → TakesBytes value_len (rest_after p (take done bytes)) b (take count (drop done bytes)) c → TakesBytes value_len p a (take (done + count) bytes) c
 TakesBytes-part value_len p a b c bytes done count h k =
     subst (λ xs. TakesBytes value_len p a xs c) (sym (take-add done count bytes)) (TakesBytes-append value_len p a b c (take done bytes) (take count (drop done bytes)) h k)
+
+-- what a line asks for fits, and so does the script with it
+pub asked_fits : (value_len : ℕ) (asked : Result Event LineFault) (old new : Reading) → IfOk asked (HasValueOf value_len) → TakesAsked asked old new → Fits value_len old → Fits value_len new
+asked_fits value_len (Ok event) old new fits takes before = record {
+  lives = subst (λ lives. All (λ life. All (HasValueOf value_len) life.items) lives.items) (sym takes.lives) before.lives;
+  life = subst (λ events. All (HasValueOf value_len) events) (sym takes.life) (All-push (HasValueOf value_len) old.life.items event before.life fits);
+}
+asked_fits value_len (Err fault) old new fits takes before = record {
+  lives = subst (λ lives. All (λ life. All (HasValueOf value_len) life.items) lives.items) (sym takes.lives) before.lives;
+  life = subst (λ events. All (HasValueOf value_len) events.items) (sym takes.life) before.life;
+}
+
+-- what is known at Ok, weaker
+pub on_ok-weaker : {T E : Type 0} {P Q : Type 0} (result : Result T E) → OnOk result P → (P → Q) → OnOk result Q
+on_ok-weaker (Ok x) h step = step h
+on_ok-weaker (Err e) h step = h
+
+-- two facts of an Ok result are one
+pub on_ok_both : {T E : Type 0} (P Q : Type 0) (result : Result T E) → OnOk result P → OnOk result Q → OnOk result (P × Q)
+on_ok_both P Q (Ok x) first second = (first, second)
+on_ok_both P Q (Err e) first second = first
+
+-- no events fit
+pub first_fits : (value_len : ℕ) (first : Reading) → HasReadNothing first → Fits value_len first
+first_fits value_len first none = record {
+  lives = subst (λ lives. All (λ life. All (HasValueOf value_len) life.items) lives) (sym none.lives) (All-nil (λ life. All (HasValueOf value_len) life.items));
+  life = subst (λ events. All (HasValueOf value_len) events) (sym none.life) (All-nil (HasValueOf value_len));
+}
+
+-- all lives of the script fit
+pub ended_fits : (value_len : ℕ) (reading : Reading) (script : Script) → EndsReading reading script → Fits value_len reading → All (λ life. All (HasValueOf value_len) life.items) script.lives.items
+ended_fits value_len reading script ends fits =
+    subst (λ lives. All (λ life. All (HasValueOf value_len) life.items) lives) (sym ends.lives)
+    (All-push (λ life. All (HasValueOf value_len) life.items) reading.lives.items reading.life fits.lives fits.life)

@@ -1,11 +1,11 @@
--- The text of a refusal, digit by digit.
-use Rattle.std.proofs.Common.{◌≡◌, [], ◌∷◌, ◌++◌, List, ℕ, Option, ap, arith, codes, subst, sym}
+-- The line of a refusal, and scripts that end with it.
+use Rattle.silt_jobs.proofs.Common.{◌≡◌, [], ◌∷◌, ◌++◌, List, ℕ, Option, ap, arith, subst, sym, Result, Ok, inr, Appends, Refusal, Shape, MemFault, NewStoreCause}
+use Rattle.std.proofs.Common.{codes, Err}
 use Rattle.std.proofs.lemmas.Fmt.{decimal_digit}
-use Rattle.std.specs.Io.KnownBytes.{Appends}
-use Rattle.silt_event.specs.declared.refusal.Refusal.{Refusal}
-use Rattle.silt_event.specs.declared.refusal.Refusal.TheVariants.{NoMemory}
-use Rattle.silt_event.specs.declared.reply.Reply.TheVariants.{Refused}
-use Rattle.silt_jobs.specs.Scripts.{reply_line}
+use Rattle.silt_jobs.specs.Common.{Refused}
+use Rattle.silt_event.specs.declared.refusal.Refusal.TheVariants.{NoMemory, Device}
+use Rattle.silt_jobs.specs.Scripts.{reply_line, AnswersScript, ScriptCause}
+use Rattle.std.specs.Prelude.{IfOk}
 
 pub no_memory_line : (F : Type 0) → codes "refused 6 NoMemory\n" ≡ reply_line {F = F} (Refused NoMemory)
 no_memory_line F = ap (λ (digits : List ℕ). (codes "refused " ++ (digits ++ codes " NoMemory")) ++ 10 ∷ []) (sym (decimal_digit 6 (search (arith))))
@@ -15,3 +15,15 @@ pub reports_no_memory : {F : Type 0} (refusal : Refusal F) (before after : Optio
     → Appends before after (reply_line (Refused refusal))
 reports_no_memory {F} refusal before after is reported =
     subst (λ (r : Refusal F). Appends before after (reply_line (Refused r))) (sym is) (subst (λ (text : List ℕ). Appends before after text) (no_memory_line F) reported)
+
+-- a script is refused as a new store is
+pub refused_as_new : (shape : Shape) (refusal : Refusal MemFault) → NewStoreCause shape refusal → ScriptCause shape refusal
+refused_as_new shape NoMemory cause = cause
+refused_as_new shape (Device fault) cause = cause
+refused_as_new shape refusal cause = absurd cause
+
+-- with this refusal, for its cause, the whole was refused
+pub reported_refused : {E : Type 0} (shape : Shape) (result : Result ℕ E) (remaining left before after : Option (List ℕ)) (refusal : Refusal MemFault) → ScriptCause shape refusal
+    → IfOk result (λ status. (status ≡ 1) × Appends before after (reply_line (Refused refusal))) → IfOk result (AnswersScript shape remaining left before after)
+reported_refused shape (Ok status) remaining left before after refusal cause h = inr (h.0, (refusal, cause, h.1))
+reported_refused shape (Err error) remaining left before after refusal cause h = h

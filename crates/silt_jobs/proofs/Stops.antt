@@ -1,6 +1,6 @@
 -- The stops in words.
-use Rattle.std.proofs.Common.{◌≡◌, ◌≢◌, List, [], ◌∷◌, ℕ, None, refl, ap, ◌∙◌}
-use Rattle.silt_wire.specs.Lines.{words_of}
+use Rattle.silt_jobs.proofs.Common.{◌≡◌, ◌≢◌, List, [], ◌∷◌, ℕ, None, refl, ap, ◌∙◌}
+use Rattle.silt_jobs.specs.Common.{words_of}
 use Rattle.silt_wire.proofs.Cuts.{words_of-some}
 use Rattle.silt_jobs.specs.Stops.{stop_of_words, reported_stop}
 

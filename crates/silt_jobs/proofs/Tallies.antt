@@ -1,7 +1,5 @@
 -- Bytes one after another.
-use Rattle.std.proofs.Common.{◌≡◌, ℕ, List, [], ◌∷◌, ◌++◌, refl}
-use Rattle.silt_jobs.specs.Tally.{tally_after, tally_of}
-use Rattle.silt_jobs.specs.declared.tally.Tally.{Tally}
+use Rattle.silt_jobs.proofs.Common.{◌≡◌, ℕ, List, [], ◌∷◌, ◌++◌, refl, tally_after, tally_of, Tally}
 
 -- one byte more
 pub tally_more : (t : Tally) (bytes : List ℕ) (byte : ℕ) → tally_of t (bytes ++ byte ∷ []) ≡ tally_after (tally_of t bytes) byte

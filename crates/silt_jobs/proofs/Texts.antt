@@ -1,13 +1,11 @@
 -- The texts of two parts of a script are the text of both.
-use Rattle.std.proofs.Common.{◌≡◌, ◌+◌, ◌<◌, ◌≤◌, take, get_or, ℕ, List, [], ◌∷◌, ◌++◌, length, refl, sym, ap, ◌∙◌, append_assoc, subst, arith, Option}
-use Rattle.std.proofs.lemmas.List.{take_more, append-nil}
-use Rattle.std.specs.Io.KnownBytes.{Appends}
-use Rattle.silt_event.specs.declared.reply.LifeReply.{LifeReply}
-use Rattle.silt_jobs.specs.declared.transcript.LinePlace.{LinePlace}
-use Rattle.silt_wire.proofs.Streams.{Appends-append}
-use Rattle.silt_jobs.specs.declared.script_lines.Mark.{Mark}
-use Rattle.silt_jobs.specs.declared.script_lines.Mark.TheVariants.{Event, Refused, Stop}
-use Rattle.silt_jobs.specs.Scripts.{mark_text, marks_text, place_after, place_past, start}
+use Rattle.silt_jobs.proofs.Common.{◌≡◌, ◌+◌, ◌<◌, ◌≤◌, take, get_or, ℕ, List, [], ◌∷◌, ◌++◌, length, refl, sym, ap, ◌∙◌, append_assoc, subst, arith, Option, take_more, Appends}
+use Rattle.silt_jobs.proofs.Common.{LinePlace, Appends-append, marks_text, place_past, start}
+use Rattle.std.proofs.lemmas.List.{append-nil}
+use Rattle.silt_jobs.specs.Common.{LifeReply}
+use Rattle.silt_jobs.specs.declared.jobs.script_lines.Mark.{Mark}
+use Rattle.silt_jobs.specs.declared.jobs.script_lines.Mark.TheVariants.{Event, Refused, Stop}
+use Rattle.silt_jobs.specs.Scripts.{mark_text, place_after}
 
 place_past-append : (place : LinePlace) (xs ys : List Mark) → place_past place (xs ++ ys) ≡ place_past (place_past place xs) ys
 place_past-append place [] ys = refl
@@ -43,15 +41,10 @@ written-more lives marks i mark place opening w v u lt at h k =
     subst (λ z. Appends w u z) text (Appends-append w v u _ _ h here)
 
 -- a place is no further on than its line
-pub place_after-life : (place : LinePlace) (mark : Mark) (n : ℕ) → place.life ≤ n → (place_after place mark).life ≤ n + 1
-place_after-life place Event n h = omega arith
-place_after-life place (Refused fault) n h = omega arith
-place_after-life place Stop n h = omega arith
-
-pub place_after-reply : (place : LinePlace) (mark : Mark) (n : ℕ) → place.reply ≤ n → (place_after place mark).reply ≤ n + 1
-place_after-reply place Event n h = omega arith
-place_after-reply place (Refused fault) n h = omega arith
-place_after-reply place Stop n h = omega arith
+pub place_after-within : (place : LinePlace) (mark : Mark) (n : ℕ) → place.life ≤ n → place.reply ≤ n → ((place_after place mark).life ≤ n + 1) × ((place_after place mark).reply ≤ n + 1)
+place_after-within place Event n life reply = (omega (arith, life), omega (arith, reply))
+place_after-within place (Refused fault) n life reply = (omega (arith, life), omega (arith, reply))
+place_after-within place Stop n life reply = (omega (arith, life), omega arith)
 
 -- the place after one line more
 pub place-next : (marks : List Mark) (i : ℕ) (mark : Mark) (place next : LinePlace) → i < length marks → next ≡ place_after place (get_or marks i mark)

@@ -1,20 +1,10 @@
 -- Background work between lines, and all of it at once.
 use Rattle.std.specs.Prelude.{◌≡◌, ◌≢◌, ◌⊎◌, ◌+◌, ◌<◌, ◌≤◌, ◌-◌, ◌^◌, ◌||◌, ℕ, Bool, true, false, cond, IsTrue, All, List, [], ◌∷◌, ◌++◌, length, Option, Some, None, Result, Ok, Err, option_map}
-use Rattle.silt_disk.specs.declared.disk.Disk.{Ghosts}
-use Rattle.silt_event.specs.Events.{PlainReply, plain_refusal}
-use Rattle.silt_event.specs.declared.event.Event.{Event}
-use Rattle.silt_event.specs.declared.admin.Admin.{Admin}
-use Rattle.silt_event.specs.declared.admin.AdminReply.{AdminReply}
-use Rattle.silt_event.specs.declared.event.Event.TheVariants.{Convert, Merge}
+use Rattle.silt_jobs.specs.Common.{Ghosts, PlainReply, plain_refusal, Event, Admin, AdminReply, Convert, Merge, Idle, Waiting, Refusal, NoRoom, Spent, Reply, Refused}
+use Rattle.silt_jobs.specs.Common.{AdministersCore, CoreState, Does, DoesPlain, awaits_region, convert_due, is_convert, is_merge, is_refused, wants_convert}
 use Rattle.silt_event.specs.declared.progress.Progress.{Progress}
-use Rattle.silt_event.specs.declared.progress.Progress.TheVariants.{Idle, Waiting}
-use Rattle.silt_event.specs.declared.refusal.Refusal.{Refusal}
-use Rattle.silt_event.specs.declared.refusal.Refusal.TheVariants.{NoRoom, Spent}
-use Rattle.silt_event.specs.declared.reply.Reply.{Reply}
-use Rattle.silt_event.specs.declared.reply.Reply.TheVariants.{Refused}
-use Rattle.silt_store_set.specs.Facts.{AdministersCore}
-use Rattle.silt_store_set.specs.CoreState.{CoreState, Does, DoesPlain, awaits_region, convert_due, is_convert, is_merge, is_refused, may_merge, wants_convert, wants_merge}
-use Rattle.silt_jobs.specs.declared.background_work.Steps.{Steps}
+use Rattle.silt_store_set.specs.CoreState.{may_merge, wants_merge}
+use Rattle.silt_jobs.specs.declared.jobs.background_work.Steps.{Steps}
 
 -- a refusal without its fault
 abbrev pub PlainRefusal : Type 0

@@ -1,17 +1,14 @@
 -- The positions of the parts of a disk.
 use Rattle.std.specs.Prelude.{◌≡◌, ◌⊎◌, ◌+◌, ◌*◌, ℕ, nat_lt, if◌then◌else◌, IsTrue, Option, Some, None, Ok, Err}
-use Rattle.silt_disk.specs.Disk.{Content, GaveAny, size}
-use Rattle.silt_disk.specs.Header.{header_of}
-use Rattle.silt_disk.specs.Layout.{Shape, bodies_at, entry_len, hash_at, row_len, slot_at, sorted_at}
-use Rattle.silt_disk.specs.declared.disk.Disk.{Ghosts}
+use Rattle.silt_jobs.specs.Common.{Content, GaveAny, size, header_of, Shape, Ghosts, shape_found}
+use Rattle.silt_disk.specs.Layout.{bodies_at, entry_len, hash_at, row_len, slot_at, sorted_at}
 use Rattle.silt_event.specs.declared.damage.Finding.{Finding}
 use Rattle.silt_event.specs.declared.place.Place.{Place}
 use Rattle.silt_event.specs.declared.place.Place.TheVariants.{Header, Length, Slot, NoSlot, Log, Hash, HashDigest, Sorted, SortedDigest, Charge}
-use Rattle.silt_image.specs.Stores.{shape_found}
 
 -- a row, a slot or an entry of a region, if the region has it
-abbrev pub part_at : ℕ → ℕ → ℕ → ℕ → Option ℕ
-part_at region_at len count part = if nat_lt part count then Some (region_at + part * len) else None
+abbrev pub offset_in : ℕ → ℕ → ℕ → ℕ → Option ℕ
+offset_in region_at len count part = if nat_lt part count then Some (region_at + part * len) else None
 
 -- The offset of a part of a disk of this shape with the sorted store in this region: a row begins at its body, and a store with another
 -- digest at its region. The header's numbers come after its commit byte, eight letters and version. The length and the charge belong to the
@@ -21,10 +18,10 @@ offset_of s sorted Header = Some 13
 offset_of s sorted Length = None
 offset_of s sorted (Slot slot) = if nat_lt slot 2 then Some (slot_at slot) else None
 offset_of s sorted NoSlot = Some (slot_at 0)
-offset_of s sorted (Log region row) = if nat_lt region s.logs then part_at (bodies_at s region) (row_len s) s.log_capacity row else None
-offset_of s sorted (Hash region slot) = if nat_lt region s.hashes then part_at (hash_at s region) (row_len s) (4 * s.buckets) slot else None
+offset_of s sorted (Log region row) = if nat_lt region s.logs then offset_in (bodies_at s region) (row_len s) s.log_capacity row else None
+offset_of s sorted (Hash region slot) = if nat_lt region s.hashes then offset_in (hash_at s region) (row_len s) (4 * s.buckets) slot else None
 offset_of s sorted (HashDigest region) = if nat_lt region s.hashes then Some (hash_at s region) else None
-offset_of s sorted (Sorted entry) = part_at (sorted_at s sorted) (entry_len s) s.sorted_capacity entry
+offset_of s sorted (Sorted entry) = offset_in (sorted_at s sorted) (entry_len s) s.sorted_capacity entry
 offset_of s sorted SortedDigest = Some (sorted_at s sorted)
 offset_of s sorted Charge = None
 

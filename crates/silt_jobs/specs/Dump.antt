@@ -2,18 +2,12 @@
 use Rattle.std.specs.Prelude.{◌≡◌, ◌⊎◌, ℕ, IsTrue, true, List, ◌++◌, Option, Some, None, Result, Ok, Err, codes, flat_map, is_err}
 use Rattle.std.specs.Io.KnownBytes.{Appends}
 use Rattle.hex.specs.Hex.{encode_lower}
-use Rattle.silt_disk.specs.Disk.{GaveAny}
-use Rattle.silt_dump.specs.Order.{AreFirstEntries, AreInOrder, AreOfMap}
-use Rattle.silt_dump.specs.Pieces.{EndsEarly}
-use Rattle.silt_disk.specs.declared.disk.Disk.{Ghosts}
-use Rattle.silt_frame.specs.declared.key.Key.{Key}
-use Rattle.silt_image.specs.Meaning.{image_map}
-use Rattle.silt_recovery.specs.Errors.{refusal_of_opening}
-use Rattle.silt_recovery.specs.declared.fault.OpenError.{OpenError}
+use Rattle.silt_jobs.specs.Common.{GaveAny, AreFirstEntries, EndsEarly, Ghosts, Key, image_map, refusal_of_opening, OpenError}
+use Rattle.silt_dump.specs.Order.{AreInOrder, AreOfMap}
 use Rattle.silt_jobs.specs.Ended.{IsDone, RefusesSo}
 use Rattle.silt_jobs.specs.Jobs.{IsBad}
 use Rattle.silt_jobs.specs.Openings.{OnDisk}
-use Rattle.silt_jobs.specs.declared.ended.Ended.{Ended}
+use Rattle.silt_jobs.specs.declared.people.ended.Ended.{Ended}
 
 -- the line that puts this value at this key
 abbrev pub put_line : Key → List ℕ → List ℕ

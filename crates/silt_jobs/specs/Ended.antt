@@ -2,16 +2,16 @@
 use Rattle.std.specs.Prelude.{◌≡◌, ℕ, IfOk, List, [], Option, Some, None, codes}
 use Rattle.std.specs.Io.KnownBytes.{Appends}
 use Rattle.std.specs.Result.{result_unwrap_or}
-use Rattle.silt_event.specs.declared.refusal.Refusal.{Refusal}
+use Rattle.silt_jobs.specs.Common.{Refusal}
 use Rattle.silt_event.specs.declared.reply.Reply.TheVariants.{Refused as RefusedReply}
 use Rattle.silt_jobs.specs.Scripts.{reply_line}
-use Rattle.silt_jobs.specs.declared.ended.Ended.{Ended}
-use Rattle.silt_jobs.specs.declared.ended.Ends.{Ends}
-use Rattle.silt_jobs.specs.declared.ended.Why.{Why}
-use Rattle.silt_jobs.specs.declared.ended.Why.TheVariants.{NoDisk, Refused, Holds, IsStream, FewRegions, ShortValues, OutOfLimits, NoPlan, NoSetPlan}
-use Rattle.silt_jobs.specs.declared.ended.Why.TheVariants.{NotListening, NoReply, NotAsked, NoRandom, NotDue, NoJob}
-use Rattle.silt_jobs.specs.declared.failure.Failure.{Failure}
-use Rattle.silt_jobs.specs.declared.failures.Failures.{Failures}
+use Rattle.silt_jobs.specs.declared.people.ended.Ended.{Ended}
+use Rattle.silt_jobs.specs.declared.people.ended.Ends.{Ends}
+use Rattle.silt_jobs.specs.declared.people.ended.Why.{Why}
+use Rattle.silt_jobs.specs.declared.people.ended.Why.TheVariants.{NoDisk, Refused, Holds, IsStream, FewRegions, ShortValues, OutOfLimits, NoPlan, NoSetPlan}
+use Rattle.silt_jobs.specs.declared.people.ended.Why.TheVariants.{NotListening, NoReply, NotAsked, NoRandom, NotDue, NoJob}
+use Rattle.silt_jobs.specs.declared.people.failure.Failure.{Failure}
+use Rattle.silt_jobs.specs.declared.people.failures.Failures.{Failures}
 
 -- no call failed
 abbrev pub none_failed : Failures

@@ -1,28 +1,19 @@
 -- What the jobs on the disk of a path do.
 use Rattle.std.specs.Prelude.{◌≡◌, ◌⊎◌, ℕ, Bool, true, false, List, MatchResult, Option, Some, None, Result}
 use Rattle.std.specs.Option.{IsSomeAnd}
-use Rattle.silt_disk.specs.Disk.{GaveAny, LeavesOnly, size}
-use Rattle.silt_disk.specs.Layout.{InLimits, Shape, device_size}
-use Rattle.silt_disk.specs.declared.disk.Disk.{Ghosts}
+use Rattle.silt_jobs.specs.Common.{GaveAny, LeavesOnly, size, InLimits, Shape, device_size, Ghosts, marking_of, Says, Unmarked, CoreState, Opens, Numbers, RunOptions}
 use Rattle.silt_event.specs.declared.refusal.Refusal.TheVariants.{Device}
-use Rattle.silt_shards.specs.Marks.{marking_of}
-use Rattle.silt_shards.specs.Opening.{Says}
-use Rattle.silt_shards.specs.declared.mark.Marking.TheVariants.{Unmarked}
-use Rattle.silt_store_set.specs.CoreState.{CoreState, Opens}
-use Rattle.silt_words.specs.declared.job.Numbers.{Numbers}
-use Rattle.silt_words.specs.declared.job.RunOptions.{RunOptions}
 use Rattle.silt_jobs.specs.Ended.{Refuses}
-use Rattle.silt_jobs.specs.HeldData.{Looks, TellsStore, overwritten}
-use Rattle.silt_jobs.specs.Jobs.{Checks, Formats, RunsOpened, TendsOpened}
-use Rattle.silt_jobs.specs.Numbers.{shape_asked}
-use Rattle.silt_jobs.specs.Openings.{OnDisk, RefusesDisk, RefusesNoDisk, RefusesUnopened}
-use Rattle.silt_jobs.specs.declared.ended.Ended.{Ended}
-use Rattle.silt_jobs.specs.declared.ended.Why.TheVariants.{OutOfLimits, Refused}
-use Rattle.silt_jobs.specs.declared.failures.Failures.{Failures}
-use Rattle.silt_jobs.specs.declared.held_data.Holding.{Holding}
-use Rattle.silt_jobs.specs.declared.streams.StreamError.{StreamError}
-use Rattle.silt_jobs.specs.declared.tally.Tally.{Tally}
-use Rattle.silt_jobs.specs.declared.urgent.Urgent.{Urgent}
+use Rattle.silt_jobs.specs.HeldData.{FindsData, TellsStore, overwritten}
+use Rattle.silt_jobs.specs.Jobs.{Checks, Formats, RunsOpened, TendsOpened, shape_asked}
+use Rattle.silt_jobs.specs.Openings.{IsUnopened, OnDisk, RefusesDisk, RefusesFor, RefusesNoDisk}
+use Rattle.silt_jobs.specs.declared.people.ended.Ended.{Ended}
+use Rattle.silt_jobs.specs.declared.people.ended.Why.TheVariants.{OutOfLimits, Refused}
+use Rattle.silt_jobs.specs.declared.people.failures.Failures.{Failures}
+use Rattle.silt_jobs.specs.declared.jobs.held_data.Holding.{Holding}
+use Rattle.silt_jobs.specs.declared.people.streams.StreamError.{StreamError}
+use Rattle.silt_jobs.specs.declared.people.tally.Tally.{Tally}
+use Rattle.silt_jobs.specs.declared.people.urgent.Urgent.{Urgent}
 
 module _ {D F : Type 0} (facts : Ghosts D F) where
   -- the store on a disk was opened, this was done with it, and the disk is returned
@@ -46,7 +37,7 @@ module _ {D E F : Type 0} (facts : Ghosts D F) where
   -- the background work of the store on a disk, or it was not opened
   abbrev pub TendsDisk : (D → Failures → Type 0) → Option ℕ → D → Option D → Ended E F → Option (List ℕ) → Option (List ℕ) → Type 0
   TendsDisk Failed merge_at disk given ended before after =
-      RefusesUnopened facts disk given ended before after ⊎ Opened facts disk (λ core new. TendsOpened facts Failed merge_at core new ended before after) given
+      RefusesFor facts (IsUnopened facts) disk given ended before after ⊎ Opened facts disk (λ core new. TendsOpened facts Failed merge_at core new ended before after) given
 
   -- the background work of the store on the disk that the source opened, or it opened none
   abbrev pub TendsFile : (D → Failures → Type 0) → Option ℕ → (D → Type 0) → (E → Type 0) → Option D → Ended E F → Option (List ℕ) → Option (List ℕ) → Type 0
@@ -63,7 +54,7 @@ sized_by true resized filled = resized
 sized_by false resized filled = filled
 
 module _ {D F : Type 0} (facts : Ghosts D F) where
-  -- the disk has no mark of a shard and stays as it was, or the mark's gate was closed
+  -- the disk has no mark of a shard and stays as it was, or the mark's commit byte was closed
   abbrev pub Unmarks : D → D → Type 0
   Unmarks old new = ((new ≡ old) × Says facts old Unmarked) ⊎ LeavesOnly (facts.content new) (λ image. marking_of image ≡ Unmarked)
 
@@ -87,7 +78,7 @@ module _ {D E F : Type 0} (facts : Ghosts D F) (Resized : D → ℕ → D → Ty
   -- as it was found.
   abbrev pub FormatsFound : Shape → Bool → D → Option D → Ended E F → Option (List ℕ) → Option (List ℕ) → Type 0
   FormatsFound shape force found given ended before after =
-      (look : Result Holding F) × Looks facts found look
+      (look : Result Holding F) × FindsData facts found look
       × MatchResult (overwritten force look) (λ store. TellsStore Told Quiet store × FormatsSized facts Resized NotResized shape found given ended before after)
       (λ why. Quiet × (given ≡ Some found) × Refuses why ended before after)
 

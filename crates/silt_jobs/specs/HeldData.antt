@@ -1,22 +1,17 @@
 -- The data on a disk before a format, and whether it may be overwritten.
 use Rattle.std.specs.Prelude.{◌≡◌, ℕ, ◌==◌, nat_le, Bool, true, false, ◌&&◌, ◌||◌, IsTrue, IfSome, if◌then◌else◌, List, Option, Some, None, Result, Ok, Err, slice_range}
 use Rattle.std.specs.Str.{bytes_eq}
-use Rattle.silt_disk.specs.Disk.{Content, GaveAny, size}
-use Rattle.silt_disk.specs.Header.{header_len, header_of, magic}
-use Rattle.silt_disk.specs.declared.disk.Disk.{Ghosts}
+use Rattle.silt_jobs.specs.Common.{Content, GaveAny, size, header_of, Ghosts, Report, IsReported, IsFound, IsRefusedLook, OpenError}
+use Rattle.silt_disk.specs.Header.{header_len, magic}
 use Rattle.silt_event.specs.declared.refusal.Refusal.TheVariants.{Device}
-use Rattle.silt_event.specs.declared.report.Report.{Report}
-use Rattle.silt_recovery.specs.Opening.{IsReported}
-use Rattle.silt_recovery.specs.Refusals.{IsFound, IsRefusedLook}
-use Rattle.silt_recovery.specs.declared.fault.OpenError.{OpenError}
 use Rattle.silt_jobs.specs.Damage.{HasShape}
-use Rattle.silt_jobs.specs.declared.ended.Why.{Why}
-use Rattle.silt_jobs.specs.declared.ended.Why.TheVariants.{Holds, Refused}
-use Rattle.silt_jobs.specs.declared.held_data.HeldStore.{HeldStore}
-use Rattle.silt_jobs.specs.declared.held_data.Holding.{Holding}
-use Rattle.silt_jobs.specs.declared.held_data.Holding.TheVariants.{Nothing, Store, Other}
-use Rattle.silt_jobs.specs.declared.urgent.Urgent.{Urgent}
-use Rattle.silt_jobs.specs.declared.urgent.Urgent.TheVariants.{Overwrites}
+use Rattle.silt_jobs.specs.declared.people.ended.Why.{Why}
+use Rattle.silt_jobs.specs.declared.people.ended.Why.TheVariants.{Holds, Refused}
+use Rattle.silt_jobs.specs.declared.jobs.held_data.HeldStore.{HeldStore}
+use Rattle.silt_jobs.specs.declared.jobs.held_data.Holding.{Holding}
+use Rattle.silt_jobs.specs.declared.jobs.held_data.Holding.TheVariants.{Nothing, Store, Other}
+use Rattle.silt_jobs.specs.declared.people.urgent.Urgent.{Urgent}
+use Rattle.silt_jobs.specs.declared.people.urgent.Urgent.TheVariants.{Overwrites}
 
 -- whether these bytes after a header's commit byte belong to a store of this program: whole, damaged, or formatted in part
 abbrev pub has_magic : List ℕ → Bool
@@ -44,9 +39,9 @@ module _ {D F : Type 0} (facts : Ghosts D F) where
   HoldsData disk Other = ((size (facts.content disk) == 0) ≡ false) × (is_ours (facts.content disk) ≡ false)
 
   -- a disk was read: it has this data, or a read failed
-  abbrev pub Looks : D → Result Holding F → Type 0
-  Looks disk (Ok holding) = IsTrue (facts.content disk).honest → HoldsData disk holding
-  Looks disk (Err fault) = GaveAny facts.gave disk fault
+  abbrev pub FindsData : D → Result Holding F → Type 0
+  FindsData disk (Ok holding) = IsTrue (facts.content disk).honest → HoldsData disk holding
+  FindsData disk (Err fault) = GaveAny facts.gave disk fault
 
 -- the charge is known, and it is 0
 abbrev pub is_zero : Option ℕ → Bool

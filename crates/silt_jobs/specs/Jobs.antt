@@ -1,47 +1,29 @@
 -- What the jobs on a disk do, and what they write.
-use Rattle.std.specs.Prelude.{◌≡◌, ◌⊎◌, ◌&&◌, ◌<◌, ℕ, cond, IsTrue, IfNone, IfOk, IfSome, List, ◌++◌, MatchBool, Option, Some, None, codes}
+use Rattle.std.specs.Prelude.{◌≡◌, ◌⊎◌, ◌&&◌, ◌<◌, ℕ, cond, IsTrue, IfNone, IfOk, IfSome, List, ◌++◌, MatchBool, Option, Some, None, Ok, codes}
 use Rattle.std.specs.Option.{IsSomeAnd}
 use Rattle.std.specs.FinMap.{empty}
 use Rattle.std.specs.Fmt.{decimal}
 use Rattle.std.specs.Io.KnownBytes.{Appends}
-use Rattle.silt_disk.specs.Disk.{GaveAny, LeavesOnly, size}
-use Rattle.silt_disk.specs.Layout.{InLimits, Shape, device_size}
-use Rattle.silt_disk.specs.declared.disk.Disk.{Ghosts}
-use Rattle.silt_event.specs.declared.report.Report.{Report}
-use Rattle.silt_recovery.specs.Format.{FormatCause}
-use Rattle.silt_recovery.specs.Opening.{IsReported}
-use Rattle.silt_recovery.specs.Refusals.{IsFound, IsRefusedLook}
-use Rattle.silt_recovery.specs.declared.fault.FormatError.{FormatError}
-use Rattle.silt_recovery.specs.declared.fault.OpenError.{OpenError}
-use Rattle.silt_image.specs.Meaning.{StandsFor}
-use Rattle.silt_event.specs.Queries.{AnswersQuery}
-use Rattle.silt_store_set.specs.CoreState.{CoreState, DoesPlain}
-use Rattle.silt_store_set.specs.Facts.{AdministersCore}
-use Rattle.silt_recovery.specs.Errors.{refusal_of_formatting, refusal_of_opening}
-use Rattle.silt_event.specs.declared.refusal.Refusal.{Refusal}
-use Rattle.silt_event.specs.declared.reply.Reply.TheVariants.{Refused}
+use Rattle.silt_jobs.specs.Common.{GaveAny, LeavesOnly, size, InLimits, Shape, device_size, Ghosts, Report, FormatCause, IsReported, IsFound, IsRefusedLook, FormatError, OpenError}
+use Rattle.silt_jobs.specs.Common.{StandsFor, AnswersQuery, CoreState, DoesPlain, AdministersCore, refusal_of_formatting, refusal_of_opening, Refusal, Refused, Ends, SessionEnd}
+use Rattle.silt_jobs.specs.Common.{Numbers, RunOptions}
 use Rattle.silt_wire.specs.Reports.{report_text}
-use Rattle.silt_wire.specs.Sessions.{Ends}
-use Rattle.silt_wire.specs.declared.sessions.SessionEnd.{SessionEnd}
 use Rattle.silt_wire.specs.declared.sessions.SessionEnd.TheVariants.{End, NoMemory, ReadFault, WriteFault}
-use Rattle.silt_words.specs.declared.job.Numbers.{Numbers}
-use Rattle.silt_words.specs.declared.job.RunOptions.{RunOptions}
 use Rattle.silt_jobs.specs.BackgroundWork.{AdministersTended, PlainRefusal, StopsAt, TendsAll, TendsThenDoes, due_at_once}
 use Rattle.silt_jobs.specs.Damage.{HasShape, LacksShape}
 use Rattle.silt_jobs.specs.Ended.{IsDone, Refuses, RefusesSo, none_failed}
-use Rattle.silt_jobs.specs.Numbers.{shape_asked}
 use Rattle.silt_jobs.specs.Scripts.{AnswersScript, reply_line}
 use Rattle.silt_jobs.specs.Tally.{has_refusals}
-use Rattle.silt_jobs.specs.declared.background_work.Steps.{Steps}
-use Rattle.silt_jobs.specs.declared.ended.Ended.{Ended}
-use Rattle.silt_jobs.specs.declared.ended.Found.{Found}
-use Rattle.silt_jobs.specs.declared.ended.Found.TheVariants.{Store, Session as Ran}
-use Rattle.silt_jobs.specs.declared.ended.Session.{Session}
-use Rattle.silt_jobs.specs.declared.ended.Why.TheVariants.{FewRegions, OutOfLimits, Refused as RefusedSo}
-use Rattle.silt_jobs.specs.declared.failures.Failures.{Failures}
-use Rattle.silt_jobs.specs.declared.held_data.HeldStore.{HeldStore}
-use Rattle.silt_jobs.specs.declared.streams.StreamError.{StreamError}
-use Rattle.silt_jobs.specs.declared.tally.Tally.{Tally}
+use Rattle.silt_jobs.specs.declared.jobs.background_work.Steps.{Steps}
+use Rattle.silt_jobs.specs.declared.people.ended.Ended.{Ended}
+use Rattle.silt_jobs.specs.declared.people.ended.Found.{Found}
+use Rattle.silt_jobs.specs.declared.people.ended.Found.TheVariants.{Store, Session as Ran}
+use Rattle.silt_jobs.specs.declared.jobs.disk_jobs.EndedSession.{EndedSession}
+use Rattle.silt_jobs.specs.declared.people.ended.Why.TheVariants.{FewRegions, OutOfLimits, Refused as RefusedSo}
+use Rattle.silt_jobs.specs.declared.people.failures.Failures.{Failures}
+use Rattle.silt_jobs.specs.declared.jobs.held_data.HeldStore.{HeldStore}
+use Rattle.silt_jobs.specs.declared.people.streams.StreamError.{StreamError}
+use Rattle.silt_jobs.specs.declared.people.tally.Tally.{Tally}
 
 -- the length of a device that was formatted, in bytes
 abbrev pub formatted_line : ℕ → List ℕ
@@ -92,21 +74,26 @@ session_error ReadFault reading writing = reading
 session_error WriteFault reading writing = writing
 session_error NoMemory reading writing = None
 
-module _ {D F W : Type 0} (facts : Ghosts D F) (contents : W → Option (List ℕ)) (kept_error : W → Option StreamError) (kept_tally : W → Tally) (options : RunOptions)
-    (reading : Option StreamError) where
-  -- a session with this end, which left the writer so
-  abbrev pub session_of : SessionEnd → W → ℕ → Session
-  session_of end answered value_len =
-      record { end = end; error = session_error end reading (kept_error answered); refused = (kept_tally answered).refused; value_len = value_len }
+-- `opened` was written, and the store's session with the reader and the writer had this end
+abbrev pub AnswersReader : {D F W : Type 0} → Ghosts D F → (W → Option (List ℕ)) → RunOptions → SessionEnd → Option PlainRefusal → CoreState D → CoreState D
+    → Option (List ℕ) → Option (List ℕ) → W → W → Type 0
+AnswersReader facts contents options end refusal old new remaining left before after =
+    (opened : Option (List ℕ)) × Appends (contents before) opened (codes "opened\n") × AnswersLines facts options end refusal old new remaining left opened (contents after)
 
-  -- `opened` was written, and the store's session with the reader and the writer had an end that makes this status with its replies. This
-  -- is what is known of it. At last comes the refusal of the background work, if there is one.
-  abbrev pub AnswersReader : ℕ → Option Found → CoreState D → CoreState D → Option (List ℕ) → Option (List ℕ) → W → W → Type 0
-  AnswersReader status found old new remaining left before after =
-      (end : SessionEnd) × (refusal : Option PlainRefusal) × (answered : W) × (opened : Option (List ℕ))
-      × (status ≡ run_status options (kept_tally answered) end refusal) × Appends (contents before) opened (codes "opened\n")
-      × AnswersLines facts options end refusal old new remaining left opened (contents answered)
-      × (found ≡ Some (Ran (session_of end answered old.shape.value_len))) × PrintsUntended contents end refusal answered after
+module _ {W : Type 0} (contents : W → Option (List ℕ)) (kept_error : W → Option StreamError) (kept_tally : W → Tally) (options : RunOptions) (reading : Option StreamError) where
+  -- a session with this end, of values of this length, which left the writer so, and this refusal of background work make this status, and this
+  -- is found; at last comes the refusal, if there is one
+  abbrev pub EndsSo : SessionEnd → Option PlainRefusal → ℕ → ℕ → Option Found → W → W → Type 0
+  EndsSo end refusal value_len status found answered after =
+      (status ≡ run_status options (kept_tally answered) end refusal)
+      × (found ≡ Some (Ran (record { end = end; error = session_error end reading (kept_error answered); refused = (kept_tally answered).refused; value_len = value_len })))
+      × PrintsUntended contents end refusal answered after
+
+  -- a job ended as its session did
+  abbrev pub EndsSession : {E F : Type 0} → EndedSession → Ended E F → W → W → Type 0
+  EndsSession session ended answered after =
+      (ended.why ≡ None) × (ended.failures ≡ session.failures)
+      × IfOk ended.status (λ status. (end : SessionEnd) × (session.end ≡ Ok end) × EndsSo end session.refusal session.value_len status ended.found answered after)
 
 module _ {D E F W : Type 0} (facts : Ghosts D F) (Failed : D → Failures → Type 0) (contents : W → Option (List ℕ)) (kept_error : W → Option StreamError) (kept_tally : W → Tally)
     (options : RunOptions) (reading : Option StreamError) where
@@ -114,8 +101,9 @@ module _ {D E F W : Type 0} (facts : Ghosts D F) (Failed : D → Failures → Ty
   abbrev pub EndsLife : CoreState D → D → Ended E F → Option (List ℕ) → Option (List ℕ) → W → W → Type 0
   EndsLife core new ended remaining left before after =
       (ended.why ≡ None) × Failed new ended.failures
-      × IfOk ended.status (λ status. (last : CoreState D)
-      × AnswersReader facts contents kept_error kept_tally options reading status ended.found core last remaining left before after × (new ≡ last.disk))
+      × IfOk ended.status (λ status. (end : SessionEnd) × (refusal : Option PlainRefusal) × (last : CoreState D) × (answered : W)
+      × AnswersReader facts contents options end refusal core last remaining left before answered
+      × EndsSo contents kept_error kept_tally options reading end refusal core.shape.value_len status ended.found answered after × (new ≡ last.disk))
 
   -- one life of an opened store, or it has too few hash regions
   abbrev pub RunsOpened : CoreState D → D → Ended E F → Option (List ℕ) → Option (List ℕ) → W → W → Type 0
@@ -164,6 +152,10 @@ module _ {D E F : Type 0} (facts : Ghosts D F) where
   Formats shape old new ended before after =
       ((size (facts.content new) ≡ device_size shape) × LeavesOnly (facts.content new) (StandsFor shape empty) × IsDone (formatted_line (device_size shape)) ended before after)
       ⊎ ((error : FormatError F) × FormatCause facts.content (GaveAny facts.gave) shape old new error × Refuses (RefusedSo (refusal_of_formatting error) None) ended before after)
+
+-- the geometry that the numbers of a command line ask for
+abbrev pub shape_asked : Numbers → Shape
+shape_asked n = record { value_len = n.value_len; buckets = n.buckets; log_capacity = n.log_capacity; logs = n.logs; hashes = n.hashes; sorted_capacity = n.sorted_capacity }
 
 -- a script was answered, or refused; if a number is out of its limits, nothing is read
 abbrev pub RunsScript : {E F : Type 0} → Numbers → Ended E F → Option (List ℕ) → Option (List ℕ) → Option (List ℕ) → Option (List ℕ) → Type 0

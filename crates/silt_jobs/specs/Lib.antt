@@ -1,10 +1,10 @@
+pub mod Common
 pub mod Damage
 pub mod Dump
 pub mod Ended
 pub mod Files
 pub mod Jobs
 pub mod NewStores
-pub mod Numbers
 pub mod Openings
 pub mod HeldData
 pub mod PlanCosts

@@ -1,15 +1,8 @@
 -- New stores on disks in memory.
 use Rattle.std.specs.Prelude.{◌≡◌, List}
 use Rattle.std.specs.FinMap.{empty}
-use Rattle.silt_disk.specs.Disk.{GaveAny, LeavesOnly, size}
-use Rattle.silt_disk.specs.Layout.{Shape, device_size}
+use Rattle.silt_jobs.specs.Common.{GaveAny, LeavesOnly, size, Shape, device_size, memory_content, memory_gave, Stop, MemDisk, MemFault, StandsFor, Refusal}
 use Rattle.silt_device.specs.Lives.{next_life}
-use Rattle.silt_device.specs.Memory.{memory_content, memory_gave}
-use Rattle.silt_device.specs.declared.life.Stop.{Stop}
-use Rattle.silt_device.specs.declared.memory.MemDisk.{MemDisk}
-use Rattle.silt_device.specs.declared.memory.MemFault.{MemFault}
-use Rattle.silt_image.specs.Meaning.{StandsFor}
-use Rattle.silt_event.specs.declared.refusal.Refusal.{Refusal}
 use Rattle.silt_event.specs.declared.refusal.Refusal.TheVariants.{Device, NoMemory}
 
 -- the disk has the length of this shape, each possible crash image is an empty store of it, and these stops end the disk's lives

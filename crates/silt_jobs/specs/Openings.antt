@@ -1,19 +1,15 @@
 -- When there is no opened store.
 use Rattle.std.specs.Prelude.{◌≡◌, ◌⊎◌, ℕ, List, Option, None, Result, Ok, Err}
 use Rattle.std.specs.Option.{IsSomeAnd}
-use Rattle.silt_disk.specs.Disk.{Content}
-use Rattle.silt_disk.specs.declared.disk.Disk.{Ghosts}
-use Rattle.silt_event.specs.declared.refusal.Refusal.{Refusal}
+use Rattle.silt_jobs.specs.Common.{Content, Ghosts, Refusal, SaysSo, SetCause, Unmarked}
 use Rattle.silt_recovery.specs.Opening.{LeavesNoOther}
-use Rattle.silt_shards.specs.Opening.{IsMarked, SaysSo}
-use Rattle.silt_shards.specs.declared.fault.SetCause.{SetCause}
+use Rattle.silt_shards.specs.Opening.{IsMarked}
 use Rattle.silt_shards.specs.declared.fault.SetCause.TheVariants.{NotDue as IsNotDue, Refused as IsRefusedSo}
-use Rattle.silt_shards.specs.declared.mark.Marking.TheVariants.{Unmarked}
 use Rattle.silt_store_set.specs.Opening.{OpeningCause}
 use Rattle.silt_jobs.specs.Ended.{Refuses}
-use Rattle.silt_jobs.specs.declared.ended.Ended.{Ended}
-use Rattle.silt_jobs.specs.declared.ended.Why.{Why}
-use Rattle.silt_jobs.specs.declared.ended.Why.TheVariants.{NoDisk, NotDue, Refused}
+use Rattle.silt_jobs.specs.declared.people.ended.Ended.{Ended}
+use Rattle.silt_jobs.specs.declared.people.ended.Why.{Why}
+use Rattle.silt_jobs.specs.declared.people.ended.Why.TheVariants.{NoDisk, NotDue, Refused}
 
 -- why a job is refused, by what is wrong with a file
 abbrev pub IsWhy : {E F : Type 0} → SetCause F → Why E F → Type 0
@@ -50,10 +46,6 @@ module _ {D E F : Type 0} (facts : Ghosts D F) where
   -- no store of its own was opened on a disk, and the job was refused for that
   abbrev pub RefusesDisk : D → Option D → Ended E F → Option (List ℕ) → Option (List ℕ) → Type 0
   RefusesDisk old given ended before after = RefusesFor IsRefused old given ended before after
-
-  -- no store was opened on a disk, and the job was refused for that
-  abbrev pub RefusesUnopened : D → Option D → Ended E F → Option (List ℕ) → Option (List ℕ) → Type 0
-  RefusesUnopened old given ended before after = RefusesFor IsUnopened old given ended before after
 
   -- no store of its own was opened, for this reason: the source gave no disk, or the store on it was not opened, and the disk is returned
   abbrev pub IsNotOpened : Result D E → Option D → Why E F → Type 0

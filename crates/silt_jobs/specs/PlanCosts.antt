@@ -1,15 +1,14 @@
 -- What a planned store costs in merging, and in memory at rest.
 use Rattle.std.specs.Prelude.{◌≡◌, ℕ, ◌+◌, ◌*◌, ◌/◌, ◌==◌, nat_lt, ◌||◌, Bool, List, [], ◌∷◌, max, Option, Some, None, if◌then◌else◌}
-use Rattle.silt_disk.specs.Layout.{Shape, device_size}
-use Rattle.silt_words.specs.declared.job.PlanRequest.{PlanRequest}
+use Rattle.silt_jobs.specs.Common.{Shape, device_size, PlanRequest}
 use Rattle.silt_jobs.specs.Ended.{IsDone, Refuses}
 use Rattle.silt_jobs.specs.Plans.{bucket_counts, memory_of, memory_planned, plan_text, shape_planned}
-use Rattle.silt_jobs.specs.declared.ended.Ended.{Ended}
-use Rattle.silt_jobs.specs.declared.ended.Found.TheVariants.{Cost}
-use Rattle.silt_jobs.specs.declared.ended.Why.TheVariants.{NoPlan}
-use Rattle.silt_jobs.specs.declared.plan_cost.PlanCost.{PlanCost}
-use Rattle.silt_jobs.specs.declared.plan_cost.Remedy.{Remedy}
-use Rattle.silt_jobs.specs.declared.plan_cost.Remedy.TheVariants.{SeveralStores, Memory}
+use Rattle.silt_jobs.specs.declared.people.ended.Ended.{Ended}
+use Rattle.silt_jobs.specs.declared.people.ended.Found.TheVariants.{Cost}
+use Rattle.silt_jobs.specs.declared.people.ended.Why.TheVariants.{NoPlan}
+use Rattle.silt_jobs.specs.declared.plans.plan_cost.PlanCost.{PlanCost}
+use Rattle.silt_jobs.specs.declared.plans.plan_cost.Remedy.{Remedy}
+use Rattle.silt_jobs.specs.declared.plans.plan_cost.Remedy.TheVariants.{SeveralStores, Memory}
 
 -- The rows of four full logs, each with seven rows for two buckets: so many rows come between two merges.
 abbrev pub rows_between_merges : ℕ → ℕ
@@ -54,12 +53,12 @@ remedy_of keys buckets =
 abbrev pub cost_of : ℕ → ℕ → PlanCost
 cost_of keys buckets = record { keys = keys; rows = rows_between_merges buckets; at_rest = at_rest keys buckets; remedy = remedy_of keys buckets }
 
--- the numbers of one store, and what it takes
-abbrev pub store_text : Shape → ℕ → List ℕ
-store_text s memory = plan_text s (device_size s) memory
+-- the numbers of a geometry and so many bytes on disk and in memory were written, and this is the cost
+abbrev pub EndsPlan : {E F : Type 0} → Shape → ℕ → ℕ → PlanCost → Ended E F → Option (List ℕ) → Option (List ℕ) → Type 0
+EndsPlan s disk memory cost ended before after = (ended.found ≡ Some (Cost cost)) × IsDone (plan_text s disk memory) ended before after
 
 -- the plan of this many buckets was written, with its cost, or the line says that there is none
 abbrev pub Plans : {E F : Type 0} → PlanRequest → Option ℕ → Ended E F → Option (List ℕ) → Option (List ℕ) → Type 0
 Plans r (Some buckets) ended before after =
-    (ended.found ≡ Some (Cost (cost_of r.keys buckets))) × IsDone (store_text (shape_planned r buckets) (memory_planned r buckets)) ended before after
+    EndsPlan (shape_planned r buckets) (device_size (shape_planned r buckets)) (memory_planned r buckets) (cost_of r.keys buckets) ended before after
 Plans r None ended before after = Refuses (NoPlan r) ended before after

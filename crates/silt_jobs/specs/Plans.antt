@@ -1,9 +1,8 @@
 -- The six numbers of a planned store for a number of keys.
-use Rattle.std.specs.Prelude.{ℕ, ◌+◌, ◌*◌, ◌/◌, ◌==◌, nat_le, nat_lt, ◌&&◌, ◌||◌, Bool, true, List, [], ◌∷◌, ◌++◌, Option, Some, None, if◌then◌else◌, codes}
+use Rattle.std.specs.Prelude.{ℕ, ◌+◌, ◌*◌, ◌/◌, ◌==◌, nat_le, nat_lt, ◌&&◌, ◌||◌, Bool, true, List, [], ◌∷◌, ◌++◌, Option, Some, None, if◌then◌else◌, codes, option_map}
 use Rattle.std.specs.Fmt.{decimal}
 use Rattle.silt_disk.specs.Header.{is_in_limits}
-use Rattle.silt_disk.specs.Layout.{Shape}
-use Rattle.silt_words.specs.declared.job.PlanRequest.{PlanRequest}
+use Rattle.silt_jobs.specs.Common.{Shape, PlanRequest}
 
 -- the bucket counts of a geometry, the greatest first
 abbrev pub bucket_counts : List ℕ
@@ -44,6 +43,10 @@ is_planned r buckets = is_needed r buckets && is_possible r buckets
 unfoldable pub first_planned : PlanRequest → List ℕ → Option ℕ
 first_planned r [] = None
 first_planned r (buckets ∷ more) = if is_planned r buckets then Some buckets else first_planned r more
+
+-- its geometry
+abbrev pub geometry_planned : PlanRequest → List ℕ → Option Shape
+geometry_planned r counts = option_map (shape_planned r) (first_planned r counts)
 
 -- a word and a number
 unfoldable pub number_after : List ℕ → ℕ → List ℕ

@@ -4,38 +4,28 @@ use Rattle.std.specs.FinMap.{empty}
 use Rattle.std.specs.List.{slice_get}
 use Rattle.std.specs.Io.KnownBytes.{Appends, Consumes, IsAtEnd}
 use Rattle.std.specs.declared.alloc.Global.{Global}
-use Rattle.silt_disk.specs.Layout.{InLimits, Shape}
-use Rattle.silt_device.specs.Memory.{memory_content, memory_failures, memory_gave, memory_syncs, memory_writes}
-use Rattle.silt_disk.specs.declared.disk.Disk.{Ghosts}
+use Rattle.silt_jobs.specs.Common.{InLimits, Shape, memory_content, memory_gave, Ghosts, MemDisk, MemFault, LifeReply, Refusal, Reply, Map, HasValueOf, LivesRun, LineFault}
+use Rattle.silt_jobs.specs.Common.{asked_by, is_blank, lines_after}
+use Rattle.silt_device.specs.Memory.{memory_failures, memory_syncs, memory_writes}
 use Rattle.silt_device.specs.declared.life.Stop.{Stop as StopOf}
-use Rattle.silt_device.specs.declared.memory.MemDisk.{MemDisk}
-use Rattle.silt_device.specs.declared.memory.MemFault.{MemFault}
 use Rattle.silt_event.specs.declared.event.Event.{Event as EventOf}
-use Rattle.silt_event.specs.declared.reply.LifeReply.{LifeReply}
 use Rattle.silt_event.specs.declared.reply.LifeReply.TheVariants.{NotOpened, Opened}
-use Rattle.silt_event.specs.declared.refusal.Refusal.{Refusal}
 use Rattle.silt_event.specs.declared.refusal.Refusal.TheVariants.{BadGeometry}
-use Rattle.silt_event.specs.declared.reply.Reply.{Reply}
 use Rattle.silt_event.specs.declared.reply.Reply.TheVariants.{Refused as RefusedReply}
-use Rattle.silt_event.specs.Commands.{Map}
-use Rattle.silt_event.specs.Events.{HasValueOf, LivesHistory}
-use Rattle.silt_store_set.specs.Living.{LivesRun}
-use Rattle.silt_wire.specs.declared.line.LineFault.{LineFault}
-use Rattle.silt_wire.specs.Lines.{asked_by, is_blank}
+use Rattle.silt_event.specs.Events.{LivesHistory}
 use Rattle.silt_wire.specs.Replies.{fault_line, reply_text}
-use Rattle.silt_wire.specs.Sessions.{lines_after}
 use Rattle.silt_jobs.specs.Stops.{stop_of}
 use Rattle.silt_jobs.specs.NewStores.{IsNewStore, NewStoreCause}
-use Rattle.silt_jobs.specs.declared.transcript.LinePlace.{LinePlace}
-use Rattle.silt_jobs.specs.declared.script_lines.Mark.{Mark}
-use Rattle.silt_jobs.specs.declared.script_lines.Mark.TheVariants.{Event, Refused, Stop}
-use Rattle.silt_jobs.specs.declared.script_lines.Reading.{Reading}
-use Rattle.silt_jobs.specs.declared.script_lines.Script.{Script}
+use Rattle.silt_jobs.specs.declared.jobs.transcript.LinePlace.{LinePlace}
+use Rattle.silt_jobs.specs.declared.jobs.script_lines.Mark.{Mark}
+use Rattle.silt_jobs.specs.declared.jobs.script_lines.Mark.TheVariants.{Event, Refused, Stop}
+use Rattle.silt_jobs.specs.declared.jobs.script_lines.Reading.{Reading}
+use Rattle.silt_jobs.specs.declared.jobs.script_lines.Script.{Script}
 
 -- ---- what the lines are
 
 -- nothing is read yet
-pub record IsUnread (reading : Reading) : Type 0 where
+pub record HasReadNothing (reading : Reading) : Type 0 where
   pub marks : reading.marks.items ≡ []
   pub lives : reading.lives.items ≡ []
   pub stops : reading.stops.items ≡ []
@@ -92,7 +82,7 @@ pub record EndsReading (reading : Reading) (script : Script) : Type 0 where
 
 -- the script of these lines
 abbrev pub Reads : ℕ → List (List ℕ) → Script → Type 0
-Reads value_len lines script = (first : Reading) × (reading : Reading) × IsUnread first × TakesLines value_len lines first reading × EndsReading reading script
+Reads value_len lines script = (first : Reading) × (reading : Reading) × HasReadNothing first × TakesLines value_len lines first reading × EndsReading reading script
 
 -- each value of a put or a swap has this length
 pub record Fits (value_len : ℕ) (reading : Reading) : Type 0 where

@@ -4,46 +4,26 @@ use Rattle.std.specs.Fmt.{decimal}
 use Rattle.std.specs.Io.KnownBytes.{Appends}
 use Rattle.std.specs.List.{AllZip}
 use Rattle.std.specs.Option.{IsSomeAnd}
-use Rattle.silt_disk.specs.Disk.{GaveAny, LeavesOnly}
-use Rattle.silt_disk.specs.Layout.{Shape}
-use Rattle.silt_disk.specs.declared.disk.Disk.{Ghosts}
+use Rattle.silt_jobs.specs.Common.{GaveAny, LeavesOnly, Shape, Ghosts, Map, PlainReply, Event, StandsFor, marking_of, AreShards, IsShardCount, SetCause, AnswersQuery, Admin}
+use Rattle.silt_jobs.specs.Common.{AdminReply, CoreState, DoesPlain, Opens, AdministersCore, Ends, SessionEnd, FormatOptions, Numbers, RunOptions}
 use Rattle.silt_device.specs.declared.source.DiskSource.{Ghosts as SourceOf}
-use Rattle.silt_event.specs.Commands.{Map}
-use Rattle.silt_event.specs.Events.{PlainReply}
-use Rattle.silt_event.specs.declared.event.Event.{Event}
 use Rattle.silt_event.specs.declared.refusal.Refusal.TheVariants.{Device, NoMemory as OutOfMemory}
-use Rattle.silt_image.specs.Meaning.{StandsFor}
-use Rattle.silt_shards.specs.Marks.{marking_of}
-use Rattle.silt_shards.specs.Opening.{AreOfOneShape, AreShards, IsRefusedSet}
-use Rattle.silt_shards.specs.Routing.{IsShardCount}
+use Rattle.silt_shards.specs.Opening.{AreOfOneShape, IsRefusedSet}
 use Rattle.silt_shards.specs.Sets.{SetDoes, value_len_of}
-use Rattle.silt_shards.specs.declared.fault.SetCause.{SetCause}
 use Rattle.silt_shards.specs.declared.mark.Marking.TheVariants.{Marked}
-use Rattle.silt_event.specs.Queries.{AnswersQuery}
-use Rattle.silt_event.specs.declared.admin.Admin.{Admin}
-use Rattle.silt_event.specs.declared.admin.AdminReply.{AdminReply}
 use Rattle.silt_shards.specs.SetFacts.{AdministersSet}
-use Rattle.silt_store_set.specs.CoreState.{CoreState, DoesPlain, Opens}
-use Rattle.silt_store_set.specs.Facts.{AdministersCore}
-use Rattle.silt_wire.specs.Sessions.{Ends}
-use Rattle.silt_wire.specs.declared.sessions.SessionEnd.{SessionEnd}
-use Rattle.silt_words.specs.declared.job.FormatOptions.{FormatOptions}
-use Rattle.silt_words.specs.declared.job.Numbers.{Numbers}
-use Rattle.silt_words.specs.declared.job.RunOptions.{RunOptions}
 use Rattle.silt_jobs.specs.BackgroundWork.{AdministersTended, PlainRefusal, TendedState, TendsThenDoes}
 use Rattle.silt_jobs.specs.Ended.{Refuses, none_failed}
 use Rattle.silt_jobs.specs.Files.{FormatsFile, sized_by}
-use Rattle.silt_jobs.specs.Jobs.{PrintsUntended, run_status, session_error}
+use Rattle.silt_jobs.specs.Jobs.{EndsSo}
 use Rattle.silt_jobs.specs.Openings.{IsWhy}
-use Rattle.silt_jobs.specs.declared.ended.Ended.{Ended}
-use Rattle.silt_jobs.specs.declared.ended.Found.{Found}
-use Rattle.silt_jobs.specs.declared.ended.Found.TheVariants.{Session as Ran, Shard}
-use Rattle.silt_jobs.specs.declared.ended.Why.{Why}
-use Rattle.silt_jobs.specs.declared.ended.Why.TheVariants.{FewRegions, NoDisk, NoJob, Refused}
-use Rattle.silt_jobs.specs.declared.sets.SetSession.{SetSession}
-use Rattle.silt_jobs.specs.declared.streams.StreamError.{StreamError}
-use Rattle.silt_jobs.specs.declared.tally.Tally.{Tally}
-use Rattle.silt_jobs.specs.declared.urgent.Urgent.{Urgent}
+use Rattle.silt_jobs.specs.declared.people.ended.Ended.{Ended}
+use Rattle.silt_jobs.specs.declared.people.ended.Found.TheVariants.{Shard}
+use Rattle.silt_jobs.specs.declared.people.ended.Why.{Why}
+use Rattle.silt_jobs.specs.declared.people.ended.Why.TheVariants.{FewRegions, NoDisk, NoJob, Refused}
+use Rattle.silt_jobs.specs.declared.people.streams.StreamError.{StreamError}
+use Rattle.silt_jobs.specs.declared.people.tally.Tally.{Tally}
+use Rattle.silt_jobs.specs.declared.people.urgent.Urgent.{Urgent}
 
 -- the name of the file of a shard: that of the set, a dot, and the number of the shard
 abbrev pub shard_file : List ℕ → ℕ → List ℕ
@@ -175,21 +155,6 @@ HasFewRegions {D} merge_at cores hashes =
 -- the shards have as many hash regions as the hash stores of which a merge is to begin, if that is said
 abbrev pub HasRegions : {D : Type 0} → Option ℕ → List (CoreState D) → Type 0
 HasRegions merge_at cores = IfSome (slice_get cores 0) (λ first. IfSome merge_at (λ least. least ≤ first.shape.hashes))
-
-module _ {W : Type 0} (contents : W → Option (List ℕ)) (kept_error : W → Option StreamError) (kept_tally : W → Tally) (options : RunOptions) (reading : Option StreamError) where
-  -- a session with this end, of values of this length, which left the writer so, and this refusal of background work make this status, and this
-  -- is found; at last comes the refusal, if there is one
-  abbrev pub EndsSo : SessionEnd → Option PlainRefusal → ℕ → ℕ → Option Found → W → W → Type 0
-  EndsSo end refusal value_len status found answered after =
-      (status ≡ run_status options (kept_tally answered) end refusal)
-      × (found ≡ Some (Ran (record { end = end; error = session_error end reading (kept_error answered); refused = (kept_tally answered).refused; value_len = value_len })))
-      × PrintsUntended contents end refusal answered after
-
-  -- a job ended as its session did
-  abbrev pub EndsSession : {E F : Type 0} → SetSession → Ended E F → W → W → Type 0
-  EndsSession session ended answered after =
-      (ended.why ≡ None) × (ended.failures ≡ session.failures)
-      × IfOk ended.status (λ status. (end : SessionEnd) × (session.end ≡ Ok end) × EndsSo end session.refusal session.value_len status ended.found answered after)
 
 module _ {D E F W : Type 0} (facts : Ghosts D F) (contents : W → Option (List ℕ)) (kept_error : W → Option StreamError)
     (kept_tally : W → Tally) (options : RunOptions) (reading : Option StreamError) where

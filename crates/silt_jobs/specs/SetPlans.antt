@@ -1,17 +1,14 @@
 -- The plan of a set of shards.
-use Rattle.std.specs.Prelude.{◌≡◌, ◌⊎◌, ◌<◌, ◌≤◌, ◌+◌, ◌-◌, ◌*◌, ◌/◌, ◌%◌, ◌^◌, ℕ, min, List, Option, Some, None, option_map}
-use Rattle.silt_disk.specs.Layout.{Shape, device_size}
-use Rattle.silt_shards.specs.Routing.{IsShardCount}
-use Rattle.silt_words.specs.declared.job.PlanRequest.{PlanRequest}
-use Rattle.silt_jobs.specs.Ended.{IsDone, Refuses}
-use Rattle.silt_jobs.specs.PlanCosts.{cost_of}
-use Rattle.silt_jobs.specs.Plans.{bucket_counts, first_planned, memory_planned, plan_text, shape_planned}
-use Rattle.silt_jobs.specs.declared.ended.Ended.{Ended}
-use Rattle.silt_jobs.specs.declared.ended.Found.TheVariants.{Cost}
-use Rattle.silt_jobs.specs.declared.ended.Why.TheVariants.{NoJob, NoSetPlan}
-use Rattle.silt_jobs.specs.declared.plan_cost.PlanCost.{PlanCost}
-use Rattle.silt_jobs.specs.declared.plan_cost.Remedy.{Remedy}
-use Rattle.silt_jobs.specs.declared.plan_cost.Remedy.TheVariants.{SeveralStores, Memory}
+use Rattle.std.specs.Prelude.{◌⊎◌, ◌≤◌, ◌+◌, ◌-◌, ◌*◌, ◌/◌, ◌%◌, ◌^◌, ℕ, min, List, Option, Some, None, option_map}
+use Rattle.silt_jobs.specs.Common.{device_size, IsShardCount, PlanRequest}
+use Rattle.silt_jobs.specs.Ended.{Refuses}
+use Rattle.silt_jobs.specs.PlanCosts.{EndsPlan, cost_of}
+use Rattle.silt_jobs.specs.Plans.{bucket_counts, first_planned, memory_planned, shape_planned}
+use Rattle.silt_jobs.specs.declared.people.ended.Ended.{Ended}
+use Rattle.silt_jobs.specs.declared.people.ended.Why.TheVariants.{NoJob, NoSetPlan}
+use Rattle.silt_jobs.specs.declared.plans.plan_cost.PlanCost.{PlanCost}
+use Rattle.silt_jobs.specs.declared.plans.plan_cost.Remedy.{Remedy}
+use Rattle.silt_jobs.specs.declared.plans.plan_cost.Remedy.TheVariants.{SeveralStores, Memory}
 
 -- the keys of each shard if all have as many, rounded up
 abbrev pub even_share : ℕ → ℕ → ℕ
@@ -25,17 +22,13 @@ share_of shards keys = even_share shards keys + even_share shards keys / 16 + 64
 abbrev pub shard_request : ℕ → PlanRequest → PlanRequest
 shard_request shards r = record { keys = share_of shards r.keys; value_len = r.value_len; memory = option_map (λ bytes. bytes / shards) r.memory }
 
--- each of so many shards may have its share: some plan has room for it
-abbrev pub HasRoom : ℕ → ℕ → Type 0
-HasRoom keys shards = share_of shards keys ≤ 16777139
+-- so many shards are enough for the keys: some plan has room for the share of each
+abbrev pub IsEnoughFor : ℕ → ℕ → Type 0
+IsEnoughFor keys shards = share_of shards keys ≤ 16777139
 
 -- so many times a number, but no more than 64 bits hold
 abbrev pub times : ℕ → ℕ → ℕ
 times shards number = min (shards * number) (2 ^ 64 - 1)
-
--- the six numbers of one shard, and what all of them take
-abbrev pub set_text : ℕ → Shape → ℕ → List ℕ
-set_text shards s memory = plan_text s (times shards (device_size s)) (times shards memory)
 
 -- what helps a set, if this helps each shard
 abbrev pub set_remedy : ℕ → Remedy → Remedy
@@ -49,8 +42,9 @@ set_cost shards cost = record { keys = cost.keys; rows = cost.rows; at_rest = ti
 -- the plan of shards of this many buckets was written, with the cost of the set, or the line says that there is none
 abbrev pub PlansShards : {E F : Type 0} → ℕ → PlanRequest → Option ℕ → Ended E F → Option (List ℕ) → Option (List ℕ) → Type 0
 PlansShards shards r (Some buckets) ended before after =
-    (ended.found ≡ Some (Cost (set_cost shards (cost_of (share_of shards r.keys) buckets))))
-    × IsDone (set_text shards (shape_planned (shard_request shards r) buckets) (memory_planned (shard_request shards r) buckets)) ended before after
+    let one = shard_request shards r in
+    EndsPlan (shape_planned one buckets) (times shards (device_size (shape_planned one buckets))) (times shards (memory_planned one buckets))
+    (set_cost shards (cost_of one.keys buckets)) ended before after
 PlansShards shards r None ended before after = Refuses (NoSetPlan shards r) ended before after
 
 -- a set of so many shards was planned, or the number is that of none

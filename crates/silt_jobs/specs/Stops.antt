@@ -4,8 +4,8 @@ use Rattle.std.specs.Str.{bytes_eq}
 use Rattle.std.specs.Str.Lines.{strip_carriage_return}
 use Rattle.silt_device.specs.declared.life.Fill.{Fill}
 use Rattle.silt_device.specs.declared.life.Fill.TheVariants.{Old, New, Zero, Ones, Mix}
-use Rattle.silt_device.specs.declared.life.Stop.{Stop}
-use Rattle.silt_wire.specs.Lines.{longest_line, words_of}
+use Rattle.silt_jobs.specs.Common.{Stop, words_of}
+use Rattle.silt_wire.specs.Lines.{longest_line}
 use Rattle.silt_wire.specs.Numbers.{number_of}
 
 -- what a stop leaves, by its word

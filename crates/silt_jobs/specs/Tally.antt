@@ -3,8 +3,8 @@ use Rattle.std.specs.Prelude.{ℕ, ◌+◌, ◌-◌, ◌*◌, ◌%◌, ◌^◌, 
 use Rattle.std.specs.Prelude.{slice_index, slice_range, slice_set, take}
 use Rattle.std.specs.List.{list_any}
 use Rattle.std.specs.Str.{bytes_eq}
-use Rattle.silt_jobs.specs.declared.tally.Refusals.{Refusals}
-use Rattle.silt_jobs.specs.declared.tally.Tally.{Tally}
+use Rattle.silt_jobs.specs.declared.people.tally.Refusals.{Refusals}
+use Rattle.silt_jobs.specs.declared.people.tally.Tally.{Tally}
 
 -- the number of one digit before a space, or of two digits
 abbrev pub refusal_number : ℕ → ℕ → ℕ

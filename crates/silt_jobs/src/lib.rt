@@ -5,71 +5,25 @@
 //! `write_set_plan` only on numbers. They are functions over any source of disks, reader and writer. Each returns how it
 //! ended, as a value (`Ended`, `Ends`), and `print_ends` prints that for people. What cannot wait for the end goes through
 //! `Tells`. The contracts say what is written for each content of the disk, and how the job ended.
+//! The room `jobs` has all these but the plans, which are in `plans`; how a job ended, and what is told of it, is in `people`.
 //! `WatchedFiles` are the files of a source as disks that keep which of their calls failed, and that show how far an
 //! opening is (`Progress`).
 #![tactic(auto)]
 
-mod background_work;
-mod damage;
-mod dump;
-mod empty_swap;
-mod end_lines;
-mod ended;
-mod failure;
-mod failures;
-mod files;
-mod geometry;
-mod held_data;
-mod input_lines;
 mod jobs;
-mod merge_at;
-mod no_backup;
-mod not_opened;
-mod output;
-mod plan;
-mod plan_cost;
-mod progress;
-mod refusal;
-mod script;
-mod script_lines;
-mod set_jobs;
-mod set_plan;
-mod sets;
-mod stop;
-mod streams;
-mod tally;
-mod transcript;
-mod urgent;
-mod watched_file;
+mod people;
+mod plans;
 
-pub use background_work::Tended;
-pub use damage::{merge_damage_at, offset_of};
-pub use dump::dump_file;
-pub use end_lines::{RANDOM_DEVICE, Subject, print_ends, print_of};
-pub use ended::{Ended, Ends, Found, Session, Why};
-pub use failure::{Failure, Watched};
-pub use failures::Failures;
-pub use files::{NewStore, check_file, format_file, run_file, tend_file};
-pub use held_data::{HeldStore, Holding};
-pub use input_lines::InputLines;
-pub use merge_at::{has_few_regions, refuse_few_regions};
-pub use no_backup::NoBackup;
-pub use not_opened::{NotOpened, open_store, why_of};
-pub use output::write_out;
-pub use plan::write_plan;
-pub use plan_cost::{PlanCost, Remedy};
-pub use progress::{AfterProgress, Progress};
-pub use refusal::refuse;
-pub use script::run_script;
-pub use set_jobs::{ShardJob, do_each, dump_set};
-pub use set_plan::write_set_plan;
-pub use sets::{
-    NewSet, SetFiles, at_shard, few_regions, format_set, is_set, open_files, refuse_at, run_set,
-    shard_path, value_len_of,
+pub use jobs::{
+    HeldStore, Holding, NewSet, NewStore, NotOpened, SetFiles, ShardJob, Tended, at_shard,
+    check_file, do_each, dump_file, dump_set, few_regions, format_file, format_set,
+    has_few_regions, is_set, merge_damage_at, offset_of, open_files, open_store, refuse_at,
+    refuse_few_regions, run_file, run_script, run_set, shard_path, tend_file, value_len_of, why_of,
 };
-pub use streams::{
-    KeepsError, KeepsLines, KeepsTally, Stream, StreamError, WatchedReader, WatchedWriter,
+pub use people::{
+    AfterProgress, Ended, Ends, Failure, Failures, Found, InputLines, KeepsError, KeepsLines,
+    KeepsTally, NoBackup, Progress, RANDOM_DEVICE, Session, Stream, StreamError, Subject, Tally,
+    Tells, Urgent, Watched, WatchedFile, WatchedFiles, WatchedReader, WatchedWriter, Why,
+    print_ends, print_of, refuse, write_out,
 };
-pub use tally::Tally;
-pub use urgent::{Tells, Urgent};
-pub use watched_file::{WatchedFile, WatchedFiles};
+pub use plans::{PlanCost, Remedy, write_plan, write_set_plan};

@@ -1,7 +1,7 @@
 use Rattle.std.proofs.Common.{arith, refl, subst, sym, take_all}
 use Rattle.std.specs.Prelude.{All}
 use Rattle.silt_jobs.specs.Ended.{HasFailed, none_failed}
-use Rattle.silt_jobs.specs.declared.failures.Failures.{Failures}
+use Rattle.silt_jobs.specs.declared.people.failures.Failures.{Failures}
 use Rattle.silt.specs.SetServices.{FailedAmong}
 use Rattle.silt.proofs.set_service.failures_among.Goals as goal
 

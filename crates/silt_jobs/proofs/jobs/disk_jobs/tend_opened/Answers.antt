@@ -1,0 +1,6 @@
+use Rattle.silt_jobs.proofs.Common.{inr, refl, IfOk-weaker}
+use Rattle.silt_jobs.proofs.jobs.disk_jobs.tend_opened.Goals as goal
+
+pub returns : goal.returns
+returns g c =
+    inr (refl, refl, c.of-failures.ensures, IfOk-weaker c.tend_core-status.result _ _ (λ status tends. (c.tend_core-status.new.core, tends, c.close-disk.ensures.disk)) c.tend_core-status.ensures)

@@ -1,8 +1,0 @@
-use Rattle.std.proofs.Common.{inr}
-use Rattle.std.proofs.lemmas.Result.{IfOk-weaker}
-use Rattle.silt_jobs.proofs.jobs.tend_core.Goals as goal
-
-pub returns-in-Err : goal.returns-in-Err
-returns-in-Err g c =
-    IfOk-weaker c.refuse.result _ _
-    (λ status printed. (g.W.Write.contents c.write_out.new.writer, c.in_ok-write_out.ensures, inr (printed.0, (c.in-Err.refusal, c.in-Err.ensures.refused, printed.1)))) c.refuse.ensures

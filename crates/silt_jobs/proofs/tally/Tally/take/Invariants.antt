@@ -1,6 +1,0 @@
-use Rattle.std.proofs.Common.{◌≡◌, take}
-use Rattle.silt_jobs.specs.Tally.{tally_of}
-use Rattle.silt_jobs.proofs.tally.Tally.take.Given as goal
-
-abbrev pub invariant-loop-byte : goal.invariant-loop-byte
-invariant-loop-byte l = l.self ≡ tally_of l.fn.self (take l.byte-index l.bytes)

@@ -1,0 +1,13 @@
+// Geometries of six numbers, and plans of stores and sets for so many keys.
+mod geometry;
+mod plan;
+mod plan_cost;
+mod set_plan;
+
+pub use geometry::{NumbersText, geometry_of, out_of_limits};
+pub use plan::{
+    BUCKET_COUNTS, MOST_KEYS, end_plan, geometry_planned, memory_planned, obstacle_of,
+    set_obstacle_of, write_plan,
+};
+pub use plan_cost::{PlanCost, Remedy, cost_of};
+pub use set_plan::{least_shards, share_of, write_set_plan};
