@@ -1,10 +1,11 @@
 -- What a backup of a store is.
-use Rattle.std.specs.Prelude.{◌≡◌, ◌≢◌, ◌⊎◌, ◌+◌, ℕ, false, IsTrue, List, [], ◌∷◌, drop, get_or, slice_get, slice_range, Some, None, take, Ok}
+use Rattle.std.specs.Prelude.{◌≡◌, ◌≢◌, ◌⊎◌, ◌+◌, ℕ, false, IsTrue, List, [], ◌∷◌, drop, get_or, slice_get, slice_range, Some, None, take, Result, Ok, IfErr}
 use Rattle.sha1.specs.Sha1.{sha1}
+use Rattle.silt_backup.specs.declared.backup.Backup.{Backup}
 use Rattle.silt_backup.specs.declared.fault.BackupFault.{BackupFault}
 use Rattle.silt_backup.specs.declared.fault.BackupFault.TheVariants.{Ended, Length, Unread, Device, NoMemory, Damaged}
 use Rattle.silt_care.specs.declared.finds.Finds.{Ghosts as FindsOf}
-use Rattle.silt_disk.specs.Disk.{GaveAny, size}
+use Rattle.silt_disk.specs.Disk.{GaveAny, size as size_of}
 use Rattle.silt_disk.specs.Layout.{Shape, device_size, gates_at, log_size}
 use Rattle.silt_disk.specs.declared.disk.Disk.{Ghosts}
 use Rattle.silt_event.specs.declared.damage.Finding.TheVariants as finding
@@ -77,14 +78,21 @@ fault_of open_error.NoMemory = NoMemory
 
 -- ---- why there is no backup
 
-module _ {V G F D T : Type 0} (view : ViewOf V G) (finds : FindsOf F) (disk : Ghosts D T) (seen : V) (finder : F) (moment : Moment) (device : D) where
+module _ {V G F D T : Type 0} (view : ViewOf V G) (finds : FindsOf F) (disk : Ghosts D T) (backup : Backup V) (finder : F) where
   -- It was said that the backup is to end. The disk has another length than the store's device. A look at the store, or a call of the disk,
   -- gave this fault. The copy has this finding.
-  abbrev pub IsCause : BackupFault G T → Type 0
-  IsCause Ended = finds.has_stopped finder
-  IsCause Length = size (disk.content device) ≢ device_size moment.geometry
-  IsCause (Unread fault) = (at : ℕ) × (len : ℕ) × view.faulted seen fault at len
-  IsCause (Device fault) = GaveAny disk.gave device fault
-  IsCause NoMemory = Unit {0}
-  IsCause (Damaged (Some place)) = IsTrue (disk.content device).honest → IsFound (disk.content device).shown (finding.Damaged place)
-  IsCause (Damaged None) = Unit {0}
+  abbrev pub IsCause : D → BackupFault G T → Type 0
+  IsCause device Ended = finds.has_stopped finder
+  IsCause device Length = size_of (disk.content device) ≢ device_size backup.moment.now.geometry
+  IsCause device (Unread fault) = (at : ℕ) × (len : ℕ) × view.faulted backup.view.now fault at len
+  IsCause device (Device fault) = GaveAny disk.gave device fault
+  IsCause device NoMemory = Unit {0}
+  IsCause device (Damaged (Some place)) = IsTrue (disk.content device).honest → IsFound (disk.content device).shown (finding.Damaged place)
+  IsCause device (Damaged None) = Unit {0}
+
+  -- what a call that writes to the disk of a backup says of it
+  pub record WritesCopy {X : Type 0} (old new : D) (result : Result X (BackupFault G T)) : Type 0 where
+    -- the disk is as long as before
+    pub size : size_of (disk.content new) ≡ size_of (disk.content old)
+    -- an error has its cause
+    pub cause : IfErr result (IsCause new)

@@ -1,7 +1,7 @@
 // A copy of a store that is served, written to a disk and examined.
-ghost use Rattle.std.specs.Prelude.{◌≡◌, IfErr, OnOk};
-ghost use Rattle.silt_backup.specs.Backups.{IsBackup, IsCause};
-ghost use Rattle.silt_disk.specs.Disk.{LeavesOnly, size};
+ghost use Rattle.std.specs.Prelude.{OnOk};
+ghost use Rattle.silt_backup.specs.Backups.{IsBackup, WritesCopy};
+ghost use Rattle.silt_disk.specs.Disk.{LeavesOnly};
 
 use crate::comparing::is_backup;
 use crate::fault::{BackupFault, fault_of};
@@ -33,8 +33,7 @@ impl<V: View> Backup<'_, V> {
         disk: &mut D,
         finds: &F,
     ) -> Result<(), BackupFault<V::Fault, D::Fault>>
-        ensures size { size (D.content disk.new) ≡ size (D.content disk.old) }
-        ensures cause { IfErr result (IsCause V.View F.Finds D.Disk self.now.view.now finds.now self.now.moment.now disk.new) }
+        ensures { WritesCopy V.View F.Finds D.Disk self.now finds.now disk.old disk.new result }
     {
         if disk.len() != self.moment.geometry.size() {
             return Err(BackupFault::Length);
@@ -57,9 +56,8 @@ impl<V: View> Backup<'_, V> {
         disk: &mut D,
         finds: &F,
     ) -> Result<(), BackupFault<V::Fault, D::Fault>>
-        ensures size { size (D.content disk.new) ≡ size (D.content disk.old) }
+        ensures writes { WritesCopy V.View F.Finds D.Disk self.now finds.now disk.old disk.new result }
         ensures copy { OnOk result (LeavesOnly (D.content disk.new) (IsBackup self.now.moment.now)) }
-        ensures cause { IfErr result (IsCause V.View F.Finds D.Disk self.now.view.now finds.now self.now.moment.now disk.new) }
     {
         self.copy_rest(alloc, disk, finds)?;
         match is_backup(alloc, disk, self.moment) {

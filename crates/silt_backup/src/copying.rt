@@ -1,9 +1,9 @@
 // Copies a store to a disk. What is copied is examined afterwards, so no contract here speaks of bytes.
-ghost use Rattle.std.specs.Prelude.{◌≡◌, ◌+◌, ◌^◌, ◌<◌, ◌≤◌, IfErr, OnOk, length, vec_len};
-ghost use Rattle.silt_backup.specs.Backups.{IsCause};
+ghost use Rattle.std.specs.Prelude.{◌≡◌, ◌+◌, ◌^◌, ◌<◌, ◌≤◌, OnOk, length, vec_len};
+ghost use Rattle.silt_backup.specs.Backups.{WritesCopy};
 ghost use Rattle.silt_care.specs.Extents.{IsPartOf};
 ghost use Rattle.silt_care.specs.Orders.{piece_len};
-ghost use Rattle.silt_disk.specs.Disk.{Rests, size};
+ghost use Rattle.silt_disk.specs.Disk.{Rests};
 
 use crate::backup::Backup;
 use crate::fault::BackupFault;
@@ -35,8 +35,7 @@ impl<V: View> Backup<'_, V> {
         room: &mut [u8],
     ) -> Result<(), BackupFault<V::Fault, D::Fault>>
         requires room { length room.old ≡ piece_len }
-        ensures size { size (D.content disk.new) ≡ size (D.content disk.old) }
-        ensures cause { IfErr result (IsCause V.View F.Finds D.Disk self.now.view.now finds.now self.now.moment.now disk.new) }
+        ensures { WritesCopy V.View F.Finds D.Disk self.now finds.now disk.old disk.new result }
     {
         if self.moment.front.len() != FRONT_LEN {
             return Err(BackupFault::Damaged(None));
@@ -55,8 +54,7 @@ impl<V: View> Backup<'_, V> {
         others: &[u32],
         bytes: &[u8],
     ) -> Result<(), BackupFault<V::Fault, D::Fault>>
-        ensures size { size (D.content disk.new) ≡ size (D.content disk.old) }
-        ensures cause { IfErr result (IsCause V.View F.Finds D.Disk self.now.view.now finds.now self.now.moment.now disk.new) }
+        ensures { WritesCopy V.View F.Finds D.Disk self.now finds.now disk.old disk.new result }
     {
         let geometry = self.moment.geometry;
         let len = log_len(&geometry);
@@ -79,8 +77,7 @@ impl<V: View> Backup<'_, V> {
         at: u64,
         piece: &mut [u8],
     ) -> Result<(), BackupFault<V::Fault, D::Fault>>
-        ensures size { size (D.content disk.new) ≡ size (D.content disk.old) }
-        ensures cause { IfErr result (IsCause V.View F.Finds D.Disk self.now.view.now finds.now self.now.moment.now disk.new) }
+        ensures { WritesCopy V.View F.Finds D.Disk self.now finds.now disk.old disk.new result }
     {
         if let Err(fault) = self.view.read_at(at, piece) {
             return Err(BackupFault::Unread(fault));
@@ -98,8 +95,7 @@ impl<V: View> Backup<'_, V> {
     ) -> Result<(), BackupFault<V::Fault, D::Fault>>
         requires room { length room.old ≡ piece_len }
         requires most { extent.now.at + extent.now.len ≤ 2 ^ 39 }
-        ensures size { size (D.content disk.new) ≡ size (D.content disk.old) }
-        ensures cause { IfErr result (IsCause V.View F.Finds D.Disk self.now.view.now finds.now self.now.moment.now disk.new) }
+        ensures { WritesCopy V.View F.Finds D.Disk self.now finds.now disk.old disk.new result }
     {
         let mut done: u64 = 0;
         while done < extent.len {
@@ -121,8 +117,7 @@ impl<V: View> Backup<'_, V> {
     ) -> Result<(), BackupFault<V::Fault, D::Fault>>
         requires part { IsPartOf self.now.moment.now.geometry part }
         requires room { length room.old ≡ piece_len }
-        ensures size { size (D.content disk.new) ≡ size (D.content disk.old) }
-        ensures cause { IfErr result (IsCause V.View F.Finds D.Disk self.now.view.now finds.now self.now.moment.now disk.new) }
+        ensures { WritesCopy V.View F.Finds D.Disk self.now finds.now disk.old disk.new result }
     {
         let named = (self.moment.body, self.moment.digests);
         match Extent::of(&self.moment.geometry, &named, part) {
@@ -140,8 +135,7 @@ impl<V: View> Backup<'_, V> {
         room: &mut [u8],
     ) -> Result<(), BackupFault<V::Fault, D::Fault>>
         requires room { length room.old ≡ piece_len }
-        ensures size { size (D.content disk.new) ≡ size (D.content disk.old) }
-        ensures cause { IfErr result (IsCause V.View F.Finds D.Disk self.now.view.now finds.now self.now.moment.now disk.new) }
+        ensures { WritesCopy V.View F.Finds D.Disk self.now finds.now disk.old disk.new result }
     {
         if region >= self.moment.geometry.hashes() {
             return Err(BackupFault::Damaged(None));
@@ -157,8 +151,7 @@ impl<V: View> Backup<'_, V> {
         room: &mut [u8],
     ) -> Result<(), BackupFault<V::Fault, D::Fault>>
         requires room { length room.old ≡ piece_len }
-        ensures size { size (D.content disk.new) ≡ size (D.content disk.old) }
-        ensures cause { IfErr result (IsCause V.View F.Finds D.Disk self.now.view.now finds.now self.now.moment.now disk.new) }
+        ensures { WritesCopy V.View F.Finds D.Disk self.now finds.now disk.old disk.new result }
     {
         for region in self.moment.body.hashed.as_slice() {
             self.copy_hash(disk, finds, *region, room)?;
@@ -172,9 +165,8 @@ impl<V: View> Backup<'_, V> {
         disk: &mut D,
         finds: &F,
     ) -> Result<(), BackupFault<V::Fault, D::Fault>>
-        ensures size { size (D.content disk.new) ≡ size (D.content disk.old) }
+        ensures writes { WritesCopy V.View F.Finds D.Disk self.now finds.now disk.old disk.new result }
         ensures rests { OnOk result (Rests (D.content disk.new)) }
-        ensures cause { IfErr result (IsCause V.View F.Finds D.Disk self.now.view.now finds.now self.now.moment.now disk.new) }
     {
         self.put(disk, finds, 0, &[GATE_OPEN])?;
         self.settle(disk, finds)
@@ -188,8 +180,7 @@ impl<V: View> Backup<'_, V> {
         room: &mut [u8],
     ) -> Result<(), BackupFault<V::Fault, D::Fault>>
         requires room { length room.old ≡ piece_len }
-        ensures size { size (D.content disk.new) ≡ size (D.content disk.old) }
-        ensures cause { IfErr result (IsCause V.View F.Finds D.Disk self.now.view.now finds.now self.now.moment.now disk.new) }
+        ensures { WritesCopy V.View F.Finds D.Disk self.now finds.now disk.old disk.new result }
     {
         let body = self.moment.body;
         self.copy_front(disk, finds, room)?;
@@ -210,9 +201,8 @@ impl<V: View> Backup<'_, V> {
         disk: &mut D,
         finds: &F,
     ) -> Result<(), BackupFault<V::Fault, D::Fault>>
-        ensures size { size (D.content disk.new) ≡ size (D.content disk.old) }
+        ensures writes { WritesCopy V.View F.Finds D.Disk self.now finds.now disk.old disk.new result }
         ensures rests { OnOk result (Rests (D.content disk.new)) }
-        ensures cause { IfErr result (IsCause V.View F.Finds D.Disk self.now.view.now finds.now self.now.moment.now disk.new) }
     {
         let Ok(mut room) = vec![in alloc; 0u8; PIECE] else {
             return Err(BackupFault::NoMemory);

@@ -1,7 +1,7 @@
 // The writes and syncs of a backup.
-ghost use Rattle.std.specs.Prelude.{◌≡◌, IfErr, OnOk};
-ghost use Rattle.silt_backup.specs.Backups.{IsCause};
-ghost use Rattle.silt_disk.specs.Disk.{Rests, size};
+ghost use Rattle.std.specs.Prelude.{OnOk};
+ghost use Rattle.silt_backup.specs.Backups.{WritesCopy};
+ghost use Rattle.silt_disk.specs.Disk.{Rests};
 
 use crate::backup::Backup;
 use crate::fault::BackupFault;
@@ -25,8 +25,7 @@ impl<V: View> Backup<'_, V> {
         at: u64,
         bytes: &[u8],
     ) -> Result<(), BackupFault<V::Fault, D::Fault>>
-        ensures size { size (D.content disk.new) ≡ size (D.content disk.old) }
-        ensures cause { IfErr result (IsCause V.View F.Finds D.Disk self.now.view.now finds.now self.now.moment.now disk.new) }
+        ensures { WritesCopy V.View F.Finds D.Disk self.now finds.now disk.old disk.new result }
     {
         if !finds.goes_on() {
             return Err(BackupFault::Ended);
@@ -46,9 +45,8 @@ impl<V: View> Backup<'_, V> {
         disk: &mut D,
         finds: &F,
     ) -> Result<(), BackupFault<V::Fault, D::Fault>>
-        ensures size { size (D.content disk.new) ≡ size (D.content disk.old) }
+        ensures writes { WritesCopy V.View F.Finds D.Disk self.now finds.now disk.old disk.new result }
         ensures rests { OnOk result (Rests (D.content disk.new)) }
-        ensures cause { IfErr result (IsCause V.View F.Finds D.Disk self.now.view.now finds.now self.now.moment.now disk.new) }
     {
         if !finds.goes_on() {
             return Err(BackupFault::Ended);
@@ -66,8 +64,7 @@ impl<V: View> Backup<'_, V> {
         finds: &F,
         done: u64,
     ) -> Result<(), BackupFault<V::Fault, D::Fault>>
-        ensures size { size (D.content disk.new) ≡ size (D.content disk.old) }
-        ensures cause { IfErr result (IsCause V.View F.Finds D.Disk self.now.view.now finds.now self.now.moment.now disk.new) }
+        ensures { WritesCopy V.View F.Finds D.Disk self.now finds.now disk.old disk.new result }
     {
         if done % UNSYNCED != 0 {
             return Ok(());
@@ -83,8 +80,7 @@ impl<V: View> Backup<'_, V> {
         at: u64,
         bytes: &[u8],
     ) -> Result<(), BackupFault<V::Fault, D::Fault>>
-        ensures size { size (D.content disk.new) ≡ size (D.content disk.old) }
-        ensures cause { IfErr result (IsCause V.View F.Finds D.Disk self.now.view.now finds.now self.now.moment.now disk.new) }
+        ensures { WritesCopy V.View F.Finds D.Disk self.now finds.now disk.old disk.new result }
     {
         if !is_within(at, bytes.len() as u64, disk.len()) {
             return Err(BackupFault::Damaged(None));
