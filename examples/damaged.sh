@@ -12,7 +12,7 @@ copy="$folder/copy.silt"
 printf 'put =apple 0102\nflush\n' | "$silt" run "$store"
 cp "$store" "$copy"
 
-# The kind of the first row of log 0, whose gate is open, becomes 3. No job writes to a damaged store.
+# The kind of the first row of log 0, whose commit byte is open, becomes 3. No job writes to a damaged store.
 printf '\003' | dd of="$store" bs=1 seek=16384 conv=notrunc status=none
 "$silt" check "$store" || echo "status $?"
 "$silt" run "$store" < /dev/null || echo "status $?"

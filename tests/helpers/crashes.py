@@ -94,7 +94,7 @@ def filled(random, pending):
 
 
 def garbage(random, pending):
-    """Other bytes at some pending places, many of them an open gate's."""
+    """Other bytes at some pending places, many of them an open commit byte's."""
     made = some_bytes(random, pending)
     return [(at, bytes([random.choice((0xA7, 0xA7, random.randrange(256)))])) for at, _ in made]
 

@@ -33,8 +33,8 @@ from layout import (
     Layout,
 )
 
-# The byte of an open gate.
-OPEN_GATE = OPEN[0]
+# The byte of an open commit byte.
+OPEN_COMMIT = OPEN[0]
 
 DAMAGES = {
     it: []
@@ -86,8 +86,8 @@ def change_byte(image, at, random):
 
 
 @damage("unknown")
-def header_gate_closed(image, store, random):
-    image[0] = random.choice([0, 0xFF, other_byte(random, OPEN_GATE)])
+def header_commit_byte_closed(image, store, random):
+    image[0] = random.choice([0, 0xFF, other_byte(random, OPEN_COMMIT)])
     return "refused 1 NotFormatted"
 
 
@@ -179,12 +179,12 @@ def open_slot(image, store, slot):
     """Opens a slot, by a body that is well formed if it is closed, and returns its offset."""
     at = SLOTS[slot]
     current = current_at(store)
-    if image[at] != OPEN_GATE and at != current:
+    if image[at] != OPEN_COMMIT and at != current:
         image[at : at + SLOT_LEN] = image[current : current + SLOT_LEN]
         form = image[at + GENERATION] & LONG_FORM
         set_number(image, at + GENERATION, abs(store.generation - 1), 8)
         image[at + GENERATION] |= form
-    image[at] = OPEN_GATE
+    image[at] = OPEN_COMMIT
     return at
 
 
@@ -277,7 +277,7 @@ bad_slot(
 @damage("slots")
 def short_slots_of_a_new_device(image, store, random):
     """The header of an old device says version 2."""
-    short = [at for at in open_slots(store) if image[at] == OPEN_GATE and not is_long(image, at)]
+    short = [at for at in open_slots(store) if image[at] == OPEN_COMMIT and not is_long(image, at)]
     if not short:
         return None
     set_number(image, VERSION, 2)
@@ -287,7 +287,7 @@ def short_slots_of_a_new_device(image, store, random):
 @damage("no slot")
 def both_slots_closed(image, store, random):
     for slot in (0, 1):
-        image[SLOTS[slot]] = other_byte(random, OPEN_GATE)
+        image[SLOTS[slot]] = other_byte(random, OPEN_COMMIT)
     return "refused 3 Damaged no slot"
 
 
@@ -299,11 +299,11 @@ def row_place(store, log, row):
 
 
 def write_rows(image, store, log, rows):
-    """Writes rows (kind, key, value) from the first one on, and opens their gates."""
+    """Writes rows (kind, key, value) from the first one on, and opens their commit bytes."""
     for i, (kind, key, value) in enumerate(rows):
         at = row_place(store, log, i)
         image[at : at + store.geometry.row_length] = bytes([kind]) + key + value
-        image[store.geometry.gates_at(log.region) + i] = OPEN_GATE
+        image[store.geometry.commits_at(log.region) + i] = OPEN_COMMIT
 
 
 @damage("logs")
@@ -313,18 +313,18 @@ def row_of_no_kind(image, store, random):
         return None
     row = random.randrange(len(log.rows))
     image[row_place(store, log, row)] = random.choice(
-        [0, 3, OPEN_GATE, 0xFF, other_byte(random, 1, 2)]
+        [0, 3, OPEN_COMMIT, 0xFF, other_byte(random, 1, 2)]
     )
     return f"refused 3 Damaged log {log.region} row {row}"
 
 
 @damage("logs")
-def gate_open_over_no_row(image, store, random):
+def commit_byte_open_over_no_row(image, store, random):
     log = store.active
     row = len(log.rows)
     if row == store.geometry.cap:
         return None
-    image[store.geometry.gates_at(log.region) + row] = OPEN_GATE
+    image[store.geometry.commits_at(log.region) + row] = OPEN_COMMIT
     image[row_place(store, log, row)] = random.choice([0, 3, 0xFF])
     return f"refused 3 Damaged log {log.region} row {row}"
 
@@ -371,7 +371,7 @@ def slot_of_no_kind(image, store, random):
     one = random.choice(store.hashes)
     slot = random.randrange(store.geometry.slots)
     image[slot_place(store, one, slot)] = random.choice(
-        [3, OPEN_GATE, 0xFF, random.randint(3, 255)]
+        [3, OPEN_COMMIT, 0xFF, random.randint(3, 255)]
     )
     return f"refused 3 Damaged hash {one.region} slot {slot}"
 
@@ -694,32 +694,32 @@ def noise_in_unused_places_of_a_body(image, store, random):
 def noise_in_a_closed_slot(image, store, random):
     other = SLOTS[1 - current_slot(store)]
     set_noise(image, other, other + SECTOR, random)
-    image[other] = other_byte(random, OPEN_GATE)
+    image[other] = other_byte(random, OPEN_COMMIT)
 
 
 @harmless
-def noise_in_closed_gates_and_behind_them(image, store, random):
+def noise_in_closed_commit_bytes_and_behind_them(image, store, random):
     geometry = store.geometry
     log = store.active
     for row in range(len(log.rows), geometry.cap):
-        image[geometry.gates_at(log.region) + row] = other_byte(random, OPEN_GATE)
+        image[geometry.commits_at(log.region) + row] = other_byte(random, OPEN_COMMIT)
         set_noise(image, row_place(store, log, row), row_place(store, log, row + 1), random)
 
 
 @harmless
-def open_gates_past_a_closed_one(image, store, random):
+def open_commit_bytes_past_a_closed_one(image, store, random):
     geometry = store.geometry
     log = store.active
     for row in range(len(log.rows) + 1, geometry.cap):
-        image[geometry.gates_at(log.region) + row] = random.choice([OPEN_GATE, other_byte(random)])
+        image[geometry.commits_at(log.region) + row] = random.choice([OPEN_COMMIT, other_byte(random)])
         set_noise(image, row_place(store, log, row), row_place(store, log, row + 1), random)
 
 
 @harmless
-def gate_closed_among_the_rows(image, store, random):
+def commit_byte_closed_among_the_rows(image, store, random):
     log = random.choice([store.active, *store.frozen])
     row = random.randrange(store.geometry.cap)
-    image[store.geometry.gates_at(log.region) + row] = other_byte(random, OPEN_GATE)
+    image[store.geometry.commits_at(log.region) + row] = other_byte(random, OPEN_COMMIT)
 
 
 @harmless
@@ -767,7 +767,7 @@ def noise_in_regions_that_are_not_named(image, store, random):
     logs = {it.region for it in (store.active, *store.frozen)}
     hashes = {it.region for it in store.hashes}
     ends = [
-        (geometry.gates_at(it), geometry.gates_at(it + 1))
+        (geometry.commits_at(it), geometry.commits_at(it + 1))
         for it in range(geometry.nl) if it not in logs
     ]
     ends += [

@@ -189,7 +189,7 @@ class Engine:
         waiting = len(self.active.rows) - self.active.settled
         if waiting:
             self.sync()
-            self.write(self.layout.gates(self.active.region) + self.active.settled, OPEN * waiting)
+            self.write(self.layout.commits(self.active.region) + self.active.settled, OPEN * waiting)
             self.sync()
             self.active.settled += waiting
         return f"acknowledged {self.accepted}"
@@ -201,7 +201,7 @@ class Engine:
         if region is None:
             return False
         self.do_flush()
-        self.write(self.layout.gates(region), CLOSED * self.layout.rows)
+        self.write(self.layout.commits(region), CLOSED * self.layout.rows)
         self.sync()
         self.frozen.insert(0, self.active)
         self.active = Log(region, self.layout.buckets)

@@ -22,7 +22,7 @@ VERSION = 9
 HEADER_NUMBERS = {"v": 13, "b": 17, "cap": 21, "nl": 25, "nh": 29, "s": 33}
 HEADER_LEN = 37
 
-# The offsets of the two manifest slots, and what a slot has behind its gate. First comes the body.
+# The offsets of the two manifest slots, and what a slot has behind its commit byte. First comes the body.
 SLOTS = (SECTOR, 2 * SECTOR)
 GENERATION = 1
 ACTIVE = 9
@@ -78,14 +78,14 @@ class Layout:
     def entry_len(self):
         return KEY_LEN + self.values
 
-    def gates(self, log):
+    def commits(self, log):
         return FIRST_LOG + log * (up(self.rows) + up(self.rows * self.row_len))
 
     def bodies(self, log):
-        return self.gates(log) + up(self.rows)
+        return self.commits(log) + up(self.rows)
 
     def hash_region(self, number):
-        return self.gates(self.logs) + number * up(self.slots * self.row_len)
+        return self.commits(self.logs) + number * up(self.slots * self.row_len)
 
     def sorted_region(self, number):
         return self.hash_region(self.hashes) + number * up(self.entries * self.entry_len)
@@ -96,7 +96,7 @@ class Layout:
 
     @property
     def header(self):
-        """The header of a new store without its gate."""
+        """The header of a new store without its commit byte."""
         numbers = (2, self.values, self.buckets, self.rows, self.logs, self.hashes, self.entries)
         return b"SILTFLSH" + b"".join(it.to_bytes(4, "big") for it in numbers)
 
@@ -120,7 +120,7 @@ class Layout:
         edges = (
             (SECTOR, "header"),
             (FIRST_LOG, "manifest"),
-            (self.gates(self.logs), "log"),
+            (self.commits(self.logs), "log"),
             (self.hash_region(self.hashes), "hash"),
             (self.size, "sorted"),
         )
@@ -144,13 +144,13 @@ def slot_of(generation):
 
 
 def closing_place(slot, is_closed):
-    """Where one zero is written before a slot gets another body: over its gate, or, if that is
+    """Where one zero is written before a slot gets another body: over its commit byte, or, if that is
     closed already, over the last byte of its sector."""
     return slot + SECTOR - 1 if is_closed else slot
 
 
 def manifest(generation, active, frozen=(), hashes=(), region=0, entries=()):
-    """The 460 bytes behind a manifest's gate. Of each hash store come its region and the bytes of
+    """The 460 bytes behind a manifest's commit byte. Of each hash store come its region and the bytes of
     its slots, and of each sorted entry its bytes."""
     body = [
         ((LONG_FORM << 56) + generation).to_bytes(8, "big"),

@@ -228,7 +228,7 @@ def odd_lines(random, key, v):
 def make_stop(random, device):
     """A stop line for a life that, stopped by nothing, ends with this device.
 
-    Most stop one of its calls, and some tear a write over several gates.
+    Most stop one of its calls, and some tear a write over several commit bytes.
     """
     calls = len(device.calls)
     torn = [

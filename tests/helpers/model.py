@@ -110,15 +110,15 @@ class Geometry:
     def slots(self):
         return 4 * self.b
 
-    def gates_at(self, log):
+    def commits_at(self, log):
         one = whole_sectors(self.cap) + whole_sectors(self.cap * self.row_length)
         return 3 * SECTOR + log * one
 
     def rows_at(self, log):
-        return self.gates_at(log) + whole_sectors(self.cap)
+        return self.commits_at(log) + whole_sectors(self.cap)
 
     def hash_at(self, region):
-        return self.gates_at(self.nl) + region * whole_sectors(self.slots * self.row_length)
+        return self.commits_at(self.nl) + region * whole_sectors(self.slots * self.row_length)
 
     def sorted_at(self, region):
         return self.hash_at(self.nh) + region * whole_sectors(self.s * self.entry_length)
@@ -246,12 +246,12 @@ class Table:
 
 @dataclass
 class Log:
-    """A log: its rows as (kind, key, value), the oldest first, and how many have open gates."""
+    """A log: its rows as (kind, key, value), the oldest first, and how many have open commit bytes."""
 
     region: int
     table: Table
     rows: list = field(default_factory=list)
-    open_gates: int = 0
+    open_commits: int = 0
 
     def newest_first(self):
         return reversed(self.rows)
@@ -397,10 +397,10 @@ def slot_at(slot):
     return SECTOR * (1 + slot)
 
 
-def write_manifest(device, body, gate_is_open):
-    """Writes a body into its slot. A gate that is closed already is not touched first."""
+def write_manifest(device, body, commit_is_open):
+    """Writes a body into its slot. A commit byte that is closed already is not touched first."""
     at = slot_at(body.generation % 2)
-    device.write(at if gate_is_open else at + SECTOR - 1, b"\0")
+    device.write(at if commit_is_open else at + SECTOR - 1, b"\0")
     device.sync()
     device.write(at + 1, body.encode())
     device.sync()
@@ -469,7 +469,7 @@ def row_at(image, at, geometry):
 def examine_log(image, geometry, region):
     log = Log(region, Table(geometry))
     for i in range(geometry.cap):
-        if image[geometry.gates_at(region) + i] != OPEN:
+        if image[geometry.commits_at(region) + i] != OPEN:
             break
         row = row_at(image, geometry.rows_at(region) + i * geometry.row_length, geometry)
         if row[0] not in (PUT, DELETE):
@@ -477,7 +477,7 @@ def examine_log(image, geometry, region):
         if not log.table.add(row[1]):
             raise Refused(4)
         log.rows.append(row)
-    log.open_gates = len(log.rows)
+    log.open_commits = len(log.rows)
     return log
 
 
@@ -552,7 +552,7 @@ def format_device(device, geometry):
     device.sync()
     device.write(slot_at(1), b"\0")
     prepare_log(device, geometry, 0)
-    write_manifest(device, Body(0, 0, (), (), 0, 0, Digests((), digest(b""))), gate_is_open=True)
+    write_manifest(device, Body(0, 0, (), (), 0, 0, Digests((), digest(b""))), commit_is_open=True)
     device.write(1, MAGIC + struct.pack(">7I", VERSIONS[-1], *geometry.numbers))
     device.sync()
     device.write(0, bytes([OPEN]))
@@ -566,7 +566,7 @@ def formatted_image(geometry):
 
 
 def prepare_log(device, geometry, region):
-    device.write(geometry.gates_at(region), bytes(geometry.cap))
+    device.write(geometry.commits_at(region), bytes(geometry.cap))
     device.sync()
 
 
@@ -582,9 +582,9 @@ def open_store(device):
 
 
 def seal(device, geometry, log):
-    """Closes the gates past a log's first closed one, where any of them is open."""
-    at = geometry.gates_at(log.region) + len(log.rows) + 1
-    end = geometry.gates_at(log.region) + geometry.cap
+    """Closes the commit bytes past a log's first closed one, where any of them is open."""
+    at = geometry.commits_at(log.region) + len(log.rows) + 1
+    end = geometry.commits_at(log.region) + geometry.cap
     if OPEN in device.shown[at:end]:
         device.write(at, bytes(end - at))
         device.sync()
@@ -686,7 +686,7 @@ class Store:
         if not free:
             raise Refused(8)
         self.refuse_last_generation()
-        self.open_waiting_gates()
+        self.open_waiting_commits()
         prepare_log(self.device, self.geometry, free[0])
         now.frozen.insert(0, now.active)
         now.active = Log(free[0], Table(self.geometry))
@@ -694,18 +694,18 @@ class Store:
         self.freezes += 1
 
     def flush(self):
-        self.open_waiting_gates()
+        self.open_waiting_commits()
         return f"acknowledged {self.accepted}"
 
-    def open_waiting_gates(self):
+    def open_waiting_commits(self):
         log = self.contents.active
-        waiting = len(log.rows) - log.open_gates
+        waiting = len(log.rows) - log.open_commits
         if waiting:
-            at = self.geometry.gates_at(log.region) + log.open_gates
+            at = self.geometry.commits_at(log.region) + log.open_commits
             self.device.sync()
             self.device.write(at, bytes([OPEN]) * waiting)
             self.device.sync()
-            log.open_gates = len(log.rows)
+            log.open_commits = len(log.rows)
 
     # Manifests.
 

@@ -111,13 +111,13 @@ class Rules:
         return [(at, row[:ROW_HEAD]), (at + ROW_HEAD, row[ROW_HEAD:])]
 
     def flush(self, log, first, count):
-        return [SYNC, (self.layout.gates(log) + first, OPEN * count), SYNC]
+        return [SYNC, (self.layout.commits(log) + first, OPEN * count), SYNC]
 
     def prepare(self, log):
-        return [(self.layout.gates(log), CLOSED * self.layout.rows), SYNC]
+        return [(self.layout.commits(log), CLOSED * self.layout.rows), SYNC]
 
     def manifest(self, body, is_closed):
-        """The writes of a manifest's body, into a slot whose gate is closed already or not."""
+        """The writes of a manifest's body, into a slot whose commit byte is closed already or not."""
         slot = slot_of(body[7])
         return [
             (closing_place(slot, is_closed), CLOSED),
@@ -380,7 +380,7 @@ class Writes(CallCase):
         self.judge(self.hash_store() + [("convert", [])])
 
     def test_a_conversion_with_rows_waiting(self):
-        """The bytes of a waiting row wait beside the slots, and its gate stays closed."""
+        """The bytes of a waiting row wait beside the slots, and its commit byte stays closed."""
         self.store(G)
         steps = self.convert(self.rows(), self.converted(self.rows()), False)
         row = self.put(1, A, "0006", 1)
@@ -544,7 +544,7 @@ class Jobs(CallCase):
         self.assertEqual([it.name for it in calls[:4]], ["fsync", "pread", "fdatasync", "pread"])
 
     def test_an_opening_that_seals(self):
-        """Gates after the first closed one are open: those after it are closed, and it is not
+        """Commit bytes after the first closed one are open: those after it are closed, and it is not
         touched."""
         path = self.store(G, [f"put {A} 0001", "flush"])
         content = bytearray(path.read_bytes())
@@ -554,10 +554,10 @@ class Jobs(CallCase):
         self.assertEqual(
             changes(calls), [("fsync", "store"), SYNC, ("pwrite", 12290, bytes(2)), SYNC]
         )
-        self.assertEqual(calls[-3].name, "pread", "the gates are closed after the last read")
+        self.assertEqual(calls[-3].name, "pread", "the commit bytes are closed after the last read")
 
-    def test_an_opening_with_other_closed_gates(self):
-        """Bytes that open no gate are no reason to write."""
+    def test_an_opening_with_other_closed_commit_bytes(self):
+        """Bytes that open no commit byte are no reason to write."""
         path = self.store(G)
         content = bytearray(path.read_bytes())
         content[12288:12292] = b"\x01\x02\x00\xff"
@@ -896,15 +896,15 @@ class Reads(CallCase):
         self.assertEqual([reads(it) for it in got[256:]], due + [[]] * (14 - len(due)))
 
     def test_an_opening(self):
-        """The gates and each row of the named logs, the slots and the entries by reads of at
+        """The commit bytes and each row of the named logs, the slots and the entries by reads of at
         most 64 KiB."""
         self.merged()
         lines = self.puts(range(10, 17)) + ["flush"]
         lines += [f"put {key(20)} 0001", "flush", ""]
         self.silt("run", "store", text="\n".join(lines))
         calls = self.calls_of([])[0]
-        active = [(self.layout.gates(0), 8), self.row(0, ROW_HEAD)]
-        frozen = [(self.layout.gates(1), 8)] + [self.row(n, ROW_HEAD, log=1) for n in range(8)]
+        active = [(self.layout.commits(0), 8), self.row(0, ROW_HEAD)]
+        frozen = [(self.layout.commits(1), 8)] + [self.row(n, ROW_HEAD, log=1) for n in range(8)]
         self.assertEqual(reads(calls), [MARK] + HEAD + active + frozen + [self.entry(0, 8 * 22)])
         self.silt("run", "store", text="convert\n" * 257)
         slots = [(self.layout.hash_region(0), 256 * 23)]

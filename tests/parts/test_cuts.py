@@ -350,8 +350,8 @@ class WorkedOfVersion1(Worked):
 
 
 # A flush, a freeze with none waiting, and a conversion. The numbers are of the syncs that no later
-# one stands for: a flush's two, a manifest's before its gate is opened, the closing of an open
-# gate.
+# one stands for: a flush's two, a manifest's before its commit byte is opened, the closing of an open
+# commit byte.
 LINES = (
     [
         "put =aa 0001",
@@ -366,10 +366,10 @@ LINES = (
 )
 NEEDED = {
     2: "rows",
-    3: "gates",
+    3: "commit bytes",
     6: "a body",
     8: "rows",
-    9: "gates",
+    9: "commit bytes",
     11: "the closing",
     12: "a body",
 }
@@ -401,18 +401,18 @@ class Needed(CutCase):
                     self.judge(cut, content, layout, {}, life.accepted, life.owed(cut.number))
 
     def test_a_row_that_is_torn(self):
-        """A gate that is open before its row, as a program would leave it that opens gates
+        """A commit byte that is open before its row, as a program would leave it that opens commit bytes
         first."""
         layout = Layout.of(GEOMETRIES[0])
         before = self.store(GEOMETRIES[0]).read_bytes()
         self.path("store").write_bytes(before)
         life = Lived(LINES, *self.record_by_lines(LINES))
-        gates = next(
-            n for n, it in enumerate(life.calls) if it.name == "pwrite" and it.at == layout.gates(0)
+        commits = next(
+            n for n, it in enumerate(life.calls) if it.name == "pwrite" and it.at == layout.commits(0)
         )
-        cut = next(it for it in cuts(before, life.calls, "store") if it.number == gates)
+        cut = next(it for it in cuts(before, life.calls, "store") if it.number == commits)
         torn = bytearray(image(self.random, cut))
-        torn[layout.gates(0):layout.gates(0) + 4] = b"\xa7" * 4
+        torn[layout.commits(0):layout.commits(0) + 4] = b"\xa7" * 4
         torn[layout.bodies(0) + layout.row_len + 5] ^= 1
         with self.assertRaises(AssertionError):
             self.judge(cut, bytes(torn), layout, {}, life.accepted, life.owed(cut.number))

@@ -145,7 +145,7 @@ class WorkedDamage(DamageCase):
         image[28764 : 28764 + 23] = image[28672 : 28672 + 23]
         self.assert_refused(image, "refused 3 Damaged hash 0 slot 4", "")
 
-    def test_header_gate_closed(self):
+    def test_header_commit_byte_closed(self):
         self.assert_refused(self.crafted((0, "00")), "refused 1 NotFormatted", "")
 
     def test_other_versions(self):

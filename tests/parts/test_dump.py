@@ -52,17 +52,17 @@ class Dumps(DamageCase):
         self.store("1000 64 256 2 2 1000", [*lines.splitlines(), "flush"])
         self.assert_dumped(lines, "200 values")
 
-    def test_a_dump_closes_no_stale_gate(self):
+    def test_a_dump_closes_no_stale_commit_byte(self):
         geometry = "2 2 4 2 2 8"
         self.store(geometry, ["put =a 0001", "put =b 0002", "flush"])
         image = bytearray(self.image())
-        gates = Layout.of(geometry).gates(0)
+        commits = Layout.of(geometry).commits(0)
         # The commit byte of the third row is open, behind which lie zeros, and that of the second
         # one is not.
-        image[gates + 1:gates + 3] = CLOSED + OPEN
+        image[commits + 1:commits + 3] = CLOSED + OPEN
         self.path("store").write_bytes(image)
         expected = lines_of(entries_of(model.examine(bytes(image))))
-        self.assert_dumped(expected, "a stale gate")
+        self.assert_dumped(expected, "a stale commit byte")
         self.assertEqual(self.image(), bytes(image))
 
     def test_a_damaged_store_is_refused(self):

@@ -248,8 +248,8 @@ class Runs(FaultCase):
         """The write and the sync that close what a crash left open."""
         geometry = "2 2 4 2 2 8"
         content = bytearray(self.store(geometry, ["put =a 0001", "flush"]).read_bytes())
-        gates = Layout.of(geometry).gates(0)
-        content[gates:gates + 4] = OPEN + CLOSED + 2 * OPEN
+        commits = Layout.of(geometry).commits(0)
+        content[commits:commits + 4] = OPEN + CLOSED + 2 * OPEN
         job = Job(
             ["run", "store"], ["put =b 0002", "put =a 0003", "flush", "get =a"], bytes(content)
         )

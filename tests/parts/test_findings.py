@@ -104,7 +104,7 @@ class FindingCase(DamageCase):
 # Single changed bytes of a small store with two rows, and what is found.
 TWO_ROWS = {"active_rows": 2, "charge": 2}
 BYTES = [
-    # the header's gate, the magic bytes and the version
+    # the header's commit byte, the magic bytes and the version
     (0, 0x00, UNKNOWN),
     (0, 0xFF, UNKNOWN),
     (1, ord("s"), UNKNOWN),
@@ -129,7 +129,7 @@ BYTES = [
     (33, 2, HEADER),
     (28, 3, LENGTH),
     (32, 1, LENGTH),
-    # manifest slot 0: gate, generation, active log, count of frozen logs, count of hash stores,
+    # manifest slot 0: commit byte, generation, active log, count of frozen logs, count of hash stores,
     # sorted region and count
     (4096, 0x00, NO_SLOT),
     # the bit that says that digests follow; they are zeros
@@ -154,7 +154,7 @@ BYTES = [
     # slot 1 with generation 0, which belongs into slot 0
     (8192, 0xA7, SLOT_1),
     (8192, 0xFF, report(**TWO_ROWS)),
-    # the rows: their gates from 12,288 on, and their kinds from 16,384 on, 23 bytes apart
+    # the rows: their commit bytes from 12,288 on, and their kinds from 16,384 on, 23 bytes apart
     (16384, 3, log(0, 0)),
     (16407, 0, log(0, 1)),
     (16407, 255, log(0, 1)),
@@ -215,7 +215,7 @@ class TwoRows(FindingCase):
 
 
 # A store of two buckets and logs of eight rows, with something in each part. The active log has the
-# keys 1 to 4, which fill a bucket, and after a closed gate key 5 of the same bucket. Log 1 is
+# keys 1 to 4, which fill a bucket, and after a closed commit byte key 5 of the same bucket. Log 1 is
 # frozen and has key 0. Hash store 0 has the keys 0 and 1, and a mark in slot 4. Hash store 1 is
 # older and empty. There are three sorted entries.
 WHOLE = [
@@ -309,7 +309,7 @@ class EachPart(FindingCase):
             )
 
 
-# The gates of log 0 are at 12,288 and its bodies at 16,384, 23 bytes each; those of log 1 at 20,480
+# The commit bytes of log 0 are at 12,288 and its bodies at 16,384, 23 bytes each; those of log 1 at 20,480
 # and 24,576. Log 0 has a put and a delete, and log 1, which is frozen, a put.
 THREE_ROWS = [
     (4112, 1),
@@ -323,7 +323,7 @@ THREE_ROWS = [
     (24576, 1),
 ]
 OF_THREE_ROWS = {"active_rows": 2, "frozen": 1, "frozen_rows": 1}
-# The rows of a log end at the first closed gate. A row after that does not count, though its gate
+# The rows of a log end at the first closed commit byte. A row after that does not count, though its commit byte
 # is open.
 CUT_OFF = [(12288, 0xA7), (12290, 0xA7), (16384, 1), (16407, 3), (16430, 3)]
 # The slots of hash store 0 begin at 28,672, with 23 bytes each, and the first four of them are
@@ -396,7 +396,7 @@ RISING = [
 
 # Changes of an empty store, and bytes that are then changed one after the other.
 TURNS = [
-    # the number of puts; kinds of rows; the gate of the first row, after which no row counts
+    # the number of puts; kinds of rows; the commit byte of the first row, after which no row counts
     ([THREE_ROWS], [
         (36, 1, CHARGE),
         (24576, 3, log(1, 0)),

@@ -30,7 +30,7 @@ class Progress(WatchedCase):
         self.store(MANY_ROWS)
         self.keys = [self.random.randbytes(20) for _ in range(count)]
         with self.path("store").open("r+b") as file:
-            file.seek(ROWS.gates(0))
+            file.seek(ROWS.commits(0))
             file.write(OPEN * count)
             file.seek(ROWS.bodies(0))
             file.write(b"".join(b"\x01" + key + b"\x07" for key in self.keys))

@@ -241,7 +241,7 @@ class Mergers(SetCase):
         for place, call in enumerate(calls):
             if call.name == "pread" and geometry.hash_at(0) <= call.at < geometry.sorted_at(0):
                 begun.setdefault(call.thread, place)
-            if call.name == "pwrite" and call.at < geometry.gates_at(0) and call.thread in begun:
+            if call.name == "pwrite" and call.at < geometry.commits_at(0) and call.thread in begun:
                 ended.append((begun.pop(call.thread), place))
         return ended
 

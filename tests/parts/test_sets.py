@@ -14,7 +14,7 @@ from harness import Case, Ended, scaled
 SMALL = "4 16 56 3 4 2000"
 LONG = "64 1024 4096 8 16 60000"
 GEOMETRY = "refused 2 BadGeometry\n"
-# Where a mark begins, and what an open gate is.
+# Where a mark begins, and what an open commit byte is.
 MARK = 2_048
 OPEN = 0xA7
 

@@ -396,7 +396,7 @@ class Forms(VersionCase):
         self.assert_refused(image, "refused 3 Damaged slot 0", "no digests in both")
 
     def test_a_closed_short_slot(self):
-        """What is behind a closed gate does not count."""
+        """What is behind a closed commit byte does not count."""
         image = self.image_of(G, CONVERTED)
         image[SLOTS[1]:SLOTS[1] + 2] = b"\x00\x00"
         self.assert_whole(image, 2)

@@ -11,15 +11,15 @@ use Rattle.std.proofs.lemmas.List.Sums.{prefix_len-le-length}
 use Rattle.std.proofs.lemmas.Slice.Eq.{bytes_eq-Decides}
 use Rattle.std.proofs.Math.Seq.{take-append_seam, drop-append_seam}
 use Rattle.silt_backup.specs.Backups.{Collision}
-use Rattle.silt_disk.specs.Layout.{Shape, bodies_at, device_size, entry_len, gates_at, hash_at, hash_size, log_size, row_len, sorted_at, sorted_size}
+use Rattle.silt_disk.specs.Layout.{Shape, bodies_at, device_size, entry_len, commits_at, hash_at, hash_size, log_size, row_len, sorted_at, sorted_size}
 use Rattle.silt_disk.proofs.Regions.{next_region, up_least}
 use Rattle.silt_frame.proofs.RowBytes.{put_bytes_of, row_bytes_of}
-use Rattle.silt_frame.specs.Gate.{is_open}
+use Rattle.silt_frame.specs.Commit.{is_open}
 use Rattle.silt_frame.specs.Rows.{StoredRow, entries_bytes, entry_row, put_bytes, row_bytes, row_of, rows_bytes}
 use Rattle.silt_hash_store.specs.Slots.{hash_part, hash_rows}
 use Rattle.silt_log.proofs.Bodies.{body_before, map_range_same}
 use Rattle.silt_log.specs.Parts.{Part}
-use Rattle.silt_log.specs.Rows.{body_row, gate_bytes, log_rows, open_count, row_at, rows_from}
+use Rattle.silt_log.specs.Rows.{body_row, commit_bytes, log_rows, open_count, row_at, rows_from}
 use Rattle.silt_sorted_store.specs.State.{sorted_rows}
 
 -- ---- the logs
@@ -45,18 +45,18 @@ same_within base n from to x y same low order high =
 
 -- equal bytes of a log region are equal rows
 pub log_rows_equal : (s : Shape) (region : ℕ) (x y : List ℕ)
-    → slice_range x (gates_at s region) (gates_at s region + log_size s) ≡ slice_range y (gates_at s region) (gates_at s region + log_size s)
+    → slice_range x (commits_at s region) (commits_at s region + log_size s) ≡ slice_range y (commits_at s region) (commits_at s region + log_size s)
     → log_rows s region x ≡ log_rows s region y
 unfolding log_rows rows_from row_at open_count
 log_rows_equal s region x y same =
-    let base : ℕ = gates_at s region in
+    let base : ℕ = commits_at s region in
     let n : ℕ = log_size s in
-    let gates_end : base + s.log_capacity ≤ base + n = omega (arith, up_least s.log_capacity) in
+    let commits_end : base + s.log_capacity ≤ base + n = omega (arith, up_least s.log_capacity) in
     let bodies_end : bodies_at s region + s.log_capacity * row_len s ≤ base + n = omega (arith, up_least (s.log_capacity * row_len s)) in
-    let bytes : gate_bytes base s.log_capacity x ≡ gate_bytes base s.log_capacity y = same_within base n base (base + s.log_capacity) x y same (omega arith) (omega arith) gates_end in
-    let counted : ℕ = prefix_len is_open (gate_bytes base s.log_capacity y) in
-    let width : length (gate_bytes base s.log_capacity y) ≤ s.log_capacity = omega (arith, length-take (base + s.log_capacity - base) (drop base y)) in
-    let most : counted ≤ s.log_capacity = omega (arith, prefix_len-le-length is_open (gate_bytes base s.log_capacity y), width) in
+    let bytes : commit_bytes base s.log_capacity x ≡ commit_bytes base s.log_capacity y = same_within base n base (base + s.log_capacity) x y same (omega arith) (omega arith) commits_end in
+    let counted : ℕ = prefix_len is_open (commit_bytes base s.log_capacity y) in
+    let width : length (commit_bytes base s.log_capacity y) ≤ s.log_capacity = omega (arith, length-take (base + s.log_capacity - base) (drop base y)) in
+    let most : counted ≤ s.log_capacity = omega (arith, prefix_len-le-length is_open (commit_bytes base s.log_capacity y), width) in
     ap (λ (l : List ℕ). map (body_row (bodies_at s region) (row_len s) x) (range_with_len 0 (prefix_len is_open l))) bytes
     ∙ map_range_same (body_row (bodies_at s region) (row_len s) x) (body_row (bodies_at s region) (row_len s) y) 0 counted
     (λ place low high.

@@ -5,7 +5,7 @@ use Rattle.sha1.specs.Sha1.{sha1}
 use Rattle.std.proofs.lemmas.Option.{get_or_from_slice_get, slice_get-map, slice_get_within}
 use Rattle.silt_backup.specs.Backups.{AreLogs, BackupLaw, Collision}
 use Rattle.silt_backup.proofs.Copies.{entries_equal, hashes_equal, log_rows_equal}
-use Rattle.silt_disk.specs.Layout.{Shape, device_size, gates_at, log_size}
+use Rattle.silt_disk.specs.Layout.{Shape, device_size, commits_at, log_size}
 use Rattle.silt_disk.specs.declared.disk.Disk.{Ghosts}
 use Rattle.silt_event.specs.Rows.{map_of_rows}
 use Rattle.silt_frame.specs.Rows.{StoredRow, entries_bytes, rows_bytes}
@@ -68,7 +68,7 @@ same_logs : {D F : Type 0} (disk : Ghosts D F) (core : CoreState D) (regions byt
 same_logs disk core [] bytes image honest hold are = refl
 same_logs disk core (region ∷ regions) bytes image honest (own, holds) (copied, others) =
     let shown : List ℕ = (disk.content core.disk).shown in
-    let at : ℕ = gates_at core.shape region in
+    let at : ℕ = commits_at core.shape region in
     let len : ℕ = log_size core.shape in
     let same : slice_range shown at (at + len) ≡ slice_range image at (at + len) = sym (own.1 honest ∙ ap (λ n. slice_range shown at (at + n)) own.0) ∙ copied in
     let first : log_rows core.shape region shown ≡ log_rows core.shape region image = log_rows_equal core.shape region shown image same in

@@ -6,7 +6,7 @@ use Rattle.silt_backup.specs.declared.fault.BackupFault.{BackupFault}
 use Rattle.silt_backup.specs.declared.fault.BackupFault.TheVariants.{Ended, Length, Unread, Device, NoMemory, Damaged}
 use Rattle.silt_care.specs.declared.finds.Finds.{Ghosts as FindsOf}
 use Rattle.silt_disk.specs.Disk.{GaveAny, size as size_of}
-use Rattle.silt_disk.specs.Layout.{Shape, device_size, gates_at, log_size}
+use Rattle.silt_disk.specs.Layout.{Shape, device_size, commits_at, log_size}
 use Rattle.silt_disk.specs.declared.disk.Disk.{Ghosts}
 use Rattle.silt_event.specs.declared.damage.Finding.TheVariants as finding
 use Rattle.silt_hash_store.specs.State.{HashState}
@@ -26,7 +26,7 @@ use Rattle.silt_view.specs.declared.view.View.{Ghosts as ViewOf}
 
 -- these are the bytes of a log region of an image
 abbrev pub IsLogOf : Shape → ℕ → List ℕ → List ℕ → Type 0
-IsLogOf shape region bytes image = bytes ≡ slice_range image (gates_at shape region) (gates_at shape region + log_size shape)
+IsLogOf shape region bytes image = bytes ≡ slice_range image (commits_at shape region) (commits_at shape region + log_size shape)
 
 -- the bytes begin with those of these log regions of an image, one behind the other
 abbrev pub AreLogs : Shape → List ℕ → List ℕ → List ℕ → Type 0

@@ -62,7 +62,7 @@ fn has_log<D: Disk>(
     if region >= geometry.logs() {
         return Ok(false);
     }
-    let at = geometry.gates_at(region);
+    let at = geometry.commits_at(region);
     if !is_within(at, log.len() as u64, disk.len()) {
         return Ok(false);
     }

@@ -11,7 +11,7 @@ use crate::ranges::log_len;
 use crate::writing::PIECE;
 use silt_care::{Extent, Finds, Part};
 use silt_disk::{Disk, slot_start};
-use silt_frame::{GATE_CLOSED, GATE_OPEN};
+use silt_frame::{COMMIT_CLOSED, COMMIT_OPEN};
 use silt_view::{FRONT_LEN, Moment, View};
 use std::alloc::Global;
 
@@ -22,8 +22,8 @@ fn fill_front(moment: &Moment, front: &mut [u8])
 {
     let other_slot = (1 - moment.body.generation % 2) as u32;
     front.copy_from_slice(moment.front.as_slice());
-    front[0] = GATE_CLOSED;
-    front[slot_start(other_slot) as usize] = GATE_CLOSED;
+    front[0] = COMMIT_CLOSED;
+    front[slot_start(other_slot) as usize] = COMMIT_CLOSED;
 }
 
 impl<V: View> Backup<'_, V> {
@@ -62,7 +62,7 @@ impl<V: View> Backup<'_, V> {
             return Err(BackupFault::Damaged(None));
         }
         let (log, behind) = bytes.split_at(len);
-        self.put_all(disk, finds, geometry.gates_at(region), log)?;
+        self.put_all(disk, finds, geometry.commits_at(region), log)?;
         match others.split_first() {
             Some((next, rest)) => self.copy_logs(disk, finds, *next, rest, behind),
             None => Ok(()),
@@ -168,7 +168,7 @@ impl<V: View> Backup<'_, V> {
         ensures writes { WritesCopy V.View F.Finds D.Disk self.now finds.now disk.old disk.new result }
         ensures rests { OnOk result (Rests (D.content disk.new)) }
     {
-        self.put(disk, finds, 0, &[GATE_OPEN])?;
+        self.put(disk, finds, 0, &[COMMIT_OPEN])?;
         self.settle(disk, finds)
     }
 

@@ -16,5 +16,5 @@ pub(crate) fn log_len(geometry: &Geometry) -> usize
     ensures { result ≡ log_size geometry.now }
 {
     let _known = geometry.logs(); // there are at least two
-    (geometry.gates_at(1) - geometry.gates_at(0)) as usize
+    (geometry.commits_at(1) - geometry.commits_at(0)) as usize
 }

@@ -8,7 +8,7 @@ use Rattle.sha1.specs.Sha1.{Holds, sha1}
 use Rattle.sha1.specs.declared.Sha1.{Sha1}
 use Rattle.silt_cuckoo.specs.Slots.{Entry, IsBucketCount, Slots, entry_at}
 use Rattle.silt_disk.specs.Disk.{ChangesWithin, Content, LiesOutside, size}
-use Rattle.silt_disk.specs.Layout.{Shape, device_size, gates_at, log_len, row_len}
+use Rattle.silt_disk.specs.Layout.{Shape, device_size, commits_at, log_len, row_len}
 use Rattle.silt_hash_store.specs.Findings.{hash_findings}
 use Rattle.silt_frame.specs.Rows.{put_count, has_known_kind, row_bytes, row_of, rows_bytes, StoredRow}
 use Rattle.silt_frame.specs.Frame.{head_len}
@@ -136,8 +136,8 @@ written_same old new log conversion same rows slots is = record {
 
 module _ (old new : Content) (log : LogStoreState) (conversion : ConversionState) (bounds : InBounds log.log) (same : conversion.shape ≡ log.log.shape)
     (fits : device_size conversion.shape ≤ size old) (changes : ChangesWithin (hash_slot_at conversion.shape conversion.region conversion.next) (row_len conversion.shape) old new) where
-  outside : LiesOutside (gates_at log.log.shape log.log.region) (log_len log.log.shape) (hash_slot_at conversion.shape conversion.region conversion.next) (row_len conversion.shape)
-  outside = subst (λ (s : Shape). LiesOutside (gates_at s log.log.region) (log_len s) (hash_slot_at conversion.shape conversion.region conversion.next) (row_len conversion.shape)) same
+  outside : LiesOutside (commits_at log.log.shape log.log.region) (log_len log.log.shape) (hash_slot_at conversion.shape conversion.region conversion.next) (row_len conversion.shape)
+  outside = subst (λ (s : Shape). LiesOutside (commits_at s log.log.region) (log_len s) (hash_slot_at conversion.shape conversion.region conversion.next) (row_len conversion.shape)) same
       (behind_logs conversion.shape log.log.region conversion.region conversion.next (subst (λ (s : Shape). log.log.region < s.logs) (sym same) bounds.region))
 
   log_fits : device_size log.log.shape ≤ size old

@@ -4,7 +4,7 @@ use Rattle.std.specs.List.{list_all}
 use Rattle.silt_cuckoo.specs.Slots.{Slots, IsBucketCount}
 use Rattle.silt_cuckoo.specs.Index.{index_of_keys}
 use Rattle.silt_disk.specs.Disk.{ChangesWithin, Content, LiesOutside, size}
-use Rattle.silt_disk.specs.Layout.{Shape, device_size, gates_at, hash_at, log_len, slots_len}
+use Rattle.silt_disk.specs.Layout.{Shape, device_size, commits_at, hash_at, log_len, slots_len}
 use Rattle.silt_event.specs.Commands.{Map, map_after}
 use Rattle.silt_event.specs.Rows.{command_of}
 use Rattle.silt_hash_store.specs.Findings.{hash_findings}
@@ -41,5 +41,5 @@ ConvertedChargeLaw =
 abbrev pub WrittenElsewhereLaw : Type 0
 WrittenElsewhereLaw =
     (log : LogStoreState) (conversion : ConversionState) (old new : Content) (at count : ℕ) → InBounds log.log → conversion.region < conversion.shape.hashes
-    → conversion.next ≤ 4 * conversion.shape.buckets → device_size conversion.shape ≤ size old → LiesOutside (gates_at log.log.shape log.log.region) (log_len log.log.shape) at count
+    → conversion.next ≤ 4 * conversion.shape.buckets → device_size conversion.shape ≤ size old → LiesOutside (commits_at log.log.shape log.log.region) (log_len log.log.shape) at count
     → LiesOutside (hash_at conversion.shape conversion.region) (slots_len conversion.shape) at count → ChangesWithin at count old new → HasWritten old log conversion → HasWritten new log conversion

@@ -3,12 +3,12 @@ use Rattle.std.specs.Prelude.{◌≡◌, ◌⊎◌, ◌<◌, ◌*◌, ◌^◌, �
 use Rattle.std.specs.Str.{bytes_eq}
 use Rattle.byteorder.specs.Endian.{big_bytes}
 use Rattle.silt_disk.specs.Layout.{Shape, is_bucket_count, most_hashes, most_logs, most_sorted_capacity, most_value_len}
-use Rattle.silt_frame.specs.Gate.{gate_open, is_open}
+use Rattle.silt_frame.specs.Commit.{commit_open, is_open}
 use Rattle.silt_disk.specs.Numbers.{number_at}
 use Rattle.silt_disk.specs.declared.header.Version.{Version}
 use Rattle.silt_disk.specs.declared.header.Version.TheVariants.{One, Two}
 
--- how many bytes of a device are its header: the gate, the magic bytes, the version and the six numbers
+-- how many bytes of a device are its header: the commit byte, the magic bytes, the version and the six numbers
 abbrev pub header_len : ℕ
 header_len = 37
 
@@ -16,13 +16,13 @@ header_len = 37
 abbrev pub magic : List ℕ
 magic = codes "SILTFLSH"
 
--- the bytes of a new header after its gate: the magic bytes, version 2 and the six numbers
+-- the bytes of a new header after its commit byte: the magic bytes, version 2 and the six numbers
 abbrev pub header_bytes : Shape → List ℕ
 header_bytes s =
     magic ++ big_bytes 4 2 ++ big_bytes 4 s.value_len ++ big_bytes 4 s.buckets ++ big_bytes 4 s.log_capacity
     ++ big_bytes 4 s.logs ++ big_bytes 4 s.hashes ++ big_bytes 4 s.sorted_capacity
 
--- the header of an image: its gate, and what follows it
+-- the header of an image: its commit byte, and what follows it
 abbrev pub header_of : List ℕ → List ℕ
 header_of image = slice_range image 0 header_len
 
@@ -30,7 +30,7 @@ header_of image = slice_range image 0 header_len
 abbrev pub version_number : List ℕ → ℕ
 version_number header = number_at 4 9 header
 
--- the gate is open, and the magic bytes and version 1 or 2 follow
+-- the commit byte is open, and the magic bytes and version 1 or 2 follow
 abbrev pub is_formatted : List ℕ → Bool
 is_formatted header =
     is_open (slice_index header 0) && bytes_eq (slice_range header 1 9) magic && ((version_number header == 1) || (version_number header == 2))
@@ -39,10 +39,10 @@ is_formatted header =
 abbrev pub version_of : List ℕ → Version
 version_of header = if version_number header == 2 then Two else One
 
--- a header has its full length, its gate is open, and the magic bytes and version 1 or 2 follow
+-- a header has its full length, its commit byte is open, and the magic bytes and version 1 or 2 follow
 pub record IsHeader (header : List ℕ) : Type 0 where
   pub whole : length header ≡ header_len
-  pub gate : slice_index header 0 ≡ gate_open
+  pub commit : slice_index header 0 ≡ commit_open
   pub magic : slice_range header 1 9 ≡ magic
   pub version : (version_number header ≡ 1) ⊎ (version_number header ≡ 2)
 

@@ -75,7 +75,7 @@ entry_len s = key_len + s.value_len
 abbrev pub slot_at : ℕ → ℕ
 slot_at slot = sector + sector * slot
 
--- the length of a log region: a gate for each row, then, from the next sector on, the rows' bodies
+-- the length of a log region: a commit byte for each row, then, from the next sector on, the rows' bodies
 abbrev pub log_size : Shape → ℕ
 log_size s = up s.log_capacity + up (s.log_capacity * row_len s)
 
@@ -87,15 +87,15 @@ hash_size s = up (4 * s.buckets * row_len s)
 abbrev pub sorted_size : Shape → ℕ
 sorted_size s = up (s.sorted_capacity * entry_len s)
 
--- where the gates of a log region begin
-abbrev pub gates_at : Shape → ℕ → ℕ
-gates_at s region = regions_at + region * log_size s
+-- where the commit bytes of a log region begin
+abbrev pub commits_at : Shape → ℕ → ℕ
+commits_at s region = regions_at + region * log_size s
 
 -- where the bodies of a log region begin
 abbrev pub bodies_at : Shape → ℕ → ℕ
-bodies_at s region = gates_at s region + up s.log_capacity
+bodies_at s region = commits_at s region + up s.log_capacity
 
--- how many bytes of a log region are in use: its gates to the end of their sector, and its bodies
+-- how many bytes of a log region are in use: its commit bytes to the end of their sector, and its bodies
 abbrev pub log_len : Shape → ℕ
 log_len s = up s.log_capacity + s.log_capacity * row_len s
 
@@ -124,10 +124,10 @@ device_size s = sorted_at s 2
 pub record RegionsApart (s : Shape) : Type 0 where
   pub header : sector ≤ slot_at 0
   pub slots : slot_at 0 + sector ≤ slot_at 1
-  pub manifests : (region : ℕ) → slot_at 1 + sector ≤ gates_at s region
-  pub gates : (region : ℕ) → gates_at s region + s.log_capacity ≤ bodies_at s region
-  pub bodies : (region later : ℕ) → region < later → bodies_at s region + s.log_capacity * row_len s ≤ gates_at s later
-  pub logs : (region : ℕ) → gates_at s s.logs ≤ hash_at s region
+  pub manifests : (region : ℕ) → slot_at 1 + sector ≤ commits_at s region
+  pub commits : (region : ℕ) → commits_at s region + s.log_capacity ≤ bodies_at s region
+  pub bodies : (region later : ℕ) → region < later → bodies_at s region + s.log_capacity * row_len s ≤ commits_at s later
+  pub logs : (region : ℕ) → commits_at s s.logs ≤ hash_at s region
   pub hashes : (region later : ℕ) → region < later → hash_at s region + 4 * s.buckets * row_len s ≤ hash_at s later
   pub hash_end : (region : ℕ) → hash_at s s.hashes ≤ sorted_at s region
   pub sorted : (region later : ℕ) → region < later → sorted_at s region + s.sorted_capacity * entry_len s ≤ sorted_at s later

@@ -111,7 +111,7 @@ pub fn regions_law()
 {}
 
 impl Geometry {
-    ghost use Rattle.silt_disk.specs.Layout.{row_len, entry_len, slot_at, log_size, hash_size, sorted_size, gates_at, bodies_at, hash_at, sorted_at, device_size};
+    ghost use Rattle.silt_disk.specs.Layout.{row_len, entry_len, slot_at, log_size, hash_size, sorted_size, commits_at, bodies_at, hash_at, sorted_at, device_size};
 
     /// Makes the geometry of these numbers. Each must be within its limits: values of 1 to 4,096 bytes; a power of two of buckets,
     /// from 2 to 32,768; logs of 1 row up to four a bucket; 2 to 8 log regions; 1 to 16 hash regions; 1 to 16,777,216 sorted entries.
@@ -275,25 +275,25 @@ impl Geometry {
         slot_start(slot)
     }
 
-    /// Where the gates of a log region begin, one byte for each row.
+    /// Where the commit bytes of a log region begin, one byte for each row.
     #[tactic(auto, using(crate::proofs::Products::product_below, crate::proofs::Regions::device_size_most))]
-    pub fn gates_at(&self, region: u32) -> u64
+    pub fn commits_at(&self, region: u32) -> u64
         requires { region < self.now.logs }
-        ensures value { result ≡ gates_at self.now region }
-        ensures fits { gates_at self.now region + self.now.log_capacity ≤ device_size self.now }
+        ensures value { result ≡ commits_at self.now region }
+        ensures fits { commits_at self.now region + self.now.log_capacity ≤ device_size self.now }
         ensures most { device_size self.now ≤ 2 ^ 39 }
     {
         REGIONS_AT + u64::from(region) * self.log_size()
     }
 
-    /// Where the bodies of a log region begin, at the first sector after its gates.
+    /// Where the bodies of a log region begin, at the first sector after its commit bytes.
     pub fn bodies_at(&self, region: u32) -> u64
         requires { region < self.now.logs }
         ensures value { result ≡ bodies_at self.now region }
         ensures fits { bodies_at self.now region + self.now.log_capacity * row_len self.now ≤ device_size self.now }
         ensures most { device_size self.now ≤ 2 ^ 39 }
     {
-        self.gates_at(region) + round_up(u64::from(self.log_capacity))
+        self.commits_at(region) + round_up(u64::from(self.log_capacity))
     }
 
     /// Where a hash region begins.

@@ -7,10 +7,10 @@ use crate::{BadGeometry, Geometry};
 use byteorder::{BigEndian, ByteOrder};
 use silt_frame::is_open;
 
-/// The length of a header's meaningful bytes: its gate, the magic bytes, the version and the six numbers.
+/// The length of a header's meaningful bytes: its commit byte, the magic bytes, the version and the six numbers.
 pub const HEADER_LEN: usize = 37;
 
-// The magic bytes follow the header's gate.
+// The magic bytes follow the header's commit byte.
 const MAGIC: [u8; 8] = *b"SILTFLSH";
 
 // The version numbers: the first layout, and the one that `format` writes.
@@ -34,7 +34,7 @@ fn version_number(header: &[u8; HEADER_LEN]) -> u32
     BigEndian::read_u32(&header[9..13])
 }
 
-/// Whether the gate is open, and the magic bytes and version 1 or 2 follow.
+/// Whether the commit byte is open, and the magic bytes and version 1 or 2 follow.
 pub fn is_formatted(header: &[u8; HEADER_LEN]) -> bool
     ensures { result ≡ is_formatted header.now }
 {
@@ -68,7 +68,7 @@ pub fn geometry_of(header: &[u8; HEADER_LEN]) -> Result<Geometry, BadGeometry>
     )
 }
 
-/// The bytes after the gate of a new header: the magic bytes, version 2 and the six numbers.
+/// The bytes after the commit byte of a new header: the magic bytes, version 2 and the six numbers.
 pub fn header_bytes(geometry: &Geometry) -> [u8; HEADER_LEN - 1]
     ensures { result ≡ header_bytes geometry.now }
 {

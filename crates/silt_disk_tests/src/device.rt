@@ -353,7 +353,7 @@ fn numbers_of(geometry: &Geometry) -> [u32; 6] {
     ]
 }
 
-// Where the first or the second of each kind begins: a slot, the gates and the bodies of a log, a
+// Where the first or the second of each kind begins: a slot, the commit bytes and the bodies of a log, a
 // hash region and a sorted region. None if the geometry has no second one.
 fn places_of(geometry: &Geometry, second: bool) -> Option<[u64; 5]> {
     if geometry.logs() < 2 || geometry.hashes() < 2 {
@@ -362,7 +362,7 @@ fn places_of(geometry: &Geometry, second: bool) -> Option<[u64; 5]> {
     let place = if second { 1 } else { 0 };
     Some([
         geometry.slot_at(place),
-        geometry.gates_at(place),
+        geometry.commits_at(place),
         geometry.bodies_at(place),
         geometry.hash_at(place),
         geometry.sorted_at(place),

@@ -164,37 +164,37 @@ fn are_zeros(bytes: &[u8]) -> bool {
     true
 }
 
-// The gates of both logs on a device.
-fn gates_of(rt: &impl Abort, shown: &[u8]) -> [u8; 8] {
+// The commit bytes of both logs on a device.
+fn commits_of(rt: &impl Abort, shown: &[u8]) -> [u8; 8] {
     assert!(rt; shown.len() == SMALL_LEN);
-    let mut gates = [0; 8];
-    gates[..4].copy_from_slice(&shown[12_288..12_292]);
-    gates[4..].copy_from_slice(&shown[20_480..20_484]);
-    gates
+    let mut commits = [0; 8];
+    commits[..4].copy_from_slice(&shown[12_288..12_292]);
+    commits[4..].copy_from_slice(&shown[20_480..20_484]);
+    commits
 }
 
-// The gates of both logs after an opening of a device of these bytes that crashes at this write or
+// The commit bytes of both logs after an opening of a device of these bytes that crashes at this write or
 // sync. None if the opening fails.
 fn opened(rt: &impl Abort, alloc: Global, bytes: &[u8], k: u32) -> Result<Option<[u8; 8]>, Fail> {
     let disk = stopping(alloc, bytes, k, Fill::Old)?;
-    Ok(gates_opened(rt, alloc, disk))
+    Ok(commits_opened(rt, alloc, disk))
 }
 
-fn gates_opened(rt: &impl Abort, alloc: Global, disk: MemDisk) -> Option<[u8; 8]> {
+fn commits_opened(rt: &impl Abort, alloc: Global, disk: MemDisk) -> Option<[u8; 8]> {
     match open(alloc, disk) {
-        Ok(opened) => Some(gates_of(rt, opened.disk.shown())),
+        Ok(opened) => Some(commits_of(rt, opened.disk.shown())),
         Err(fault) => is_fault(rt, &fault.error),
     }
 }
 
-// An opening that fails only does so by a call of the disk. Returns no gates.
+// An opening that fails only does so by a call of the disk. Returns no commit bytes.
 fn is_fault<F>(rt: &impl Abort, error: &OpenError<F>) -> Option<[u8; 8]> {
     assert!(rt; matches!(error, OpenError::Device(_)));
     None
 }
 
-// Log 1 is frozen, and its second gate is open after a closed one. In the second case the third
-// gate of the active log is open after closed ones too.
+// Log 1 is frozen, and its second commit byte is open after a closed one. In the second case the third
+// commit byte of the active log is open after closed ones too.
 const OPEN_BEHIND: [(Changes, u32); 2] = [
     (&[(4112, 1), (4116, 1), (20_481, 0xA7)], 1),
     (&[(4112, 1), (4116, 1), (20_481, 0xA7), (12_290, 0xA7)], 3),
@@ -203,14 +203,14 @@ const OPEN_BEHIND: [(Changes, u32); 2] = [
 // An opening of a device of these bytes makes exactly this many writes and syncs.
 fn opens_in(rt: &impl Abort, alloc: Global, bytes: &[u8], calls: u32) -> Result<(), Fail> {
     for k in 1..calls.saturating_add(2) {
-        let gates = opened(rt, alloc, bytes, k)?;
+        let commits = opened(rt, alloc, bytes, k)?;
         let expected = (k > calls).then_some([0, 0, 0, 0, 0, 0xA7, 0, 0]);
-        assert!(rt; gates == expected, "{k}");
+        assert!(rt; commits == expected, "{k}");
     }
     Ok(())
 }
 
-// An opening makes a sync. If a gate of the active log past its first closed one is open, it also
+// An opening makes a sync. If a commit byte of the active log past its first closed one is open, it also
 // makes a write and a sync. It never writes to a frozen log.
 #[test]
 fn seals_the_active_log_alone(rt: HostRuntime) -> Result<(), Fail> {
@@ -250,7 +250,7 @@ fn checks_in(rt: &impl Abort, alloc: Global, bytes: &[u8], reads: u64) -> Result
     Ok(())
 }
 
-// A check of an empty store makes four reads: the header, two slots, and the gates. The eight slots
+// A check of an empty store makes four reads: the header, two slots, and the commit bytes. The eight slots
 // of a hash store take one more, and so do three sorted entries.
 const READS: [(Changes, u64); 3] = [
     (&[], 4),
@@ -303,29 +303,29 @@ fn reads_once(rt: &impl Abort, alloc: Global, bytes: &[u8]) -> Result<(), Fail> 
     Ok(())
 }
 
-// The gates of the header, of the manifest's slots and of the first row of log 0 on a device.
-fn first_gates(rt: &impl Abort, shown: &[u8]) -> [u8; 4] {
+// The commit bytes of the header, of the manifest's slots and of the first row of log 0 on a device.
+fn first_commits(rt: &impl Abort, shown: &[u8]) -> [u8; 4] {
     assert!(rt; shown.len() == SMALL_LEN);
     [shown[0], shown[4096], shown[8192], shown[12_288]]
 }
 
-// The gates after a crash at each call of a formatting, on a device of ones whose pending bytes all
-// become new. A gate is closed with a zero, and opened with 0xA7.
+// The commit bytes after a crash at each call of a formatting, on a device of ones whose pending bytes all
+// become new. A commit byte is closed with a zero, and opened with 0xA7.
 #[test]
-fn closes_gates_with_zeros(rt: HostRuntime) -> Result<(), Fail> {
+fn closes_commit_bytes_with_zeros(rt: HostRuntime) -> Result<(), Fail> {
     for k in 1..FORMAT_CALLS + 1 {
-        let left = gates_after(&rt, rt.alloc(), k)?;
-        assert!(rt; left == (End::Stopped, gates_at(k)), "{k}");
+        let left = commits_after(&rt, rt.alloc(), k)?;
+        assert!(rt; left == (End::Stopped, commits_at(k)), "{k}");
     }
     Ok(())
 }
 
-fn gates_after(rt: &impl Abort, alloc: Global, k: u32) -> Result<(End, [u8; 4]), Fail> {
+fn commits_after(rt: &impl Abort, alloc: Global, k: u32) -> Result<(End, [u8; 4]), Fail> {
     let (disk, end) = formatted(alloc, (SMALL_LEN, 0xFF), k, Fill::New)?;
-    Ok((end, first_gates(rt, disk.shown())))
+    Ok((end, first_commits(rt, disk.shown())))
 }
 
-fn gates_at(k: u32) -> [u8; 4] {
+fn commits_at(k: u32) -> [u8; 4] {
     let header = if k < 14 { 0x00 } else { 0xA7 };
     let first = match k {
         0..6 => 0xFF,

@@ -1,6 +1,6 @@
 -- A row more in the active log, and none.
 use Rattle.silt_engine.proofs.Common.{◌≡◌, ◌≤◌, ◌<◌, ℕ, ◌+◌, true, IsTrue, List, [], ◌∷◌, ◌++◌, map, Some, Ok, refl, ap, sym, ◌∙◌, subst, arith, append_assoc}
-use Rattle.silt_engine.proofs.Common.{map-append, ChangesWithin, Content, LeavesOnly, size, Shape, gates_at, log_size, row_len, Key, Kind, Put, Delete, body_at}
+use Rattle.silt_engine.proofs.Common.{map-append, ChangesWithin, Content, LeavesOnly, size, Shape, commits_at, log_size, row_len, Key, Kind, Put, Delete, body_at}
 use Rattle.silt_engine.proofs.Common.{log_rows, has_known_kind, stored_row, StoredRow, keys_of, put_count, puts_of, LogState, all_rows, settled_rows}
 use Rattle.silt_engine.proofs.Common.{waiting_rows, all_are_settled_and_waiting, IsLogStore, LogStoreState, Slots, index_of_keys, Stores, image_stores, IsSound}
 use Rattle.silt_engine.proofs.Common.{rows_of, with_log_rows, command_of, map_of_rows, count_law, AreWhole, EngineState, Stands, shown_stores, waiting_commands}
@@ -25,7 +25,7 @@ abbrev pub with_active : EngineState → LogStoreState → ℕ → EngineState
 with_active s after charge = record s { active = after; charge = charge }
 
 module _ (old new : Content) (s : EngineState) (after : LogStoreState) (more : List StoredRow) (charge : ℕ)
-    (stands : Stands old s) (sizes : size new ≡ size old) (changes : ChangesWithin (gates_at s.active.log.shape s.active.log.region) (log_size s.active.log.shape) old new)
+    (stands : Stands old s) (sizes : size new ≡ size old) (changes : ChangesWithin (commits_at s.active.log.shape s.active.log.region) (log_size s.active.log.shape) old new)
     (same_shape : after.log.shape ≡ s.active.log.shape) (same_region : after.log.region ≡ s.active.log.region) (is : IsLogStore new after)
     (images : LeavesOnly new (λ image. log_rows s.active.log.shape s.active.log.region image ≡ settled_rows old s.active.log))
     (settled : IsTrue old.honest → settled_rows new after.log ≡ settled_rows old s.active.log) (all : IsTrue old.honest → all_rows new after.log ≡ all_rows old s.active.log ++ more)
@@ -120,7 +120,7 @@ module _ (old new : Content) (s : EngineState) (after : LogStoreState) (kind : K
     (stands : Stands old s) (sizes : size new ≡ size old) (room : s.active.log.used < s.active.log.shape.log_capacity)
     (changes : ChangesWithin (body_at s.active.log.shape s.active.log.region s.active.log.used) (row_len s.active.log.shape) old new)
     (images : LeavesOnly new (λ image. log_rows s.active.log.shape s.active.log.region image ≡ settled_rows old s.active.log)) where
-  changed : ChangesWithin (gates_at s.active.log.shape s.active.log.region) (log_size s.active.log.shape) old new
+  changed : ChangesWithin (commits_at s.active.log.shape s.active.log.region) (log_size s.active.log.shape) old new
   changed = body_in_region s.active.log.shape s.active.log.region s.active.log.used old new room changes
 
   pub same_disk : SameDisk old new

@@ -14,7 +14,7 @@ pub use Rattle.silt_disk.proofs.Images.{failed_sync_within, left_after_failed_sy
 pub use Rattle.silt_disk.proofs.Images.{torn_splice, torn_trans, torn_wider, within_refl, within_trans, within_wider}
 pub use Rattle.silt_disk.proofs.Regions.{next_region, regions_apart, up_least}
 pub use Rattle.silt_disk.specs.Disk.{ChangesWithin, Content, CountsFault, GaveAny, LeavesOnly, Left, LiesOutside, Makes, MakesAtMost, Rests, Settles, Stays, Torn, size}
-pub use Rattle.silt_disk.specs.Layout.{InLimits, Shape, device_size, entries_len, entry_len, gates_at, hash_at, hash_size, log_len, log_size, row_len, slot_at, slots_len, sorted_at, sorted_size}
+pub use Rattle.silt_disk.specs.Layout.{InLimits, Shape, device_size, entries_len, entry_len, commits_at, hash_at, hash_size, log_len, log_size, row_len, slot_at, slots_len, sorted_at, sorted_size}
 pub use Rattle.silt_disk.specs.Wrote.{WroteOr}
 pub use Rattle.silt_disk.specs.declared.disk.Disk.{Ghosts}
 pub use Rattle.silt_engine.specs.Calls.{Advances, Breaks, BreaksOff, CannotTake, HoldsPrefix, HasNoFreeLog, MovesIntoBase, Remaps, ChangesOnlyActive, Works, WorksBy}
@@ -63,7 +63,7 @@ pub use Rattle.silt_image.proofs.Verdict.{rows_law, stands_law}
 pub use Rattle.silt_image.specs.Laws.{FindsNothing, FreezesActive, IsWhole}
 pub use Rattle.silt_image.specs.Meaning.{AreDigestsOf, HasActive, IsSound, StandsFor, charge_of, entries_digest, image_map, names_log, part_digest, rows_of, with_log_rows, with_part_rows}
 pub use Rattle.silt_image.specs.Stores.{Stores, image_digests, image_stores, stores_named}
-pub use Rattle.silt_log.proofs.Elsewhere.{all_are_settled_and_waiting, all_count, body_in_region, gates_in_region, log_elsewhere, log_rows_elsewhere, row_of_all}
+pub use Rattle.silt_log.proofs.Elsewhere.{all_are_settled_and_waiting, all_count, body_in_region, commits_in_region, log_elsewhere, log_rows_elsewhere, row_of_all}
 pub use Rattle.silt_log.proofs.Exits.{log_inside}
 pub use Rattle.silt_log.proofs.Waiting.{none_waiting, waiting_kept}
 pub use Rattle.silt_log.specs.Calls.{HasBeginning, KeepsRows}

@@ -1,6 +1,6 @@
 -- A slot of a conversion, written, and the slots settled.
 use Rattle.silt_engine.proofs.Common.{◌≡◌, ◌≢◌, ◌≤◌, ◌<◌, ℕ, ◌+◌, ◌*◌, false, IsTrue, List, [], Option, Ok, inl, inr, refl, ap, sym, ◌∙◌, subst, arith, IfSome}
-use Rattle.silt_engine.proofs.Common.{ChangesWithin, Content, LeavesOnly, LiesOutside, Torn, size, Shape, entries_len, gates_at, hash_at, hash_size, log_len}
+use Rattle.silt_engine.proofs.Common.{ChangesWithin, Content, LeavesOnly, LiesOutside, Torn, size, Shape, entries_len, commits_at, hash_at, hash_size, log_len}
 use Rattle.silt_engine.proofs.Common.{row_len, slots_len, sorted_at, shown_left, torn_wider, regions_apart, up_least, current_record_elsewhere, Body, Stores}
 use Rattle.silt_engine.proofs.Common.{image_stores, pieces_apart, ConversionState, HasWritten, hash_slot_at, IsUnderWay, EngineState, names_hash, oldest_log}
 use Rattle.silt_engine.proofs.Common.{Stands, shown_stores, Advances, Breaks, Remaps, SameDisk, Settles, Stays, failed_sync_within, left_after_failed_sync}
@@ -77,7 +77,7 @@ module _ (old new : Content) (s : EngineState) (region slot : ℕ) (stands : Sta
   slot_before_entries = on_some (IsPastEntries s.manifest.shape (hash_slot_at s.manifest.shape region slot) (row_len s.manifest.shape)) s.merging
       (λ merge. entries_behind s.manifest.shape region slot merge.region there below)
 
-  outside_active : LiesOutside (gates_at s.manifest.shape s.manifest.current.active) (log_len s.manifest.shape) (hash_slot_at s.manifest.shape region slot) (row_len s.manifest.shape)
+  outside_active : LiesOutside (commits_at s.manifest.shape s.manifest.current.active) (log_len s.manifest.shape) (hash_slot_at s.manifest.shape region slot) (row_len s.manifest.shape)
   outside_active = behind_logs s.manifest.shape s.manifest.current.active region slot (active_below old s stands)
 
   -- the stores still stand, with the conversion as it is then

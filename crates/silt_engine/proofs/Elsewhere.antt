@@ -1,7 +1,7 @@
 -- What a change in one place of the disk leaves of the logs, the hash stores, the entries, the conversion and the merge in other places.
 use Rattle.silt_engine.proofs.Common.{◌≡◌, ◌≢◌, ◌≤◌, ◌<◌, ℕ, ◌+◌, ◌*◌, ◌-◌, ◌%◌, ◌==◌, true, false, IsTrue, List, suc, length, map, get_or, Option, Some, None}
 use Rattle.silt_engine.proofs.Common.{inl, inr, ap, sym, ◌∙◌, subst, arith, All, Contains, IfSome, list_any, get_or-map, length-map, All-drop, list_any_at}
-use Rattle.silt_engine.proofs.Common.{nat_tests, ChangesWithin, Content, LiesOutside, size, Shape, device_size, entries_len, gates_at, hash_at, hash_size}
+use Rattle.silt_engine.proofs.Common.{nat_tests, ChangesWithin, Content, LiesOutside, size, Shape, device_size, entries_len, commits_at, hash_at, hash_size}
 use Rattle.silt_engine.proofs.Common.{log_len, log_size, row_len, slot_at, slots_len, sorted_at, regions_apart, up_least, first_rows, row_at, has_known_kind}
 use Rattle.silt_engine.proofs.Common.{StoredRow, keys_of, put_count, InBounds, LogState, all_rows, log_inside, log_rows_elsewhere, IsIndexed, LogStoreState}
 use Rattle.silt_engine.proofs.Common.{index_of_keys, ConversionState, HasWritten, HashState, IsHashStore, pieces_apart, whole_law, is_well_formed, Body}
@@ -18,7 +18,7 @@ use Rattle.silt_engine.proofs.Named.{named_body, named_shape}
 -- ---- places
 
 -- another log region lies outside
-pub outside_other : (shape : Shape) (region other : ℕ) → region ≢ other → LiesOutside (gates_at shape region) (log_len shape) (gates_at shape other) (log_size shape)
+pub outside_other : (shape : Shape) (region other : ℕ) → region ≢ other → LiesOutside (commits_at shape region) (log_len shape) (commits_at shape other) (log_size shape)
 outside_other shape region other differ =
     let bodies = up_least (shape.log_capacity * row_len shape) in
     elim (pieces_apart 12288 region other (log_size shape) differ) [
@@ -27,14 +27,14 @@ outside_other shape region other differ =
     ]
 
 -- a manifest slot lies outside each log region
-pub outside_slot : (shape : Shape) (region slot : ℕ) → slot < 2 → LiesOutside (gates_at shape region) (log_len shape) (slot_at slot) 4096
+pub outside_slot : (shape : Shape) (region slot : ℕ) → slot < 2 → LiesOutside (commits_at shape region) (log_len shape) (slot_at slot) 4096
 outside_slot shape region slot below = inl (omega (arith, below))
 
 -- a log region lies before the slots of each hash store
 log_ends : (size logs region rest : ℕ) → region < logs → 12288 + region * size + size ≤ 12288 + logs * size + rest
 log_ends size logs region rest below = omega (arith, next_region region logs size below)
 
-pub slots_behind_log : (shape : Shape) (region hash : ℕ) → region < shape.logs → LiesOutside (hash_at shape hash) (slots_len shape) (gates_at shape region) (log_size shape)
+pub slots_behind_log : (shape : Shape) (region hash : ℕ) → region < shape.logs → LiesOutside (hash_at shape hash) (slots_len shape) (commits_at shape region) (log_size shape)
 slots_behind_log shape region hash below = inl (log_ends (log_size shape) shape.logs region (hash * hash_size shape) below)
 
 -- and so does a manifest slot
@@ -47,12 +47,12 @@ entries_behind_manifest shape sorted slot below = inl (omega (arith, below))
 
 -- ---- frozen logs
 
--- there are as many rows as gates before the first closed one
+-- there are as many rows as commit bytes before the first closed one
 pub length-log_rows : (shape : Shape) (region : ℕ) (image : List ℕ) → length (log_rows shape region image) ≡ open_count shape region image
 unfolding log_rows rows_from
 length-log_rows shape region image = length-map-range_with_len (row_at shape region image) 0 (open_count shape region image)
 
--- a log with the rows before the first closed gate
+-- a log with the rows before the first closed commit byte
 pub scanned_all : (content : Content) (log : LogState) → log.used ≡ open_count log.shape log.region content.shown → all_rows content log ≡ log_rows log.shape log.region content.shown
 unfolding log_rows
 scanned_all content log counted = ap (λ (n : ℕ). first_rows log.shape log.region content.shown n) counted
@@ -68,7 +68,7 @@ indexed_same old new store back same indexed = record {
 
 -- a change outside a frozen log's region leaves the log
 pub frozen_elsewhere : (old new : Content) (store : LogStoreState) (at count : ℕ) → size old ≡ device_size store.log.shape → ChangesWithin at count old new
-    → (IsTrue old.honest → (store.log.region < store.log.shape.logs) × LiesOutside (gates_at store.log.shape store.log.region) (log_len store.log.shape) at count)
+    → (IsTrue old.honest → (store.log.region < store.log.shape.logs) × LiesOutside (commits_at store.log.shape store.log.region) (log_len store.log.shape) at count)
     → IsFrozen old store → IsFrozen new store
 frozen_elsewhere old new store at count sized changes lies frozen =
     let s : Shape = store.log.shape in
@@ -137,23 +137,23 @@ hash_named s are k d inside = (
 
 -- ---- the conversion
 
--- no more gates are counted than there are
-pub open_most : (shape : Shape) (region : ℕ) (image : List ℕ) → gates_at shape region + shape.log_capacity ≤ length image → open_count shape region image ≤ shape.log_capacity
+-- no more commit bytes are counted than there are
+pub open_most : (shape : Shape) (region : ℕ) (image : List ℕ) → commits_at shape region + shape.log_capacity ≤ length image → open_count shape region image ≤ shape.log_capacity
 unfolding open_count
-open_most shape region image fits = count_most (gates_at shape region) shape.log_capacity image fits
+open_most shape region image fits = count_most (commits_at shape region) shape.log_capacity image fits
 
 -- a change outside a frozen log and the slots of its conversion leaves what this has written
 pub log_written_elsewhere : (old new : Content) (store : LogStoreState) (conversion : ConversionState) (at count : ℕ)
     → device_size store.log.shape ≤ size old → conversion.region < conversion.shape.hashes
     → conversion.next ≤ 4 * conversion.shape.buckets → IsFrozen old store → ChangesWithin at count old new
-    → (IsTrue old.honest → (store.log.region < store.log.shape.logs) × LiesOutside (gates_at store.log.shape store.log.region) (log_len store.log.shape) at count
+    → (IsTrue old.honest → (store.log.region < store.log.shape.logs) × LiesOutside (commits_at store.log.shape store.log.region) (log_len store.log.shape) at count
     × LiesOutside (hash_at conversion.shape conversion.region) (slots_len conversion.shape) at count)
     → HasWritten old store conversion → HasWritten new store conversion
 log_written_elsewhere old new store conversion at count fits there most frozen changes lies is =
     let plain : LogStoreState = record store { log = record store.log { settled = store.log.used; stale = false } } in
     let plainly : HasWritten old plain conversion = record { shape = is.shape; due = is.due; tagged = is.tagged; charged = is.charged; hashed = is.hashed } in
-    let inside : IsTrue old.honest → gates_at store.log.shape store.log.region + store.log.shape.log_capacity ≤ size old =
-    λ h. let ends = log_inside store.log.shape store.log.region (lies h).0 in let gates = (regions_apart store.log.shape).gates store.log.region in omega (arith, ends, gates, fits) in
+    let inside : IsTrue old.honest → commits_at store.log.shape store.log.region + store.log.shape.log_capacity ≤ size old =
+    λ h. let ends = log_inside store.log.shape store.log.region (lies h).0 in let commits = (regions_apart store.log.shape).commits store.log.region in omega (arith, ends, commits, fits) in
     let bounds : IsTrue old.honest → InBounds plain.log = λ h. record {
       region = (lies h).0;
       order = omega arith;
@@ -179,7 +179,7 @@ on_some P (Some x) each = each x
 
 -- outside the regions of the frozen logs, the slots of the hash stores and the entries of the sorted store
 pub record IsApart (shape : Shape) (body : Body) (at count : ℕ) : Type 0 where
-  pub frozen : (region : ℕ) → Contains body.frozen region → LiesOutside (gates_at shape region) (log_len shape) at count
+  pub frozen : (region : ℕ) → Contains body.frozen region → LiesOutside (commits_at shape region) (log_len shape) at count
   pub hashed : (region : ℕ) → Contains body.hashed region → LiesOutside (hash_at shape region) (slots_len shape) at count
   pub sorted : LiesOutside (sorted_at shape body.sorted) (entries_len shape) at count
 
@@ -199,16 +199,16 @@ IsOutsideMerge s at count = IfSome s.merging (IsPastEntries s.manifest.shape at 
 
 -- the region of a log that is there lies before the slots of a conversion
 pub region_before_conversion : (s : EngineState) (region : ℕ) → region < s.manifest.shape.logs
-    → IsOutsideConversion s (gates_at s.manifest.shape region) (log_size s.manifest.shape)
+    → IsOutsideConversion s (commits_at s.manifest.shape region) (log_size s.manifest.shape)
 region_before_conversion s region below =
-    on_some (IsPastSlots s.manifest.shape (gates_at s.manifest.shape region) (log_size s.manifest.shape)) s.converting
+    on_some (IsPastSlots s.manifest.shape (commits_at s.manifest.shape region) (log_size s.manifest.shape)) s.converting
     (λ conversion. slots_behind_log s.manifest.shape region conversion.region below)
 
 -- and before the entries of a merge
 pub region_before_merge : (s : EngineState) (region : ℕ) → region < s.manifest.shape.logs
-    → IsOutsideMerge s (gates_at s.manifest.shape region) (log_size s.manifest.shape)
+    → IsOutsideMerge s (commits_at s.manifest.shape region) (log_size s.manifest.shape)
 region_before_merge s region below =
-    on_some (IsPastEntries s.manifest.shape (gates_at s.manifest.shape region) (log_size s.manifest.shape)) s.merging
+    on_some (IsPastEntries s.manifest.shape (commits_at s.manifest.shape region) (log_size s.manifest.shape)) s.merging
     (λ merge. entries_behind_log s.manifest.shape region merge.region below)
 
 -- a change in such a place leaves what is not in the active log
@@ -226,7 +226,7 @@ module _ (old new : Content) (s : EngineState) (at count : ℕ) (stands : Stands
       frozen_elsewhere old new store at count (stands.has_size ∙ ap device_size (sym is_shape)) changes
       (λ h. (
         subst (λ (sh : Shape). store.log.region < sh.logs) (sym is_shape) (named_below old s stands h store.log.region named),
-        subst (λ (sh : Shape). LiesOutside (gates_at sh store.log.region) (log_len sh) at count) (sym is_shape)
+        subst (λ (sh : Shape). LiesOutside (commits_at sh store.log.region) (log_len sh) at count) (sym is_shape)
             ((apart h).frozen store.log.region named),
       ))
       (stands.frozen k d inside)
@@ -266,7 +266,7 @@ module _ (old new : Content) (s : EngineState) (at count : ℕ) (stands : Stands
       (stands.frozen (length s.frozen - 1) s.active inside) changes
       (λ h. (
         subst (λ (sh : Shape). log.log.region < sh.logs) (sym is_shape) (named_below old s stands h log.log.region named),
-        subst (λ (sh : Shape). LiesOutside (gates_at sh log.log.region) (log_len sh) at count) (sym is_shape)
+        subst (λ (sh : Shape). LiesOutside (commits_at sh log.log.region) (log_len sh) at count) (sym is_shape)
             ((apart h).frozen log.log.region named),
         subst (λ (sh : Shape). IsPastSlots sh at count conversion) (sym way.has_shape) (outside h),
       ))

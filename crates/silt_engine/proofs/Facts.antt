@@ -1,6 +1,6 @@
 -- What the images of a disk on which the stores stand represent.
 use Rattle.silt_engine.proofs.Common.{◌≡◌, ◌≤◌, ◌<◌, ℕ, ◌+◌, ◌-◌, IsTrue, List, ◌++◌, length, map, replicate, Ok, inr, refl, ap, sym, ◌∙◌, subst, arith}
-use Rattle.silt_engine.proofs.Common.{Content, Left, LeavesOnly, Torn, size, Shape, device_size, gates_at, log_size, shown_left, torn_wider, regions_apart}
+use Rattle.silt_engine.proofs.Common.{Content, Left, LeavesOnly, Torn, size, Shape, device_size, commits_at, log_size, shown_left, torn_wider, regions_apart}
 use Rattle.silt_engine.proofs.Common.{up_least, log_rows, StoredRow, put_count, InBounds, LogState, all_rows, settled_rows, waiting_rows}
 use Rattle.silt_engine.proofs.Common.{all_are_settled_and_waiting, log_inside, Map, map_after, Stores, image_digests, image_stores, HasActive, IsSound}
 use Rattle.silt_engine.proofs.Common.{StandsFor, image_map, rows_of, with_log_rows, command_of, map_of_rows, rows_law, where_found, RecordIsCurrent}
@@ -23,18 +23,18 @@ charge_is : (image : List ℕ) (t : Stores) → image_stores image ≡ Ok t → 
 unfolding image_charge
 charge_is image t is = ap put_count (rows_law image t is)
 
--- opening the gates of the waiting rows changes their log's region alone
-pub full_torn : (content : Content) (l : LogState) → InBounds l → size content ≡ device_size l.shape → Torn (gates_at l.shape l.region) (log_size l.shape) content.shown (log.opened_image content l)
+-- opening the commit bytes of the waiting rows changes their log's region alone
+pub full_torn : (content : Content) (l : LogState) → InBounds l → size content ≡ device_size l.shape → Torn (commits_at l.shape l.region) (log_size l.shape) content.shown (log.opened_image content l)
 full_torn content l bounds sized =
     let ones : List ℕ = replicate (l.used - l.settled) 167 in
     let long : length ones ≡ l.used - l.settled = length-replicate (l.used - l.settled) 167 in
     let inside = log_inside l.shape l.region bounds.region in
-    let gates = (regions_apart l.shape).gates l.region in
-    let within : gates_at l.shape l.region + l.settled + length ones ≤ length content.shown = omega (arith, long, inside, gates, bounds.order, bounds.room, sized) in
-    torn_wider (gates_at l.shape l.region) (log_size l.shape) (omega arith) (omega (arith, long, bounds.order, bounds.room, up_least l.shape.log_capacity))
-    (torn_splice (gates_at l.shape l.region + l.settled) ones content.shown within)
+    let commits = (regions_apart l.shape).commits l.region in
+    let within : commits_at l.shape l.region + l.settled + length ones ≤ length content.shown = omega (arith, long, inside, commits, bounds.order, bounds.room, sized) in
+    torn_wider (commits_at l.shape l.region) (log_size l.shape) (omega arith) (omega (arith, long, bounds.order, bounds.room, up_least l.shape.log_capacity))
+    (torn_splice (commits_at l.shape l.region + l.settled) ones content.shown within)
 
--- with the gates of a log's waiting rows open, the map of the stores that are shown, of which it is the active one, is that after their
+-- with the commit bytes of a log's waiting rows open, the map of the stores that are shown, of which it is the active one, is that after their
 -- commands
 pub opened_map : (content : Content) (l : LogState) (t : Stores) → log.IsLog content l → size content ≡ device_size l.shape
     → t.shape ≡ l.shape → t.body.active ≡ l.region → IsTrue content.honest → image_stores content.shown ≡ Ok t
@@ -109,23 +109,23 @@ module _ (content : Content) (s : EngineState) (stands : Stands content s) where
   -- and in the full image
   full_is_current : IsTrue content.honest → RecordIsCurrent s.manifest (full_image content s)
   full_is_current honest =
-      let torn : Torn (gates_at s.active.log.shape s.active.log.region) (log_size s.active.log.shape) content.shown (full_image content s) =
+      let torn : Torn (commits_at s.active.log.shape s.active.log.region) (log_size s.active.log.shape) content.shown (full_image content s) =
       full_torn content s.active.log stands.active.bounds active_size in
       let same_header : header_of (full_image content s) ≡ header_of content.shown =
-      torn_slice_before (gates_at s.active.log.shape s.active.log.region) (log_size s.active.log.shape) content.shown (full_image content s) torn 0 37 (omega arith) (omega arith) in
-      ap where_found (other_regions s.manifest.shape (gates_at s.active.log.shape s.active.log.region) (log_size s.active.log.shape)
+      torn_slice_before (commits_at s.active.log.shape s.active.log.region) (log_size s.active.log.shape) content.shown (full_image content s) torn 0 37 (omega arith) (omega arith) in
+      ap where_found (other_regions s.manifest.shape (commits_at s.active.log.shape s.active.log.region) (log_size s.active.log.shape)
       content.shown (full_image content s) (omega (arith, active_size)) (inr (omega arith)) torn
       (ap version_of same_header))
       ∙ left_is_current honest content.shown (shown_left content)
 
   -- an image that is changed in the region of the active log
   pub torn_active : (before image : List ℕ) (rows : List StoredRow) → image_stores before ≡ Ok (shown_stores content s)
-      → Torn (gates_at s.active.log.shape s.active.log.region) (log_size s.active.log.shape) before image
+      → Torn (commits_at s.active.log.shape s.active.log.region) (log_size s.active.log.shape) before image
       → log_rows s.active.log.shape s.active.log.region image ≡ rows → image_stores image ≡ Ok (with_log_rows s.manifest.current.active rows (shown_stores content s))
   torn_active before image rows named torn are =
       region_torn s.manifest.shape (shown_stores content s) s.manifest.current.active rows before image (named_shape s.manifest.shape s.manifest.current content.shown) named active_below
-      (subst (λ (n : ℕ). Torn (gates_at s.manifest.shape n) (log_size s.manifest.shape) before image) stands.whole.active_region
-      (subst (λ (sh : Shape). Torn (gates_at sh s.active.log.region) (log_size sh) before image) stands.whole.has_shape torn))
+      (subst (λ (n : ℕ). Torn (commits_at s.manifest.shape n) (log_size s.manifest.shape) before image) stands.whole.active_region
+      (subst (λ (sh : Shape). Torn (commits_at sh s.active.log.region) (log_size sh) before image) stands.whole.has_shape torn))
       (active_rows image ∙ are)
 
   -- the stores of the full image

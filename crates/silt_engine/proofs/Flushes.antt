@@ -1,10 +1,10 @@
 -- The waiting rows settled, and some of them.
 use Rattle.silt_engine.proofs.Common.{◌≡◌, ℕ, ◌+◌, ◌-◌, nat_lt, false, IsTrue, List, [], ◌++◌, map, take, drop, Ok, refl, ap, sym, ◌∙◌, subst, arith}
-use Rattle.silt_engine.proofs.Common.{map-append, take-append-drop, ChangesWithin, Content, LeavesOnly, size, Shape, gates_at, log_size, log_rows, StoredRow}
+use Rattle.silt_engine.proofs.Common.{map-append, take-append-drop, ChangesWithin, Content, LeavesOnly, size, Shape, commits_at, log_size, log_rows, StoredRow}
 use Rattle.silt_engine.proofs.Common.{put_count, LogState, all_rows, settled_rows, waiting_rows, none_waiting, LogStoreState, Map, map_after, Stores}
 use Rattle.silt_engine.proofs.Common.{image_stores, AreDigestsOf, IsSound, image_map, rows_of, with_log_rows, command_of, map_of_rows, EngineState, Stands}
 use Rattle.silt_engine.proofs.Common.{full_image, shown_stores, waiting_commands, Advances, Breaks, Remaps, IsQuiet, SameDisk, ltb-false, HasBeginning}
-use Rattle.silt_engine.proofs.Common.{gates_in_region, OpensSomeOfStore, OpensStore, again_law}
+use Rattle.silt_engine.proofs.Common.{commits_in_region, OpensSomeOfStore, OpensStore, again_law}
 use Rattle.std.proofs.lemmas.List.{append-nil}
 use Rattle.silt_engine.proofs.Named.{map_with_more, named_body, named_shape, rows_with_more, said_with_rows, sound_some, with_body, with_shape}
 use Rattle.silt_engine.proofs.Facts.{active_is, all_sound, base_is, full_map, has_active, map_with_rows, rows_split, stands_with_rows, torn_active}
@@ -17,15 +17,15 @@ pub quiet : (content : Content) (s : EngineState) → s.active.log.settled ≡ s
 quiet content s settled = record { settled = settled; none_wait = ap (map command_of) (none_waiting content s.active.log settled) }
 
 module _ (old new : Content) (s : EngineState) (after : LogStoreState) (stands : Stands old s) (sizes : size new ≡ size old)
-    (changes : ChangesWithin (gates_at s.active.log.shape s.active.log.region + s.active.log.settled) (s.active.log.used - s.active.log.settled) old new) where
+    (changes : ChangesWithin (commits_at s.active.log.shape s.active.log.region + s.active.log.settled) (s.active.log.used - s.active.log.settled) old new) where
   was : IsTrue new.honest → IsTrue old.honest
   was h = subst IsTrue changes.honest h
 
   there : IsTrue old.honest → IsTrue new.honest
   there h = subst IsTrue (sym changes.honest) h
 
-  changed : ChangesWithin (gates_at s.active.log.shape s.active.log.region) (log_size s.active.log.shape) old new
-  changed = gates_in_region s.active.log.shape s.active.log.region s.active.log.settled (s.active.log.used - s.active.log.settled)
+  changed : ChangesWithin (commits_at s.active.log.shape s.active.log.region) (log_size s.active.log.shape) old new
+  changed = commits_in_region s.active.log.shape s.active.log.region s.active.log.settled (s.active.log.used - s.active.log.settled)
       old new (omega (arith, stands.active.bounds.order, stands.active.bounds.room)) changes
 
   pub flushed_disk : SameDisk old new

@@ -1,7 +1,7 @@
 -- The steps of freezing.
 use Rattle.silt_engine.proofs.Common.{◌≡◌, ◌≢◌, ◌<◌, ℕ, ◌+◌, ◌-◌, ◌%◌, false, IsTrue, List, [], ◌∷◌, ◌++◌, suc, length, map, take, drop, replicate, Option}
 use Rattle.silt_engine.proofs.Common.{None, Ok, inr, refl, ap, sym, ◌∙◌, subst, arith, Contains, IfSome, take-append-drop, ChangesWithin, Content, LeavesOnly}
-use Rattle.silt_engine.proofs.Common.{LiesOutside, size, Shape, device_size, gates_at, log_len, log_size, slot_at, within_wider, up_least, log_rows, StoredRow}
+use Rattle.silt_engine.proofs.Common.{LiesOutside, size, Shape, device_size, commits_at, log_len, log_size, slot_at, within_wider, up_least, log_rows, StoredRow}
 use Rattle.silt_engine.proofs.Common.{put_count, all_rows, KeepsRows, waiting_kept, IsLogStore, LogStoreState, ConversionState, HasWritten, ManifestState}
 use Rattle.silt_engine.proofs.Common.{IsCurrent, Body, Digests, current_record_elsewhere, map_after, Stores, image_stores, AreDigestsOf, IsSound, rows_of}
 use Rattle.silt_engine.proofs.Common.{with_log_rows, command_of, map_of_rows, whole_law, MergeState, IsMerging, IsUnderWay, EngineState, oldest_log}
@@ -23,7 +23,7 @@ use Rattle.silt_engine.proofs.Wholes.{whole_with}
 
 -- a log store under a change elsewhere
 pub store_elsewhere : (old new : Content) (store : LogStoreState) (at count : ℕ) → IsLogStore old store → size old ≡ device_size store.log.shape → size new ≡ size old
-    → LiesOutside (gates_at store.log.shape store.log.region) (log_len store.log.shape) at count → ChangesWithin at count old new → IsLogStore new store
+    → LiesOutside (commits_at store.log.shape store.log.region) (log_len store.log.shape) at count → ChangesWithin at count old new → IsLogStore new store
 store_elsewhere old new store at count stands sized sizes outside changes =
     let keeps : KeepsRows old new store.log store.log = log_elsewhere old new store.log at count stands.log (omega (arith, sized)) sizes outside changes in
     record {
@@ -33,14 +33,14 @@ store_elsewhere old new store at count stands sized sizes outside changes =
 
 module _ (old new : Content) (s : EngineState) (at count : ℕ) (stands : Stands old s) (sizes : size new ≡ size old) (changes : ChangesWithin at count old new)
     (apart : IsTrue old.honest → IsApart s.manifest.shape s.manifest.current at count)
-    (outside : LiesOutside (gates_at s.manifest.shape s.manifest.current.active) (log_len s.manifest.shape) at count) where
+    (outside : LiesOutside (commits_at s.manifest.shape s.manifest.current.active) (log_len s.manifest.shape) at count) where
   pub same_here : SameDisk old new
   same_here = record { size = sizes; honest = changes.honest }
 
   pub kept : KeepsRows old new s.active.log s.active.log
   kept = log_elsewhere old new s.active.log at count stands.active (omega (arith, active_size old s stands)) sizes
-      (subst (λ (sh : Shape). LiesOutside (gates_at sh s.active.log.region) (log_len sh) at count) (sym stands.whole.has_shape)
-      (subst (λ (n : ℕ). LiesOutside (gates_at s.manifest.shape n) (log_len s.manifest.shape) at count) (sym stands.whole.active_region) outside)) changes
+      (subst (λ (sh : Shape). LiesOutside (commits_at sh s.active.log.region) (log_len sh) at count) (sym stands.whole.has_shape)
+      (subst (λ (n : ℕ). LiesOutside (commits_at s.manifest.shape n) (log_len s.manifest.shape) at count) (sym stands.whole.active_region) outside)) changes
 
   -- the stores stand in this state, with the same rows waiting
   module _ (m : ManifestState) (converting : Option ConversionState) (merging : Option MergeState) (same_shape : m.shape ≡ s.manifest.shape)
@@ -123,7 +123,7 @@ pub later_contains : (first : ℕ) (ids : List ℕ) (id : ℕ) → Contains ids 
 later_contains first ids id (k, inside, here) = (suc k, omega (arith, inside), here)
 
 -- it lies apart from the logs, the hash stores and the sorted store
-pub region_apart : (shape : Shape) (body : Body) (region : ℕ) → region < shape.logs → names_region body region ≡ false → IsApart shape body (gates_at shape region) (log_size shape)
+pub region_apart : (shape : Shape) (body : Body) (region : ℕ) → region < shape.logs → names_region body region ≡ false → IsApart shape body (commits_at shape region) (log_size shape)
 region_apart shape body region below free = record {
   frozen = λ id there. outside_other shape id region (not_named body region free id (later_contains body.active body.frozen id there));
   hashed = λ id there. slots_behind_log shape region id below;
@@ -131,15 +131,15 @@ region_apart shape body region below free = record {
 }
 
 module _ (old new : Content) (s : EngineState) (region : ℕ) (stands : Stands old s) (below : region < s.manifest.shape.logs) (free : names_region s.manifest.current region ≡ false)
-    (sizes : size new ≡ size old) (gates : ChangesWithin (gates_at s.manifest.shape region) s.manifest.shape.log_capacity old new) where
-  in_region : ChangesWithin (gates_at s.manifest.shape region) (log_size s.manifest.shape) old new
-  in_region = within_wider (gates_at s.manifest.shape region) (log_size s.manifest.shape) (omega arith) (omega (arith, up_least s.manifest.shape.log_capacity)) gates
+    (sizes : size new ≡ size old) (commits : ChangesWithin (commits_at s.manifest.shape region) s.manifest.shape.log_capacity old new) where
+  in_region : ChangesWithin (commits_at s.manifest.shape region) (log_size s.manifest.shape) old new
+  in_region = within_wider (commits_at s.manifest.shape region) (log_size s.manifest.shape) (omega arith) (omega (arith, up_least s.manifest.shape.log_capacity)) commits
 
   -- each possible crash image has the same stores
   free_named : LeavesOnly new (λ image. image_stores image ≡ Ok (shown_stores old s))
   free_named = record {
     each = λ h image left.
-        let o : IsTrue old.honest = subst IsTrue gates.honest h in
+        let o : IsTrue old.honest = subst IsTrue commits.honest h in
         let t : Stores = shown_stores old s in
         let from = in_region.left o image left in
         let names : names_log t region ≡ false = (whole_law old.shown t (shown_named old s stands o)).names region
@@ -149,26 +149,26 @@ module _ (old new : Content) (s : EngineState) (region : ℕ) (stands : Stands o
         ∙ ap Ok (unnamed_law t region (log_rows s.manifest.shape region image) names);
   }
 
-  outside_active : LiesOutside (gates_at s.manifest.shape s.manifest.current.active) (log_len s.manifest.shape) (gates_at s.manifest.shape region) (log_size s.manifest.shape)
+  outside_active : LiesOutside (commits_at s.manifest.shape s.manifest.current.active) (log_len s.manifest.shape) (commits_at s.manifest.shape region) (log_size s.manifest.shape)
   outside_active = outside_other s.manifest.shape s.manifest.current.active region (not_named s.manifest.current region free s.manifest.current.active (0, omega arith, refl))
 
   -- the stores still stand
   pub cleared : Advances [] old new s s
-  cleared = stays_on old new s (gates_at s.manifest.shape region) (log_size s.manifest.shape) stands sizes in_region
+  cleared = stays_on old new s (commits_at s.manifest.shape region) (log_size s.manifest.shape) stands sizes in_region
       (λ h. region_apart s.manifest.shape s.manifest.current region below free) outside_active
       (λ h. region_before_conversion s region below) (λ h. region_before_merge s region below) s.manifest refl refl refl stands.idle
-      (current_record_elsewhere s.manifest (gates_at s.manifest.shape region) (log_size s.manifest.shape) old new (omega (arith, stands.has_size)) (inr (omega arith)) in_region stands.current)
+      (current_record_elsewhere s.manifest (commits_at s.manifest.shape region) (log_size s.manifest.shape) old new (omega (arith, stands.has_size)) (inr (omega arith)) in_region stands.current)
       free_named
 
   pub cleared_disk : SameDisk old new
-  cleared_disk = record { size = sizes; honest = gates.honest }
+  cleared_disk = record { size = sizes; honest = commits.honest }
 
 -- ---- the manifest
 
 -- with no row waiting the full image is what is shown
 pub full_quiet : (content : Content) (s : EngineState) → s.active.log.settled ≡ s.active.log.used → full_image content s ≡ content.shown
 full_quiet content s settled =
-    let at : ℕ = gates_at s.active.log.shape s.active.log.region + s.active.log.settled in
+    let at : ℕ = commits_at s.active.log.shape s.active.log.region + s.active.log.settled in
     let none : s.active.log.used - s.active.log.settled ≡ 0 = omega arith in
     let nothing : replicate {A = ℕ} 0 167 ≡ [] = refl in
     let end : at + 0 ≡ at = omega arith in
@@ -212,14 +212,14 @@ module _ (old new : Content) (s : EngineState) (next : NextLog) where
   store_region is = ap (λ (t : LogStoreState). t.log.region) is.store
 
   module _ (stands : Stands old s) (is : IsNextLog s next) (sizes : size new ≡ size old)
-      (changes : ChangesWithin (gates_at next.store.log.shape next.store.log.region) next.store.log.shape.log_capacity old new) where
-    gates : ChangesWithin (gates_at s.manifest.shape is.region) s.manifest.shape.log_capacity old new
-    gates =
-        subst (λ (n : ℕ). ChangesWithin (gates_at s.manifest.shape n) s.manifest.shape.log_capacity old new) (store_region is)
-        (subst (λ (sh : Shape). ChangesWithin (gates_at sh next.store.log.region) sh.log_capacity old new) (store_shape is) changes)
+      (changes : ChangesWithin (commits_at next.store.log.shape next.store.log.region) next.store.log.shape.log_capacity old new) where
+    commits : ChangesWithin (commits_at s.manifest.shape is.region) s.manifest.shape.log_capacity old new
+    commits =
+        subst (λ (n : ℕ). ChangesWithin (commits_at s.manifest.shape n) s.manifest.shape.log_capacity old new) (store_region is)
+        (subst (λ (sh : Shape). ChangesWithin (commits_at sh next.store.log.region) sh.log_capacity old new) (store_shape is) changes)
 
     pub clear_advances : Advances [] old new s s
-    clear_advances = cleared old new s is.region stands is.lowest.below is.lowest.free sizes gates
+    clear_advances = cleared old new s is.region stands is.lowest.below is.lowest.free sizes commits
 
   -- the new log is as it was in memory, and its region is empty
   module _ (is : IsNextLog s next) (after : LogStoreState) (empties : EmptiesStore new next.store after) where

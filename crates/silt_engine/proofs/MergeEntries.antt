@@ -1,6 +1,6 @@
 -- An entry of a merge, written into the sorted region that the body does not name.
 use Rattle.silt_engine.proofs.Common.{◌≡◌, ◌≢◌, ◌<◌, ℕ, ◌*◌, IsTrue, [], Option, Some, None, Ok, inl, inr, refl, ap, sym, ◌∙◌, subst, arith, IfSome}
-use Rattle.silt_engine.proofs.Common.{ChangesWithin, Content, LeavesOnly, LiesOutside, Torn, size, Shape, entries_len, entry_len, gates_at, hash_at, hash_size}
+use Rattle.silt_engine.proofs.Common.{ChangesWithin, Content, LeavesOnly, LiesOutside, Torn, size, Shape, entries_len, entry_len, commits_at, hash_at, hash_size}
 use Rattle.silt_engine.proofs.Common.{log_len, log_size, row_len, slots_len, sorted_at, sorted_size, regions_apart, up_least, current_record_elsewhere, Body}
 use Rattle.silt_engine.proofs.Common.{ConversionState, Stores, image_stores, pieces_apart, MergeState, SortedState, IsMerging, IsUnderWay, EngineState}
 use Rattle.silt_engine.proofs.Common.{HasGathered, Stands, shown_stores, Advances, Breaks, Remaps, SameDisk, free_sorted_law, log_ends_before}
@@ -13,7 +13,7 @@ use Rattle.silt_engine.proofs.Freezes.{stays_with}
 -- ---- places
 
 -- a sorted region lies behind each log
-behind_log : (shape : Shape) (region sorted : ℕ) → region < shape.logs → LiesOutside (gates_at shape region) (log_len shape) (sorted_at shape sorted) (sorted_size shape)
+behind_log : (shape : Shape) (region sorted : ℕ) → region < shape.logs → LiesOutside (commits_at shape region) (log_len shape) (sorted_at shape sorted) (sorted_size shape)
 behind_log shape region sorted below =
     let bodies = up_least (shape.log_capacity * row_len shape) in
     inr (omega (arith, log_ends_before (log_size shape) shape.logs region (shape.hashes * hash_size shape) (sorted * sorted_size shape) below, bodies))
@@ -65,7 +65,7 @@ module _ (old new : Content) (s : EngineState) (region : ℕ) (stands : Stands o
     sorted = other_sorted s.manifest.shape s.manifest.current.sorted region not_named;
   }
 
-  outside_active : LiesOutside (gates_at s.manifest.shape s.manifest.current.active) (log_len s.manifest.shape) (sorted_at s.manifest.shape region) (sorted_size s.manifest.shape)
+  outside_active : LiesOutside (commits_at s.manifest.shape s.manifest.current.active) (log_len s.manifest.shape) (sorted_at s.manifest.shape region) (sorted_size s.manifest.shape)
   outside_active = behind_log s.manifest.shape s.manifest.current.active region (active_below old s stands)
 
   outside_conversion : IsOutsideConversion s (sorted_at s.manifest.shape region) (sorted_size s.manifest.shape)

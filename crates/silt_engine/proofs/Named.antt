@@ -1,6 +1,6 @@
 -- Stores that a body names, and the images that have them.
 use Rattle.silt_engine.proofs.Common.{◌≡◌, ◌<◌, ℕ, List, [], ◌++◌, map, take, Option, Some, None, Result, Ok, Err, refl, ap, sym, ◌∙◌, subst, Torn, Shape}
-use Rattle.silt_engine.proofs.Common.{gates_at, log_size, log_rows, StoredRow, manifest_found, current_manifest, where_found, Body, Digests, SlotRecord, Map}
+use Rattle.silt_engine.proofs.Common.{commits_at, log_size, log_rows, StoredRow, manifest_found, current_manifest, where_found, Body, Digests, SlotRecord, Map}
 use Rattle.silt_engine.proofs.Common.{map_after, Stores, image_digests, image_stores, AreDigestsOf, HasActive, IsSound, StandsFor, rows_of, command_of}
 use Rattle.silt_engine.proofs.Common.{map_of_rows, whole_law, map_law, rows_law, digests_law, stores_law, log_region_law, append_law, own_rows_law}
 use Rattle.silt_engine.proofs.Common.{beginning_law, stands_law}
@@ -36,10 +36,10 @@ named_here shape body t image is same_shape same_body =
 
 -- an image that is changed in a log region has the stores with that log's rows
 pub region_torn : (shape : Shape) (t : Stores) (region : ℕ) (rows : List StoredRow) (before image : List ℕ) → t.shape ≡ shape → image_stores before ≡ Ok t → region < shape.logs
-    → Torn (gates_at shape region) (log_size shape) before image → log_rows shape region image ≡ rows → image_stores image ≡ Ok (with_log_rows region rows t)
+    → Torn (commits_at shape region) (log_size shape) before image → log_rows shape region image ≡ rows → image_stores image ≡ Ok (with_log_rows region rows t)
 region_torn shape t region rows before image same named below torn are =
     let inside : region < t.shape.logs = subst (λ (s : Shape). region < s.logs) (sym same) below in
-    let here : Torn (gates_at t.shape region) (log_size t.shape) before image = subst (λ (s : Shape). Torn (gates_at s region) (log_size s) before image) (sym same) torn in
+    let here : Torn (commits_at t.shape region) (log_size t.shape) before image = subst (λ (s : Shape). Torn (commits_at s region) (log_size s) before image) (sym same) torn in
     log_region_law before image t region named inside here ∙ ap (λ (r : List StoredRow). Ok (with_log_rows region r t)) (ap (λ (s : Shape). log_rows s region image) same ∙ are)
 
 -- the first log is the active one

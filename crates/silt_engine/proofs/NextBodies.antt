@@ -26,22 +26,22 @@ EitherIsCurrent s body digests image = RecordIsCurrent s.manifest image ⊎ Next
 
 -- ---- the two steps
 
--- before the gate is opened the old record is current
-pub before_gate : (new : Content) (s : EngineState) (body : Body) (digests : Digests) → LeavesOnly new (RecordIsCurrent s.manifest) → LeavesOnly new (EitherIsCurrent s body digests)
-before_gate new s body digests each = record { each = λ h image left. inl (each.each h image left) }
+-- before the commit byte is opened the old record is current
+pub before_commit : (new : Content) (s : EngineState) (body : Body) (digests : Digests) → LeavesOnly new (RecordIsCurrent s.manifest) → LeavesOnly new (EitherIsCurrent s body digests)
+before_commit new s body digests each = record { each = λ h image left. inl (each.each h image left) }
 
 module _ (s : EngineState) (body : Body) (digests : Digests) (m : ManifestState) (is : m ≡ record s.manifest { spare_closed = true; prepared = Some (long_record body digests) }) where
-  -- at the gate either
-  pub at_gate : (new : Content) → LeavesOnly new (OldOrNewIsCurrent m) → LeavesOnly new (EitherIsCurrent s body digests)
-  at_gate new each = subst (λ (n : ManifestState). LeavesOnly new (OldOrNewIsCurrent n)) is each
+  -- at the commit byte either
+  pub at_commit : (new : Content) → LeavesOnly new (OldOrNewIsCurrent m) → LeavesOnly new (EitherIsCurrent s body digests)
+  at_commit new each = subst (λ (n : ManifestState). LeavesOnly new (OldOrNewIsCurrent n)) is each
 
   -- both steps change the spare slot alone
   pub both_steps : (old middle new : Content) → ChangesWithin (slot_at (spare_slot s.manifest)) 4096 old middle
       → ChangesWithin (slot_at (spare_slot m)) 1 middle new → ChangesWithin (slot_at (spare_slot s.manifest)) 4096 old new
   both_steps old middle new first second =
       let same : spare_slot m ≡ spare_slot s.manifest = ap (λ (n : ManifestState). spare_slot n) is in
-      let gate : ChangesWithin (slot_at (spare_slot s.manifest)) 1 middle new = subst (λ (slot : ℕ). ChangesWithin (slot_at slot) 1 middle new) same second in
-      within_trans first (within_wider (slot_at (spare_slot s.manifest)) 4096 (omega arith) (omega arith) gate)
+      let commit : ChangesWithin (slot_at (spare_slot s.manifest)) 1 middle new = subst (λ (slot : ℕ). ChangesWithin (slot_at slot) 1 middle new) same second in
+      within_trans first (within_wider (slot_at (spare_slot s.manifest)) 4096 (omega arith) (omega arith) commit)
 
   -- after them the next record is current
   pub becomes_current : (old middle new : Content) (after : ManifestState) → ChangesWithin (slot_at (spare_slot s.manifest)) 4096 old middle → ChangesWithin (slot_at (spare_slot m)) 1 middle new

@@ -1,6 +1,6 @@
 -- When stores stand on a disk, from the stores that its images have.
 use Rattle.silt_engine.proofs.Common.{◌≡◌, ℕ, IsTrue, List, [], ◌∷◌, ◌++◌, None, Ok, inr, ap, sym, ◌∙◌, subst, arith, All, IfSome, ChangesWithin, Content}
-use Rattle.silt_engine.proofs.Common.{LeavesOnly, Torn, size, Shape, device_size, gates_at, log_size, shown_left, log_rows, StoredRow, put_count, LogState}
+use Rattle.silt_engine.proofs.Common.{LeavesOnly, Torn, size, Shape, device_size, commits_at, log_size, shown_left, log_rows, StoredRow, put_count, LogState}
 use Rattle.silt_engine.proofs.Common.{all_rows, waiting_rows, IsLogStore, HasWritten, IsHashStore, Stores, image_stores, AreDigestsOf, IsSound, rows_of}
 use Rattle.silt_engine.proofs.Common.{with_log_rows, IsCurrent, current_record_elsewhere, AreWhole, EngineState, oldest_log, HasGathered, IsDigested, IsFrozen}
 use Rattle.silt_engine.proofs.Common.{IsLocated, Stands, shown_stores, entries_behind_log, torn_trans}
@@ -66,23 +66,23 @@ after_same (x ∷ xs) ys zs e = after_same xs ys zs (cc)
 -- ---- a change in the region of the active log
 
 module _ (old new : Content) (s : EngineState) (stands : Stands old s) (sizes : size new ≡ size old)
-    (changes : ChangesWithin (gates_at s.active.log.shape s.active.log.region) (log_size s.active.log.shape) old new) where
+    (changes : ChangesWithin (commits_at s.active.log.shape s.active.log.region) (log_size s.active.log.shape) old new) where
   pub back : IsTrue new.honest → IsTrue old.honest
   back h = subst IsTrue changes.honest h
 
   -- in the manifest's words
-  pub changes_active : ChangesWithin (gates_at s.manifest.shape s.manifest.current.active) (log_size s.manifest.shape) old new
+  pub changes_active : ChangesWithin (commits_at s.manifest.shape s.manifest.current.active) (log_size s.manifest.shape) old new
   changes_active =
-      subst (λ (n : ℕ). ChangesWithin (gates_at s.manifest.shape n) (log_size s.manifest.shape) old new) stands.whole.active_region
-      (subst (λ (sh : Shape). ChangesWithin (gates_at sh s.active.log.region) (log_size sh) old new) stands.whole.has_shape changes)
+      subst (λ (n : ℕ). ChangesWithin (commits_at s.manifest.shape n) (log_size s.manifest.shape) old new) stands.whole.active_region
+      (subst (λ (sh : Shape). ChangesWithin (commits_at sh s.active.log.region) (log_size sh) old new) stands.whole.has_shape changes)
 
   -- the same manifest is current
   pub current_record_stays : IsCurrent s.manifest new
-  current_record_stays = current_record_elsewhere s.manifest (gates_at s.manifest.shape s.manifest.current.active) (log_size s.manifest.shape)
+  current_record_stays = current_record_elsewhere s.manifest (commits_at s.manifest.shape s.manifest.current.active) (log_size s.manifest.shape)
       old new (omega (arith, stands.has_size)) (inr (omega arith)) changes_active stands.current
 
   -- all else lies apart
-  apart : IsTrue old.honest → IsApart s.manifest.shape s.manifest.current (gates_at s.manifest.shape s.manifest.current.active) (log_size s.manifest.shape)
+  apart : IsTrue old.honest → IsApart s.manifest.shape s.manifest.current (commits_at s.manifest.shape s.manifest.current.active) (log_size s.manifest.shape)
   apart h = record {
     frozen = λ region there. outside_other s.manifest.shape region s.manifest.current.active (not_active old s stands h region there);
     hashed = λ region there. slots_behind_log s.manifest.shape s.manifest.current.active region (active_below old s stands);
@@ -125,9 +125,9 @@ module _ (old new : Content) (s : EngineState) (stands : Stands old s) (sizes : 
       → log_rows s.active.log.shape s.active.log.region (log.opened_image new l) ≡ rows
       → image_stores (log.opened_image new l) ≡ Ok (with_log_rows s.manifest.current.active rows (shown_stores old s))
   full_with h l rows same_shape same_region bounds are =
-      let opened : Torn (gates_at l.shape l.region) (log_size l.shape) new.shown (log.opened_image new l) =
+      let opened : Torn (commits_at l.shape l.region) (log_size l.shape) new.shown (log.opened_image new l) =
       full_torn new l bounds (sizes ∙ stands.has_size ∙ ap device_size (sym stands.whole.has_shape ∙ sym same_shape)) in
-      let here : Torn (gates_at s.active.log.shape s.active.log.region) (log_size s.active.log.shape) new.shown (log.opened_image new l) =
-      subst (λ (n : ℕ). Torn (gates_at s.active.log.shape n) (log_size s.active.log.shape) new.shown (log.opened_image new l)) same_region
-      (subst (λ (sh : Shape). Torn (gates_at sh l.region) (log_size sh) new.shown (log.opened_image new l)) same_shape opened) in
+      let here : Torn (commits_at s.active.log.shape s.active.log.region) (log_size s.active.log.shape) new.shown (log.opened_image new l) =
+      subst (λ (n : ℕ). Torn (commits_at s.active.log.shape n) (log_size s.active.log.shape) new.shown (log.opened_image new l)) same_region
+      (subst (λ (sh : Shape). Torn (commits_at sh l.region) (log_size sh) new.shown (log.opened_image new l)) same_shape opened) in
       torn_active old s stands old.shown (log.opened_image new l) rows (stands.named.each (back h) old.shown (shown_left old)) (torn_trans (changes.shown (back h)) here) are

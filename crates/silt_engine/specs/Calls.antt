@@ -44,7 +44,7 @@ pub record HoldsPrefix (shape : Shape) (base : Map) (waiting : List Command) (im
 abbrev pub Breaks : Content → Content → EngineState → Type 0
 Breaks old new s = LeavesOnly new (HoldsPrefix s.manifest.shape (base_map old s) (waiting_commands old s))
 
--- with the gates of the waiting rows open, what is shown represents the earlier map after these commands
+-- with the commit bytes of the waiting rows open, what is shown represents the earlier map after these commands
 abbrev pub Remaps : List Command → Content → Content → EngineState → EngineState → Type 0
 Remaps adds old new before after = IsTrue old.honest → image_map (full_image new after) ≡ map_after (image_map (full_image old before)) adds
 

@@ -11,11 +11,11 @@ use Rattle.silt_standing.specs.State.{EngineState}
 abbrev pub row_waits : EngineState → ℕ
 row_waits s = cond (nat_lt s.active.log.settled s.active.log.used) 1 0
 
--- the writes of a freeze and of the row after it: a flush if a row waits, the gates of the new log, the manifest, the row
+-- the writes of a freeze and of the row after it: a flush if a row waits, the commit bytes of the new log, the manifest, the row
 abbrev pub freeze_writes : EngineState → ℕ
 freeze_writes s = row_waits s + 6
 
--- its syncs: two of a flush, one of the gates, three of the manifest
+-- its syncs: two of a flush, one of the commit bytes, three of the manifest
 abbrev pub freeze_syncs : EngineState → ℕ
 freeze_syncs s = 2 * row_waits s + 4
 

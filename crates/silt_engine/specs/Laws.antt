@@ -17,7 +17,7 @@ pub record IsGoodWith (shape : Shape) (body : Body) (charge : ℕ) (image : List
   pub good : IsGood image
   pub charged : image_charge image ≡ charge
 
--- What the images of a disk represent if the stores stand on it: each possible crash image represents the base. With the gates of the
+-- What the images of a disk represent if the stores stand on it: each possible crash image represents the base. With the commit bytes of the
 -- waiting rows open, what is shown represents the map of lookups, and has the numbers of the stores and all rows in the active log. A merge
 -- is done after the steps that its stores take.
 pub record Means (content : Content) (s : EngineState) : Type 0 where

@@ -154,7 +154,7 @@ impl Engine {
         self.merging.is_some()
     }
 
-    /// Settles the rows that wait: a sync, one write over their gates, a sync. If none waits it makes no device call.
+    /// Settles the rows that wait: a sync, one write over their commit bytes, a sync. If none waits it makes no device call.
     ///
     /// # Errors
     ///
@@ -171,11 +171,11 @@ impl Engine {
         if !self.active.has_waiting() {
             return Ok(());
         }
-        self.open_gates(disk)
+        self.open_commits(disk)
     }
 
-    // Opens the gates of the rows that wait.
-    fn open_gates<D: Disk>(&mut self, disk: &mut D) -> Result<(), D::Fault>
+    // Opens the commit bytes of the rows that wait.
+    fn open_commits<D: Disk>(&mut self, disk: &mut D) -> Result<(), D::Fault>
         requires waiting { self.old.active.log.settled < self.old.active.log.used }
         requires stands { Stands (D.content disk.old) self.old }
         ensures works { Works D.Disk [] 1 2 disk.old disk.new self.old self.new result }
@@ -184,12 +184,12 @@ impl Engine {
         ensures charge { self.new.charge ≡ self.old.charge }
         ensures err { IfErr result (BreaksOff D.Disk disk.old disk.new self.old self.new) }
     {
-        self.active.open_gates(disk)?;
+        self.active.open_commits(disk)?;
         Ok(())
     }
 
-    // Changes the manifest of the disk: writes the next record with these digests behind a closed gate, and opens that
-    // gate. In memory nothing changes until the manifest that it returns is taken, together with the stores that the
+    // Changes the manifest of the disk: writes the next record with these digests behind a closed commit byte, and opens that
+    // commit byte. In memory nothing changes until the manifest that it returns is taken, together with the stores that the
     // record names.
     pub(crate) fn change_manifest<D: Disk>(
         &self,

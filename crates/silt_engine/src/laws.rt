@@ -2,7 +2,7 @@
 ghost use Rattle.silt_engine.specs.Laws.{StandingLaw};
 ghost use Rattle.silt_engine.specs.Replacements.{ConvertsLaw, MergesLaw};
 
-/// If the stores stand on a disk, each possible crash image represents the base, and what is shown, with the gates of
+/// If the stores stand on a disk, each possible crash image represents the base, and what is shown, with the commit bytes of
 /// the waiting rows open, represents the map of lookups.
 pub fn standing_law()
     ensures { StandingLaw }

@@ -1,10 +1,10 @@
 //! The stores of a device in memory: the manifest, the active log, the frozen logs behind it, the hash stores behind
 //! these, the sorted store with the index of its entries, a conversion and a merge in progress, and the charge.
 //!
-//! A put or a delete is a row behind the rows of the **active log**. It waits there, behind a closed gate (its commit
-//! byte), until a flush settles it. A log that cannot take a further row is **frozen**: its waiting rows are settled,
+//! A put or a delete is a row behind the rows of the **active log**. It waits there, behind a closed commit byte,
+//! until a flush settles it. A log that cannot take a further row is **frozen**: its waiting rows are settled,
 //! an empty log in a free region takes its place, and the next manifest record names that one first. So no row moves,
-//! and no gate that counts is ever closed.
+//! and no commit byte that counts is ever closed.
 //!
 //! The oldest frozen log is **converted** into a hash store, one slot a step, in a hash region that the manifest does
 //! not name. The last step syncs the slots and then writes the next manifest record. It names the hash store in front

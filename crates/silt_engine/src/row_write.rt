@@ -150,7 +150,7 @@ impl Engine {
         }
     }
 
-    // Closes all gates of the new log's region, which no log has.
+    // Closes all commit bytes of the new log's region, which no log has.
     fn clear_region<D: Disk>(&self, disk: &mut D, next: &mut NextLog) -> Result<(), D::Fault>
         requires stands { Stands (D.content disk.old) self.now }
         requires quiet { IsQuiet (D.content disk.old) self.now }
@@ -177,7 +177,7 @@ impl Engine {
         };
     }
 
-    // Freezes the active log: settles what waits, closes the gates of the new log's region, and writes the manifest's next body,
+    // Freezes the active log: settles what waits, closes the commit bytes of the new log's region, and writes the manifest's next body,
     // which names the new log first, with the digests of the other stores. Then that is the active log.
     fn freeze<D: Disk>(&mut self, disk: &mut D, mut next: NextLog) -> Result<(), D::Fault>
         requires stands { Stands (D.content disk.old) self.old }

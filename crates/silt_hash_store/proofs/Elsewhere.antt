@@ -2,7 +2,7 @@
 use Rattle.std.proofs.Common.{◌≡◌, ℕ, ◌+◌, ◌*◌, ◌≤◌, ◌<◌, IsTrue, List, filter, length, sym, ap, ◌∙◌, inl, inr, arith}
 use Rattle.sha1.specs.Sha1.{sha1}
 use Rattle.silt_disk.specs.Disk.{LiesOutside, Torn, size}
-use Rattle.silt_disk.specs.Layout.{Shape, device_size, gates_at, hash_at, log_len, row_len, slots_len}
+use Rattle.silt_disk.specs.Layout.{Shape, device_size, commits_at, hash_at, log_len, row_len, slots_len}
 use Rattle.silt_disk.proofs.Images.{torn_slice_after, torn_slice_before}
 use Rattle.silt_disk.proofs.Regions.{regions_apart}
 use Rattle.silt_hash_store.specs.Findings.{hash_findings}
@@ -20,7 +20,7 @@ slots_inside s region there =
     omega (arith, apart.hashes region s.hashes there, apart.hash_end 2, apart.device)
 
 -- and after every log
-pub behind_logs : (s : Shape) (log_region region slot : ℕ) → log_region < s.logs → LiesOutside (gates_at s log_region) (log_len s) (hash_slot_at s region slot) (row_len s)
+pub behind_logs : (s : Shape) (log_region region slot : ℕ) → log_region < s.logs → LiesOutside (commits_at s log_region) (log_len s) (hash_slot_at s region slot) (row_len s)
 behind_logs s log_region region slot there =
     let apart = regions_apart s in
     inr (omega (arith, apart.bodies log_region s.logs there, apart.logs region))

@@ -6,11 +6,11 @@ use Rattle.std.proofs.lemmas.Bool.{and_parts, or_parts, ltb-true, eq-eqb, eqb-fa
 use Rattle.std.proofs.lemmas.List.{ext_get_or}
 use Rattle.std.proofs.lemmas.List.Edits.{length-between, get_or-between}
 use Rattle.silt_disk.specs.Disk.{Torn}
-use Rattle.silt_disk.specs.Layout.{Shape, row_len, entry_len, slot_at, log_size, hash_size, sorted_size, gates_at, bodies_at, hash_at, sorted_at, device_size}
+use Rattle.silt_disk.specs.Layout.{Shape, row_len, entry_len, slot_at, log_size, hash_size, sorted_size, commits_at, bodies_at, hash_at, sorted_at, device_size}
 use Rattle.silt_disk.proofs.Regions.{next_region, up_least}
 use Rattle.silt_disk.proofs.Images.{torn_slice_before}
-use Rattle.silt_frame.specs.Gate.{is_open}
-use Rattle.silt_log.specs.Rows.{body_row, gate_bytes, log_rows, open_count, row_at, rows_from}
+use Rattle.silt_frame.specs.Commit.{is_open}
+use Rattle.silt_log.specs.Rows.{body_row, commit_bytes, log_rows, open_count, row_at, rows_from}
 use Rattle.silt_frame.specs.Rows.{row_of, StoredRow, entry_row, put_count}
 use Rattle.silt_log.proofs.Bodies.{map_range_same, body_before}
 use Rattle.silt_log.proofs.Counts.{count_most}
@@ -94,23 +94,23 @@ module _ (logs hashes log_len hash_len sorted_len : ℕ) where
 -- ---- the rows of a region
 
 -- the bytes of a log region decide its rows
-pub log_rows_same : (s : Shape) (region : ℕ) (before after : List ℕ) → length after ≡ length before → gates_at s region + log_size s ≤ length before
-    → SameWithin (gates_at s region) (log_size s) before after → log_rows s region after ≡ log_rows s region before
+pub log_rows_same : (s : Shape) (region : ℕ) (before after : List ℕ) → length after ≡ length before → commits_at s region + log_size s ≤ length before
+    → SameWithin (commits_at s region) (log_size s) before after → log_rows s region after ≡ log_rows s region before
 unfolding log_rows rows_from row_at open_count
 log_rows_same s region before after size fits same =
-    let gates_end : gates_at s region + s.log_capacity ≤ gates_at s region + log_size s = omega (arith, up_least s.log_capacity) in
-    let bodies_end : bodies_at s region + s.log_capacity * row_len s ≤ gates_at s region + log_size s = omega (arith, up_least (s.log_capacity * row_len s)) in
-    let gates_fit : gates_at s region + s.log_capacity ≤ length before = omega (arith, gates_end, fits) in
-    let bytes : gate_bytes (gates_at s region) s.log_capacity after ≡ gate_bytes (gates_at s region) s.log_capacity before =
-    same_part (gates_at s region) (log_size s) (gates_at s region) (gates_at s region + s.log_capacity) before after size gates_fit (omega arith) gates_end same in
-    let counted : ℕ = prefix_len is_open (gate_bytes (gates_at s region) s.log_capacity before) in
-    let most : counted ≤ s.log_capacity = count_most (gates_at s region) s.log_capacity before gates_fit in
+    let commits_end : commits_at s region + s.log_capacity ≤ commits_at s region + log_size s = omega (arith, up_least s.log_capacity) in
+    let bodies_end : bodies_at s region + s.log_capacity * row_len s ≤ commits_at s region + log_size s = omega (arith, up_least (s.log_capacity * row_len s)) in
+    let commits_fit : commits_at s region + s.log_capacity ≤ length before = omega (arith, commits_end, fits) in
+    let bytes : commit_bytes (commits_at s region) s.log_capacity after ≡ commit_bytes (commits_at s region) s.log_capacity before =
+    same_part (commits_at s region) (log_size s) (commits_at s region) (commits_at s region + s.log_capacity) before after size commits_fit (omega arith) commits_end same in
+    let counted : ℕ = prefix_len is_open (commit_bytes (commits_at s region) s.log_capacity before) in
+    let most : counted ≤ s.log_capacity = count_most (commits_at s region) s.log_capacity before commits_fit in
     ap (λ (l : List ℕ). map (body_row (bodies_at s region) (row_len s) after) (range_with_len 0 (prefix_len is_open l))) bytes
     ∙ map_range_same (body_row (bodies_at s region) (row_len s) after) (body_row (bodies_at s region) (row_len s) before) 0 counted
     (λ place low high.
     let inside : bodies_at s region + place * row_len s + row_len s ≤ bodies_at s region + s.log_capacity * row_len s =
     body_before (bodies_at s region) (row_len s) place s.log_capacity (omega (arith, most, high)) in
-    ap row_of (same_part (gates_at s region) (log_size s) (bodies_at s region + place * row_len s) (bodies_at s region + place * row_len s + row_len s) before after size
+    ap row_of (same_part (commits_at s region) (log_size s) (bodies_at s region + place * row_len s) (bodies_at s region + place * row_len s + row_len s) before after size
     (omega (arith, inside, bodies_end, fits)) (omega arith) (omega (arith, inside, bodies_end)) same))
 
 -- and those of a hash region
@@ -204,9 +204,9 @@ entries_same s region count before after size fits there room same =
 
 -- the same rows of a log
 log_same : (s : Shape) (region : ℕ) (before after : List ℕ) → length after ≡ length before → device_size s ≤ length before
-    → region < s.logs → SameWithin (gates_at s region) (log_size s) before after → log_rows s region after ≡ log_rows s region before
+    → region < s.logs → SameWithin (commits_at s region) (log_size s) before after → log_rows s region after ≡ log_rows s region before
 log_same s region before after size fits there same =
-    let inside : gates_at s region + log_size s ≤ device_size s = log_fits s.logs s.hashes (log_size s) (hash_size s) (sorted_size s) region there in
+    let inside : commits_at s region + log_size s ≤ device_size s = log_fits s.logs s.hashes (log_size s) (hash_size s) (sorted_size s) region there in
     log_rows_same s region before after size (omega (arith, inside, fits)) same
 
 -- stores of one shape and body whose parts are the same
@@ -325,7 +325,7 @@ stores_regions : (image : List ℕ) (s : Stores) → HasStores s image → Names
 stores_regions image s has = names_regions s.shape (s.body.generation % 2) s.body (current_sound s.shape image (record_with has.digests s.body) has.current)
 
 -- one log, with the rows that it has now
-log_after : (s : Shape) (region id : ℕ) (before after : List ℕ) → Torn (gates_at s region) (log_size s) before after
+log_after : (s : Shape) (region id : ℕ) (before after : List ℕ) → Torn (commits_at s region) (log_size s) before after
     → device_size s ≤ length before → id < s.logs → with_part_rows region (log_rows s region after) (log_part s before id) ≡ log_part s after id
 log_after s region id before after torn fits there = elim (cases_eq id region) [
   | inl is ↦
@@ -335,11 +335,11 @@ log_after s region id before after torn fits there = elim (cases_eq id region) [
       keeps_rows region (log_rows s region after) (log_part s before id) (ne_eqb id region other)
       ∙ ap (λ (rows : List StoredRow). record { region = id; rows = rows })
       (sym (log_same s id before after torn.size fits there
-      (torn_same (gates_at s region) (log_size s) (gates_at s id) (log_size s) before after torn (pieces_apart 12288 id region (log_size s) other))))
+      (torn_same (commits_at s region) (log_size s) (commits_at s id) (log_size s) before after torn (pieces_apart 12288 id region (log_size s) other))))
 ]
 
 -- the logs, with the rows that they have now
-logs_after : (s : Shape) (region : ℕ) (ids : List ℕ) (before after : List ℕ) → Torn (gates_at s region) (log_size s) before after
+logs_after : (s : Shape) (region : ℕ) (ids : List ℕ) (before after : List ℕ) → Torn (commits_at s region) (log_size s) before after
     → device_size s ≤ length before → ((id : ℕ) → Contains ids id → id < s.logs)
     → map (with_part_rows region (log_rows s region after)) (map (log_part s before) ids) ≡ map (log_part s after) ids
 logs_after s region [] before after torn fits there = refl
@@ -350,18 +350,18 @@ logs_after s region (id ∷ ids) before after torn fits there =
     ∙ ap (λ (ps : List Part). log_part s after id ∷ ps) rest
 
 -- the named stores, with the rows that a log has now
-log_changed : (s : Shape) (b : Body) (region : ℕ) (before after : List ℕ) → NamesRegions s b → Torn (gates_at s region) (log_size s) before after → device_size s ≤ length before → region < s.logs
+log_changed : (s : Shape) (b : Body) (region : ℕ) (before after : List ℕ) → NamesRegions s b → Torn (commits_at s region) (log_size s) before after → device_size s ≤ length before → region < s.logs
     → with_log_rows region (log_rows s region after) (stores_named s b before) ≡ stores_named s b after
 unfolding with_log_rows stores_named
 log_changed s b region before after there torn fits below =
     let logs = logs_after s region (b.active ∷ b.frozen) before after torn fits there.logs in
     let hashes : map (hash_part s before) b.hashed ≡ map (hash_part s after) b.hashed =
     sym (hashes_same s b.hashed before after torn.size fits there.hashes
-    (λ id named. torn_same (gates_at s region) (log_size s) (hash_at s id) (hash_size s) before after torn
+    (λ id named. torn_same (commits_at s region) (log_size s) (hash_at s id) (hash_size s) before after torn
     (inr (log_before_hash s.logs s.hashes (log_size s) (hash_size s) (sorted_size s) region id below)))) in
     let entries : sorted_rows s b.sorted b.sorted_count before ≡ sorted_rows s b.sorted b.sorted_count after =
     sym (entries_same s b.sorted b.sorted_count before after torn.size fits there.sorted there.sorted_count
-    (torn_same (gates_at s region) (log_size s) (sorted_at s b.sorted) (sorted_size s) before after torn
+    (torn_same (commits_at s region) (log_size s) (sorted_at s b.sorted) (sorted_size s) before after torn
     (inr (log_before_sorted s.logs s.hashes (log_size s) (hash_size s) (sorted_size s) region b.sorted below)))) in
     ap (λ (ps : List Part). record { shape = s; body = b; logs = ps; hashes = map (hash_part s before) b.hashed; entries = sorted_rows s b.sorted b.sorted_count before }) logs
     ∙ ap (λ (ps : List Part). record { shape = s; body = b; logs = map (log_part s after) (b.active ∷ b.frozen); hashes = ps; entries = sorted_rows s b.sorted b.sorted_count before }) hashes
@@ -384,7 +384,7 @@ log_region_law before after s region e below torn =
     let rows : List StoredRow = log_rows s.shape region after in
     let changed : with_log_rows region rows s ≡ stores_named s.shape s.body after =
     ap (with_log_rows region rows) has.named ∙ log_changed s.shape s.body region before after (stores_regions before s has) torn (omega (arith, shaped.size)) below in
-    stores_after (gates_at s.shape region) (log_size s.shape) before after s (with_log_rows region rows s) has (omega arith) torn (shape_stays region rows s) (body_stays region rows s) changed
+    stores_after (commits_at s.shape region) (log_size s.shape) before after s (with_log_rows region rows s) has (omega arith) torn (shape_stays region rows s) (body_stays region rows s) changed
 
 -- stores that a change leaves
 unchanged : (at count : ℕ) (before after : List ℕ) (s : Stores) → image_stores before ≡ Ok s → 12288 ≤ at → Torn at count before after
@@ -412,7 +412,7 @@ free_hash_law before after s region e below free torn =
     let there = stores_regions before s has in
     let sh = s.shape in
     unchanged (hash_at sh region) (hash_size sh) before after s e (omega arith) torn (record {
-      logs = λ id named. torn_same (hash_at sh region) (hash_size sh) (gates_at sh id) (log_size sh) before after torn
+      logs = λ id named. torn_same (hash_at sh region) (hash_size sh) (commits_at sh id) (log_size sh) before after torn
           (inl (log_before_hash sh.logs sh.hashes (log_size sh) (hash_size sh) (sorted_size sh) id region (there.logs id named)));
       hashes = λ id named. torn_same (hash_at sh region) (hash_size sh) (hash_at sh id) (hash_size sh) before after torn
           (pieces_apart (12288 + sh.logs * log_size sh) id region (hash_size sh) (other_than region s.body.hashed id free named));
@@ -427,7 +427,7 @@ free_sorted_law before after s region e below other torn =
     let there = stores_regions before s has in
     let sh = s.shape in
     unchanged (sorted_at sh region) (sorted_size sh) before after s e (omega arith) torn (record {
-      logs = λ id named. torn_same (sorted_at sh region) (sorted_size sh) (gates_at sh id) (log_size sh) before after torn
+      logs = λ id named. torn_same (sorted_at sh region) (sorted_size sh) (commits_at sh id) (log_size sh) before after torn
           (inl (log_before_sorted sh.logs sh.hashes (log_size sh) (hash_size sh) (sorted_size sh) id region (there.logs id named)));
       hashes = λ id named. torn_same (sorted_at sh region) (sorted_size sh) (hash_at sh id) (hash_size sh) before after torn
           (inl (hash_before_sorted sh.logs sh.hashes (log_size sh) (hash_size sh) (sorted_size sh) id region (there.hashes id named)));
@@ -446,7 +446,7 @@ manifest_law before after s slot found e below torn is_current =
     let header : header_of after ≡ header_of before = torn_slice_before (slot_at slot) 4096 before after torn 0 37 (omega arith) (omega (arith, shaped.size)) in
     let there = names_regions sh (body.generation % 2) body (current_sound sh after found is_current) in
     let same : SameRegions sh body before after = record {
-      logs = λ id named. torn_same (slot_at slot) 4096 (gates_at sh id) (log_size sh) before after torn (inr (omega arith));
+      logs = λ id named. torn_same (slot_at slot) 4096 (commits_at sh id) (log_size sh) before after torn (inr (omega arith));
       hashes = λ id named. torn_same (slot_at slot) 4096 (hash_at sh id) (hash_size sh) before after torn (inr (omega arith));
       sorted = torn_same (slot_at slot) 4096 (sorted_at sh body.sorted) (sorted_size sh) before after torn (inr (omega arith));
     } in

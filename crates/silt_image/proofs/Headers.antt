@@ -16,7 +16,7 @@ reads x fits = big_number-reads_back 4 x [] fits
 
 -- a header reads back
 pub header_law : HeaderLaw
-header_law shape gate rest fits =
+header_law shape commit rest fits =
     let a = reads shape.value_len fits.value_len in
     let b = reads shape.buckets fits.buckets in
     let c = reads shape.log_capacity fits.log_capacity in
@@ -38,7 +38,7 @@ fits_header shape limits =
       sorted_capacity = omega (arith, limits.sorted_capacity_most);
     }
 
--- behind an open gate it is formatted
+-- behind an open commit byte it is formatted
 pub formatted_header : (shape : Shape) → is_formatted (167 ∷ header_bytes shape) ≡ true
 formatted_header shape = refl
 

@@ -132,11 +132,11 @@ version_is n is = go (n == 1) refl is
 pub header_is : (header : List ℕ) → length header ≡ 37 → is_formatted header ≡ true → IsHeader header
 header_is header long formatted =
     let front = and_parts _ _ formatted in
-    let gate = and_parts _ _ front.0 in
+    let commit = and_parts _ _ front.0 in
     record {
       whole = long;
-      gate = eqb-true _ 167 gate.0;
-      magic = (bytes_eq-Decides (slice_range header 1 9) magic).0 gate.1;
+      commit = eqb-true _ 167 commit.0;
+      magic = (bytes_eq-Decides (slice_range header 1 9) magic).0 commit.1;
       version = version_is (version_number header) front.1;
     }
 

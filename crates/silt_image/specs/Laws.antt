@@ -3,7 +3,7 @@ use Rattle.std.specs.Prelude.{◌≡◌, ◌≢◌, ◌≤◌, ◌<◌, ◌↔�
 use Rattle.std.specs.List.{list_any, list_all, enumerate_from}
 use Rattle.std.specs.FinMap.{empty}
 use Rattle.silt_disk.specs.Disk.{Torn}
-use Rattle.silt_disk.specs.Layout.{Shape, InLimits, device_size, slot_at, gates_at, hash_at, sorted_at, log_size, hash_size, sorted_size, sector}
+use Rattle.silt_disk.specs.Layout.{Shape, InLimits, device_size, slot_at, commits_at, hash_at, sorted_at, log_size, hash_size, sorted_size, sector}
 use Rattle.silt_log.specs.Rows.{log_rows}
 use Rattle.silt_frame.specs.Rows.{StoredRow, has_known_kind}
 use Rattle.silt_manifest.specs.Body.{first_body, is_well_formed}
@@ -25,21 +25,21 @@ use Rattle.silt_sorted_store.specs.Findings.{sorted_findings}
 use Rattle.silt_event.specs.declared.damage.Finding.{Finding}
 use Rattle.silt_event.specs.declared.damage.Finding.TheVariants.{Damaged}
 use Rattle.silt_event.specs.declared.place.Place.TheVariants.{Charge}
-use Rattle.silt_frame.specs.Gate.{gate_open}
+use Rattle.silt_frame.specs.Commit.{commit_open}
 
 -- ---- the header
 
--- a header reads back as it was written, whether its gate is open or not
+-- a header reads back as it was written, whether its commit byte is open or not
 abbrev pub HeaderLaw : Type 0
-HeaderLaw = (shape : Shape) (gate : ℕ) (rest : List ℕ) → FitsHeader shape → header_shape (gate ∷ header_bytes shape ++ rest) ≡ shape
+HeaderLaw = (shape : Shape) (commit : ℕ) (rest : List ℕ) → FitsHeader shape → header_shape (commit ∷ header_bytes shape ++ rest) ≡ shape
 
 -- the test of the limits decides them
 abbrev pub LimitsLaw : Type 0
 LimitsLaw = (shape : Shape) → IsTrue (is_in_limits shape) ↔ InLimits shape
 
--- a device of the length that its header's numbers give, with an open gate, has this shape
+-- a device of the length that its header's numbers give, with an open commit byte, has this shape
 abbrev pub FormattedLaw : Type 0
-FormattedLaw = (shape : Shape) → InLimits shape → shape_found (device_size shape) (gate_open ∷ header_bytes shape) ≡ Ok shape
+FormattedLaw = (shape : Shape) → InLimits shape → shape_found (device_size shape) (commit_open ∷ header_bytes shape) ≡ Ok shape
 
 -- ---- the stores of an image
 
@@ -82,7 +82,7 @@ pub record SameWithin (at count : ℕ) (before after : List ℕ) : Type 0 where
 
 -- both images have the same bytes in each region that the body names
 pub record SameRegions (shape : Shape) (body : Body) (before after : List ℕ) : Type 0 where
-  pub logs : (region : ℕ) → Contains (body.active ∷ body.frozen) region → SameWithin (gates_at shape region) (log_size shape) before after
+  pub logs : (region : ℕ) → Contains (body.active ∷ body.frozen) region → SameWithin (commits_at shape region) (log_size shape) before after
   pub hashes : (region : ℕ) → Contains body.hashed region → SameWithin (hash_at shape region) (hash_size shape) before after
   pub sorted : SameWithin (sorted_at shape body.sorted) (sorted_size shape) before after
 
@@ -115,7 +115,7 @@ MeaningLaw = (before after : List ℕ) → image_stores after ≡ image_stores b
 abbrev pub LogRegionLaw : Type 0
 LogRegionLaw =
     (before after : List ℕ) (s : Stores) (region : ℕ) → image_stores before ≡ Ok s → region < s.shape.logs
-    → Torn (gates_at s.shape region) (log_size s.shape) before after → image_stores after ≡ Ok (with_log_rows region (log_rows s.shape region after) s)
+    → Torn (commits_at s.shape region) (log_size s.shape) before after → image_stores after ≡ Ok (with_log_rows region (log_rows s.shape region after) s)
 
 -- the rows of a log that is not named do not matter
 abbrev pub UnnamedLaw : Type 0

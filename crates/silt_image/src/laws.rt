@@ -4,7 +4,7 @@ ghost use Rattle.silt_image.specs.Laws.{EmptyLaw, FirstEntryLaw, FirstFindingLaw
 ghost use Rattle.silt_image.specs.Laws.{FreeSortedLaw, FreezeLaw, FrozenLaw, HeaderLaw, LimitsLaw, LogRegionLaw, ManifestLaw, MeaningLaw, NewActiveLaw, NewLogLaw, NoStoresLaw};
 ghost use Rattle.silt_image.specs.Laws.{OwnRowsLaw, PartsLaw, RowsLaw, SaidLaw, SoundLaw, StandsLaw, StoresLaw, TakenLaw, UnnamedLaw, VerdictLaw, WholeLaw};
 
-/// A header reads back as it was written, whether its gate is open or not.
+/// A header reads back as it was written, whether its commit byte is open or not.
 pub fn header_law()
     ensures { HeaderLaw }
 {}

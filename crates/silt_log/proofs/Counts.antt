@@ -1,4 +1,4 @@
--- How many gates are open before the first closed one.
+-- How many commit bytes are open before the first closed one.
 use Rattle.std.proofs.Common.{◌≡◌, ℕ, ◌+◌, ◌-◌, ◌≤◌, ◌<◌, true, false, List, length, drop, get_or, sym, ap, ◌∙◌, inl, inr, arith, length-drop, get_or-drop}
 use Rattle.std.specs.List.{prefix_len, list_any}
 use Rattle.std.proofs.lemmas.Bool.{cases_lt, cases_order, cases_Bool, false≢true}
@@ -6,52 +6,52 @@ use Rattle.std.proofs.lemmas.List.Edits.{length-between, get_or-between}
 use Rattle.std.proofs.lemmas.List.Folds.{list_any_at}
 use Rattle.std.proofs.lemmas.List.Sums.{prefix_len-le-length, prefix_len_passes, prefix_len_stops}
 use Rattle.silt_disk.specs.Disk.{Torn}
-use Rattle.silt_frame.specs.Gate.{is_open}
-use Rattle.silt_log.specs.Rows.{GatesAre, gate_bytes}
+use Rattle.silt_frame.specs.Commit.{is_open}
+use Rattle.silt_log.specs.Rows.{CommitsAre, commit_bytes}
 
 -- equal places have the same byte
 pub same_byte : (image : List ℕ) (a b : ℕ) → a ≡ b → get_or image a 0 ≡ get_or image b 0
 same_byte image a b same = ap (λ (n : ℕ). get_or image n 0) same
 
-module _ (gates count : ℕ) (image : List ℕ) (fits : gates + count ≤ length image) where
-  -- there is a byte for each gate
-  pub gates_length : length (gate_bytes gates count image) ≡ count
-  gates_length = let long = length-between image gates (gates + count) fits in omega (arith, long)
+module _ (commits count : ℕ) (image : List ℕ) (fits : commits + count ≤ length image) where
+  -- the buffer has each commit byte
+  pub commits_length : length (commit_bytes commits count image) ≡ count
+  commits_length = let long = length-between image commits (commits + count) fits in omega (arith, long)
 
-  -- the byte of a gate
-  pub gate_byte : (place : ℕ) → place < count → get_or (gate_bytes gates count image) place 0 ≡ get_or image (gates + place) 0
-  gate_byte place below = get_or-between image gates (gates + count) place 0 (omega arith)
+  -- a commit byte
+  pub commit_byte : (place : ℕ) → place < count → get_or (commit_bytes commits count image) place 0 ≡ get_or image (commits + place) 0
+  commit_byte place below = get_or-between image commits (commits + count) place 0 (omega arith)
 
-  -- no more gates are counted than there are
-  pub count_most : prefix_len is_open (gate_bytes gates count image) ≤ count
-  count_most = omega (arith, prefix_len-le-length is_open (gate_bytes gates count image), gates_length)
+  -- no more commit bytes are counted than there are
+  pub count_most : prefix_len is_open (commit_bytes commits count image) ≤ count
+  count_most = omega (arith, prefix_len-le-length is_open (commit_bytes commits count image), commits_length)
 
-  -- a gate that is counted is open
-  pub counted_open : (place : ℕ) → place < prefix_len is_open (gate_bytes gates count image) → is_open (get_or image (gates + place) 0) ≡ true
+  -- a commit byte that is counted is open
+  pub counted_open : (place : ℕ) → place < prefix_len is_open (commit_bytes commits count image) → is_open (get_or image (commits + place) 0) ≡ true
   counted_open place below =
       let inside : place < count = omega (arith, count_most) in
-      ap is_open (sym (gate_byte place inside)) ∙ prefix_len_passes is_open (gate_bytes gates count image) place 0 below
+      ap is_open (sym (commit_byte place inside)) ∙ prefix_len_passes is_open (commit_bytes commits count image) place 0 below
 
-  -- the first gate that is not counted is closed
-  pub first_closed : prefix_len is_open (gate_bytes gates count image) < count → is_open (get_or image (gates + prefix_len is_open (gate_bytes gates count image)) 0) ≡ false
+  -- the first commit byte that is not counted is closed
+  pub first_closed : prefix_len is_open (commit_bytes commits count image) < count → is_open (get_or image (commits + prefix_len is_open (commit_bytes commits count image)) 0) ≡ false
   first_closed below =
-      ap is_open (sym (gate_byte _ below)) ∙ prefix_len_stops is_open (gate_bytes gates count image) 0 (omega (arith, gates_length))
+      ap is_open (sym (commit_byte _ below)) ∙ prefix_len_stops is_open (commit_bytes commits count image) 0 (omega (arith, commits_length))
 
   -- the first n open and all others closed: n are counted
-  pub count_is : (n : ℕ) → n ≤ count → GatesAre gates count n image → prefix_len is_open (gate_bytes gates count image) ≡ n
+  pub count_is : (n : ℕ) → n ≤ count → CommitsAre commits count n image → prefix_len is_open (commit_bytes commits count image) ≡ n
   count_is n most are =
-      let counted : ℕ = prefix_len is_open (gate_bytes gates count image) in
+      let counted : ℕ = prefix_len is_open (commit_bytes commits count image) in
       elim (cases_order counted n) [
         | inl same ↦ same
         | inr (inl below) ↦ absurd (false≢true (sym (first_closed (omega arith)) ∙ are.opened counted below))
         | inr (inr above) ↦ absurd (false≢true (sym (are.closed n (omega arith) (omega (arith, count_most))) ∙ counted_open n above))
       ]
 
-  -- between n open gates and a closed one from m on, at least n and at most m are counted
-  pub count_between : (n m : ℕ) → n ≤ count → m ≤ count → ((place : ℕ) → place < n → is_open (get_or image (gates + place) 0) ≡ true) → (m < count → is_open (get_or image (gates + m) 0) ≡ false)
-      → (n ≤ prefix_len is_open (gate_bytes gates count image)) × (prefix_len is_open (gate_bytes gates count image) ≤ m)
+  -- between n open commit bytes and a closed one from m on, at least n and at most m are counted
+  pub count_between : (n m : ℕ) → n ≤ count → m ≤ count → ((place : ℕ) → place < n → is_open (get_or image (commits + place) 0) ≡ true) → (m < count → is_open (get_or image (commits + m) 0) ≡ false)
+      → (n ≤ prefix_len is_open (commit_bytes commits count image)) × (prefix_len is_open (commit_bytes commits count image) ≤ m)
   count_between n m low high opened closed =
-      let counted : ℕ = prefix_len is_open (gate_bytes gates count image) in (
+      let counted : ℕ = prefix_len is_open (commit_bytes commits count image) in (
         elim (cases_lt counted n) [
           | inl below ↦ absurd (false≢true (sym (first_closed (omega arith)) ∙ opened counted below))
           | inr least ↦ least
@@ -62,29 +62,29 @@ module _ (gates count : ℕ) (image : List ℕ) (fits : gates + count ≤ length
         ],
       )
 
-  -- if no gate past the counted ones is open, exactly the counted ones are
-  pub gates_counted : list_any is_open (drop (prefix_len is_open (gate_bytes gates count image)) (gate_bytes gates count image)) ≡ false
-      → GatesAre gates count (prefix_len is_open (gate_bytes gates count image)) image
-  gates_counted none =
-      let bytes : List ℕ = gate_bytes gates count image in
+  -- if no commit byte past the counted ones is open, exactly the counted ones are
+  pub commits_counted : list_any is_open (drop (prefix_len is_open (commit_bytes commits count image)) (commit_bytes commits count image)) ≡ false
+      → CommitsAre commits count (prefix_len is_open (commit_bytes commits count image)) image
+  commits_counted none =
+      let bytes : List ℕ = commit_bytes commits count image in
       let counted : ℕ = prefix_len is_open bytes in
       record {
         opened = counted_open;
         closed = λ place past below.
-            let here : get_or (drop counted bytes) (place - counted) 0 ≡ get_or image (gates + place) 0 =
-            get_or-drop counted bytes (place - counted) 0 ∙ same_byte bytes (counted + (place - counted)) place (omega arith) ∙ gate_byte place below in
-            elim (cases_Bool (is_open (get_or image (gates + place) 0))) [
+            let here : get_or (drop counted bytes) (place - counted) 0 ≡ get_or image (commits + place) 0 =
+            get_or-drop counted bytes (place - counted) 0 ∙ same_byte bytes (counted + (place - counted)) place (omega arith) ∙ commit_byte place below in
+            elim (cases_Bool (is_open (get_or image (commits + place) 0))) [
               | inl open_here ↦ absurd
-                  (false≢true (sym none ∙ list_any_at is_open (drop counted bytes) (place - counted) 0 (omega (arith, length-drop counted bytes, gates_length)) (ap is_open here ∙ open_here)))
+                  (false≢true (sym none ∙ list_any_at is_open (drop counted bytes) (place - counted) 0 (omega (arith, length-drop counted bytes, commits_length)) (ap is_open here ∙ open_here)))
               | inr shut ↦ shut
             ];
       }
 
 -- ---- after a write
 
--- gates outside a write's range stay
-pub torn_gates : (gates count n at len : ℕ) (old new : List ℕ) → n ≤ count → gates + count ≤ at → Torn at len old new → GatesAre gates count n old → GatesAre gates count n new
-torn_gates gates count n at len old new most apart torn are = record {
-  opened = λ place below. ap is_open (torn.before (gates + place) (omega arith)) ∙ are.opened place below;
-  closed = λ place past below. ap is_open (torn.before (gates + place) (omega arith)) ∙ are.closed place past below;
+-- commit bytes outside a write's range stay
+pub torn_commits : (commits count n at len : ℕ) (old new : List ℕ) → n ≤ count → commits + count ≤ at → Torn at len old new → CommitsAre commits count n old → CommitsAre commits count n new
+torn_commits commits count n at len old new most apart torn are = record {
+  opened = λ place below. ap is_open (torn.before (commits + place) (omega arith)) ∙ are.opened place below;
+  closed = λ place past below. ap is_open (torn.before (commits + place) (omega arith)) ∙ are.closed place past below;
 }

@@ -2,22 +2,22 @@
 use Rattle.std.proofs.Common.{◌≡◌, ℕ, ◌+◌, ◌-◌, ◌*◌, ◌≤◌, ◌<◌, ◌⊎◌, IsTrue, List, ◌++◌, length, map, get_or, refl, sym, ap, ◌∙◌, subst, inl, inr, arith}
 use Rattle.std.specs.List.{range_with_len, prefix_len}
 use Rattle.silt_disk.specs.Disk.{ChangesWithin, Content, LeavesOnly, LiesOutside, Restarts, Settles, Stays, Torn, size}
-use Rattle.silt_disk.specs.Layout.{Shape, bodies_at, device_size, gates_at, log_len, log_size, row_len}
+use Rattle.silt_disk.specs.Layout.{Shape, bodies_at, device_size, commits_at, log_len, log_size, row_len}
 use Rattle.silt_disk.proofs.Images.{shown_left, torn_slice_before, within_leaves, within_wider, sync_within, failed_sync_within, torn_slice_after}
 use Rattle.silt_disk.proofs.Regions.{up_least}
-use Rattle.silt_log.specs.Rows.{GatesAre, body_at, body_row, rows_from, row_at, log_rows, open_count, gate_bytes}
+use Rattle.silt_log.specs.Rows.{CommitsAre, body_at, body_row, rows_from, row_at, log_rows, open_count, commit_bytes}
 use Rattle.silt_frame.specs.Rows.{row_of, StoredRow}
 use Rattle.silt_log.specs.State.{LogState, IsLog, settled_rows, waiting_rows, all_rows}
 use Rattle.silt_log.specs.Calls.{KeepsRows}
 use Rattle.std.proofs.lemmas.List.FromFn.{length-map-range_with_len, get_or-map-range_with_len}
-use Rattle.silt_frame.specs.Gate.{is_open}
+use Rattle.silt_frame.specs.Commit.{is_open}
 use Rattle.silt_log.proofs.Counts.{count_most}
 use Rattle.silt_log.proofs.Bodies.{body_before, map_range_same, range_split, rows_behind}
-use Rattle.silt_log.proofs.Standing.{gates_within}
+use Rattle.silt_log.proofs.Standing.{commits_within}
 use Rattle.silt_log.proofs.Exits.{fits_resized, StandsIn, region_lies, log_from, log_standing, stands_resized}
 
--- a range outside a log's gates and bodies lies before its gates or after its bodies
-pub outside_bodies : (s : Shape) (region at count : ℕ) → LiesOutside (gates_at s region) (log_len s) at count → (at + count ≤ gates_at s region)
+-- a range outside a log's commit bytes and bodies lies before its commit bytes or after its bodies
+pub outside_bodies : (s : Shape) (region at count : ℕ) → LiesOutside (commits_at s region) (log_len s) at count → (at + count ≤ commits_at s region)
     ⊎ (bodies_at s region + s.log_capacity * row_len s ≤ at)
 outside_bodies s region at count outside = elim outside [
   | inl before ↦ inl before
@@ -56,17 +56,17 @@ restarted_rows old new log is restarts honest = is.images.each honest new.shown 
 
 -- ---- a change elsewhere
 
-module _ (gates count bodies len : ℕ) (lies : gates + count ≤ bodies) (at long : ℕ) (outside : (at + long ≤ gates) ⊎ (bodies + count * len ≤ at)) (old new : List ℕ) (torn : Torn at long old new) where
-  gate_elsewhere : (place : ℕ) → place < count → get_or new (gates + place) 0 ≡ get_or old (gates + place) 0
-  gate_elsewhere place below = elim outside [
-    | inl before ↦ torn.after (gates + place) (omega arith)
-    | inr behind ↦ torn.before (gates + place) (omega arith)
+module _ (commits count bodies len : ℕ) (lies : commits + count ≤ bodies) (at long : ℕ) (outside : (at + long ≤ commits) ⊎ (bodies + count * len ≤ at)) (old new : List ℕ) (torn : Torn at long old new) where
+  commit_elsewhere : (place : ℕ) → place < count → get_or new (commits + place) 0 ≡ get_or old (commits + place) 0
+  commit_elsewhere place below = elim outside [
+    | inl before ↦ torn.after (commits + place) (omega arith)
+    | inr behind ↦ torn.before (commits + place) (omega arith)
   ]
 
-  gates_elsewhere : (n : ℕ) → n ≤ count → GatesAre gates count n old → GatesAre gates count n new
-  gates_elsewhere n most are = record {
-    opened = λ place below. ap is_open (gate_elsewhere place (omega arith)) ∙ are.opened place below;
-    closed = λ place past below. ap is_open (gate_elsewhere place below) ∙ are.closed place past below;
+  commits_elsewhere : (n : ℕ) → n ≤ count → CommitsAre commits count n old → CommitsAre commits count n new
+  commits_elsewhere n most are = record {
+    opened = λ place below. ap is_open (commit_elsewhere place (omega arith)) ∙ are.opened place below;
+    closed = λ place past below. ap is_open (commit_elsewhere place below) ∙ are.closed place past below;
   }
 
   pub rows_elsewhere : (n : ℕ) → n ≤ count → bodies + count * len ≤ length old → map (body_row bodies len new) (range_with_len 0 n) ≡ map (body_row bodies len old) (range_with_len 0 n)
@@ -80,24 +80,24 @@ module _ (gates count bodies len : ℕ) (lies : gates + count ≤ bodies) (at lo
 
 -- a change outside a log region leaves its rows in an image
 pub log_rows_elsewhere : (s : Shape) (region at count : ℕ) (old new : List ℕ) → region < s.logs → device_size s ≤ length old
-    → LiesOutside (gates_at s region) (log_len s) at count → Torn at count old new → log_rows s region new ≡ log_rows s region old
+    → LiesOutside (commits_at s region) (log_len s) at count → Torn at count old new → log_rows s region new ≡ log_rows s region old
 unfolding log_rows rows_from row_at open_count
 log_rows_elsewhere s region at count old new before fits outside torn =
     let place = region_lies s region (length old) before fits in
-    let gates_fit : gates_at s region + s.log_capacity ≤ length old = gates_within _ _ _ _ _ place old refl in
+    let commits_fit : commits_at s region + s.log_capacity ≤ length old = commits_within _ _ _ _ _ place old refl in
     let inside : bodies_at s region + s.log_capacity * row_len s ≤ length old = place.inside in
-    let ends : gates_at s region + s.log_capacity ≤ bodies_at s region + s.log_capacity * row_len s = omega (arith, place.apart) in
-    let bytes : gate_bytes (gates_at s region) s.log_capacity new ≡ gate_bytes (gates_at s region) s.log_capacity old = elim outside [
-      | inl earlier ↦ torn_slice_after at count old new torn (gates_at s region) (gates_at s region + s.log_capacity) earlier gates_fit
-      | inr behind ↦ torn_slice_before at count old new torn (gates_at s region) (gates_at s region + s.log_capacity) (omega (arith, ends, behind)) gates_fit
+    let ends : commits_at s region + s.log_capacity ≤ bodies_at s region + s.log_capacity * row_len s = omega (arith, place.apart) in
+    let bytes : commit_bytes (commits_at s region) s.log_capacity new ≡ commit_bytes (commits_at s region) s.log_capacity old = elim outside [
+      | inl earlier ↦ torn_slice_after at count old new torn (commits_at s region) (commits_at s region + s.log_capacity) earlier commits_fit
+      | inr behind ↦ torn_slice_before at count old new torn (commits_at s region) (commits_at s region + s.log_capacity) (omega (arith, ends, behind)) commits_fit
     ] in
-    let counted : ℕ = prefix_len is_open (gate_bytes (gates_at s region) s.log_capacity old) in
+    let counted : ℕ = prefix_len is_open (commit_bytes (commits_at s region) s.log_capacity old) in
     ap (λ (l : List ℕ). map (body_row (bodies_at s region) (row_len s) new) (range_with_len 0 (prefix_len is_open l))) bytes
-    ∙ rows_elsewhere _ _ _ _ place.apart at count (outside_bodies s region at count outside) old new torn counted (count_most _ _ old gates_fit) inside
+    ∙ rows_elsewhere _ _ _ _ place.apart at count (outside_bodies s region at count outside) old new torn counted (count_most _ _ old commits_fit) inside
 
 -- a change outside the region of a log leaves the log and its rows
 pub log_elsewhere : (old new : Content) (log : LogState) (at count : ℕ) → IsLog old log → device_size log.shape ≤ size old → size new ≡ size old
-    → LiesOutside (gates_at log.shape log.region) (log_len log.shape) at count → ChangesWithin at count old new → KeepsRows old new log log
+    → LiesOutside (commits_at log.shape log.region) (log_len log.shape) at count → ChangesWithin at count old new → KeepsRows old new log log
 unfolding rows_from row_at
 log_elsewhere old new log at count is fits same outside changes =
     let place = region_lies log.shape log.region (size old) is.bounds.region fits in
@@ -106,7 +106,7 @@ log_elsewhere old new log at count is fits same outside changes =
     let leaves : LeavesOnly new (StandsIn new log (settled_rows old log)) = within_leaves changes (log_standing old log is fits)
     (λ before after stands torn. stands_resized old new log (settled_rows old log) after same (record {
       long = torn.size ∙ stands.long;
-      are = gates_elsewhere _ _ _ _ place.apart at count (outside_bodies log.shape log.region at count outside) before after torn log.settled settled_most stands.are;
+      are = commits_elsewhere _ _ _ _ place.apart at count (outside_bodies log.shape log.region at count outside) before after torn log.settled settled_most stands.are;
       hold = rows_elsewhere _ _ _ _ place.apart at count (outside_bodies log.shape log.region at count outside) before after torn log.settled
           settled_most (subst (λ n. bodies_at log.shape log.region + log.shape.log_capacity * row_len log.shape ≤ n) (sym stands.long) place.inside) ∙ stands.hold;
     })) in
@@ -133,13 +133,13 @@ log_unsynced old new log is fits same stays = log_elsewhere old new log 0 0 is f
 
 -- a body
 pub body_in_region : (s : Shape) (region place : ℕ) (old new : Content) → place < s.log_capacity → ChangesWithin (body_at s region place) (row_len s) old new
-    → ChangesWithin (gates_at s region) (log_size s) old new
+    → ChangesWithin (commits_at s region) (log_size s) old new
 body_in_region s region place old new before changes =
     let inside : bodies_at s region + place * row_len s + row_len s ≤ bodies_at s region + s.log_capacity * row_len s = body_before (bodies_at s region) (row_len s) place s.log_capacity before in
-    within_wider (gates_at s region) (log_size s) (omega arith) (omega (arith, inside, up_least (s.log_capacity * row_len s))) changes
+    within_wider (commits_at s region) (log_size s) (omega arith) (omega (arith, inside, up_least (s.log_capacity * row_len s))) changes
 
--- some gates
-pub gates_in_region : (s : Shape) (region from count : ℕ) (old new : Content) → from + count ≤ s.log_capacity
-    → ChangesWithin (gates_at s region + from) count old new → ChangesWithin (gates_at s region) (log_size s) old new
-gates_in_region s region from count old new most changes =
-    within_wider (gates_at s region) (log_size s) (omega arith) (omega (arith, most, up_least s.log_capacity)) changes
+-- some commit bytes
+pub commits_in_region : (s : Shape) (region from count : ℕ) (old new : Content) → from + count ≤ s.log_capacity
+    → ChangesWithin (commits_at s region + from) count old new → ChangesWithin (commits_at s region) (log_size s) old new
+commits_in_region s region from count old new most changes =
+    within_wider (commits_at s region) (log_size s) (omega arith) (omega (arith, most, up_least s.log_capacity)) changes

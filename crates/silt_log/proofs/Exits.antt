@@ -4,7 +4,7 @@ use Rattle.std.specs.List.{range_with_len}
 use Rattle.std.proofs.lemmas.Bool.{false≢true}
 use Rattle.std.proofs.lemmas.List.FromFn.{map-range_with_len_more}
 use Rattle.silt_disk.specs.Disk.{Content, LeavesOnly, ChangesWithin, Writes, size}
-use Rattle.silt_disk.specs.Layout.{Shape, row_len, gates_at, bodies_at, device_size}
+use Rattle.silt_disk.specs.Layout.{Shape, row_len, commits_at, bodies_at, device_size}
 use Rattle.silt_disk.proofs.Images.{shown_left, within_leaves}
 use Rattle.silt_disk.proofs.Regions.{regions_apart}
 use Rattle.silt_log.specs.Rows.{body_row, body_at, row_at, rows_from, log_rows, open_count}
@@ -13,7 +13,7 @@ use Rattle.silt_log.specs.State.{LogState, InBounds, IsLog, settled_rows, all_ro
 use Rattle.silt_log.specs.Calls.{Appends, KeepsRows}
 use Rattle.silt_log.proofs.Counts.{count_is}
 use Rattle.silt_log.proofs.Bodies.{body_before, rows_below, row_written}
-use Rattle.silt_log.proofs.Standing.{Lies, Stands, rows_standing, body_torn, gates_spliced, gates_within}
+use Rattle.silt_log.proofs.Standing.{Lies, Stands, rows_standing, body_torn, commits_spliced, commits_within}
 
 -- a log region lies within the device
 pub log_inside : (s : Shape) (region : ℕ) → region < s.logs → bodies_at s region + s.log_capacity * row_len s ≤ device_size s
@@ -21,10 +21,10 @@ log_inside s region before =
     let apart = regions_apart s in
     omega (arith, apart.bodies region s.logs before, apart.logs 0, apart.hash_end 2)
 
-pub region_lies : (s : Shape) (region len : ℕ) → region < s.logs → device_size s ≤ len → Lies (gates_at s region) s.log_capacity (bodies_at s region) (row_len s) len
+pub region_lies : (s : Shape) (region len : ℕ) → region < s.logs → device_size s ≤ len → Lies (commits_at s region) s.log_capacity (bodies_at s region) (row_len s) len
 region_lies s region len before fits =
     let inside : bodies_at s region + s.log_capacity * row_len s ≤ device_size s = log_inside s region before in
-    record { apart = (regions_apart s).gates region; inside = omega (arith, inside, fits) }
+    record { apart = (regions_apart s).commits region; inside = omega (arith, inside, fits) }
 
 -- so does each of its bodies
 pub body_inside : (s : Shape) (bodies place : ℕ) → bodies + s.log_capacity * row_len s ≤ device_size s → place < s.log_capacity → bodies + place * row_len s + row_len s ≤ device_size s
@@ -33,7 +33,7 @@ body_inside s bodies place inside before = let ends : bodies + place * row_len s
 
 -- an image of this disk has the settled rows
 abbrev pub StandsIn : Content → LogState → List StoredRow → List ℕ → Type 0
-StandsIn content log rows = Stands (gates_at log.shape log.region) log.shape.log_capacity (bodies_at log.shape log.region) (row_len log.shape) (size content) log.settled rows
+StandsIn content log rows = Stands (commits_at log.shape log.region) log.shape.log_capacity (bodies_at log.shape log.region) (row_len log.shape) (size content) log.settled rows
 
 -- a log matches the disk if each image has its settled rows
 pub log_from : (content : Content) (log : LogState) (rows : List StoredRow) → InBounds log → log.stale ≡ false → device_size log.shape ≤ size content
@@ -50,9 +50,9 @@ log_from content log rows bounds sealed fits leaves =
       sealed = sealed;
       images = record { each = λ honest image left. rows_standing _ _ _ _ _ place log.settled rows image (omega (arith, most)) (leaves.each honest image left) ∙ sym (shown honest).hold };
       full = λ honest.
-          rows_standing _ _ _ _ _ place (log.settled + more) _ _ most (gates_spliced _ _ _ _ _ place log.settled more rows content.shown most (shown honest))
+          rows_standing _ _ _ _ _ place (log.settled + more) _ _ most (commits_spliced _ _ _ _ _ place log.settled more rows content.shown most (shown honest))
           ∙ ap (λ n. map (body_row (bodies_at log.shape log.region) (row_len log.shape) content.shown) (range_with_len 0 n)) both;
-      gates = record { each = λ honest image left. (leaves.each honest image left).are };
+      commits = record { each = λ honest image left. (leaves.each honest image left).are };
     }
 
 -- each image of a log has its settled rows
@@ -64,12 +64,12 @@ log_standing content log is fits =
     record {
       each = λ honest image left.
           let long : length image ≡ size content = left.size ∙ sym content.sizes in
-          let gates = is.gates.each honest image left in
+          let commits = is.commits.each honest image left in
           record {
             long = long;
-            are = gates;
+            are = commits;
             hold = ap (λ n. map (body_row (bodies_at log.shape log.region) (row_len log.shape) image) (range_with_len 0 n))
-                (sym (count_is _ _ image (gates_within _ _ _ _ _ place image long) log.settled most gates)) ∙ is.images.each honest image left;
+                (sym (count_is _ _ image (commits_within _ _ _ _ _ place image long) log.settled most commits)) ∙ is.images.each honest image left;
           };
     }
 

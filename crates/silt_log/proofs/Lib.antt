@@ -3,7 +3,7 @@ pub mod Bodies
 pub mod Counts
 pub mod Elsewhere
 pub mod Exits
-pub mod GateExits
+pub mod CommitByteExits
 pub mod Heads
 pub mod KindBytes
 pub mod Named

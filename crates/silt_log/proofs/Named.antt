@@ -1,6 +1,6 @@
 -- The places and counts of a log in memory, from its fields, as places and counts of the log that it represents.
 use Rattle.std.proofs.Common.{◌≡◌, ℕ, ◌+◌, ◌-◌, ◌≤◌, List, length, take, ap, ◌∙◌, arith, length-take-le}
-use Rattle.silt_disk.specs.Layout.{gates_at}
+use Rattle.silt_disk.specs.Layout.{commits_at}
 use Rattle.silt_log.specs.Rows.{body_at}
 use Rattle.silt_log.specs.State.{LogState, IsHeld}
 
@@ -8,11 +8,11 @@ use Rattle.silt_log.specs.State.{LogState, IsHeld}
 pub body_place : (fields log : LogState) (at : ℕ) → fields ≡ log → at ≡ body_at log.shape log.region fields.used → at ≡ body_at log.shape log.region log.used
 body_place fields log at same is = is ∙ ap (λ (l : LogState). body_at log.shape log.region l.used) same
 
--- the first gate of a waiting row
-pub waiting_place : (fields log : LogState) (gates from : ℕ) → fields ≡ log → gates ≡ gates_at fields.shape fields.region
-    → from ≡ fields.settled → gates + from ≡ gates_at log.shape log.region + log.settled
-waiting_place fields log gates from same is first =
-    ap (λ n. n + from) is ∙ ap (λ n. gates_at fields.shape fields.region + n) first ∙ ap (λ (l : LogState). gates_at l.shape l.region + l.settled) same
+-- the first commit byte of a waiting row
+pub waiting_place : (fields log : LogState) (commits from : ℕ) → fields ≡ log → commits ≡ commits_at fields.shape fields.region
+    → from ≡ fields.settled → commits + from ≡ commits_at log.shape log.region + log.settled
+waiting_place fields log commits from same is first =
+    ap (λ n. n + from) is ∙ ap (λ n. commits_at fields.shape fields.region + n) first ∙ ap (λ (l : LogState). commits_at l.shape l.region + l.settled) same
 
 -- the buffer has a byte for each waiting row
 pub waiting_count : (fields log : LogState) (buffer : List ℕ) → fields ≡ log → IsHeld fields (length buffer) → length (take (fields.used - fields.settled) buffer) ≡ log.used - log.settled
@@ -20,15 +20,15 @@ waiting_count fields log buffer same held =
     let enough : fields.used - fields.settled ≤ length buffer = omega (arith, held.buffer, held.bounds.room) in
     length-take-le _ buffer enough ∙ ap (λ (l : LogState). l.used - l.settled) same
 
--- the gate past the first closed one
-pub past_place : (fields log : LogState) (gates from : ℕ) → fields ≡ log → gates ≡ gates_at fields.shape fields.region
-    → from ≡ fields.used + 1 → gates + from ≡ gates_at log.shape log.region + log.used + 1
-past_place fields log gates from same is first =
+-- the commit byte past the first closed one
+pub past_place : (fields log : LogState) (commits from : ℕ) → fields ≡ log → commits ≡ commits_at fields.shape fields.region
+    → from ≡ fields.used + 1 → commits + from ≡ commits_at log.shape log.region + log.used + 1
+past_place fields log commits from same is first =
     let one_further : (n : ℕ) → n + (fields.used + 1) ≡ n + fields.used + 1 = λ n. omega arith in
-    ap (λ n. n + from) is ∙ ap (λ n. gates_at fields.shape fields.region + n) first ∙ one_further (gates_at fields.shape fields.region)
-    ∙ ap (λ (l : LogState). gates_at l.shape l.region + l.used + 1) same
+    ap (λ n. n + from) is ∙ ap (λ n. commits_at fields.shape fields.region + n) first ∙ one_further (commits_at fields.shape fields.region)
+    ∙ ap (λ (l : LogState). commits_at l.shape l.region + l.used + 1) same
 
--- the buffer has a byte for each gate past the first closed one
+-- the buffer has each commit byte past the first closed one
 pub past_count : (fields log : LogState) (capacity : ℕ) (buffer : List ℕ) → fields ≡ log → capacity ≡ fields.shape.log_capacity
     → IsHeld fields (length buffer) → length (take (capacity - (fields.used + 1)) buffer) ≡ log.shape.log_capacity - (log.used + 1)
 past_count fields log capacity buffer same is held =

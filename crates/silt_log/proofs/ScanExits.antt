@@ -2,11 +2,11 @@
 use Rattle.std.proofs.Common.{◌≡◌, ℕ, Bool, List, map, drop, Result, Ok, Err, sym, ap, ◌∙◌, subst, is_ok, MatchResult}
 use Rattle.std.specs.List.{prefix_len, range_with_len, list_any}
 use Rattle.std.proofs.lemmas.Bool.{false≢true}
-use Rattle.silt_disk.specs.Layout.{Shape, row_len, gates_at, bodies_at}
-use Rattle.silt_frame.specs.Gate.{is_open}
+use Rattle.silt_disk.specs.Layout.{Shape, row_len, commits_at, bodies_at}
+use Rattle.silt_frame.specs.Commit.{is_open}
 use Rattle.silt_frame.specs.declared.key.Row.{Row}
 use Rattle.silt_log.specs.declared.scan.ScanError.{ScanError}
-use Rattle.silt_log.specs.Rows.{AreRows, FirstUnknown, gate_bytes, body_row, row_at, rows_from, log_rows, open_count, has_stale_gate}
+use Rattle.silt_log.specs.Rows.{AreRows, FirstUnknown, commit_bytes, body_row, row_at, rows_from, log_rows, open_count, has_stale_commit}
 use Rattle.silt_log.specs.Scans.{IsScanRefused}
 use Rattle.silt_log.proofs.Scanned.{refused_weaker}
 
@@ -16,21 +16,21 @@ pub mapped_ok : {T E F : Type 0} (Q : E → Type 0) (before : Result T E) (after
 mapped_ok Q (Ok y) after x same mapped is = let value : y ≡ x = cc in ap Ok value
 mapped_ok Q (Err e) after x same mapped is = absurd (false≢true (sym same ∙ ap is_ok is))
 
-module _ (shape : Shape) (region : ℕ) (shown : List ℕ) (at gates bodies len count : ℕ) (at_is : at ≡ gates_at shape region)
-    (gates_are : gates ≡ shape.log_capacity) (bodies_is : bodies ≡ bodies_at shape region) (len_is : len ≡ row_len shape) (counted : count ≡ prefix_len is_open (gate_bytes at gates shown)) where
-  gates_same : gate_bytes at gates shown ≡ gate_bytes (gates_at shape region) shape.log_capacity shown
-  gates_same = ap (λ n. gate_bytes n gates shown) at_is ∙ ap (λ n. gate_bytes (gates_at shape region) n shown) gates_are
+module _ (shape : Shape) (region : ℕ) (shown : List ℕ) (at commits bodies len count : ℕ) (at_is : at ≡ commits_at shape region)
+    (commits_are : commits ≡ shape.log_capacity) (bodies_is : bodies ≡ bodies_at shape region) (len_is : len ≡ row_len shape) (counted : count ≡ prefix_len is_open (commit_bytes at commits shown)) where
+  commits_same : commit_bytes at commits shown ≡ commit_bytes (commits_at shape region) shape.log_capacity shown
+  commits_same = ap (λ n. commit_bytes n commits shown) at_is ∙ ap (λ n. commit_bytes (commits_at shape region) n shown) commits_are
 
-  -- the rows before the first closed gate are counted
+  -- the rows before the first closed commit byte are counted
   pub scan_count : count ≡ open_count shape region shown
   unfolding open_count
-  scan_count = counted ∙ ap (prefix_len is_open) gates_same
+  scan_count = counted ∙ ap (prefix_len is_open) commits_same
 
-  -- a gate past them was looked for
-  pub scan_stale : (stale : Bool) → stale ≡ list_any is_open (drop count (gate_bytes at gates shown)) → stale ≡ has_stale_gate shape region shown
-  unfolding has_stale_gate
-  scan_stale stale found = found ∙ ap (λ n. list_any is_open (drop n (gate_bytes at gates shown))) scan_count
-      ∙ ap (λ (l : List ℕ). list_any is_open (drop (open_count shape region shown) l)) gates_same
+  -- a commit byte past them was looked for
+  pub scan_stale : (stale : Bool) → stale ≡ list_any is_open (drop count (commit_bytes at commits shown)) → stale ≡ has_stale_commit shape region shown
+  unfolding has_stale_commit
+  scan_stale stale found = found ∙ ap (λ n. list_any is_open (drop n (commit_bytes at commits shown))) scan_count
+      ∙ ap (λ (l : List ℕ). list_any is_open (drop (open_count shape region shown) l)) commits_same
 
   -- and their rows were read
   pub scan_rows : (rows : List Row) → AreRows rows (map (body_row bodies len shown) (range_with_len 0 count)) → AreRows rows (log_rows shape region shown)
@@ -49,12 +49,12 @@ module _ (shape : Shape) (region : ℕ) (shown : List ℕ) (at gates bodies len 
       (subst (λ n. FirstUnknown (body_row n len shown) count place) bodies_is first))
 
 -- so a refused scan names that row
-pub scan_refused : {F : Type 0} (honest : Type 0) (shape : Shape) (region : ℕ) (shown : List ℕ) (at gates bodies len count : ℕ)
-    (was_given : F → Type 0) (error : ScanError F) → at ≡ gates_at shape region → gates ≡ shape.log_capacity → bodies ≡ bodies_at shape region → len ≡ row_len shape
-    → (honest → count ≡ prefix_len is_open (gate_bytes at gates shown))
+pub scan_refused : {F : Type 0} (honest : Type 0) (shape : Shape) (region : ℕ) (shown : List ℕ) (at commits bodies len count : ℕ)
+    (was_given : F → Type 0) (error : ScanError F) → at ≡ commits_at shape region → commits ≡ shape.log_capacity → bodies ≡ bodies_at shape region → len ≡ row_len shape
+    → (honest → count ≡ prefix_len is_open (commit_bytes at commits shown))
     → IsScanRefused (λ place. honest → FirstUnknown (body_row bodies len shown) count place) was_given error
     → IsScanRefused (λ place. honest → FirstUnknown (row_at shape region shown) (open_count shape region shown) place) was_given error
-scan_refused honest shape region shown at gates bodies len count was_given error at_is gates_are bodies_is len_is counted refused =
+scan_refused honest shape region shown at commits bodies len count was_given error at_is commits_are bodies_is len_is counted refused =
     refused_weaker (λ place. honest → FirstUnknown (body_row bodies len shown) count place)
     (λ place. honest → FirstUnknown (row_at shape region shown) (open_count shape region shown) place) was_given error
-    (λ place first is. scan_unknown shape region shown at gates bodies len count at_is gates_are bodies_is len_is (counted is) place (first is)) refused
+    (λ place first is. scan_unknown shape region shown at commits bodies len count at_is commits_are bodies_is len_is (counted is) place (first is)) refused

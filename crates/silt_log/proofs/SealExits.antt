@@ -4,79 +4,79 @@ use Rattle.std.specs.List.{prefix_len, range_with_len}
 use Rattle.std.proofs.lemmas.Bool.{cases_lt, false≢true}
 use Rattle.std.proofs.lemmas.List.{get_or-replicate, length-replicate}
 use Rattle.silt_disk.specs.Disk.{Content, Torn, LeavesOnly, ChangesWithin, Writes, Rests, size, splice}
-use Rattle.silt_disk.specs.Layout.{row_len, gates_at, bodies_at, device_size}
+use Rattle.silt_disk.specs.Layout.{row_len, commits_at, bodies_at, device_size}
 use Rattle.silt_disk.proofs.Images.{rests_leaves, left_at_rest, torn_splice, splice_byte}
-use Rattle.silt_frame.specs.Gate.{is_open}
-use Rattle.silt_log.specs.Rows.{GatesAre, gate_bytes, body_row, rows_from, row_at, log_rows, open_count, has_stale_gate}
+use Rattle.silt_frame.specs.Commit.{is_open}
+use Rattle.silt_log.specs.Rows.{CommitsAre, commit_bytes, body_row, rows_from, row_at, log_rows, open_count, has_stale_commit}
 use Rattle.silt_log.specs.State.{LogState, InBounds, IsScanned, settled_rows}
 use Rattle.silt_log.specs.Calls.{Seals}
-use Rattle.silt_log.proofs.Counts.{same_byte, count_between, counted_open, first_closed, gates_counted}
-use Rattle.silt_log.proofs.Standing.{gates_torn_rows, gates_within}
+use Rattle.silt_log.proofs.Counts.{same_byte, count_between, counted_open, first_closed, commits_counted}
+use Rattle.silt_log.proofs.Standing.{commits_torn_rows, commits_within}
 use Rattle.silt_log.proofs.Exits.{fits_resized, StandsIn, region_lies, log_from}
 
-module _ (gates count : ℕ) (old : List ℕ) (fits : gates + count ≤ length old) where
-  -- a write past the first closed gate leaves the count
-  pub counted_same : (image : List ℕ) (n long : ℕ) → n ≡ prefix_len is_open (gate_bytes gates count old) → n < count
-      → Torn (gates + n + 1) long old image → prefix_len is_open (gate_bytes gates count image) ≡ n
+module _ (commits count : ℕ) (old : List ℕ) (fits : commits + count ≤ length old) where
+  -- a write past the first closed commit byte leaves the count
+  pub counted_same : (image : List ℕ) (n long : ℕ) → n ≡ prefix_len is_open (commit_bytes commits count old) → n < count
+      → Torn (commits + n + 1) long old image → prefix_len is_open (commit_bytes commits count image) ≡ n
   counted_same image n long counted room torn =
-      let between = count_between gates count image (omega (arith, torn.size)) n n (omega arith) (omega arith)
-      (λ place below. ap is_open (torn.before (gates + place) (omega arith)) ∙ counted_open gates count old fits place (omega arith))
+      let between = count_between commits count image (omega (arith, torn.size)) n n (omega arith) (omega arith)
+      (λ place below. ap is_open (torn.before (commits + place) (omega arith)) ∙ counted_open commits count old fits place (omega arith))
       (λ below.
-      let first : is_open (get_or old (gates + n) 0) ≡ false = ap (λ k. is_open (get_or old (gates + k) 0)) counted ∙ first_closed gates count old fits (omega arith) in
-      ap is_open (torn.before (gates + n) (omega arith)) ∙ first) in
+      let first : is_open (get_or old (commits + n) 0) ≡ false = ap (λ k. is_open (get_or old (commits + k) 0)) counted ∙ first_closed commits count old fits (omega arith) in
+      ap is_open (torn.before (commits + n) (omega arith)) ∙ first) in
       omega (arith, between.0, between.1)
 
-  -- zeros over all gates past the first closed one
-  pub sealed_gates : (n more : ℕ) → n ≡ prefix_len is_open (gate_bytes gates count old) → n < count → more ≡ count - (n + 1) → GatesAre gates count n (splice (gates + n + 1) (replicate more 0) old)
-  sealed_gates n more counted room rest =
+  -- zeros over all commit bytes past the first closed one
+  pub sealed_commits : (n more : ℕ) → n ≡ prefix_len is_open (commit_bytes commits count old) → n < count → more ≡ count - (n + 1) → CommitsAre commits count n (splice (commits + n + 1) (replicate more 0) old)
+  sealed_commits n more counted room rest =
       let zeros : List ℕ = replicate more 0 in
       let long : length zeros ≡ more = length-replicate more 0 in
-      let within : gates + n + 1 + length zeros ≤ length old = omega arith in
-      let torn = torn_splice (gates + n + 1) zeros old within in
+      let within : commits + n + 1 + length zeros ≤ length old = omega arith in
+      let torn = torn_splice (commits + n + 1) zeros old within in
       record {
-        opened = λ place below. ap is_open (torn.before (gates + place) (omega arith)) ∙ counted_open gates count old fits place (omega arith);
+        opened = λ place below. ap is_open (torn.before (commits + place) (omega arith)) ∙ counted_open commits count old fits place (omega arith);
         closed = λ place past below. elim (cases_lt n place) [
-          | inl above ↦ ap is_open (same_byte (splice (gates + n + 1) zeros old) (gates + place) (gates + n + 1 + (place - (n + 1))) (omega arith)
-              ∙ splice_byte (gates + n + 1) zeros old (place - (n + 1)) within (omega arith)
+          | inl above ↦ ap is_open (same_byte (splice (commits + n + 1) zeros old) (commits + place) (commits + n + 1 + (place - (n + 1))) (omega arith)
+              ∙ splice_byte (commits + n + 1) zeros old (place - (n + 1)) within (omega arith)
               ∙ get_or-replicate more (place - (n + 1)) 0 0 (omega arith))
           | inr most ↦
-              let here : place ≡ prefix_len is_open (gate_bytes gates count old) = omega arith in
-              ap is_open (torn.before (gates + place) (omega arith))
-              ∙ ap (λ k. is_open (get_or old (gates + k) 0)) here ∙ first_closed gates count old fits (omega arith)
+              let here : place ≡ prefix_len is_open (commit_bytes commits count old) = omega arith in
+              ap is_open (torn.before (commits + place) (omega arith))
+              ∙ ap (λ k. is_open (get_or old (commits + k) 0)) here ∙ first_closed commits count old fits (omega arith)
         ];
       }
 
 module _ (old new : Content) (log : LogState) (bounds : InBounds log) (fits : device_size log.shape ≤ size old) (rests : Rests old) (scanned : IsTrue old.honest → IsScanned old log) where
-  seal_within : gates_at log.shape log.region + log.shape.log_capacity ≤ length old.shown
-  seal_within = gates_within _ _ _ _ _ (region_lies log.shape log.region (size old) bounds.region fits) old.shown refl
+  seal_within : commits_at log.shape log.region + log.shape.log_capacity ≤ length old.shown
+  seal_within = commits_within _ _ _ _ _ (region_lies log.shape log.region (size old) bounds.region fits) old.shown refl
 
-  -- an image that differs past the first closed gate alone
+  -- an image that differs past the first closed commit byte alone
   seal_torn : (image : List ℕ) (long : ℕ) → IsTrue old.honest → log.used < log.shape.log_capacity → long ≡ log.shape.log_capacity - (log.used + 1)
-      → Torn (gates_at log.shape log.region + log.used + 1) long old.shown image
+      → Torn (commits_at log.shape log.region + log.used + 1) long old.shown image
       → log_rows log.shape log.region image ≡ log_rows log.shape log.region old.shown
   unfolding log_rows rows_from row_at open_count
   seal_torn image long honest room rest torn =
       let place = region_lies log.shape log.region (size old) bounds.region fits in
-      let low : gates_at log.shape log.region ≤ gates_at log.shape log.region + log.used + 1 = omega arith in
-      let high : gates_at log.shape log.region + log.used + 1 + long ≤ gates_at log.shape log.region + log.shape.log_capacity = omega (arith, room, rest) in
+      let low : commits_at log.shape log.region ≤ commits_at log.shape log.region + log.used + 1 = omega arith in
+      let high : commits_at log.shape log.region + log.used + 1 + long ≤ commits_at log.shape log.region + log.shape.log_capacity = omega (arith, room, rest) in
       ap (λ n. map (body_row (bodies_at log.shape log.region) (row_len log.shape) image) (range_with_len 0 n))
       (counted_same _ _ old.shown seal_within image log.used long (scanned honest).used room torn)
-      ∙ gates_torn_rows _ _ _ _ _ place (gates_at log.shape log.region + log.used + 1) long 0 log.used old.shown image refl low high (omega (arith, room)) torn
+      ∙ commits_torn_rows _ _ _ _ _ place (commits_at log.shape log.region + log.used + 1) long 0 log.used old.shown image refl low high (omega (arith, room)) torn
       ∙ ap (λ n. map (body_row (bodies_at log.shape log.region) (row_len log.shape) old.shown) (range_with_len 0 n)) (scanned honest).used
 
   -- at each exit
-  pub seal_images : (long : ℕ) → log.used < log.shape.log_capacity → long ≡ log.shape.log_capacity - (log.used + 1) → ChangesWithin (gates_at log.shape log.region + log.used + 1) long old new
+  pub seal_images : (long : ℕ) → log.used < log.shape.log_capacity → long ≡ log.shape.log_capacity - (log.used + 1) → ChangesWithin (commits_at log.shape log.region + log.used + 1) long old new
       → LeavesOnly new (λ image. log_rows log.shape log.region image ≡ log_rows log.shape log.region old.shown)
   seal_images long room rest changes = record {
     each = λ honest image left.
         let was : IsTrue old.honest = sym changes.honest ∙ honest in
         let from = changes.left was image left in
-        seal_torn image long was room rest (subst (λ before. Torn (gates_at log.shape log.region + log.used + 1) long before image) (left_at_rest rests was from.0 from.1) from.2);
+        seal_torn image long was room rest (subst (λ before. Torn (commits_at log.shape log.region + log.used + 1) long before image) (left_at_rest rests was from.0 from.1) from.2);
   }
 
-  -- at the exit with Ok, if a gate past the first closed one was open
+  -- at the exit with Ok, if a commit byte past the first closed one was open
   pub seal_done : (more : ℕ) → log.used < log.shape.log_capacity → more ≡ log.shape.log_capacity - (log.used + 1) → size new ≡ size old
-      → Writes (gates_at log.shape log.region + log.used + 1) (replicate more 0) old new → Rests new
+      → Writes (commits_at log.shape log.region + log.used + 1) (replicate more 0) old new → Rests new
       → Seals old new log (record log { stale = false })
   unfolding rows_from row_at open_count
   seal_done more room rest same writes settled =
@@ -86,19 +86,19 @@ module _ (old new : Content) (log : LogState) (bounds : InBounds log) (fits : de
       let bounds_new : InBounds after = record { region = bounds.region; order = bounds.order; room = bounds.room; gap = λ stale. absurd (false≢true stale) } in
       let zeros : List ℕ = replicate more 0 in
       let long : length zeros ≡ more = length-replicate more 0 in
-      let low : gates_at log.shape log.region ≤ gates_at log.shape log.region + log.used + 1 = omega arith in
-      let high : gates_at log.shape log.region + log.used + 1 + length zeros ≤ gates_at log.shape log.region + log.shape.log_capacity = omega (arith, room, rest, long) in
-      let within : gates_at log.shape log.region + log.used + 1 + length zeros ≤ length old.shown = omega (arith, high, seal_within) in
+      let low : commits_at log.shape log.region ≤ commits_at log.shape log.region + log.used + 1 = omega arith in
+      let high : commits_at log.shape log.region + log.used + 1 + length zeros ≤ commits_at log.shape log.region + log.shape.log_capacity = omega (arith, room, rest, long) in
+      let within : commits_at log.shape log.region + log.used + 1 + length zeros ≤ length old.shown = omega (arith, high, seal_within) in
       let stands : IsTrue old.honest → StandsIn new after (settled_rows old log) new.shown = λ honest.
       let counted : log.settled ≡ log.used = (scanned honest).settled ∙ sym (scanned honest).used in
-      let torn = torn_splice (gates_at log.shape log.region + log.used + 1) zeros old.shown within in
-      let are : GatesAre (gates_at log.shape log.region) log.shape.log_capacity log.settled (splice (gates_at log.shape log.region + log.used + 1) zeros old.shown) =
-      subst (λ n. GatesAre (gates_at log.shape log.region) log.shape.log_capacity n (splice (gates_at log.shape log.region + log.used + 1) zeros old.shown))
-      (sym counted) (sealed_gates _ _ old.shown seal_within log.used more (scanned honest).used room rest) in
+      let torn = torn_splice (commits_at log.shape log.region + log.used + 1) zeros old.shown within in
+      let are : CommitsAre (commits_at log.shape log.region) log.shape.log_capacity log.settled (splice (commits_at log.shape log.region + log.used + 1) zeros old.shown) =
+      subst (λ n. CommitsAre (commits_at log.shape log.region) log.shape.log_capacity n (splice (commits_at log.shape log.region + log.used + 1) zeros old.shown))
+      (sym counted) (sealed_commits _ _ old.shown seal_within log.used more (scanned honest).used room rest) in
       subst (StandsIn new after (settled_rows old log)) (sym (writes.shown honest)) (record {
         long = torn.size ∙ sym same;
         are = are;
-        hold = gates_torn_rows _ _ _ _ _ place (gates_at log.shape log.region + log.used + 1) (length zeros) 0 log.settled old.shown _ refl low high (omega (arith, counted, room)) torn;
+        hold = commits_torn_rows _ _ _ _ _ place (commits_at log.shape log.region + log.used + 1) (length zeros) 0 log.settled old.shown _ refl low high (omega (arith, counted, room)) torn;
       }) in
       record {
         log = refl;
@@ -106,19 +106,19 @@ module _ (old new : Content) (log : LogState) (bounds : InBounds log) (fits : de
         settled = λ honest. (stands honest).hold;
       }
 
--- if no gate past the first closed one was open
+-- if no commit byte past the first closed one was open
 module _ (old : Content) (log : LogState) (bounds : InBounds log) (fits : device_size log.shape ≤ size old) (rests : Rests old) (scanned : IsTrue old.honest → IsScanned old log) where
   pub quiet_images : LeavesOnly old (λ image. log_rows log.shape log.region image ≡ log_rows log.shape log.region old.shown)
   quiet_images = record { each = λ honest image left. ap (log_rows log.shape log.region) (left_at_rest rests honest image left) }
 
   pub quiet_done : log.stale ≡ false → Seals old old log log
-  unfolding has_stale_gate rows_from row_at open_count
+  unfolding has_stale_commit rows_from row_at open_count
   quiet_done tight =
-      let within : gates_at log.shape log.region + log.shape.log_capacity ≤ length old.shown = gates_within _ _ _ _ _ (region_lies log.shape log.region (size old) bounds.region fits) old.shown refl in
+      let within : commits_at log.shape log.region + log.shape.log_capacity ≤ length old.shown = commits_within _ _ _ _ _ (region_lies log.shape log.region (size old) bounds.region fits) old.shown refl in
       let stands : IsTrue old.honest → StandsIn old log (settled_rows old log) old.shown = λ honest. record {
         long = refl;
-        are = subst (λ n. GatesAre (gates_at log.shape log.region) log.shape.log_capacity n old.shown) (sym (scanned honest).settled)
-            (gates_counted _ _ old.shown within (sym (scanned honest).stale ∙ tight));
+        are = subst (λ n. CommitsAre (commits_at log.shape log.region) log.shape.log_capacity n old.shown) (sym (scanned honest).settled)
+            (commits_counted _ _ old.shown within (sym (scanned honest).stale ∙ tight));
         hold = refl;
       } in
       record {

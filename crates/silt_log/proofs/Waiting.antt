@@ -30,7 +30,7 @@ waiting_kept old new before after is honest keeps =
     waiting_from old new before after [] is.bounds.order keeps.stands.bounds.order (keeps.settled honest) (keeps.all honest ∙ sym (append-nil (all_rows old before)))
     ∙ append-nil (waiting_rows old before)
 
--- once the gates are open no row waits
+-- once the commit bytes are open no row waits
 pub none_waiting : (content : Content) (log : LogState) → log.settled ≡ log.used → waiting_rows content log ≡ []
 unfolding rows_from
 none_waiting content log same =

@@ -34,7 +34,7 @@ pub record KeepsRows (old new : Content) (before after : LogState) : Type 0 wher
   pub full : IsTrue old.honest → log_rows before.shape before.region (opened_image new before) ≡ all_rows old before
 
 -- the rows that waited are settled
-pub record OpensGates (old new : Content) (before after : LogState) : Type 0 where
+pub record OpensCommits (old new : Content) (before after : LogState) : Type 0 where
   pub log : after ≡ record before { settled = before.used }
   pub stands : IsLog new after
   pub settled : IsTrue old.honest → settled_rows new after ≡ all_rows old before
@@ -46,13 +46,13 @@ HasBeginning content log image =
     (n : ℕ) × (n ≤ length (waiting_rows content log))
     × (log_rows log.shape log.region image ≡ settled_rows content log ++ take n (waiting_rows content log))
 
--- some gates of the waiting rows may be open, and with all of them open the rows are the same
+-- some commit bytes of the waiting rows may be open, and with all of them open the rows are the same
 pub record OpensSome (old new : Content) (before after : LogState) : Type 0 where
   pub log : after ≡ before
   pub images : LeavesOnly new (HasBeginning old before)
   pub full : IsTrue old.honest → log_rows before.shape before.region (opened_image new before) ≡ all_rows old before
 
--- all gates past the first closed one are closed, and the rows are the same
+-- all commit bytes past the first closed one are closed, and the rows are the same
 pub record Seals (old new : Content) (before after : LogState) : Type 0 where
   pub log : after ≡ record before { stale = false }
   pub stands : IsLog new after

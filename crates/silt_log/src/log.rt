@@ -1,22 +1,22 @@
 // A log region as the store holds it in memory, and the calls that change it.
 ghost use Rattle.std.specs.Prelude.{vec_len, ◌≡◌, ◌==◌, ◌+◌, ◌-◌, ◌<◌, ◌≤◌, ◌++◌, length, drop, replicate, nat_lt, cond, false, IsTrue, IfOk, IfErr, OnOk, OnErr, MatchResult};
 ghost use Rattle.silt_disk.specs.Disk.{GaveAny, LeavesOnly, Rests, Writes, size};
-ghost use Rattle.silt_disk.specs.Layout.{device_size, gates_at, row_len};
+ghost use Rattle.silt_disk.specs.Layout.{device_size, commits_at, row_len};
 ghost use Rattle.silt_disk.specs.Wrote.{Wrote};
-ghost use Rattle.silt_frame.specs.Gate.{gate_open};
+ghost use Rattle.silt_frame.specs.Commit.{commit_open};
 ghost use Rattle.silt_frame.specs.Frame.{head_bytes};
 ghost use Rattle.silt_log.specs.Rows.{AreRows, FirstUnknown, IsRowValue, body_at, log_rows, open_count, row_at, row_head};
 ghost use Rattle.silt_frame.specs.Rows.{stored_row, row_of};
 ghost use Rattle.silt_log.specs.Scans.{IsScanRefused};
 
-use crate::gates::{open_behind_sync, read_gates, write_gates, write_row};
+use crate::commits::{open_behind_sync, read_commits, write_commits, write_row};
 use crate::scan::{ScanError, read_rows};
 use silt_disk::{Disk, Geometry};
-use silt_frame::{GATE_CLOSED, HEAD_LEN, KEY_LEN, Key, Kind, Row, head_bytes, head_of};
+use silt_frame::{COMMIT_CLOSED, HEAD_LEN, KEY_LEN, Key, Kind, Row, head_bytes, head_of};
 use std::alloc::{AllocError, Global};
 use std::marker::Model;
 
-/// A log region: how many rows it has, and how many of them are settled behind open gates.
+/// A log region: how many rows it has, and how many of them are settled behind open commit bytes.
 ///
 /// It holds one byte for each row that fits into the region. So no later call except `scan` allocates memory.
 #[derive(Drop)]
@@ -26,7 +26,7 @@ pub struct Log {
     settled: u32,
     used: u32,
     stale: bool,
-    gates: Vec<u8>,
+    commits: Vec<u8>,
 }
 
 impl Model for Log {
@@ -37,20 +37,20 @@ impl Model for Log {
 
     ghost view = { λ a. record { shape = a.geometry; region = a.region; settled = a.settled; used = a.used; stale = a.stale } };
 
-    ghost invariant = { λ a. IsHeld (record { shape = a.geometry; region = a.region; settled = a.settled; used = a.used; stale = a.stale }) (vec_len a.gates) };
+    ghost invariant = { λ a. IsHeld (record { shape = a.geometry; region = a.region; settled = a.settled; used = a.used; stale = a.stale }) (vec_len a.commits) };
 }
 
 impl Log {
     ghost use Rattle.std.specs.Prelude.{◌^◌};
     ghost use Rattle.silt_log.specs.State.{LogState, InBounds, IsLog, IsScanned, settled_rows};
-    ghost use Rattle.silt_log.specs.Calls.{Empties, Appends, KeepsRows, OpensGates, OpensSome, Seals};
+    ghost use Rattle.silt_log.specs.Calls.{Empties, Appends, KeepsRows, OpensCommits, OpensSome, Seals};
     ghost use Rattle.silt_frame.specs.Frame.{head_len};
 
     /// A log of this region with no rows. `prepare` or scan it before use.
     ///
     /// # Errors
     ///
-    /// Out of memory: the bytes for the gates could not be allocated.
+    /// Out of memory: the commit bytes could not be allocated.
     pub fn new(alloc: Global, geometry: Geometry, region: u32) -> Result<Self, AllocError>
         requires { region < geometry.logs }
         ensures { IfOk result (λ log. log ≡ record { shape = geometry; region = region; settled = 0; used = 0; stale = false }) }
@@ -62,7 +62,7 @@ impl Log {
             settled: 0,
             used: 0,
             stale: false,
-            gates: vec![in alloc; GATE_CLOSED; capacity]?,
+            commits: vec![in alloc; COMMIT_CLOSED; capacity]?,
         })
     }
 
@@ -81,7 +81,7 @@ impl Log {
         self.used == 0
     }
 
-    /// The number of rows that are settled behind open gates.
+    /// The number of rows that are settled behind open commit bytes.
     pub fn settled(&self) -> u32
         ensures value { result ≡ self.now.settled }
         ensures bounds { InBounds self.now }
@@ -89,7 +89,7 @@ impl Log {
         self.settled
     }
 
-    /// Whether a row waits for its gate to be opened.
+    /// Whether a row waits for its commit byte to be opened.
     pub fn has_waiting(&self) -> bool
         ensures value { result ≡ nat_lt self.now.settled self.now.used }
         ensures bounds { InBounds self.now }
@@ -128,28 +128,28 @@ impl Log {
         self.geometry
     }
 
-    /// Closes all gates of the region, and syncs. Then the log has no rows. Costs one write and one sync.
+    /// Closes all commit bytes of the region, and syncs. Then the log has no rows. Costs one write and one sync.
     ///
     /// # Errors
     ///
     /// The fault of the write or of the sync.
     pub fn prepare<D: Disk>(&mut self, disk: &mut D) -> Result<(), D::Fault>
         requires size { device_size self.old.shape ≤ size (D.content disk.old) }
-        ensures wrote { Wrote D.Disk (gates_at self.old.shape self.old.region) self.old.shape.log_capacity 1 1 disk.old disk.new result }
-        ensures written { OnOk result (Writes (gates_at self.old.shape self.old.region) (replicate self.old.shape.log_capacity 0) (D.content disk.old) (D.content disk.new)) }
+        ensures wrote { Wrote D.Disk (commits_at self.old.shape self.old.region) self.old.shape.log_capacity 1 1 disk.old disk.new result }
+        ensures written { OnOk result (Writes (commits_at self.old.shape self.old.region) (replicate self.old.shape.log_capacity 0) (D.content disk.old) (D.content disk.new)) }
         ensures rests { OnOk result (Rests (D.content disk.new)) }
         ensures ok { OnOk result (Empties (D.content disk.new) self.old self.new) }
         ensures err { OnErr result (self.new ≡ self.old) }
     {
-        let at = self.geometry.gates_at(self.region);
-        write_gates(disk, at, &mut self.gates, GATE_CLOSED)?;
+        let at = self.geometry.commits_at(self.region);
+        write_commits(disk, at, &mut self.commits, COMMIT_CLOSED)?;
         self.settled = 0;
         self.used = 0;
         self.stale = false;
         Ok(())
     }
 
-    /// Writes a row after the others: the head, then the value. Its gate stays closed. A delete's value is zeros. Costs two writes and
+    /// Writes a row after the others: the head, then the value. Its commit byte stays closed. A delete's value is zeros. Costs two writes and
     /// no sync.
     ///
     /// # Errors
@@ -178,30 +178,30 @@ impl Log {
         Ok(())
     }
 
-    /// Opens the gates of the waiting rows: a sync, one write over these gates, a sync.
+    /// Opens the commit bytes of the waiting rows: a sync, one write over these commit bytes, a sync.
     ///
     /// # Errors
     ///
     /// The fault of a sync or of the write. A crash then leaves the settled rows and a prefix of the waiting ones.
-    pub fn open_gates<D: Disk>(&mut self, disk: &mut D) -> Result<(), D::Fault>
+    pub fn open_commits<D: Disk>(&mut self, disk: &mut D) -> Result<(), D::Fault>
         requires waiting { self.old.settled < self.old.used }
         requires size { device_size self.old.shape ≤ size (D.content disk.old) }
         requires log { IsLog (D.content disk.old) self.old }
-        ensures wrote { Wrote D.Disk (gates_at self.old.shape self.old.region + self.old.settled) (self.old.used - self.old.settled) 1 2 disk.old disk.new result }
-        ensures written { OnOk result (Writes (gates_at self.old.shape self.old.region + self.old.settled)
-            (replicate (self.old.used - self.old.settled) gate_open) (D.content disk.old) (D.content disk.new)) }
+        ensures wrote { Wrote D.Disk (commits_at self.old.shape self.old.region + self.old.settled) (self.old.used - self.old.settled) 1 2 disk.old disk.new result }
+        ensures written { OnOk result (Writes (commits_at self.old.shape self.old.region + self.old.settled)
+            (replicate (self.old.used - self.old.settled) commit_open) (D.content disk.old) (D.content disk.new)) }
         ensures rests { OnOk result (Rests (D.content disk.new)) }
-        ensures ok { OnOk result (OpensGates (D.content disk.old) (D.content disk.new) self.old self.new) }
+        ensures ok { OnOk result (OpensCommits (D.content disk.old) (D.content disk.new) self.old self.new) }
         ensures err { OnErr result (OpensSome (D.content disk.old) (D.content disk.new) self.old self.new) }
     {
-        let at = self.geometry.gates_at(self.region) + u64::from(self.settled);
+        let at = self.geometry.commits_at(self.region) + u64::from(self.settled);
         let waiting = (self.used - self.settled) as usize;
-        open_behind_sync(disk, at, &mut self.gates[..waiting])?;
+        open_behind_sync(disk, at, &mut self.commits[..waiting])?;
         self.settled = self.used;
         Ok(())
     }
 
-    /// Closes all gates past the first closed one, and syncs. It does not touch that one. If they are closed already, it makes no
+    /// Closes all commit bytes past the first closed one, and syncs. It does not touch that one. If they are closed already, it makes no
     /// device call.
     ///
     /// # Errors
@@ -211,11 +211,11 @@ impl Log {
         requires size { device_size self.old.shape ≤ size (D.content disk.old) }
         requires rests { Rests (D.content disk.old) }
         requires scanned { IsTrue (D.content disk.old).honest → IsScanned (D.content disk.old) self.old }
-        ensures wrote { Wrote D.Disk (gates_at self.old.shape self.old.region + self.old.used + 1) (self.old.shape.log_capacity - (self.old.used + 1))
+        ensures wrote { Wrote D.Disk (commits_at self.old.shape self.old.region + self.old.used + 1) (self.old.shape.log_capacity - (self.old.used + 1))
             (cond self.old.stale 1 0) (cond self.old.stale 1 0) disk.old disk.new result }
         ensures images { LeavesOnly (D.content disk.new) (λ image. log_rows self.old.shape self.old.region image ≡ log_rows self.old.shape self.old.region (D.content disk.old).shown) }
         ensures quiet { self.old.stale ≡ false → disk.new ≡ disk.old }
-        ensures written { IsTrue self.old.stale → OnOk result (Writes (gates_at self.old.shape self.old.region + self.old.used + 1)
+        ensures written { IsTrue self.old.stale → OnOk result (Writes (commits_at self.old.shape self.old.region + self.old.used + 1)
             (replicate (self.old.shape.log_capacity - (self.old.used + 1)) 0) (D.content disk.old) (D.content disk.new)) }
         ensures rests { OnOk result (Rests (D.content disk.new)) }
         ensures log { MatchResult result (λ _. Seals (D.content disk.old) (D.content disk.new) self.old self.new) (λ _. (self.new ≡ self.old) × IsTrue self.old.stale) }
@@ -224,15 +224,15 @@ impl Log {
             return Ok(());
         }
         let first = self.used + 1;
-        let at = self.geometry.gates_at(self.region) + u64::from(first);
+        let at = self.geometry.commits_at(self.region) + u64::from(first);
         let past = (self.geometry.log_capacity() - first) as usize;
-        write_gates(disk, at, &mut self.gates[..past], GATE_CLOSED)?;
+        write_commits(disk, at, &mut self.commits[..past], COMMIT_CLOSED)?;
         self.stale = false;
         Ok(())
     }
 
-    /// Reads which gates are open, and the kind and key of each row before the first closed gate. This is for a log without a
-    /// table. A log with one reads its gates (`scan_gates`), and then its rows one by one.
+    /// Reads which commit bytes are open, and the kind and key of each row before the first closed commit byte. This is for a log without a
+    /// table. A log with one reads its commit bytes (`scan_commits`), and then its rows one by one.
     ///
     /// # Errors
     ///
@@ -254,8 +254,8 @@ impl Log {
             → FirstUnknown (row_at self.old.shape self.old.region (D.content disk.now).shown)
             (open_count self.old.shape self.old.region (D.content disk.now).shown) place) (GaveAny D.gave disk.now)) }
     {
-        let at = self.geometry.gates_at(self.region);
-        let (count, stale) = read_gates(disk, at, &mut self.gates).map_err(ScanError::Device)?;
+        let at = self.geometry.commits_at(self.region);
+        let (count, stale) = read_commits(disk, at, &mut self.commits).map_err(ScanError::Device)?;
         let count = count as u32;
         let bodies = self.geometry.bodies_at(self.region);
         let row_len = self.geometry.row_len() as u64;
@@ -266,13 +266,13 @@ impl Log {
         Ok(rows)
     }
 
-    /// Reads which gates are open, and no row. Returns how many rows come before the first closed gate, and whether a gate past it
+    /// Reads which commit bytes are open, and no row. Returns how many rows come before the first closed commit byte, and whether a commit byte past it
     /// is open.
     ///
     /// # Errors
     ///
     /// The fault of the read. The log has not changed.
-    pub fn scan_gates<D: Disk>(&mut self, disk: &D) -> Result<(), D::Fault>
+    pub fn scan_commits<D: Disk>(&mut self, disk: &D) -> Result<(), D::Fault>
         requires size { device_size self.old.shape ≤ size (D.content disk.now) }
         ensures region { (self.new.shape ≡ self.old.shape) × (self.new.region ≡ self.old.region) }
         ensures settled { OnOk result (self.new.settled ≡ self.new.used) }
@@ -280,8 +280,8 @@ impl Log {
         ensures err { OnErr result (self.new ≡ self.old) }
         ensures fault { IfErr result (GaveAny D.gave disk.now) }
     {
-        let at = self.geometry.gates_at(self.region);
-        let (count, has_stale) = read_gates(disk, at, &mut self.gates)?;
+        let at = self.geometry.commits_at(self.region);
+        let (count, has_stale) = read_commits(disk, at, &mut self.commits)?;
         self.settled = count as u32;
         self.used = count as u32;
         self.stale = has_stale;
@@ -298,7 +298,7 @@ impl Log {
         self.geometry.bodies_at(self.region) + u64::from(place) * self.geometry.row_len() as u64
     }
 
-    /// Reads the key in the body of this number, whether its gate is open or not. It is for a row whose kind is known. The crates
+    /// Reads the key in the body of this number, whether its commit byte is open or not. It is for a row whose kind is known. The crates
     /// above read both (`read_head`).
     ///
     /// # Errors
@@ -315,7 +315,7 @@ impl Log {
         Ok(Key(key))
     }
 
-    /// Reads the value in the body of this number, whether its gate is open or not.
+    /// Reads the value in the body of this number, whether its commit byte is open or not.
     ///
     /// # Errors
     ///
@@ -331,7 +331,7 @@ impl Log {
         Ok(())
     }
 
-    /// Reads the kind and the key in the body of this number, whether its gate is open or not. `None` for a kind byte other than 1 and 2.
+    /// Reads the kind and the key in the body of this number, whether its commit byte is open or not. `None` for a kind byte other than 1 and 2.
     ///
     /// # Errors
     ///
@@ -347,7 +347,7 @@ impl Log {
         Ok(head_of(&head))
     }
 
-    /// Reads the first bytes of the body of this number, as many as `out` is long, whether its gate is open or not. Returns the kind
+    /// Reads the first bytes of the body of this number, as many as `out` is long, whether its commit byte is open or not. Returns the kind
     /// and the key there, `None` for a kind byte other than 1 and 2. If `out` has room for the whole body, the value follows them.
     ///
     /// # Errors
@@ -375,7 +375,7 @@ impl Log {
         Ok(head_of(&head))
     }
 
-    /// Reads the body of this number, whether its gate is open or not: the kind, the key and the value.
+    /// Reads the body of this number, whether its commit byte is open or not: the kind, the key and the value.
     ///
     /// # Errors
     ///

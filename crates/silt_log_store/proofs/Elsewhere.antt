@@ -1,7 +1,7 @@
 -- For the crates above: what calls on other parts of the disk leave of a log store, and how one store serves as another.
 use Rattle.std.proofs.Common.{◌≡◌, ℕ, ◌≤◌, IsTrue, refl, sym, ap, ◌∙◌, subst, inl, arith}
 use Rattle.silt_disk.specs.Disk.{ChangesWithin, Content, LiesOutside, Settles, size}
-use Rattle.silt_disk.specs.Layout.{device_size, gates_at, log_len}
+use Rattle.silt_disk.specs.Layout.{device_size, commits_at, log_len}
 use Rattle.silt_disk.proofs.Images.{sync_within}
 use Rattle.silt_log.specs.Rows.{row_at, rows_from, first_rows}
 use Rattle.silt_log.specs.State.{LogState, InBounds, all_rows}
@@ -12,7 +12,7 @@ use Rattle.silt_log_store.proofs.Exits.{index_kept}
 
 -- a change outside the region of a log leaves the rows that are shown
 pub rows_outside : (old new : Content) (log : LogState) (at count : ℕ) → InBounds log → device_size log.shape ≤ size old
-    → LiesOutside (gates_at log.shape log.region) (log_len log.shape) at count → ChangesWithin at count old new → IsTrue old.honest → all_rows new log ≡ all_rows old log
+    → LiesOutside (commits_at log.shape log.region) (log_len log.shape) at count → ChangesWithin at count old new → IsTrue old.honest → all_rows new log ≡ all_rows old log
 unfolding rows_from row_at
 rows_outside old new log at count bounds fits outside changes honest =
     let place = region_lies log.shape log.region (size old) bounds.region fits in
@@ -20,13 +20,13 @@ rows_outside old new log at count bounds fits outside changes honest =
 
 -- so its store stays indexed
 pub index_elsewhere : (old new : Content) (store : LogStoreState) (at count : ℕ) → IsIndexed old store → InBounds store.log
-    → device_size store.log.shape ≤ size old → LiesOutside (gates_at store.log.shape store.log.region) (log_len store.log.shape) at count → ChangesWithin at count old new → IsIndexed new store
+    → device_size store.log.shape ≤ size old → LiesOutside (commits_at store.log.shape store.log.region) (log_len store.log.shape) at count → ChangesWithin at count old new → IsIndexed new store
 index_elsewhere old new store at count index bounds fits outside changes =
     index_kept old new store store changes.honest index refl refl refl (rows_outside old new store.log at count bounds fits outside changes)
 
 -- a store that takes rows still matches the disk
 pub store_elsewhere : (old new : Content) (store : LogStoreState) (at count : ℕ) → IsLogStore old store → device_size store.log.shape ≤ size old
-    → size new ≡ size old → LiesOutside (gates_at store.log.shape store.log.region) (log_len store.log.shape) at count → ChangesWithin at count old new → IsLogStore new store
+    → size new ≡ size old → LiesOutside (commits_at store.log.shape store.log.region) (log_len store.log.shape) at count → ChangesWithin at count old new → IsLogStore new store
 store_elsewhere old new store at count is fits same outside changes = record {
   log = (log_elsewhere old new store.log at count is.log fits same outside changes).stands;
   index = index_elsewhere old new store at count is.index is.log.bounds fits outside changes;
@@ -34,7 +34,7 @@ store_elsewhere old new store at count is fits same outside changes = record {
 
 -- so does a store that is only read
 pub frozen_elsewhere : (old new : Content) (store : LogStoreState) (at count : ℕ) → IsFrozenStore old store → InBounds store.log
-    → device_size store.log.shape ≤ size old → LiesOutside (gates_at store.log.shape store.log.region) (log_len store.log.shape) at count → ChangesWithin at count old new → IsFrozenStore new store
+    → device_size store.log.shape ≤ size old → LiesOutside (commits_at store.log.shape store.log.region) (log_len store.log.shape) at count → ChangesWithin at count old new → IsFrozenStore new store
 frozen_elsewhere old new store at count is bounds fits outside changes = record {
   images = record {
     each = λ honest image left.

@@ -3,7 +3,7 @@ use Rattle.std.proofs.Common.{◌≡◌, ◌↔◌, ℕ, ◌+◌, ◌-◌, ◌<�
 use Rattle.std.specs.List.{list_all}
 use Rattle.std.specs.Option.{is_some, option_and_then}
 use Rattle.silt_disk.specs.Disk.{Content, ChangesWithin, size}
-use Rattle.silt_disk.specs.Layout.{device_size, gates_at}
+use Rattle.silt_disk.specs.Layout.{device_size, commits_at}
 use Rattle.silt_frame.specs.declared.key.Key.{Key}
 use Rattle.silt_frame.specs.declared.key.Kind.{Kind}
 use Rattle.silt_cuckoo.specs.Slots.{Entry, Slots, IsBucketCount, IsTable, PlacesBelow, bucket_count, empty_slots, entry_at, place_at}
@@ -19,7 +19,7 @@ use Rattle.silt_log.specs.State.{LogState, InBounds, all_rows}
 use Rattle.silt_log.specs.Calls.{Empties, Appends, OpensSome}
 use Rattle.silt_log.proofs.Elsewhere.{all_count}
 use Rattle.silt_log.proofs.Exits.{region_lies}
-use Rattle.silt_log.proofs.Standing.{gates_torn_rows}
+use Rattle.silt_log.proofs.Standing.{commits_torn_rows}
 use Rattle.silt_log_store.specs.State.{LogStoreState, IsHeldStore, IsIndexed, IsLogStore}
 use Rattle.silt_log_store.specs.Calls.{CanTake, EmptiesStore, IsFullFor, IsPlacingFor, OpensSomeOfStore, TakesRow}
 use Rattle.silt_log_store.specs.LastRow.{FindsLast}
@@ -235,20 +235,20 @@ placing_can content store key answer placing some is found =
     let at = subst (λ (o : Option Placing). IfSome o (IsPlacingFor content store key)) some found in
     record { room = at.room; placed = λ honest. at.takes honest is.index }
 
--- a change of gates alone leaves the rows that are shown
-pub gates_leave_rows : (old new : Content) (log : LogState) (from count : ℕ) → InBounds log → device_size log.shape ≤ size old
-    → from + count ≤ log.shape.log_capacity → ChangesWithin (gates_at log.shape log.region + from) count old new
+-- a change of commit bytes alone leaves the rows that are shown
+pub commits_leave_rows : (old new : Content) (log : LogState) (from count : ℕ) → InBounds log → device_size log.shape ≤ size old
+    → from + count ≤ log.shape.log_capacity → ChangesWithin (commits_at log.shape log.region + from) count old new
     → IsTrue old.honest → all_rows new log ≡ all_rows old log
 unfolding rows_from row_at
-gates_leave_rows old new log from count bounds fits most changes honest =
+commits_leave_rows old new log from count bounds fits most changes honest =
     let place = region_lies log.shape log.region (size old) bounds.region fits in
-    let low : gates_at log.shape log.region ≤ gates_at log.shape log.region + from = omega arith in
-    let high : gates_at log.shape log.region + from + count ≤ gates_at log.shape log.region + log.shape.log_capacity = omega (arith, most) in
-    gates_torn_rows _ _ _ _ _ place (gates_at log.shape log.region + from) count 0 log.used old.shown new.shown refl low high (omega (arith, bounds.room)) (changes.shown honest)
+    let low : commits_at log.shape log.region ≤ commits_at log.shape log.region + from = omega arith in
+    let high : commits_at log.shape log.region + from + count ≤ commits_at log.shape log.region + log.shape.log_capacity = omega (arith, most) in
+    commits_torn_rows _ _ _ _ _ place (commits_at log.shape log.region + from) count 0 log.used old.shown new.shown refl low high (omega (arith, bounds.room)) (changes.shown honest)
 
--- a store some of whose gates may be open
+-- a store some of whose commit bytes may be open
 pub opens_some : (old new : Content) (store : LogStoreState) (log : LogState) → device_size store.log.shape ≤ size old → IsLogStore old store
-    → ChangesWithin (gates_at store.log.shape store.log.region + store.log.settled) (store.log.used - store.log.settled) old new
+    → ChangesWithin (commits_at store.log.shape store.log.region + store.log.settled) (store.log.used - store.log.settled) old new
     → OpensSome old new store.log log → OpensSomeOfStore old new store (record { log = log; table = store.table; puts = store.puts })
 opens_some old new store log fits is changes opens =
     let bounds : InBounds store.log = is.log.bounds in
@@ -256,7 +256,7 @@ opens_some old new store log fits is changes opens =
       store = ap (λ (l : LogState). let made : LogStoreState = record { log = l; table = store.table; puts = store.puts } in made) opens.log;
       log = opens;
       index = index_kept old new store (record { log = log; table = store.table; puts = store.puts }) changes.honest is.index refl refl (ap (λ (l : LogState). l.shape) opens.log)
-          (λ honest. ap (all_rows new) opens.log ∙ gates_leave_rows old new store.log store.log.settled (store.log.used - store.log.settled)
+          (λ honest. ap (all_rows new) opens.log ∙ commits_leave_rows old new store.log store.log.settled (store.log.used - store.log.settled)
           bounds fits (omega (arith, bounds.order, bounds.room)) changes honest);
     }
 

@@ -203,7 +203,7 @@ rebuilt_held log index bounds count is buckets keys =
 module _ (content : Content) (log : LogState) (index : KeyIndex) (scanned : IsTrue content.honest → IsScanned content log)
     (is : IsKeyIndex index) (buckets : bucket_count index.table ≡ log.shape.buckets)
     (are : IsTrue content.honest → IsOfRows (first_rows log.shape log.region content.shown log.used) index) where
-  -- the rows before the first closed gate are all rows
+  -- the rows before the first closed commit byte are all rows
   pub rows_are : IsTrue content.honest → first_rows log.shape log.region content.shown log.used ≡ log_rows log.shape log.region content.shown
   unfolding log_rows
   rows_are honest = ap (first_rows log.shape log.region content.shown) (scanned honest).used

@@ -7,7 +7,7 @@ use Rattle.silt_frame.specs.declared.key.Key.{Key}
 use Rattle.silt_frame.specs.declared.key.Kind.{Kind}
 use Rattle.silt_frame.specs.Rows.{keys_of, puts_of, stored_row}
 use Rattle.silt_log.specs.State.{all_rows}
-use Rattle.silt_log.specs.Calls.{Empties, Appends, KeepsRows, OpensGates, OpensSome, Seals}
+use Rattle.silt_log.specs.Calls.{Empties, Appends, KeepsRows, OpensCommits, OpensSome, Seals}
 use Rattle.silt_log_store.specs.State.{LogStoreState, IsIndexed, IsLogStore}
 use Rattle.silt_log_store.specs.Placement.{HoldsIn, entered}
 use Rattle.silt_log_store.specs.declared.log_store.TakeError.{TakeError}
@@ -35,18 +35,18 @@ pub record KeepsStore (old new : Content) (before after : LogStoreState) : Type 
 
 -- the rows that waited are settled
 pub record OpensStore (old new : Content) (before after : LogStoreState) : Type 0 where
-  pub log : OpensGates old new before.log after.log
+  pub log : OpensCommits old new before.log after.log
   pub table : after.table ≡ before.table
   pub puts : after.puts ≡ before.puts
   pub stands : IsLogStore new after
 
--- some gates of the waiting rows may be open, and the rows are the same
+-- some commit bytes of the waiting rows may be open, and the rows are the same
 pub record OpensSomeOfStore (old new : Content) (before after : LogStoreState) : Type 0 where
   pub store : after ≡ before
   pub log : OpensSome old new before.log after.log
   pub index : IsIndexed new after
 
--- all gates past the first closed one are closed, and the rows are the same
+-- all commit bytes past the first closed one are closed, and the rows are the same
 pub record SealsStore (old new : Content) (before after : LogStoreState) : Type 0 where
   pub log : Seals old new before.log after.log
   pub table : after.table ≡ before.table

@@ -32,7 +32,7 @@ pub record IsFirstCrowded (buckets : ℕ) (rows : List StoredRow) (place : ℕ) 
   pub known : has_known_kind_at rows place ≡ true
   pub crowded : index_of_keys buckets (keys_of (take (place + 1) rows)) ≡ None
 
--- a store that was rebuilt from what is shown: the rows before the first closed gate, all of known kinds, the table of their keys
+-- a store that was rebuilt from what is shown: the rows before the first closed commit byte, all of known kinds, the table of their keys
 -- and the number of their puts
 pub record IsRebuilt (content : Content) (store : LogStoreState) : Type 0 where
   pub scanned : IsScanned content store.log

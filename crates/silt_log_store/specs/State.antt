@@ -34,7 +34,7 @@ pub record IsLogStore (content : Content) (store : LogStoreState) : Type 0 where
   pub log : IsLog content store.log
   pub index : IsIndexed content store
 
--- a log store that is only read and matches the disk: each possible crash image has its rows, with or without stale open gates
+-- a log store that is only read and matches the disk: each possible crash image has its rows, with or without stale open commit bytes
 pub record IsFrozenStore (content : Content) (store : LogStoreState) : Type 0 where
   pub images : LeavesOnly content (λ image. log_rows store.log.shape store.log.region image ≡ all_rows content store.log)
   pub index : IsIndexed content store

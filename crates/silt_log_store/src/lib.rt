@@ -8,7 +8,7 @@
 //! A store takes a row if its log has room and the rule finds a place for the key. `take` does all of this: it reads the
 //! candidates, plans where the key goes, writes the row and enters the key as planned. Its error says whether the store is full
 //! for the key, a read failed, or a write did. After a crash the store's rows are those of its log: the rows before the first
-//! closed gate.
+//! closed commit byte.
 #![tactic(auto)]
 
 mod index;

@@ -5,9 +5,9 @@ ghost use Rattle.std.specs.List.{list_all};
 ghost use Rattle.silt_cuckoo.specs.Slots.{empty_slots, entry_at};
 ghost use Rattle.silt_cuckoo.specs.Index.{index_of_keys};
 ghost use Rattle.silt_disk.specs.Disk.{Content, GaveAny, LeavesOnly, Rests, Writes, size};
-ghost use Rattle.silt_disk.specs.Layout.{device_size, gates_at, row_len};
+ghost use Rattle.silt_disk.specs.Layout.{device_size, commits_at, row_len};
 ghost use Rattle.silt_disk.specs.Wrote.{Wrote, WroteOr};
-ghost use Rattle.silt_frame.specs.Gate.{gate_open};
+ghost use Rattle.silt_frame.specs.Commit.{commit_open};
 ghost use Rattle.silt_frame.specs.Frame.{head_bytes};
 ghost use Rattle.silt_log.specs.Calls.{HasBeginning};
 ghost use Rattle.silt_log.specs.Rows.{IsRowValue, body_at, log_rows, row_at};
@@ -73,7 +73,7 @@ impl LogStore {
     ///
     /// # Errors
     ///
-    /// Out of memory: the bytes for the gates or the table could not be allocated.
+    /// Out of memory: the commit bytes or the table could not be allocated.
     pub fn new(alloc: Global, geometry: Geometry, region: u32) -> Result<Self, AllocError>
         requires { region < geometry.logs }
         ensures { IfOk result (λ store. store ≡ record { log = record { shape = geometry; region = region; settled = 0; used = 0; stale = false }; table = empty_slots geometry.buckets; puts = 0 }) }
@@ -110,7 +110,7 @@ impl LogStore {
         self.log.is_empty()
     }
 
-    /// The number of rows that are settled behind open gates. The rows from this one on wait.
+    /// The number of rows that are settled behind open commit bytes. The rows from this one on wait.
     pub fn settled(&self) -> u32
         ensures value { result ≡ self.now.log.settled }
         ensures bounds { InBounds self.now.log }
@@ -118,7 +118,7 @@ impl LogStore {
         self.log.settled()
     }
 
-    /// Whether a row waits for its gate to be opened.
+    /// Whether a row waits for its commit byte to be opened.
     pub fn has_waiting(&self) -> bool
         ensures value { result ≡ nat_lt self.now.log.settled self.now.log.used }
         ensures bounds { InBounds self.now.log }
@@ -141,7 +141,7 @@ impl LogStore {
         self.table.slot(slot as usize)
     }
 
-    /// Closes all gates of the region, and syncs. Then the store has no rows. The table must be empty and no put counted, as in a new
+    /// Closes all commit bytes of the region, and syncs. Then the store has no rows. The table must be empty and no put counted, as in a new
     /// store. Costs one write and one sync.
     ///
     /// # Errors
@@ -151,8 +151,8 @@ impl LogStore {
         requires empty { self.old.table ≡ empty_slots self.old.log.shape.buckets }
         requires puts { self.old.puts ≡ 0 }
         requires size { device_size self.old.log.shape ≤ size (D.content disk.old) }
-        ensures wrote { Wrote D.Disk (gates_at self.old.log.shape self.old.log.region) self.old.log.shape.log_capacity 1 1 disk.old disk.new result }
-        ensures written { OnOk result (Writes (gates_at self.old.log.shape self.old.log.region) (replicate self.old.log.shape.log_capacity 0) (D.content disk.old) (D.content disk.new)) }
+        ensures wrote { Wrote D.Disk (commits_at self.old.log.shape self.old.log.region) self.old.log.shape.log_capacity 1 1 disk.old disk.new result }
+        ensures written { OnOk result (Writes (commits_at self.old.log.shape self.old.log.region) (replicate self.old.log.shape.log_capacity 0) (D.content disk.old) (D.content disk.new)) }
         ensures rests { OnOk result (Rests (D.content disk.new)) }
         ensures ok { OnOk result (EmptiesStore (D.content disk.new) self.old self.new) }
         ensures err { OnErr result (self.new ≡ self.old) }
@@ -161,27 +161,27 @@ impl LogStore {
         Ok(())
     }
 
-    /// Opens the gates of the waiting rows: a sync, one write over these gates, a sync.
+    /// Opens the commit bytes of the waiting rows: a sync, one write over these commit bytes, a sync.
     ///
     /// # Errors
     ///
     /// The fault of a sync or of the write. A crash then leaves the settled rows and a prefix of the waiting ones.
-    pub fn open_gates<D: Disk>(&mut self, disk: &mut D) -> Result<(), D::Fault>
+    pub fn open_commits<D: Disk>(&mut self, disk: &mut D) -> Result<(), D::Fault>
         requires waiting { self.old.log.settled < self.old.log.used }
         requires size { device_size self.old.log.shape ≤ size (D.content disk.old) }
         requires store { IsLogStore (D.content disk.old) self.old }
-        ensures wrote { Wrote D.Disk (gates_at self.old.log.shape self.old.log.region + self.old.log.settled) (self.old.log.used - self.old.log.settled) 1 2 disk.old disk.new result }
-        ensures written { OnOk result (Writes (gates_at self.old.log.shape self.old.log.region + self.old.log.settled)
-            (replicate (self.old.log.used - self.old.log.settled) gate_open) (D.content disk.old) (D.content disk.new)) }
+        ensures wrote { Wrote D.Disk (commits_at self.old.log.shape self.old.log.region + self.old.log.settled) (self.old.log.used - self.old.log.settled) 1 2 disk.old disk.new result }
+        ensures written { OnOk result (Writes (commits_at self.old.log.shape self.old.log.region + self.old.log.settled)
+            (replicate (self.old.log.used - self.old.log.settled) commit_open) (D.content disk.old) (D.content disk.new)) }
         ensures rests { OnOk result (Rests (D.content disk.new)) }
         ensures ok { OnOk result (OpensStore (D.content disk.old) (D.content disk.new) self.old self.new) }
         ensures err { OnErr result (OpensSomeOfStore (D.content disk.old) (D.content disk.new) self.old self.new) }
     {
-        self.log.open_gates(disk)?;
+        self.log.open_commits(disk)?;
         Ok(())
     }
 
-    /// Closes all gates past the first closed one, and syncs. It does not touch that one. If they are closed already, it makes no
+    /// Closes all commit bytes past the first closed one, and syncs. It does not touch that one. If they are closed already, it makes no
     /// device call.
     ///
     /// # Errors
@@ -191,11 +191,11 @@ impl LogStore {
         requires size { device_size self.old.log.shape ≤ size (D.content disk.old) }
         requires rests { Rests (D.content disk.old) }
         requires scanned { IsTrue (D.content disk.old).honest → IsScanned (D.content disk.old) self.old.log }
-        ensures wrote { Wrote D.Disk (gates_at self.old.log.shape self.old.log.region + self.old.log.used + 1) (self.old.log.shape.log_capacity - (self.old.log.used + 1))
+        ensures wrote { Wrote D.Disk (commits_at self.old.log.shape self.old.log.region + self.old.log.used + 1) (self.old.log.shape.log_capacity - (self.old.log.used + 1))
             (cond self.old.log.stale 1 0) (cond self.old.log.stale 1 0) disk.old disk.new result }
         ensures images { LeavesOnly (D.content disk.new) (λ image. log_rows self.old.log.shape self.old.log.region image ≡ log_rows self.old.log.shape self.old.log.region (D.content disk.old).shown) }
         ensures quiet { self.old.log.stale ≡ false → disk.new ≡ disk.old }
-        ensures written { IsTrue self.old.log.stale → OnOk result (Writes (gates_at self.old.log.shape self.old.log.region + self.old.log.used + 1)
+        ensures written { IsTrue self.old.log.stale → OnOk result (Writes (commits_at self.old.log.shape self.old.log.region + self.old.log.used + 1)
             (replicate (self.old.log.shape.log_capacity - (self.old.log.used + 1)) 0) (D.content disk.old) (D.content disk.new)) }
         ensures rests { OnOk result (Rests (D.content disk.new)) }
         ensures store { MatchResult result (λ _. SealsStore (D.content disk.old) (D.content disk.new) self.old self.new) (λ _. (self.new ≡ self.old) × IsTrue self.old.log.stale) }
@@ -334,7 +334,7 @@ impl LogStore {
         Ok(self.placing(disk, key)?.is_some())
     }
 
-    /// Takes a row after the others: reads the head of each candidate of its key, writes the row with its gate closed, enters the key
+    /// Takes a row after the others: reads the head of each candidate of its key, writes the row with its commit byte closed, enters the key
     /// into the table, and counts a put. A delete's value is zeros. It allocates no memory. A store with no rows takes a row of any
     /// key, and reads nothing for it. Costs two writes and no sync.
     ///
@@ -417,7 +417,7 @@ impl LogStore {
         Ok(())
     }
 
-    /// Reads the bytes of the row at a place, whether its gate is open or not: the kind, the key and the value.
+    /// Reads the bytes of the row at a place, whether its commit byte is open or not: the kind, the key and the value.
     ///
     /// # Errors
     ///
@@ -432,7 +432,7 @@ impl LogStore {
         self.log.read_row(disk, place, out)
     }
 
-    /// Rebuilds a store from the device. It reads the gates, then the heads of the rows before the first closed gate, one after the
+    /// Rebuilds a store from the device. It reads the commit bytes, then the heads of the rows before the first closed commit byte, one after the
     /// other, and places each key once. While it runs it takes 20 bytes a row beside the store.
     ///
     /// # Errors
@@ -460,7 +460,7 @@ impl LogStore {
             Ok(log) => log,
             Err(_) => return Err(RebuildError::NoMemory),
         };
-        if let Err(fault) = log.scan_gates(disk) {
+        if let Err(fault) = log.scan_commits(disk) {
             return Err(RebuildError::Device(fault));
         }
         let KeyIndex {

@@ -23,7 +23,7 @@ pub enum RebuildError<F> {
     Crowded,
     /// A read failed with this fault.
     Device(F),
-    /// Out of memory: the table, the gates or the list of the keys could not be allocated.
+    /// Out of memory: the table, the commit bytes or the list of the keys could not be allocated.
     NoMemory,
 }
 

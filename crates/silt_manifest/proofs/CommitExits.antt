@@ -1,11 +1,11 @@
--- The state at each exit of the call that opens a next record's gate.
+-- The state at each exit of the call that opens a next record's commit byte.
 use Rattle.std.proofs.Common.{◌≡◌, ℕ, ◌+◌, ◌%◌, ◌≤◌, inl, inr, true, false, List, [], ◌∷◌, length, get_or, slice_range, slice_index, Some, None, refl, sym, ap, ◌∙◌, arith}
 use Rattle.std.proofs.lemmas.Bool.{cases_Bool}
 use Rattle.silt_disk.specs.Disk.{Content, LeavesOnly, Torn, ChangesWithin, Writes, Rests, size, splice}
 use Rattle.silt_disk.specs.Header.{header_of, version_of}
 use Rattle.silt_disk.specs.Layout.{slot_at}
 use Rattle.silt_disk.proofs.Images.{within_leaves, write_shows, rests_leaves, leaves_shows, sized_leaves, sized_shows, torn_splice, torn_slice_after}
-use Rattle.silt_frame.specs.Gate.{is_open}
+use Rattle.silt_frame.specs.Commit.{is_open}
 use Rattle.silt_manifest.specs.Body.{FitsSlot}
 use Rattle.silt_manifest.specs.Digests.{FitsDigests, long_record, record_bytes, record_of}
 use Rattle.silt_manifest.specs.Current.{slot_of, is_slot_open, record_behind, open_record, current_manifest}
@@ -14,7 +14,7 @@ use Rattle.silt_manifest.specs.declared.body.Body.{Body}
 use Rattle.silt_manifest.specs.declared.digests.Digests.{Digests}
 use Rattle.silt_manifest.specs.declared.slot.SlotRecord.{SlotRecord}
 use Rattle.silt_manifest.proofs.DigestTrip.{record_law}
-use Rattle.silt_manifest.proofs.SlotImages.{slot_parts, closed_record, opened_record, other_same, gate_written, version_stays}
+use Rattle.silt_manifest.proofs.SlotImages.{slot_parts, closed_record, opened_record, other_same, commit_written, version_stays}
 use Rattle.silt_manifest.proofs.SoundBodies.{long_sound}
 use Rattle.silt_manifest.proofs.CurrentLemmas.{newer_is_current, current_is_sound, stays_current}
 use Rattle.silt_manifest.proofs.PrepareExits.{two_slots}
@@ -23,9 +23,9 @@ use Rattle.silt_manifest.proofs.PrepareExits.{two_slots}
 pub holds_record : (image : List ℕ) (slot : ℕ) (b : Body) (d : Digests) → slot_at slot + 461 ≤ length image → FitsSlot b → FitsDigests d
     → is_slot_open image slot ≡ true → slice_range image (slot_at slot + 1) (slot_at slot + 461) ≡ record_bytes b d → open_record image slot ≡ Some (long_record b d)
 holds_record image slot b d room fits fits_digests opened bytes =
-    let gate = get_or image (slot_at slot) 0 in
-    let whole : slot_of image slot ≡ gate ∷ record_bytes b d = slot_parts image slot room ∙ ap (λ (rest : List ℕ). gate ∷ rest) bytes in
-    opened_record (slot_of image slot) opened ∙ ap Some (ap record_of whole ∙ record_law b d gate fits fits_digests)
+    let commit = get_or image (slot_at slot) 0 in
+    let whole : slot_of image slot ≡ commit ∷ record_bytes b d = slot_parts image slot room ∙ ap (λ (rest : List ℕ). commit ∷ rest) bytes in
+    opened_record (slot_of image slot) opened ∙ ap Some (ap record_of whole ∙ record_law b d commit fits fits_digests)
 
 -- a slot that holds a record is open
 pub holds_open : (bytes : List ℕ) (b : SlotRecord) → record_behind bytes ≡ Some b → is_open (slice_index bytes 0) ≡ true
@@ -36,7 +36,7 @@ holds_open bytes b holds =
     ]
 
 module _ (m : ManifestState) (next : Body) (digests : Digests) (n : ℕ) (fits : slot_at 1 + 4096 ≤ n) (follows : IsNext m next) (held : FitsSlot next) (held_digests : FitsDigests digests) where
-  -- the current slot stays when the gate is written
+  -- the current slot stays when the commit byte is written
   current_stays : (before after : List ℕ) → (length before ≡ n) × IsReady m next digests before → Torn (slot_at (spare_slot m)) 1 before after
       → open_record after (current_slot m) ≡ open_record before (current_slot m)
   current_stays before after (size, ready) torn =
@@ -48,7 +48,7 @@ module _ (m : ManifestState) (next : Body) (digests : Digests) (n : ℕ) (fits :
       → version_of (header_of after) ≡ version_of (header_of before)
   same_version before after (size, ready) torn = version_stays (slot_at (spare_slot m)) 1 before after (omega arith) (omega arith) torn
 
-  -- with an open gate the next record is current
+  -- with an open commit byte the next record is current
   new_record_is_current : (before after : List ℕ) → (length before ≡ n) × IsReady m next digests before → Torn (slot_at (spare_slot m)) 1 before after
       → is_slot_open after (spare_slot m) ≡ true → (open_record after (spare_slot m) ≡ Some (long_record next digests)) × (current_manifest m.shape after ≡ Some (long_record next digests))
   new_record_is_current before after was torn opened =
@@ -66,7 +66,7 @@ module _ (m : ManifestState) (next : Body) (digests : Digests) (n : ℕ) (fits :
             follows.generation (current_stays before after was torn ∙ ready.stands) holds,
       )
 
-  -- the gate may be written or not
+  -- the commit byte may be written or not
   old_or_new : m.prepared ≡ Some (long_record next digests) → (before after : List ℕ) → (length before ≡ n) × IsReady m next digests before
       → Torn (slot_at (spare_slot m)) 1 before after → OldOrNewIsCurrent m after
   old_or_new prepared before after was torn =
@@ -79,7 +79,7 @@ module _ (m : ManifestState) (next : Body) (digests : Digests) (n : ℕ) (fits :
             (inl (closed_record (slot_of after (spare_slot m)) closed)))
       ]
 
-  -- the gate is written
+  -- the commit byte is written
   new_is_current_in : (before : List ℕ) → (length before ≡ n) × IsReady m next digests before
       → IsCurrentIn (with_current m.shape (long_record next digests) false) (splice (slot_at (spare_slot m)) (167 ∷ []) before)
   new_is_current_in before was =
@@ -87,7 +87,7 @@ module _ (m : ManifestState) (next : Body) (digests : Digests) (n : ℕ) (fits :
       let size = was.0 in
       let after = splice (slot_at (spare_slot m)) (167 ∷ []) before in
       let torn : Torn (slot_at (spare_slot m)) 1 before after = torn_splice (slot_at (spare_slot m)) (167 ∷ []) before (omega arith) in
-      let opened : is_slot_open after (spare_slot m) ≡ true = ap is_open (gate_written 167 (spare_slot m) before (omega arith)) in
+      let opened : is_slot_open after (spare_slot m) ≡ true = ap is_open (commit_written 167 (spare_slot m) before (omega arith)) in
       let both = new_record_is_current before after was torn opened in
       let own : next.generation % 2 ≡ spare_slot m = ap (λ (k : ℕ). k % 2) follows.generation in
       let other : (next.generation + 1) % 2 ≡ current_slot m = omega (arith, follows.generation) in
@@ -98,13 +98,13 @@ module _ (m : ManifestState) (next : Body) (digests : Digests) (n : ℕ) (fits :
       }
 
 -- the write or the sync fails
-pub gate_fails : (m : ManifestState) (next : Body) (digests : Digests) (old new : Content) (at : ℕ) → slot_at 1 + 4096 ≤ size old
+pub commit_fails : (m : ManifestState) (next : Body) (digests : Digests) (old new : Content) (at : ℕ) → slot_at 1 + 4096 ≤ size old
     → IsPrepared m next digests old → at ≡ slot_at (spare_slot m) → ChangesWithin at 1 old new → LeavesOnly new (OldOrNewIsCurrent m)
-gate_fails m next digests old new at fits prepared is changes =
+commit_fails m next digests old new at fits prepared is changes =
     let here : ChangesWithin (slot_at (spare_slot m)) 1 old new = rw is at changes in
     within_leaves here (sized_leaves prepared.leaves) (old_or_new m next digests (size old) fits prepared.follows prepared.fits prepared.fits_digests prepared.is)
 
--- the gate is open
+-- the commit byte is open
 pub all_committed : (m : ManifestState) (next : Body) (digests : Digests) (old new : Content) (at : ℕ) → slot_at 1 + 4096 ≤ size old
     → IsPrepared m next digests old → at ≡ slot_at (spare_slot m) → Writes at (167 ∷ []) old new → Rests new → IsCurrent (with_current m.shape (long_record next digests) false) new
 all_committed m next digests old new at fits prepared is writes rests =

@@ -84,18 +84,18 @@ digests_back front d long fits =
     both p q = rw (p, q) refl
 
 -- the highest bit is set
-long_field : (b : Body) (gate : ℕ) (rest : List ℕ) → FitsSlot b → is_long (gate ∷ body_bytes b ++ rest) ≡ true
-long_field b gate rest fits =
-    let field : number_at 8 1 (gate ∷ body_bytes b ++ rest) ≡ b.generation + long_bit = generation_field b gate rest fits in
+long_field : (b : Body) (commit : ℕ) (rest : List ℕ) → FitsSlot b → is_long (commit ∷ body_bytes b ++ rest) ≡ true
+long_field b commit rest fits =
+    let field : number_at 8 1 (commit ∷ body_bytes b ++ rest) ≡ b.generation + long_bit = generation_field b commit rest fits in
     let least : nat_le long_bit (b.generation + long_bit) ≡ true = grind (arith, nat_tests) in
     ap (nat_le long_bit) field ∙ least
 
 -- a body and its digests read back
 pub record_law : RecordLaw
-record_law body digests gate fits fits_digests =
-    let slot = gate ∷ record_bytes body digests in
-    let body_back : body_of slot ≡ body = body_law body gate (digests_bytes digests) fits in
-    let long : is_long slot ≡ true = long_field body gate (digests_bytes digests) fits in
-    let front_long : length (gate ∷ body_bytes body) ≡ 121 = let rest = fitting_length body fits in omega (arith, rest) in
-    let back : digests_of slot ≡ digests = digests_back (gate ∷ body_bytes body) digests front_long fits_digests in
+record_law body digests commit fits fits_digests =
+    let slot = commit ∷ record_bytes body digests in
+    let body_back : body_of slot ≡ body = body_law body commit (digests_bytes digests) fits in
+    let long : is_long slot ≡ true = long_field body commit (digests_bytes digests) fits in
+    let front_long : length (commit ∷ body_bytes body) ≡ 121 = let rest = fitting_length body fits in omega (arith, rest) in
+    let back : digests_of slot ≡ digests = digests_back (commit ∷ body_bytes body) digests front_long fits_digests in
     rw (long, body_back, back) refl

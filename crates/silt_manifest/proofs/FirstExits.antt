@@ -5,14 +5,14 @@ use Rattle.silt_disk.specs.Disk.{Content, LeavesOnly, Torn, Writes, Rests, size,
 use Rattle.silt_disk.specs.Header.{header_of, version_of}
 use Rattle.silt_disk.specs.Layout.{Shape, InLimits, slot_at}
 use Rattle.silt_disk.proofs.Images.{write_shows, rests_leaves, leaves_shows, sized_shows, torn_splice, torn_slice_after, splice_slice}
-use Rattle.silt_frame.specs.Gate.{is_open}
+use Rattle.silt_frame.specs.Commit.{is_open}
 use Rattle.silt_manifest.specs.Body.{FitsSlot, first_body, is_well_formed}
 use Rattle.silt_manifest.specs.Digests.{FitsDigests, long_record, record_bytes}
 use Rattle.silt_manifest.specs.Current.{slot_of, is_slot_open}
 use Rattle.silt_manifest.specs.Standing.{FirstIsCurrentLaw, IsFirst}
 use Rattle.silt_manifest.specs.declared.digests.Digests.{Digests}
 use Rattle.silt_manifest.proofs.DigestTrip.{length_record_bytes}
-use Rattle.silt_manifest.proofs.SlotImages.{slot_parts, gate_of, closed_record, other_same, gate_written}
+use Rattle.silt_manifest.proofs.SlotImages.{slot_parts, commit_of, closed_record, other_same, commit_written}
 use Rattle.silt_manifest.proofs.CurrentLemmas.{alone_found}
 use Rattle.silt_manifest.proofs.SoundBodies.{long_sound}
 use Rattle.silt_manifest.proofs.CommitExits.{holds_record}
@@ -71,20 +71,20 @@ module _ (digests : Digests) (held : FitsDigests digests) (n : ℕ) (fits : slot
         bytes = sym (ap (λ (j : ℕ). slice_range (splice 4097 bytes before) 4097 j) end) ∙ splice_slice 4097 bytes before (omega arith) ∙ are;
       }
 
-  -- after the gate
-  after_gate : (before : List ℕ) → HasBytes digests n before → IsFirst digests (splice 4096 (167 ∷ []) before)
-  after_gate before was =
+  -- after the commit byte
+  after_commit : (before : List ℕ) → HasBytes digests n before → IsFirst digests (splice 4096 (167 ∷ []) before)
+  after_commit before was =
       let size = was.size in
       let after = splice 4096 (167 ∷ []) before in
       let torn : Torn 4096 1 before after = torn_splice 4096 (167 ∷ []) before (omega arith) in
       let now = still_alone 4096 1 before after (omega arith) (omega arith) (record { size = was.size; closed = was.closed }) torn in
       let room : slot_at 0 + 461 ≤ length after = omega (arith, torn.size) in
-      let gate : slice_index (slot_of after 0) 0 ≡ 167 = gate_written 167 0 before (omega arith) in
+      let commit : slice_index (slot_of after 0) 0 ≡ 167 = commit_written 167 0 before (omega arith) in
       let bytes : slice_range after 4097 4557 ≡ record_bytes first_body digests = torn_slice_after 4096 1 before after torn 4097 4557 (omega arith) (omega arith) ∙ was.bytes in
       record {
-        first = holds_record after 0 first_body digests room first_fits held (ap is_open gate) bytes;
+        first = holds_record after 0 first_body digests room first_fits held (ap is_open commit) bytes;
         second = closed_record (slot_of after 1) now.closed;
-        bytes = slot_parts after 0 room ∙ ap (λ (g : ℕ). g ∷ slice_range after 4097 4557) (sym (gate_of after 0 room) ∙ gate) ∙ ap (λ (rest : List ℕ). 167 ∷ rest) bytes;
+        bytes = slot_parts after 0 room ∙ ap (λ (g : ℕ). g ∷ slice_range after 4097 4557) (sym (commit_of after 0 room) ∙ commit) ∙ ap (λ (rest : List ℕ). 167 ∷ rest) bytes;
       }
 
 -- all is written
@@ -95,7 +95,7 @@ all_first digests bytes a b c d held fits closed are first second third rests =
     let alone = sized_shows (leaves_shows closed) in
     let long : length bytes ≡ 460 = ap length are ∙ length_record_bytes first_body digests first_fits held in
     let zeroed = write_shows {Q = IsAlone (size a)} first alone (λ before had. after_zero digests held (size a) fits before (record { size = had.0; closed = had.1 })) in
-    rests_leaves rests (write_shows third (write_shows second zeroed (after_bytes digests held (size a) fits bytes long are)) (after_gate digests held (size a) fits))
+    rests_leaves rests (write_shows third (write_shows second zeroed (after_bytes digests held (size a) fits bytes long are)) (after_commit digests held (size a) fits))
 
 -- a first record is current
 pub first_is_current : FirstIsCurrentLaw

@@ -9,9 +9,9 @@ use Rattle.silt_manifest.specs.Current.{ClosedSlotLaw, OtherRecordsLaw, OtherReg
 use Rattle.silt_manifest.specs.declared.digests.Digests.{Digests}
 use Rattle.silt_manifest.specs.declared.slot.SlotRecord.{SlotRecord}
 use Rattle.silt_manifest.specs.Standing.{IsFirst, IsCurrentIn, ManifestState, IsCurrent, current_slot, spare_slot}
-use Rattle.silt_manifest.proofs.SlotImages.{gate_written, other_same, slot_same, version_stays}
+use Rattle.silt_manifest.proofs.SlotImages.{commit_written, other_same, slot_same, version_stays}
 use Rattle.silt_manifest.proofs.CurrentLemmas.{found_at}
-use Rattle.silt_frame.specs.Gate.{is_open}
+use Rattle.silt_frame.specs.Commit.{is_open}
 
 -- two slots that hold the same, and the same version
 pub same_found : (s : Shape) (before after : List ℕ) → version_of (header_of after) ≡ version_of (header_of before)
@@ -96,7 +96,7 @@ current_is_shown m content is_current = leaves_shows is_current
 
 -- a slot that was closed is closed in what is shown
 pub closed_shown : (slot : ℕ) (old new : Content) → slot_at slot + 461 ≤ size old → Writes (slot_at slot) (0 ∷ []) old new → Shows new (λ image. is_slot_open image slot ≡ false)
-closed_shown slot old new fits writes = write_shows writes (record { holds = λ honest. refl }) (λ before (long : length before ≡ size old). ap is_open (gate_written 0 slot before (omega arith)))
+closed_shown slot old new fits writes = write_shows writes (record { holds = λ honest. refl }) (λ before (long : length before ≡ size old). ap is_open (commit_written 0 slot before (omega arith)))
 
 -- and in each possible crash image, once nothing is pending
 pub closed_leaves : (slot : ℕ) (old new : Content) → slot_at slot + 461 ≤ size old → Writes (slot_at slot) (0 ∷ []) old new → Rests new → LeavesOnly new (λ image. is_slot_open image slot ≡ false)

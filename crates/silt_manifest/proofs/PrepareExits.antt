@@ -4,14 +4,14 @@ use Rattle.std.proofs.lemmas.Bool.{cases_Bool}
 use Rattle.silt_disk.specs.Disk.{Content, LeavesOnly, Torn, ChangesWithin, Writes, Rests, size, splice}
 use Rattle.silt_disk.specs.Layout.{Shape, slot_at}
 use Rattle.silt_disk.proofs.Images.{within_leaves, write_shows, rests_leaves, weaker_leaves, leaves_shows, sized_leaves, sized_shows, torn_splice, splice_slice}
-use Rattle.silt_frame.specs.Gate.{is_open}
+use Rattle.silt_frame.specs.Commit.{is_open}
 use Rattle.silt_manifest.specs.Body.{FitsSlot}
 use Rattle.silt_manifest.specs.Digests.{FitsDigests, long_record, record_bytes}
 use Rattle.silt_manifest.specs.Current.{slot_of, is_slot_open, record_behind, open_record}
 use Rattle.silt_manifest.specs.Standing.{ManifestState, IsNext, IsPrepared, IsCurrentIn, IsReady, IsCurrent, RecordIsCurrent, WritesNext, closing_place, current_record, current_slot, spare_slot}
 use Rattle.silt_manifest.specs.declared.body.Body.{Body}
 use Rattle.silt_manifest.specs.declared.digests.Digests.{Digests}
-use Rattle.silt_manifest.proofs.SlotImages.{closed_record, slot_same, other_same, gate_torn, gate_stays, gate_written, version_stays}
+use Rattle.silt_manifest.proofs.SlotImages.{closed_record, slot_same, other_same, commit_torn, commit_stays, commit_written, version_stays}
 use Rattle.silt_manifest.proofs.CurrentLemmas.{stays_current}
 
 -- the two slots are 0 and 1
@@ -50,7 +50,7 @@ module _ (m : ManifestState) (n : ℕ) (fits : slot_at 1 + 4096 ≤ n) where
             stays_current m.shape (current_slot m) (spare_slot m) (current_record m) before after
             (version_stays place 1 before after (omega arith) (omega arith) torn) slots was_current.stands was_current.current
             (ap record_behind (other_same (current_slot m) (spare_slot m) place 1 before after slots (omega arith) (omega arith) (omega arith) torn))
-            (gate_torn (spare_slot m) before after (omega arith) (subst (λ (p : ℕ). Torn p 1 before after) at torn) (was_current.spare ∙ ap not opened))
+            (commit_torn (spare_slot m) before after (omega arith) (subst (λ (p : ℕ). Torn p 1 before after) at torn) (was_current.spare ∙ ap not opened))
       ]
 
   -- the zero is done
@@ -75,18 +75,18 @@ module _ (m : ManifestState) (n : ℕ) (fits : slot_at 1 + 4096 ≤ n) where
               size = torn.size ∙ size;
               current = close_torn place is before after (size, was_current) torn;
               stands = ap record_behind (other_same (current_slot m) (spare_slot m) place 1 before after slots (omega arith) (omega arith) (omega arith) torn) ∙ was_current.stands;
-              shut = ap is_open (ap (λ (p : ℕ). slice_index (slot_of (splice p (0 ∷ []) before) (spare_slot m)) 0) at ∙ gate_written 0 (spare_slot m) before (omega arith));
+              shut = ap is_open (ap (λ (p : ℕ). slice_index (slot_of (splice p (0 ∷ []) before) (spare_slot m)) 0) at ∙ commit_written 0 (spare_slot m) before (omega arith));
             }
       ]
 
-  -- the bytes may be written, or a part of it, behind a closed gate
+  -- the bytes may be written, or a part of it, behind a closed commit byte
   bytes_torn : (at count : ℕ) → at ≡ slot_at (spare_slot m) + 1 → count ≡ 460 → (before after : List ℕ) → IsShut m n before → Torn at count before after → IsShut m n after
   bytes_torn at count is long before after was torn =
       let slots = two_slots m in
       let size = was.size in
       let same : open_record after (current_slot m) ≡ open_record before (current_slot m) =
       ap record_behind (other_same (current_slot m) (spare_slot m) at count before after slots (omega arith) (omega arith) (omega arith) torn) in
-      let shut : is_slot_open after (spare_slot m) ≡ false = gate_stays at count (spare_slot m) before after (omega arith) (omega arith) torn ∙ was.shut in
+      let shut : is_slot_open after (spare_slot m) ≡ false = commit_stays at count (spare_slot m) before after (omega arith) (omega arith) torn ∙ was.shut in
       record {
         size = torn.size ∙ was.size;
         current =

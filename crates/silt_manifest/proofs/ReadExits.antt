@@ -7,7 +7,7 @@ use Rattle.silt_disk.specs.Header.{header_of, version_of}
 use Rattle.silt_disk.specs.Layout.{Shape}
 use Rattle.silt_disk.specs.declared.header.Version.{Version}
 use Rattle.silt_disk.proofs.Images.{rests_leaves}
-use Rattle.silt_frame.specs.Gate.{is_open}
+use Rattle.silt_frame.specs.Commit.{is_open}
 use Rattle.silt_manifest.specs.Digests.{record_of}
 use Rattle.silt_manifest.specs.Faults.{IsDamaged, IsNotRead, IsSlotRefused, IsUnsound}
 use Rattle.silt_manifest.specs.Current.{HasSlot, record_behind, record_found, is_slot_open, is_sound_record, open_record, current_manifest, slot_of, where_found}
@@ -92,7 +92,7 @@ holds_closed bytes holds =
       | inr closed ↦ closed
     ]
 
--- the record of the one slot is current, if the gate of the other is as given
+-- the record of the one slot is current, if the commit byte of the other is as given
 current_so : (s : Shape) (v : Version) (r o : ℕ) (b : SlotRecord) (spare_closed : Bool) (image : List ℕ) → r + o ≡ 1 → HasSlot s v r (Some b) image
     → current_manifest s image ≡ Some b → is_slot_open image o ≡ not spare_closed → IsCurrentIn (with_current s b spare_closed) image
 current_so s v r o b spare_closed image slots has is_current spare =

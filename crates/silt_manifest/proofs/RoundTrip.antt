@@ -87,20 +87,20 @@ regroup a b c d e = simp append_assoc
 
 -- the bytes of the slot before the frozen logs
 front : ℕ → Body → List ℕ
-front gate b = gate ∷ big_bytes 8 (b.generation + long_bit) ++ big_bytes 4 b.active
+front commit b = commit ∷ big_bytes 8 (b.generation + long_bit) ++ big_bytes 4 b.active
 
 -- the parts of the slot from there on
 parts_of : Body → List ℕ → List ℕ
 parts_of b rest = ids_bytes 7 b.frozen ++ (ids_bytes 16 b.hashed ++ (big_bytes 4 b.sorted ++ (big_bytes 4 b.sorted_count ++ rest)))
 
 -- a slot is its front and these parts
-slot_parts : (gate : ℕ) (b : Body) (rest : List ℕ) → gate ∷ body_bytes b ++ rest ≡ front gate b ++ parts_of b rest
+slot_parts : (commit : ℕ) (b : Body) (rest : List ℕ) → commit ∷ body_bytes b ++ rest ≡ front commit b ++ parts_of b rest
 unfolding front parts_of
-slot_parts gate b rest = ap (λ t. front gate b ++ t) (regroup (ids_bytes 7 b.frozen) (ids_bytes 16 b.hashed) (big_bytes 4 b.sorted) (big_bytes 4 b.sorted_count) rest)
+slot_parts commit b rest = ap (λ t. front commit b ++ t) (regroup (ids_bytes 7 b.frozen) (ids_bytes 16 b.hashed) (big_bytes 4 b.sorted) (big_bytes 4 b.sorted_count) rest)
 
 -- the field of the generation of a slot
-pub generation_field : (b : Body) (gate : ℕ) (rest : List ℕ) → FitsSlot b → number_at 8 1 (gate ∷ body_bytes b ++ rest) ≡ b.generation + long_bit
-generation_field b gate rest fits = big_number-reads_back 8 (b.generation + long_bit) [] (let h = fits.generation in omega arith)
+pub generation_field : (b : Body) (commit : ℕ) (rest : List ℕ) → FitsSlot b → number_at 8 1 (commit ∷ body_bytes b ++ rest) ≡ b.generation + long_bit
+generation_field b commit rest fits = big_number-reads_back 8 (b.generation + long_bit) [] (let h = fits.generation in omega arith)
 
 -- a generation without the highest bit
 without_bit : (n : ℕ) → n < long_bit → (n + long_bit) % long_bit ≡ n
@@ -109,28 +109,28 @@ without_bit n below = omega arith
 -- a body reads back
 pub body_law : BodyLaw
 unfolding front parts_of
-body_law b gate rest fits =
-    let slot = gate ∷ body_bytes b ++ rest in
+body_law b commit rest fits =
+    let slot = commit ∷ body_bytes b ++ rest in
     let F = ids_bytes 7 b.frozen in
     let H = ids_bytes 16 b.hashed in
     let S = big_bytes 4 b.sorted in
     let C = big_bytes 4 b.sorted_count in
-    let whole = slot_parts gate b rest in
-    let to_hashed : front gate b ++ parts_of b rest ≡ (front gate b ++ F) ++ (H ++ (S ++ (C ++ rest))) = sym (append_assoc (front gate b) F (H ++ (S ++ (C ++ rest)))) in
-    let to_sorted : (front gate b ++ F) ++ (H ++ (S ++ (C ++ rest))) ≡ ((front gate b ++ F) ++ H) ++ (S ++ (C ++ rest)) = sym (append_assoc (front gate b ++ F) H (S ++ (C ++ rest))) in
-    let to_count : ((front gate b ++ F) ++ H) ++ (S ++ (C ++ rest)) ≡ (((front gate b ++ F) ++ H) ++ S) ++ (C ++ rest) = sym (append_assoc ((front gate b ++ F) ++ H) S (C ++ rest)) in
-    let len_f : length (front gate b ++ F) ≡ 45 = omega (arith, length-append (front gate b) F, length_ids_bytes 7 b.frozen fits.frozen_count) in
-    let len_h : length ((front gate b ++ F) ++ H) ≡ 113 = omega (arith, length-append (front gate b ++ F) H, length_ids_bytes 16 b.hashed fits.hashed_count, len_f) in
-    let len_s : length (((front gate b ++ F) ++ H) ++ S) ≡ 117 = length-append ((front gate b ++ F) ++ H) S ∙ ap (λ (n : ℕ). n + 4) len_h in
-    let field = generation_field b gate rest fits in
+    let whole = slot_parts commit b rest in
+    let to_hashed : front commit b ++ parts_of b rest ≡ (front commit b ++ F) ++ (H ++ (S ++ (C ++ rest))) = sym (append_assoc (front commit b) F (H ++ (S ++ (C ++ rest)))) in
+    let to_sorted : (front commit b ++ F) ++ (H ++ (S ++ (C ++ rest))) ≡ ((front commit b ++ F) ++ H) ++ (S ++ (C ++ rest)) = sym (append_assoc (front commit b ++ F) H (S ++ (C ++ rest))) in
+    let to_count : ((front commit b ++ F) ++ H) ++ (S ++ (C ++ rest)) ≡ (((front commit b ++ F) ++ H) ++ S) ++ (C ++ rest) = sym (append_assoc ((front commit b ++ F) ++ H) S (C ++ rest)) in
+    let len_f : length (front commit b ++ F) ≡ 45 = omega (arith, length-append (front commit b) F, length_ids_bytes 7 b.frozen fits.frozen_count) in
+    let len_h : length ((front commit b ++ F) ++ H) ≡ 113 = omega (arith, length-append (front commit b ++ F) H, length_ids_bytes 16 b.hashed fits.hashed_count, len_f) in
+    let len_s : length (((front commit b ++ F) ++ H) ++ S) ≡ 117 = length-append ((front commit b ++ F) ++ H) S ∙ ap (λ (n : ℕ). n + 4) len_h in
+    let field = generation_field b commit rest fits in
     let generation : number_at 8 1 slot % long_bit ≡ b.generation = ap (λ (n : ℕ). n % long_bit) field ∙ without_bit b.generation fits.generation in
     let active : number_at 4 9 slot ≡ b.active = big_number-reads_back 4 b.active [] fits.active in
-    let frozen : ids_at 13 slot ≡ b.frozen = ap (ids_at 13) whole ∙ ids_at_behind 7 b.frozen 13 (front gate b) (H ++ (S ++ (C ++ rest))) refl (let h = fits.frozen_count in omega arith) fits.frozen in
+    let frozen : ids_at 13 slot ≡ b.frozen = ap (ids_at 13) whole ∙ ids_at_behind 7 b.frozen 13 (front commit b) (H ++ (S ++ (C ++ rest))) refl (let h = fits.frozen_count in omega arith) fits.frozen in
     let hashed : ids_at 45 slot ≡ b.hashed = ap (ids_at 45) (whole ∙ to_hashed)
-    ∙ ids_at_behind 16 b.hashed 45 (front gate b ++ F) (S ++ (C ++ rest)) len_f (let h = fits.hashed_count in omega arith) fits.hashed in
-    let sorted : number_at 4 113 slot ≡ b.sorted = ap (number_at 4 113) (whole ∙ to_hashed ∙ to_sorted) ∙ number_behind 4 113 b.sorted ((front gate b ++ F) ++ H) (C ++ rest) len_h fits.sorted in
+    ∙ ids_at_behind 16 b.hashed 45 (front commit b ++ F) (S ++ (C ++ rest)) len_f (let h = fits.hashed_count in omega arith) fits.hashed in
+    let sorted : number_at 4 113 slot ≡ b.sorted = ap (number_at 4 113) (whole ∙ to_hashed ∙ to_sorted) ∙ number_behind 4 113 b.sorted ((front commit b ++ F) ++ H) (C ++ rest) len_h fits.sorted in
     let count : number_at 4 117 slot ≡ b.sorted_count = ap (number_at 4 117) (whole ∙ to_hashed ∙ to_sorted ∙ to_count)
-    ∙ number_behind 4 117 b.sorted_count (((front gate b ++ F) ++ H) ++ S) rest len_s fits.sorted_count in
+    ∙ number_behind 4 117 b.sorted_count (((front commit b ++ F) ++ H) ++ S) rest len_s fits.sorted_count in
     record_same generation active frozen hashed sorted count
   where
     record_same : {a c e f : ℕ} {xs ys : List ℕ} → a ≡ b.generation → c ≡ b.active → xs ≡ b.frozen → ys ≡ b.hashed → e ≡ b.sorted → f ≡ b.sorted_count

@@ -7,11 +7,11 @@ use Rattle.silt_disk.specs.Disk.{Torn, splice}
 use Rattle.silt_disk.specs.Header.{header_of, version_of}
 use Rattle.silt_disk.specs.Layout.{slot_at}
 use Rattle.silt_disk.proofs.Images.{torn_slice_before, torn_slice_after, torn_splice, splice_byte}
-use Rattle.silt_frame.specs.Gate.{is_open}
+use Rattle.silt_frame.specs.Commit.{is_open}
 use Rattle.silt_manifest.specs.Digests.{record_of}
 use Rattle.silt_manifest.specs.Current.{slot_of, is_slot_open, record_behind, open_record}
 
--- a slot is its gate and the bytes behind it
+-- a slot is its commit byte and the bytes behind it
 pub slot_parts : (image : List ℕ) (slot : ℕ) → slot_at slot + 461 ≤ length image → slot_of image slot ≡ get_or image (slot_at slot) 0 ∷ slice_range image (slot_at slot + 1) (slot_at slot + 461)
 slot_parts image slot fits =
     let cut : drop (slot_at slot) image ≡ get_or image (slot_at slot) 0 ∷ drop (slot_at slot + 1) image = drop_more image (slot_at slot) 0 (omega arith) in
@@ -20,13 +20,13 @@ slot_parts image slot fits =
     ap (λ (n : ℕ). take n (drop (slot_at slot) image)) long ∙ ap (take 461) cut
     ∙ sym (ap (λ (n : ℕ). get_or image (slot_at slot) 0 ∷ take n (drop (slot_at slot + 1) image)) rest)
 
--- its first byte is the gate
-pub gate_of : (image : List ℕ) (slot : ℕ) → slot_at slot + 461 ≤ length image → slice_index (slot_of image slot) 0 ≡ get_or image (slot_at slot) 0
-gate_of image slot fits = ap (λ bytes. slice_index bytes 0) (slot_parts image slot fits)
+-- its first byte is the commit byte
+pub commit_of : (image : List ℕ) (slot : ℕ) → slot_at slot + 461 ≤ length image → slice_index (slot_of image slot) 0 ≡ get_or image (slot_at slot) 0
+commit_of image slot fits = ap (λ bytes. slice_index bytes 0) (slot_parts image slot fits)
 
--- an open gate is 0xA7
-pub open_gate : (gate : ℕ) → is_open gate ≡ true → gate ≡ 167
-open_gate gate opened = grind (arith, nat_tests)
+-- an open commit byte is 0xA7
+pub open_commit : (commit : ℕ) → is_open commit ≡ true → commit ≡ 167
+open_commit commit opened = grind (arith, nat_tests)
 
 -- a closed slot holds nothing that counts
 pub closed_record : (bytes : List ℕ) → is_open (slice_index bytes 0) ≡ false → record_behind bytes ≡ None
@@ -57,37 +57,37 @@ other_same r o at count before after slots low high fits torn =
       | inr second ↦ inl (let one : r ≡ 1 = omega arith in omega arith)
     ])
 
--- a torn gate of an open slot: the slot is closed now, or as it was
-pub gate_torn : (slot : ℕ) (before after : List ℕ) → slot_at slot + 461 ≤ length before → Torn (slot_at slot) 1 before after
+-- a torn commit byte of an open slot: the slot is closed now, or as it was
+pub commit_torn : (slot : ℕ) (before after : List ℕ) → slot_at slot + 461 ≤ length before → Torn (slot_at slot) 1 before after
     → is_slot_open before slot ≡ true → (open_record after slot ≡ None) ⊎ (open_record after slot ≡ open_record before slot)
-gate_torn slot before after fits torn opened =
+commit_torn slot before after fits torn opened =
     let fits_after : slot_at slot + 461 ≤ length after = omega (arith, torn.size) in
     let behind : slice_range after (slot_at slot + 1) (slot_at slot + 461) ≡ slice_range before (slot_at slot + 1) (slot_at slot + 461) =
     torn_slice_after (slot_at slot) 1 before after torn (slot_at slot + 1) (slot_at slot + 461) (omega arith) fits in
-    let was : get_or before (slot_at slot) 0 ≡ 167 = sym (gate_of before slot fits) ∙ open_gate _ opened in
+    let was : get_or before (slot_at slot) 0 ≡ 167 = sym (commit_of before slot fits) ∙ open_commit _ opened in
     elim (cases_Bool (is_slot_open after slot)) [
       | inl still ↦
-          let is : get_or after (slot_at slot) 0 ≡ 167 = sym (gate_of after slot fits_after) ∙ open_gate _ still in
+          let is : get_or after (slot_at slot) 0 ≡ 167 = sym (commit_of after slot fits_after) ∙ open_commit _ still in
           let same : slot_of after slot ≡ slot_of before slot =
-          slot_parts after slot fits_after ∙ ap (λ (gate : ℕ). gate ∷ slice_range after (slot_at slot + 1) (slot_at slot + 461)) (is ∙ sym was)
+          slot_parts after slot fits_after ∙ ap (λ (commit : ℕ). commit ∷ slice_range after (slot_at slot + 1) (slot_at slot + 461)) (is ∙ sym was)
           ∙ ap (λ (rest : List ℕ). get_or before (slot_at slot) 0 ∷ rest) behind ∙ sym (slot_parts before slot fits) in
           inr (ap record_behind same)
       | inr closed ↦ inl (closed_record (slot_of after slot) closed)
     ]
 
--- a gate that is not in the range stays
-pub gate_stays : (at count slot : ℕ) (before after : List ℕ) → slot_at slot < at → slot_at slot + 461 ≤ length before → Torn at count before after → is_slot_open after slot ≡ is_slot_open before slot
-gate_stays at count slot before after behind fits torn =
-    ap is_open (gate_of after slot (omega (arith, torn.size)) ∙ torn.before (slot_at slot) behind ∙ sym (gate_of before slot fits))
+-- a commit byte that is not in the range stays
+pub commit_stays : (at count slot : ℕ) (before after : List ℕ) → slot_at slot < at → slot_at slot + 461 ≤ length before → Torn at count before after → is_slot_open after slot ≡ is_slot_open before slot
+commit_stays at count slot before after behind fits torn =
+    ap is_open (commit_of after slot (omega (arith, torn.size)) ∙ torn.before (slot_at slot) behind ∙ sym (commit_of before slot fits))
 
--- the gate is the byte that was written there
-pub gate_written : (gate slot : ℕ) (before : List ℕ) → slot_at slot + 461 ≤ length before → slice_index (slot_of (splice (slot_at slot) (gate ∷ []) before) slot) 0 ≡ gate
-gate_written gate slot before fits =
-    let torn = torn_splice (slot_at slot) (gate ∷ []) before (omega arith) in
+-- the commit byte is the byte that was written there
+pub commit_written : (commit slot : ℕ) (before : List ℕ) → slot_at slot + 461 ≤ length before → slice_index (slot_of (splice (slot_at slot) (commit ∷ []) before) slot) 0 ≡ commit
+commit_written commit slot before fits =
+    let torn = torn_splice (slot_at slot) (commit ∷ []) before (omega arith) in
     let place : slot_at slot ≡ slot_at slot + 0 = omega arith in
-    gate_of (splice (slot_at slot) (gate ∷ []) before) slot (omega (arith, torn.size))
-    ∙ ap (λ (n : ℕ). get_or (splice (slot_at slot) (gate ∷ []) before) n 0) place
-    ∙ splice_byte (slot_at slot) (gate ∷ []) before 0 (omega arith) (omega arith)
+    commit_of (splice (slot_at slot) (commit ∷ []) before) slot (omega (arith, torn.size))
+    ∙ ap (λ (n : ℕ). get_or (splice (slot_at slot) (commit ∷ []) before) n 0) place
+    ∙ splice_byte (slot_at slot) (commit ∷ []) before 0 (omega arith) (omega arith)
 
 -- a change in a slot leaves the version in the header
 pub version_stays : (at count : ℕ) (before after : List ℕ) → 4096 ≤ at → 4096 ≤ length before → Torn at count before after → version_of (header_of after) ≡ version_of (header_of before)

@@ -15,13 +15,13 @@ first_body = record { generation = 0; active = 0; frozen = []; hashed = []; sort
 abbrev pub long_bit : ℕ
 long_bit = 2 ^ 63
 
--- the bytes right after the gate of a slot, 120 bytes
+-- the bytes right after the commit byte of a slot, 120 bytes
 abbrev pub body_bytes : Body → List ℕ
 body_bytes b =
     big_bytes 8 (b.generation + long_bit) ++ big_bytes 4 b.active ++ ids_bytes most_frozen b.frozen ++ ids_bytes most_hashes b.hashed
     ++ big_bytes 4 b.sorted ++ big_bytes 4 b.sorted_count
 
--- the body of a slot, whose first byte is the gate
+-- the body of a slot, whose first byte is the commit byte
 abbrev pub body_of : List ℕ → Body
 body_of slot = record {
   generation = number_at 8 1 slot % long_bit;
@@ -70,4 +70,4 @@ pub record FitsSlot (b : Body) : Type 0 where
 
 -- a body reads back as it was written
 abbrev pub BodyLaw : Type 0
-BodyLaw = (b : Body) (gate : ℕ) (rest : List ℕ) → FitsSlot b → body_of (gate ∷ body_bytes b ++ rest) ≡ b
+BodyLaw = (b : Body) (commit : ℕ) (rest : List ℕ) → FitsSlot b → body_of (commit ∷ body_bytes b ++ rest) ≡ b

@@ -3,7 +3,7 @@ use Rattle.std.specs.Prelude.{◌≡◌, ℕ, ◌+◌, ◌<◌, ◌≤◌, nat_l
 use Rattle.std.specs.Option.{is_some}
 use Rattle.silt_disk.specs.Disk.{LiesOutside, Torn}
 use Rattle.silt_disk.specs.Layout.{Shape, slot_at, sector}
-use Rattle.silt_frame.specs.Gate.{is_open}
+use Rattle.silt_frame.specs.Commit.{is_open}
 use Rattle.silt_disk.specs.Header.{header_of, version_of}
 use Rattle.silt_disk.specs.declared.header.Version.{Version}
 use Rattle.silt_disk.specs.declared.header.Version.TheVariants.{One, Two}
@@ -14,7 +14,7 @@ use Rattle.silt_manifest.specs.declared.slot.SlotRecord.{SlotRecord}
 use Rattle.silt_manifest.specs.declared.slot.Damage.{Damage}
 use Rattle.silt_manifest.specs.declared.slot.Damage.TheVariants.{Slot, NoSlot}
 
--- the meaningful bytes of a slot: its gate, its body, and the digests after it
+-- the meaningful bytes of a slot: its commit byte, its body, and the digests after it
 abbrev pub slot_of : List ℕ → ℕ → List ℕ
 slot_of image slot = slice_range image (slot_at slot) (slot_at slot + slot_len)
 
@@ -22,7 +22,7 @@ slot_of image slot = slice_range image (slot_at slot) (slot_at slot + slot_len)
 abbrev pub is_slot_open : List ℕ → ℕ → Bool
 is_slot_open image slot = is_open (slice_index (slot_of image slot) 0)
 
--- the record after a gate, if the gate is open; a closed slot has no record
+-- the record after a commit byte, if the commit byte is open; a closed slot has no record
 unfoldable pub record_behind : List ℕ → Option SlotRecord
 record_behind slot = if is_open (slice_index slot 0) then Some (record_of slot) else None
 

@@ -18,7 +18,7 @@ digest_bytes digests = flat_map (λ digest. digest.0) digests
 abbrev pub digests_bytes : Digests → List ℕ
 digests_bytes d = digest_bytes d.hashed ++ d.sorted.0
 
--- all bytes that are written after the gate of a slot
+-- all bytes that are written after the commit byte of a slot
 abbrev pub record_bytes : Body → Digests → List ℕ
 record_bytes body digests = body_bytes body ++ digests_bytes digests
 
@@ -26,7 +26,7 @@ record_bytes body digests = body_bytes body ++ digests_bytes digests
 abbrev pub record_len : ℕ
 record_len = 460
 
--- the length of a slot's meaningful bytes: its gate and its record
+-- the length of a slot's meaningful bytes: its commit byte and its record
 abbrev pub slot_len : ℕ
 slot_len = 461
 
@@ -42,7 +42,7 @@ sorted_digest_at = 441
 abbrev pub digest_at : ℕ → List ℕ → Digest
 digest_at at slot = record { 0 = slice_range slot at (at + digest_len) }
 
--- the digests of a slot, whose first byte is the gate
+-- the digests of a slot, whose first byte is the commit byte
 abbrev pub digests_of : List ℕ → Digests
 digests_of slot = record {
   hashed = map (λ k. digest_at (hash_digests_at + digest_len * k) slot) (range_with_len 0 most_hashes);
@@ -53,7 +53,7 @@ digests_of slot = record {
 abbrev pub is_long : List ℕ → Bool
 is_long slot = nat_le long_bit (number_at 8 1 slot)
 
--- the record of a slot, after its gate: a body, and the digests after it, if there are any
+-- the record of a slot, after its commit byte: a body, and the digests after it, if there are any
 abbrev pub record_of : List ℕ → SlotRecord
 record_of slot = record { body = body_of slot; digests = if is_long slot then Some (digests_of slot) else None }
 
@@ -69,4 +69,4 @@ pub record FitsDigests (d : Digests) : Type 0 where
 
 -- a body and its digests read back as they were written
 abbrev pub RecordLaw : Type 0
-RecordLaw = (body : Body) (digests : Digests) (gate : ℕ) → FitsSlot body → FitsDigests digests → record_of (gate ∷ record_bytes body digests) ≡ long_record body digests
+RecordLaw = (body : Body) (digests : Digests) (commit : ℕ) → FitsSlot body → FitsDigests digests → record_of (commit ∷ record_bytes body digests) ≡ long_record body digests

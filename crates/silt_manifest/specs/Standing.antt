@@ -3,7 +3,7 @@ use Rattle.std.specs.Prelude.{◌≡◌, ◌⊎◌, ℕ, ◌+◌, ◌%◌, Bool,
 use Rattle.std.specs.Option.{ForSome, is_some}
 use Rattle.silt_disk.specs.Disk.{Content, LeavesOnly, splice}
 use Rattle.silt_disk.specs.Layout.{Shape, InLimits, slot_at}
-use Rattle.silt_frame.specs.Gate.{gate_open}
+use Rattle.silt_frame.specs.Commit.{commit_open}
 use Rattle.silt_manifest.specs.Body.{FitsSlot, first_body, is_well_formed}
 use Rattle.silt_manifest.specs.Digests.{FitsDigests, long_record, record_bytes, slot_len}
 use Rattle.silt_manifest.specs.Current.{is_slot_open, manifest_found, open_record, current_manifest, slot_of}
@@ -11,8 +11,8 @@ use Rattle.silt_manifest.specs.declared.body.Body.{Body}
 use Rattle.silt_manifest.specs.declared.digests.Digests.{Digests}
 use Rattle.silt_manifest.specs.declared.slot.SlotRecord.{SlotRecord}
 
--- The manifest: the six numbers, the current body and the digests after it, if there are any; whether the gate of the other slot is
--- closed, and the next record once it is written behind that gate.
+-- The manifest: the six numbers, the current body and the digests after it, if there are any; whether the commit byte of the other slot is
+-- closed, and the next record once it is written behind that commit byte.
 pub record ManifestState : Type 0 where
   pub shape : Shape
   pub current : Body
@@ -44,12 +44,12 @@ current_slot m = m.current.generation % 2
 abbrev pub spare_slot : ManifestState → ℕ
 spare_slot m = (m.current.generation + 1) % 2
 
--- The place of the zero that begins a write of the next body: the gate, or, if that is closed already, the last place of the slot,
+-- The place of the zero that begins a write of the next body: the commit byte, or, if that is closed already, the last place of the slot,
 -- which nothing reads.
 abbrev pub closing_place : ManifestState → ℕ
 closing_place m = if m.spare_closed then slot_at (spare_slot m) + 4095 else slot_at (spare_slot m)
 
--- what is shown once the next record is written: a zero at the closing place, and the record's bytes after the gate
+-- what is shown once the next record is written: a zero at the closing place, and the record's bytes after the commit byte
 abbrev pub with_next : ManifestState → Body → Digests → List ℕ → List ℕ
 with_next m next digests image = splice (slot_at (spare_slot m) + 1) (record_bytes next digests) (splice (closing_place m) (0 ∷ []) image)
 
@@ -77,7 +77,7 @@ pub record HasSoundBodies (m : ManifestState) : Type 0 where
 abbrev pub RecordIsCurrent : ManifestState → List ℕ → Type 0
 RecordIsCurrent m image = current_manifest m.shape image ≡ Some (current_record m)
 
--- in an image the record is current and lies in its slot, and the other slot's gate is as the manifest has it
+-- in an image the record is current and lies in its slot, and the other slot's commit byte is as the manifest has it
 pub record IsCurrentIn (m : ManifestState) (image : List ℕ) : Type 0 where
   pub current : RecordIsCurrent m image
   pub stands : open_record image (current_slot m) ≡ Some (current_record m)
@@ -87,14 +87,14 @@ pub record IsCurrentIn (m : ManifestState) (image : List ℕ) : Type 0 where
 abbrev pub IsCurrent : ManifestState → Content → Type 0
 IsCurrent m content = LeavesOnly content (IsCurrentIn m)
 
--- in an image the record is current as before, and the other slot has the next one's bytes after a closed gate
+-- in an image the record is current as before, and the other slot has the next one's bytes after a closed commit byte
 pub record IsReady (m : ManifestState) (next : Body) (digests : Digests) (image : List ℕ) : Type 0 where
   pub current : RecordIsCurrent m image
   pub stands : open_record image (current_slot m) ≡ Some (current_record m)
   pub spare : is_slot_open image (spare_slot m) ≡ false
   pub bytes : slice_range image (slot_at (spare_slot m) + 1) (slot_at (spare_slot m) + slot_len) ≡ record_bytes next digests
 
--- the next record is written, and in each possible crash image its gate can be opened
+-- the next record is written, and in each possible crash image its commit byte can be opened
 pub record IsPrepared (m : ManifestState) (next : Body) (digests : Digests) (content : Content) : Type 0 where
   pub is : m.prepared ≡ Some (long_record next digests)
   pub closed : m.spare_closed ≡ true
@@ -113,11 +113,11 @@ pub record CanCommit (m : ManifestState) (content : Content) : Type 0 where
 abbrev pub OldOrNewIsCurrent : ManifestState → List ℕ → Type 0
 OldOrNewIsCurrent m image = RecordIsCurrent m image ⊎ (current_manifest m.shape image ≡ m.prepared)
 
--- in an image slot 0 has the body of generation 0 with these digests and an open gate, and slot 1 is closed
+-- in an image slot 0 has the body of generation 0 with these digests and an open commit byte, and slot 1 is closed
 pub record IsFirst (digests : Digests) (image : List ℕ) : Type 0 where
   pub first : open_record image 0 ≡ Some (long_record first_body digests)
   pub second : open_record image 1 ≡ None
-  pub bytes : slot_of image 0 ≡ gate_open ∷ record_bytes first_body digests
+  pub bytes : slot_of image 0 ≡ commit_open ∷ record_bytes first_body digests
 
 -- such a record is current, in any store's geometry, whatever the header
 abbrev pub FirstIsCurrentLaw : Type 0

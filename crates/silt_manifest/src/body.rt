@@ -1,4 +1,4 @@
-// The manifest record of a slot: its body, which follows the gate.
+// The manifest record of a slot: its body, which follows the commit byte.
 ghost use Rattle.std.specs.Prelude.{◌≡◌, ◌+◌, ◌*◌, ◌<◌, ◌≤◌, ◌++◌, ◌⊎◌, true, false, length, replicate, take, IfSome, IfNone};
 ghost use Rattle.silt_disk.specs.Layout.{most_hashes};
 ghost use Rattle.silt_manifest.specs.Numbers.{ids_bytes};
@@ -13,7 +13,7 @@ use silt_disk::Geometry;
 /// The length of a body, in bytes.
 pub(crate) const BODY_LEN: usize = 120;
 
-/// The length of a slot's meaningful bytes: the gate, the body, and the digests after it.
+/// The length of a slot's meaningful bytes: the commit byte, the body, and the digests after it.
 pub(crate) const SLOT_LEN: usize = 461;
 
 // The highest bit of a generation's field: if set, digests follow the body.
@@ -99,7 +99,7 @@ fn put_ids(bytes: &mut [u8], at: usize, room: usize, ids: &[u32])
     put_zeros(bytes, at + 4 + 4 * ids.len(), 4 * (room - ids.len()));
 }
 
-// Whether digests follow the body of a slot. The slot begins with its gate.
+// Whether digests follow the body of a slot. The slot begins with its commit byte.
 pub(crate) fn is_long(slot: &[u8; SLOT_LEN]) -> bool
     ensures { result ≡ is_long slot.now }
 {
@@ -155,7 +155,7 @@ impl Body {
             && self.sorted_count <= geometry.sorted_capacity()
     }
 
-    // The bytes right after the gate.
+    // The bytes right after the commit byte.
     pub(crate) fn to_bytes(&self) -> [u8; BODY_LEN]
         requires { FitsSlot self.now }
         ensures { result ≡ body_bytes self.now }
@@ -170,7 +170,7 @@ impl Body {
         bytes
     }
 
-    // Decodes the body of a slot, which begins with its gate. `None` if it counts more ids than a store of this geometry has.
+    // Decodes the body of a slot, which begins with its commit byte. `None` if it counts more ids than a store of this geometry has.
     fn decode(slot: &[u8; SLOT_LEN], geometry: &Geometry) -> Option<Self>
         ensures read { IfSome result (λ body. body ≡ body_of slot.now) }
         ensures too_many { IfNone result ((geometry.now.logs ≤ length (body_of slot.now).frozen) ⊎ (geometry.now.hashes < length (body_of slot.now).hashed)) }
@@ -185,7 +185,7 @@ impl Body {
         })
     }
 
-    // Decodes the body of a slot, which begins with its gate, if the body is well formed.
+    // Decodes the body of a slot, which begins with its commit byte, if the body is well formed.
     #[tactic(auto, using(crate::proofs::SoundBodies::too_many_ids))]
     pub(crate) fn from_slot(bytes: &[u8; SLOT_LEN], geometry: &Geometry, slot: u32) -> Option<Self>
         ensures sound { IfSome result (λ body. (body ≡ body_of bytes.now) × (is_well_formed geometry.now slot body ≡ true)) }

@@ -52,7 +52,7 @@ impl Digests {
         bytes
     }
 
-    // The digests of a slot, which begins with its gate.
+    // The digests of a slot, which begins with its commit byte.
     pub(crate) fn of_slot(slot: &[u8; SLOT_LEN]) -> Self
         ensures { result ≡ digests_of slot.now }
     {

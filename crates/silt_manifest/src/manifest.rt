@@ -14,10 +14,10 @@ ghost use Rattle.silt_manifest.specs.Standing.{OldOrNewIsCurrent, WritesNext, cl
 use crate::body::Body;
 use crate::digests::Digests;
 use crate::slot::{
-    Damage, ReadFault, SlotRecord, read_slot, record_bytes, write_gate, write_record,
+    Damage, ReadFault, SlotRecord, read_slot, record_bytes, write_commit, write_record,
 };
 use silt_disk::{Disk, Geometry, Version, slot_start, write_synced};
-use silt_frame::{GATE_CLOSED, GATE_OPEN};
+use silt_frame::{COMMIT_CLOSED, COMMIT_OPEN};
 use std::marker::Model;
 
 // The last place of a slot, which nothing reads.
@@ -30,9 +30,9 @@ pub struct Manifest {
     current: Body,
     // The digests after the current body, if there are any.
     digests: Option<Digests>,
-    // Whether the gate of the spare slot is closed.
+    // Whether the commit byte of the spare slot is closed.
     spare_closed: bool,
-    // The next record, once it is written behind that gate.
+    // The next record, once it is written behind that commit byte.
     prepared: Option<SlotRecord>,
 }
 
@@ -159,7 +159,7 @@ impl Manifest {
         }
     }
 
-    /// Writes the next body and its digests into the spare slot, behind a closed gate: closes the gate and syncs, then writes the
+    /// Writes the next body and its digests into the spare slot, behind a closed commit byte: closes the commit byte and syncs, then writes the
     /// bytes and syncs. At each exit the old body is current in each possible crash image. After Ok, call `commit_next` next on this
     /// disk.
     ///
@@ -184,7 +184,7 @@ impl Manifest {
     {
         let _known = self.geometry.logs(); // at most eight
         let slot = self.spare_slot();
-        write_synced(disk, self.closing_place(), &[GATE_CLOSED])?;
+        write_synced(disk, self.closing_place(), &[COMMIT_CLOSED])?;
         write_record(disk, slot, &record_bytes(&next, &digests))?;
         self.spare_closed = true;
         self.prepared = Some(SlotRecord {
@@ -194,7 +194,7 @@ impl Manifest {
         Ok(())
     }
 
-    /// Opens the gate of the record that `prepare_next` wrote, and syncs. At each exit the old body or the new one is current in each
+    /// Opens the commit byte of the record that `prepare_next` wrote, and syncs. At each exit the old body or the new one is current in each
     /// possible crash image. After Ok it is the new one.
     ///
     /// # Errors
@@ -214,7 +214,7 @@ impl Manifest {
         let Some(next) = self.prepared else {
             unreachable!()
         };
-        write_gate(disk, self.spare_slot(), GATE_OPEN)?;
+        write_commit(disk, self.spare_slot(), COMMIT_OPEN)?;
         self.current = next.body;
         self.digests = next.digests;
         self.spare_closed = false;
@@ -223,9 +223,9 @@ impl Manifest {
     }
 }
 
-/// Writes the body of generation 0 with these digests into slot 0, with its gate: closes the gate, writes the bytes, opens the gate,
-/// each with a sync. After Ok it is current in each possible crash image, since the gate of slot 1 is closed. The zero always goes
-/// to the gate: while a device is formatted the header's gate is closed, and no slot matters.
+/// Writes the body of generation 0 with these digests into slot 0, with its commit byte: closes the commit byte, writes the bytes, opens the commit byte,
+/// each with a sync. After Ok it is current in each possible crash image, since the commit byte of slot 1 is closed. The zero always goes
+/// to the commit byte: while a device is formatted the header's commit byte is closed, and no slot matters.
 ///
 /// # Errors
 ///
@@ -237,9 +237,9 @@ pub fn write_first<D: Disk>(disk: &mut D, digests: &Digests) -> Result<(), D::Fa
     ensures current { OnOk result (LeavesOnly (D.content disk.new) (IsFirst digests.now)) }
     ensures rests { OnOk result (Rests (D.content disk.new)) }
 {
-    write_gate(disk, 0, GATE_CLOSED)?;
+    write_commit(disk, 0, COMMIT_CLOSED)?;
     write_record(disk, 0, &record_bytes(&Body::first(), digests))?;
-    write_gate(disk, 0, GATE_OPEN)?;
+    write_commit(disk, 0, COMMIT_OPEN)?;
     Ok(())
 }
 

@@ -14,10 +14,10 @@ use crate::digests::Digests;
 use silt_disk::{Disk, Geometry, Version, slot_start, write_synced};
 use silt_frame::is_open;
 
-// What is written after a gate: a body, and the digests after it.
+// What is written after a commit byte: a body, and the digests after it.
 const RECORD_LEN: usize = 460;
 
-/// The record of a slot, after its gate.
+/// The record of a slot, after its commit byte.
 #[derive(Clone, Copy, Debug, PartialEq, Eq)]
 pub struct SlotRecord {
     /// The body.
@@ -56,7 +56,7 @@ fn has_due_digests(version: Version, digests: &Option<Digests>) -> bool
 }
 
 impl SlotRecord {
-    // Decodes an open slot, which begins with its gate, if its record is sound.
+    // Decodes an open slot, which begins with its commit byte, if its record is sound.
     #[tactic(auto, using(crate::proofs::SoundBodies::without_digests, crate::proofs::SoundBodies::without_body, crate::proofs::SoundBodies::with_both))]
     fn from_slot(
         bytes: &[u8; SLOT_LEN],
@@ -75,7 +75,7 @@ impl SlotRecord {
         Some(SlotRecord { body, digests })
     }
 
-    // The digests of a slot, which begins with its gate, if there are any.
+    // The digests of a slot, which begins with its commit byte, if there are any.
     fn digests_from(bytes: &[u8; SLOT_LEN]) -> Option<Digests>
         ensures { result ≡ (record_of bytes.now).digests }
     {
@@ -129,15 +129,15 @@ pub(crate) fn read_slot<D: Disk>(
     }
 }
 
-// Writes the gate of a slot, and syncs.
-pub(crate) fn write_gate<D: Disk>(disk: &mut D, slot: u32, gate: u8) -> Result<(), D::Fault>
+// Writes the commit byte of a slot, and syncs.
+pub(crate) fn write_commit<D: Disk>(disk: &mut D, slot: u32, commit: u8) -> Result<(), D::Fault>
     requires slot { slot < 2 }
     requires size { slot_at 1 + sector ≤ size (D.content disk.old) }
     ensures wrote { Wrote D.Disk (slot_at slot) 1 1 1 disk.old disk.new result }
-    ensures written { OnOk result (Writes (slot_at slot) (gate ∷ []) (D.content disk.old) (D.content disk.new)) }
+    ensures written { OnOk result (Writes (slot_at slot) (commit ∷ []) (D.content disk.old) (D.content disk.new)) }
     ensures rests { OnOk result (Rests (D.content disk.new)) }
 {
-    write_synced(disk, slot_start(slot), &[gate])?;
+    write_synced(disk, slot_start(slot), &[commit])?;
     Ok(())
 }
 
@@ -154,7 +154,7 @@ pub(crate) fn record_bytes(body: &Body, digests: &Digests) -> [u8; RECORD_LEN]
     bytes
 }
 
-// Writes these bytes after the gate of a slot, and syncs.
+// Writes these bytes after the commit byte of a slot, and syncs.
 pub(crate) fn write_record<D: Disk>(
     disk: &mut D,
     slot: u32,

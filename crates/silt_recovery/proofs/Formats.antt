@@ -3,7 +3,7 @@ use Rattle.std.proofs.Common.{◌≡◌, ◌≤◌, ◌<◌, ℕ, ◌+◌, ◌-�
 use Rattle.std.specs.FinMap.{empty}
 use Rattle.std.proofs.lemmas.List.{drop-drop}
 use Rattle.silt_disk.specs.Disk.{Content, Torn, ChangesWithin, Writes, LeavesOnly, Rests, size, splice}
-use Rattle.silt_disk.specs.Layout.{Shape, InLimits, device_size, gates_at, slot_at}
+use Rattle.silt_disk.specs.Layout.{Shape, InLimits, device_size, commits_at, slot_at}
 use Rattle.silt_disk.proofs.Images.{splice_slice, torn_splice, length-splice, torn_slice_after, left_at_rest, shown_left, rests_leaves}
 use Rattle.silt_disk.specs.Header.{header_bytes, header_of}
 use Rattle.silt_image.specs.Meaning.{StandsFor, entries_digest}
@@ -28,19 +28,19 @@ slice_join xs a b c low high =
     ap (λ (n : ℕ). take n (drop a xs)) sizes ∙ take-add (b - a) (c - b) (drop a xs)
     ∙ ap (λ (ys : List ℕ). take (b - a) (drop a xs) ++ take (c - b) ys) (drop-drop (b - a) a xs ∙ ap (λ (n : ℕ). drop n xs) place)
 
--- bytes behind a gate that was opened after them
-pub gated : (at : ℕ) (bytes old mid new : List ℕ) → at + 1 + length bytes ≤ length old → mid ≡ splice (at + 1) bytes old
+-- bytes behind a commit byte that was opened after them
+pub committed : (at : ℕ) (bytes old mid new : List ℕ) → at + 1 + length bytes ≤ length old → mid ≡ splice (at + 1) bytes old
     → new ≡ splice at (167 ∷ []) mid → slice_range new at (at + 1 + length bytes) ≡ 167 ∷ bytes
-gated at bytes old mid new fits first second =
+committed at bytes old mid new fits first second =
     let long : length mid ≡ length old = ap length first ∙ length-splice (at + 1) bytes old fits in
-    let gate_fits : at + 1 ≤ length mid = omega (arith, long) in
-    let torn : Torn at 1 mid new = subst (Torn at 1 mid) (sym second) (torn_splice at (167 ∷ []) mid gate_fits) in
-    let gate : slice_range new at (at + 1) ≡ 167 ∷ [] = ap (λ (image : List ℕ). slice_range image at (at + 1)) second ∙ splice_slice at (167 ∷ []) mid gate_fits in
+    let commit_fits : at + 1 ≤ length mid = omega (arith, long) in
+    let torn : Torn at 1 mid new = subst (Torn at 1 mid) (sym second) (torn_splice at (167 ∷ []) mid commit_fits) in
+    let commit : slice_range new at (at + 1) ≡ 167 ∷ [] = ap (λ (image : List ℕ). slice_range image at (at + 1)) second ∙ splice_slice at (167 ∷ []) mid commit_fits in
     let body : slice_range new (at + 1) (at + 1 + length bytes) ≡ bytes =
     torn_slice_after at 1 mid new torn (at + 1) (at + 1 + length bytes) (omega arith) (omega (arith, long))
     ∙ ap (λ (image : List ℕ). slice_range image (at + 1) (at + 1 + length bytes)) first ∙ splice_slice (at + 1) bytes old fits in
     slice_join new at (at + 1) (at + 1 + length bytes) (omega arith) (omega arith)
-    ∙ ap (λ (xs : List ℕ). xs ++ slice_range new (at + 1) (at + 1 + length bytes)) gate ∙ ap (λ (xs : List ℕ). 167 ∷ xs) body
+    ∙ ap (λ (xs : List ℕ). xs ++ slice_range new (at + 1) (at + 1 + length bytes)) commit ∙ ap (λ (xs : List ℕ). 167 ∷ xs) body
 
 -- an image with the header, the first manifest body with the digest of no entries, and an empty log 0
 pub fresh_store : (shape : Shape) (digests : Digests) (image : List ℕ) → InLimits shape → digests.sorted.0 ≡ entries_digest []
@@ -53,13 +53,13 @@ fresh_store shape digests image limits of_none long header first rows =
     empty_law image shape digests is is_current of_none rows
 
 module _ (shape : Shape) (limits : InLimits shape) (c1 c2 c3 : Content) (sized : size c1 ≡ device_size shape) (long2 : size c2 ≡ size c1) (slot : Writes (slot_at 1) (0 ∷ []) c1 c2)
-    (prepared : ChangesWithin (gates_at shape 0) shape.log_capacity c2 c3) where
-  -- the gate of slot 1 stays closed
+    (prepared : ChangesWithin (commits_at shape 0) shape.log_capacity c2 c3) where
+  -- the commit byte of slot 1 stays closed
   pub second_closed : Rests c3 → LeavesOnly c3 (λ image. is_slot_open image 1 ≡ false)
   second_closed rests =
-      let low : 12288 ≤ gates_at shape 0 = omega arith in
+      let low : 12288 ≤ commits_at shape 0 = omega arith in
       let end : 12288 ≤ device_size shape = omega (arith) in
-      rests_leaves rests (closed_elsewhere 1 (gates_at shape 0) shape.log_capacity c2 c3 (omega arith) (omega (arith, long2, sized, end))
+      rests_leaves rests (closed_elsewhere 1 (commits_at shape 0) shape.log_capacity c2 c3 (omega arith) (omega (arith, long2, sized, end))
       (inr low) prepared (closed_shown 1 c1 c2 (omega (arith, sized, end)) slot))
 
 -- each possible crash image of the device is an empty store

@@ -9,7 +9,7 @@ use Rattle.silt_disk.specs.Disk.{Content, Torn, Tears, Writes, ChangesWithin, Le
 use Rattle.silt_disk.specs.Layout.{Shape, InLimits, device_size, slot_at}
 use Rattle.silt_disk.proofs.Images.{left_at_rest, rests_leaves, sized_leaves, splice_byte, splice_slice, torn_refl, torn_slice_after, within_leaves, write_within}
 use Rattle.std.specs.Str.{bytes_eq}
-use Rattle.silt_frame.specs.Gate.{is_open}
+use Rattle.silt_frame.specs.Commit.{is_open}
 use Rattle.silt_disk.specs.Header.{header_bytes, header_of, is_formatted, magic, version_number}
 use Rattle.silt_image.specs.Meaning.{entries_digest, image_verdict}
 use Rattle.silt_image.specs.Stores.{image_stores, stores_shaped}
@@ -20,7 +20,7 @@ use Rattle.silt_log.proofs.Elsewhere.{log_rows_elsewhere}
 use Rattle.silt_manifest.specs.Standing.{IsFirst}
 use Rattle.silt_manifest.specs.declared.digests.Digests.{Digests}
 use Rattle.silt_manifest.proofs.Laws.{first_elsewhere}
-use Rattle.silt_recovery.specs.Format.{HasHeaderOrNone, IsGateClosed, IsHalfFormatted}
+use Rattle.silt_recovery.specs.Format.{HasHeaderOrNone, IsCommitClosed, IsHalfFormatted}
 use Rattle.silt_recovery.proofs.Formats.{fresh_store, slice_join}
 use Rattle.silt_image.proofs.HeaderExits.{not_formatted}
 
@@ -29,21 +29,21 @@ take_first : (image : List ℕ) → 1 ≤ length image → slice_range image 0 1
 take_first [] least = absurd (omega arith)
 take_first (byte ∷ image) least = refl
 
--- ---- the header's gate
+-- ---- the header's commit byte
 
 -- it stays closed under a change behind it
-gate_stays : (at count : ℕ) → 1 ≤ at → (before after : List ℕ) → IsGateClosed before → Torn at count before after → IsGateClosed after
-gate_stays at count behind before after closed torn = λ e. closed (sym (torn.before 0 (omega arith)) ∙ e)
+commit_stays : (at count : ℕ) → 1 ≤ at → (before after : List ℕ) → IsCommitClosed before → Torn at count before after → IsCommitClosed after
+commit_stays at count behind before after closed torn = λ e. closed (sym (torn.before 0 (omega arith)) ∙ e)
 
-pub gate_kept : (at count : ℕ) (old new : Content) → 1 ≤ at → ChangesWithin at count old new → LeavesOnly old IsGateClosed → LeavesOnly new IsGateClosed
-gate_kept at count old new behind changes closed = within_leaves changes closed (gate_stays at count behind)
+pub commit_kept : (at count : ℕ) (old new : Content) → 1 ≤ at → ChangesWithin at count old new → LeavesOnly old IsCommitClosed → LeavesOnly new IsCommitClosed
+commit_kept at count old new behind changes closed = within_leaves changes closed (commit_stays at count behind)
 
-pub gate_kept_by_write : (at count : ℕ) (old new : Content) → 1 ≤ at → Tears at count old new → LeavesOnly old IsGateClosed → LeavesOnly new IsGateClosed
-gate_kept_by_write at count old new behind tears closed = gate_kept at count old new behind (write_within tears) closed
+pub commit_kept_by_write : (at count : ℕ) (old new : Content) → 1 ≤ at → Tears at count old new → LeavesOnly old IsCommitClosed → LeavesOnly new IsCommitClosed
+commit_kept_by_write at count old new behind tears closed = commit_kept at count old new behind (write_within tears) closed
 
 -- it is closed once that is settled
-pub gate_closed : (old new : Content) → 1 ≤ size old → Writes 0 (0 ∷ []) old new → Rests new → LeavesOnly new IsGateClosed
-gate_closed old new least writes rests = rests_leaves rests (record {
+pub commit_closed : (old new : Content) → 1 ≤ size old → Writes 0 (0 ∷ []) old new → Rests new → LeavesOnly new IsCommitClosed
+commit_closed old new least writes rests = rests_leaves rests (record {
   holds = λ honest opened.
       let h : IsTrue old.honest = sym writes.honest ∙ honest in
       let byte : get_or new.shown 0 0 ≡ 0 = ap (λ (image : List ℕ). get_or image 0 0) (writes.shown h) ∙ splice_byte 0 (0 ∷ []) old.shown 0 (omega (arith, least)) (omega arith) in
@@ -51,13 +51,13 @@ gate_closed old new least writes rests = rests_leaves rests (record {
       omega arith;
 })
 
--- no store is behind a closed gate
-pub closed_verdict : (image : List ℕ) → IsGateClosed image → image_verdict image ≡ Some NotFormatted
+-- no store is behind a closed commit byte
+pub closed_verdict : (image : List ℕ) → IsCommitClosed image → image_verdict image ≡ Some NotFormatted
 unfolding image_stores
 closed_verdict image closed =
-    let gate : slice_index (header_of image) 0 ≡ get_or image 0 0 = get_or-take 37 image 0 0 (omega arith) in
+    let commit : slice_index (header_of image) 0 ≡ get_or image 0 0 = get_or-take 37 image 0 0 (omega arith) in
     let shut : is_open (slice_index (header_of image) 0) ≡ false = (let other : get_or image 0 0 ≢ 167 = closed in elim (cases_Bool (is_open (slice_index (header_of image) 0))) [
-      | inl opened ↦ absurd (other (sym gate ∙ (let same : slice_index (header_of image) 0 ≡ 167 = grind (arith, nat_tests) in same)))
+      | inl opened ↦ absurd (other (sym commit ∙ (let same : slice_index (header_of image) 0 ≡ 167 = grind (arith, nat_tests) in same)))
       | inr none ↦ none
     ]) in
     let none : is_formatted (header_of image) ≡ false =
@@ -66,14 +66,14 @@ closed_verdict image closed =
 
 -- ---- the exits of writing the header
 
--- behind the closed gate
-pub header_behind : (shape : Shape) (at count : ℕ) (old new : Content) → 1 ≤ at → ChangesWithin at count old new → LeavesOnly old IsGateClosed → LeavesOnly new (HasHeaderOrNone shape)
-header_behind shape at count old new behind changes closed = record { each = λ honest image left. inl ((gate_kept at count old new behind changes closed).each honest image left) }
+-- behind the closed commit byte
+pub header_behind : (shape : Shape) (at count : ℕ) (old new : Content) → 1 ≤ at → ChangesWithin at count old new → LeavesOnly old IsCommitClosed → LeavesOnly new (HasHeaderOrNone shape)
+header_behind shape at count old new behind changes closed = record { each = λ honest image left. inl ((commit_kept at count old new behind changes closed).each honest image left) }
 
--- the header with any gate
-pub header_gated : (shape : Shape) (old between new : Content) → 37 ≤ size old → Writes 1 (header_bytes shape) old between
+-- the header with any commit byte
+pub header_committed : (shape : Shape) (old between new : Content) → 37 ≤ size old → Writes 1 (header_bytes shape) old between
     → Rests between → size between ≡ size old → ChangesWithin 0 1 between new → LeavesOnly new (HasHeaderOrNone shape)
-header_gated shape old between new least writes rests same changes = record {
+header_committed shape old between new least writes rests same changes = record {
   each = λ honest image left.
       let h1 : IsTrue between.honest = sym changes.honest ∙ honest in
       let h0 : IsTrue old.honest = sym writes.honest ∙ h1 in
@@ -95,9 +95,9 @@ header_gated shape old between new least writes rests same changes = record {
 
 -- ---- the exits of formatting
 
--- at the first gate
-pub left_but_for_gate : (shape : Shape) (old new : Content) → ChangesWithin 0 1 old new → LeavesOnly new (IsHalfFormatted old shape)
-left_but_for_gate shape old new changes = record {
+-- at the first commit byte
+pub left_but_for_commit : (shape : Shape) (old new : Content) → ChangesWithin 0 1 old new → LeavesOnly new (IsHalfFormatted old shape)
+left_but_for_commit shape old new changes = record {
   each = λ honest image left.
       let from = changes.left (sym changes.honest ∙ honest) image left in
       inl (record { before = from.0; left = from.1; torn = from.2 });
@@ -107,8 +107,8 @@ left_but_for_gate shape old new changes = record {
 pub left_so : (shape : Shape) (content : Content) → LeavesOnly content (IsHalfFormatted content shape)
 left_so shape content = record { each = λ honest image left. inl (record { before = image; left = left; torn = torn_refl 0 1 image }) }
 
--- behind the closed gate
-pub left_closed : (shape : Shape) (old new : Content) → LeavesOnly new IsGateClosed → LeavesOnly new (IsHalfFormatted old shape)
+-- behind the closed commit byte
+pub left_closed : (shape : Shape) (old new : Content) → LeavesOnly new IsCommitClosed → LeavesOnly new (IsHalfFormatted old shape)
 left_closed shape old new closed = record { each = λ honest image left. inr (inl (closed_verdict image (closed.each honest image left))) }
 
 -- the rows of log 0 stay none under a change before the logs
@@ -118,7 +118,7 @@ rows_stay shape at count old new least sized low changes none =
     within_leaves changes (sized_leaves none) (λ before after (had : (length before ≡ size old) × (log_rows shape 0 before ≡ [])) torn.
     log_rows_elsewhere shape 0 at count before after least (omega (arith, had.0, sized)) (inl (omega (arith, low))) torn ∙ had.1)
 
--- with any of the header's gate
+-- with any of the header's commit byte
 pub left_at_last : (shape : Shape) (digests : Digests) (old c3 c4 c5 : Content) → InLimits shape → digests.sorted.0 ≡ entries_digest []
     → size c3 ≡ device_size shape → size c4 ≡ device_size shape → size c5 ≡ device_size shape
     → LeavesOnly c3 (λ image. log_rows shape 0 image ≡ []) → ChangesWithin (slot_at 0) 4096 c3 c4 → LeavesOnly c4 (IsFirst digests)

@@ -4,7 +4,7 @@ use Rattle.silt_disk.specs.Disk.{Content, Makes, MakesAtMost, Settles}
 use Rattle.silt_disk.specs.Layout.{Shape}
 use Rattle.silt_disk.proofs.Costs.{made_both, most_both, most_made}
 use Rattle.silt_image.specs.Stores.{stores_named}
-use Rattle.silt_log.specs.Rows.{has_stale_gate}
+use Rattle.silt_log.specs.Rows.{has_stale_commit}
 use Rattle.silt_standing.specs.State.{EngineState}
 use Rattle.silt_recovery.specs.Opening.{CostsOpening, CostsRefusal, Holds, are_stale, has_stale_log}
 use Rattle.silt_recovery.specs.declared.fault.OpenError.{OpenError}
@@ -16,8 +16,8 @@ unfolding has_stale_log stores_named
 stale_as_shown old between s settles holds o =
     let h : IsTrue between.honest = settles.honest ∙ o in
     (holds.active.scanned h).stale
-    ∙ ap (λ (x : Shape). has_stale_gate x s.active.log.region between.shown) holds.active.has_shape
-    ∙ ap (λ (n : ℕ). has_stale_gate s.manifest.shape n between.shown) holds.whole.active_region
+    ∙ ap (λ (x : Shape). has_stale_commit x s.active.log.region between.shown) holds.active.has_shape
+    ∙ ap (λ (n : ℕ). has_stale_commit s.manifest.shape n between.shown) holds.whole.active_region
     ∙ ap (are_stale between.shown) (sym (holds.named h))
     ∙ ap has_stale_log (settles.shown o)
 

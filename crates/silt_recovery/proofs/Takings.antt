@@ -7,7 +7,7 @@ use Rattle.std.proofs.lemmas.List.Elements.{All-cons, All-nil}
 use Rattle.std.proofs.lemmas.List.FromFn.{length-map-range_with_len}
 use Rattle.std.proofs.Math.Nat.{one-le-mul}
 use Rattle.silt_disk.specs.Disk.{Content, Left, LeavesOnly, Settles, Stays, ChangesWithin, LiesOutside, Torn, size}
-use Rattle.silt_disk.specs.Layout.{Shape, InLimits, device_size, entries_len, gates_at, hash_at, log_size, row_len, slot_at, sorted_at}
+use Rattle.silt_disk.specs.Layout.{Shape, InLimits, device_size, entries_len, commits_at, hash_at, log_size, row_len, slot_at, sorted_at}
 use Rattle.silt_disk.proofs.Images.{left_at_rest, left_after_failed_sync, shown_left, within_wider}
 use Rattle.silt_disk.proofs.Regions.{next_region, up_least}
 use Rattle.silt_cuckoo.specs.Index.{index_of_keys}
@@ -87,7 +87,7 @@ looked_up W old new error settles refused =
 
 -- ---- the rows of a log
 
--- as many rows as gates before the first closed one
+-- as many rows as commit bytes before the first closed one
 pub row_count : (shape : Shape) (region : ℕ) (image : List ℕ) → length (log_rows shape region image) ≡ open_count shape region image
 unfolding log_rows rows_from
 row_count shape region image = length-map-range_with_len _ 0 (open_count shape region image)
@@ -128,41 +128,41 @@ same_rows shape a b (store ∷ stores) same =
 
 -- what a seal changes lies in its log's region
 sealed_within : (log : LogState) (old new : Content) → InLimits log.shape → InBounds log
-    → ChangesWithin (gates_at log.shape log.region + log.used + 1) (log.shape.log_capacity - (log.used + 1)) old new
-    → ChangesWithin (gates_at log.shape log.region) (log_size log.shape) old new
+    → ChangesWithin (commits_at log.shape log.region + log.used + 1) (log.shape.log_capacity - (log.used + 1)) old new
+    → ChangesWithin (commits_at log.shape log.region) (log_size log.shape) old new
 sealed_within log old new limits bounds changes =
     let bodies : 1 ≤ log.shape.log_capacity * row_len log.shape = one-le-mul limits.log_capacity_least (omega arith) in
-    within_wider (gates_at log.shape log.region) (log_size log.shape) (omega arith)
+    within_wider (commits_at log.shape log.region) (log_size log.shape) (omega arith)
     (omega (arith, bounds.room, limits.log_capacity_least, bodies, up_least log.shape.log_capacity, up_least (log.shape.log_capacity * row_len log.shape))) changes
 
 -- a hash store still matches the disk if only a log region changes
 hash_stands : (between new : Content) (shape : Shape) (log : ℕ) (store : HashState) → log < shape.logs → device_size shape ≤ size between
-    → ChangesWithin (gates_at shape log) (log_size shape) between new → IsHashOf shape store
+    → ChangesWithin (commits_at shape log) (log_size shape) between new → IsHashOf shape store
     → IsHashStore between store → IsHashStore new store
 hash_stands between new shape log store exists fits changes is stands =
     let behind : log * log_size shape + log_size shape ≤ shape.logs * log_size shape = next_region log shape.logs (log_size shape) exists in
-    let before : gates_at shape log + log_size shape ≤ hash_at shape store.region = omega (arith, behind) in
-    hash_elsewhere store between new (gates_at shape log) (log_size shape) is.held (subst (λ (x : Shape). device_size x ≤ size between) (sym is.has_shape) fits)
-    (inl (subst (λ (x : Shape). gates_at shape log + log_size shape ≤ hash_at x store.region) (sym is.has_shape) before)) changes stands
+    let before : commits_at shape log + log_size shape ≤ hash_at shape store.region = omega (arith, behind) in
+    hash_elsewhere store between new (commits_at shape log) (log_size shape) is.held (subst (λ (x : Shape). device_size x ≤ size between) (sym is.has_shape) fits)
+    (inl (subst (λ (x : Shape). commits_at shape log + log_size shape ≤ hash_at x store.region) (sym is.has_shape) before)) changes stands
 
 -- the index of entries is theirs while a log region alone is changed
 index_stands : (between new : Content) (s : EngineState) (log : ℕ) → log < s.manifest.shape.logs → device_size s.manifest.shape ≤ size between
-    → ChangesWithin (gates_at s.manifest.shape log) (log_size s.manifest.shape) between new
+    → ChangesWithin (commits_at s.manifest.shape log) (log_size s.manifest.shape) between new
     → AreWhole s → IsLocated between s → IsLocated new s
 index_stands between new s log exists fits changes whole located =
     let is_shape : s.manifest.shape ≡ s.sorted.shape = ap (λ (t : SortedState). t.shape) (sym whole.sorted) in
-    indexed_elsewhere s.sorted s.index between new (gates_at s.manifest.shape log) (log_size s.manifest.shape) whole.held (subst (λ (x : Shape). device_size x ≤ size between) is_shape fits)
-    (subst (λ (x : Shape). LiesOutside (sorted_at x s.sorted.region) (entries_len x) (gates_at s.manifest.shape log) (log_size s.manifest.shape)) is_shape
+    indexed_elsewhere s.sorted s.index between new (commits_at s.manifest.shape log) (log_size s.manifest.shape) whole.held (subst (λ (x : Shape). device_size x ≤ size between) is_shape fits)
+    (subst (λ (x : Shape). LiesOutside (sorted_at x s.sorted.region) (entries_len x) (commits_at s.manifest.shape log) (log_size s.manifest.shape)) is_shape
     (entries_behind_log s.manifest.shape log s.sorted.region exists)) changes located
 
 -- and so is their digest
 digest_stands : (between new : Content) (s : EngineState) (log : ℕ) → log < s.manifest.shape.logs → device_size s.manifest.shape ≤ size between
-    → ChangesWithin (gates_at s.manifest.shape log) (log_size s.manifest.shape) between new
+    → ChangesWithin (commits_at s.manifest.shape log) (log_size s.manifest.shape) between new
     → AreWhole s → IsDigested between s → IsDigested new s
 digest_stands between new s log exists fits changes whole digested =
     let is_shape : s.manifest.shape ≡ s.sorted.shape = ap (λ (t : SortedState). t.shape) (sym whole.sorted) in
-    digest_elsewhere s.sorted s.digest between new (gates_at s.manifest.shape log) (log_size s.manifest.shape) whole.held (subst (λ (x : Shape). device_size x ≤ size between) is_shape fits)
-    (subst (λ (x : Shape). LiesOutside (sorted_at x s.sorted.region) (entries_len x) (gates_at s.manifest.shape log) (log_size s.manifest.shape)) is_shape
+    digest_elsewhere s.sorted s.digest between new (commits_at s.manifest.shape log) (log_size s.manifest.shape) whole.held (subst (λ (x : Shape). device_size x ≤ size between) is_shape fits)
+    (subst (λ (x : Shape). LiesOutside (sorted_at x s.sorted.region) (entries_len x) (commits_at s.manifest.shape log) (log_size s.manifest.shape)) is_shape
     (entries_behind_log s.manifest.shape log s.sorted.region exists)) changes digested
 
 -- if no conversion is in progress, nothing is required of one
@@ -182,9 +182,9 @@ none_gathered content s none = subst (λ (merging : Option MergeState). IfSome m
 -- ---- where the active log was sealed
 
 module _ (old between new : Content) (s : EngineState) (settles : Settles old between) (holds : Holds between s)
-    (seals_within : ChangesWithin (gates_at s.active.log.shape s.active.log.region + s.active.log.used + 1) (s.active.log.shape.log_capacity - (s.active.log.used + 1)) between new)
+    (seals_within : ChangesWithin (commits_at s.active.log.shape s.active.log.region + s.active.log.used + 1) (s.active.log.shape.log_capacity - (s.active.log.used + 1)) between new)
     (images : LeavesOnly new (λ image. log_rows s.active.log.shape s.active.log.region image ≡ log_rows s.active.log.shape s.active.log.region between.shown)) where
-  changes : ChangesWithin (gates_at s.active.log.shape s.active.log.region) (log_size s.active.log.shape) between new
+  changes : ChangesWithin (commits_at s.active.log.shape s.active.log.region) (log_size s.active.log.shape) between new
   changes = sealed_within s.active.log between new (subst InLimits (sym holds.whole.has_shape) holds.limits) holds.active.bounds seals_within
 
   was : IsTrue new.honest → IsTrue between.honest
@@ -194,10 +194,10 @@ module _ (old between new : Content) (s : EngineState) (settles : Settles old be
   here h = settles.honest ∙ h
 
   -- the change and the rows, in the manifest's words
-  changed : ChangesWithin (gates_at s.manifest.shape s.manifest.current.active) (log_size s.manifest.shape) between new
+  changed : ChangesWithin (commits_at s.manifest.shape s.manifest.current.active) (log_size s.manifest.shape) between new
   changed =
-      subst (λ (n : ℕ). ChangesWithin (gates_at s.manifest.shape n) (log_size s.manifest.shape) between new) holds.whole.active_region
-      (subst (λ (x : Shape). ChangesWithin (gates_at x s.active.log.region) (log_size x) between new) holds.whole.has_shape changes)
+      subst (λ (n : ℕ). ChangesWithin (commits_at s.manifest.shape n) (log_size s.manifest.shape) between new) holds.whole.active_region
+      (subst (λ (x : Shape). ChangesWithin (commits_at x s.active.log.region) (log_size x) between new) holds.whole.has_shape changes)
 
   stays : LeavesOnly new (λ image. log_rows s.manifest.shape s.manifest.current.active image ≡ log_rows s.manifest.shape s.manifest.current.active between.shown)
   stays =
@@ -225,8 +225,8 @@ module _ (old between new : Content) (s : EngineState) (settles : Settles old be
         let h : IsTrue between.honest = was honest in
         let from = changed.left h image left in
         let is : from.0 ≡ between.shown = left_at_rest settles.rests h from.0 from.1 in
-        let torn : Torn (gates_at s.manifest.shape s.manifest.current.active) (log_size s.manifest.shape) between.shown image =
-        subst (λ (before : List ℕ). Torn (gates_at s.manifest.shape s.manifest.current.active) (log_size s.manifest.shape) before image) is from.2 in
+        let torn : Torn (commits_at s.manifest.shape s.manifest.current.active) (log_size s.manifest.shape) between.shown image =
+        subst (λ (before : List ℕ). Torn (commits_at s.manifest.shape s.manifest.current.active) (log_size s.manifest.shape) before image) is from.2 in
         log_region_law between.shown image (shown_stores between s) s.manifest.current.active (holds.named h) exists torn
         ∙ ap (λ (rows : List StoredRow). Ok (with_log_rows s.manifest.current.active rows (shown_stores between s))) (stays.each honest image left)
         ∙ ap Ok (own_rows h);
@@ -241,7 +241,7 @@ module _ (old between new : Content) (s : EngineState) (settles : Settles old be
   stays_current_in : IsCurrent s.manifest new
   stays_current_in =
       let least : slot_at 1 + 4096 ≤ size between = omega (arith, holds.has_size) in
-      current_record_elsewhere s.manifest (gates_at s.manifest.shape s.manifest.current.active) (log_size s.manifest.shape) between new least (inr (omega arith)) changed (holds.current settles.rests)
+      current_record_elsewhere s.manifest (commits_at s.manifest.shape s.manifest.current.active) (log_size s.manifest.shape) between new least (inr (omega arith)) changed (holds.current settles.rests)
 
   -- so it has the same digests
   said_in : (image : List ℕ) → image_stores image ≡ Ok (shown_stores between s) → IsCurrentIn s.manifest image → image_digests image ≡ s.manifest.digests

@@ -31,7 +31,7 @@ pub record HasFirstFinding (shape : Shape) (image regions : List ℕ) (finding :
   pub row : StoredRow
   pub first : FirstFinding shape (log_part shape image region) place row finding
 
--- a log with the rows that are shown before the first closed gate, all of them settled, and with the table of their keys
+-- a log with the rows that are shown before the first closed commit byte, all of them settled, and with the table of their keys
 pub record IsReadLog (content : Content) (shape : Shape) (store : LogStoreState) : Type 0 where
   pub has_shape : store.log.shape ≡ shape
   pub bounds : InBounds store.log

@@ -6,7 +6,7 @@ use Rattle.silt_hash_store.specs.State.{IsHashStore}
 use Rattle.silt_disk.specs.Header.{shape_of}
 use Rattle.silt_image.specs.Meaning.{AreDigestsOf, IsGood, IsSound, StandsFor, charge_of, image_map, report_of}
 use Rattle.silt_log.specs.Parts.{known_rows}
-use Rattle.silt_log.specs.Rows.{has_stale_gate}
+use Rattle.silt_log.specs.Rows.{has_stale_commit}
 use Rattle.silt_image.specs.Stores.{Stores, image_digests, image_stores}
 use Rattle.silt_event.specs.declared.damage.Finding.{Finding}
 use Rattle.silt_event.specs.declared.report.Report.{Report}
@@ -91,17 +91,17 @@ pub record TakesUp (old new : Content) (s : EngineState) : Type 0 where
   pub has_shape : IsTrue old.honest → s.manifest.shape ≡ shape_of old.shown
   pub has_map : IsTrue old.honest → base_map new s ≡ image_map old.shown
 
--- whether the active log of these stores has an open gate past its first closed one
+-- whether the active log of these stores has an open commit byte past its first closed one
 abbrev pub are_stale : List ℕ → Result Stores Finding → Bool
-are_stale image (Ok stores) = has_stale_gate stores.shape stores.body.active image
+are_stale image (Ok stores) = has_stale_commit stores.shape stores.body.active image
 are_stale image (Err finding) = false
 
--- whether the active log of an image has an open gate past its first closed one
+-- whether the active log of an image has an open commit byte past its first closed one
 unfoldable pub has_stale_log : List ℕ → Bool
 has_stale_log image = are_stale image (image_stores image)
 
--- What an opening costs: one sync, and one write and one more sync if it closed gates. On an honest disk it did exactly if the active
--- log had an open gate past its first closed one.
+-- What an opening costs: one sync, and one write and one more sync if it closed commit bytes. On an honest disk it did exactly if the active
+-- log had an open commit byte past its first closed one.
 pub record CostsOpening {D : Type 0} (content : D → Content) (writes_of syncs_of : D → ℕ) (old new : D) : Type 0 where
   pub stale : Bool
   pub is : IsTrue (content old).honest → stale ≡ has_stale_log (content old).shown

@@ -11,20 +11,20 @@ use crate::fault::{FormatError, FormatFault};
 use crate::header::write_header;
 use sha1::Sha1;
 use silt_disk::{Disk, Geometry, slot_start, write_synced};
-use silt_frame::{Digest, GATE_CLOSED};
+use silt_frame::{COMMIT_CLOSED, Digest};
 use silt_log::Log;
 use silt_manifest::{Digests, write_first};
 use std::alloc::Global;
 
-/// Makes an empty store of this geometry, and gives the device back. What the device held is lost. The header's gate,
-/// its commit byte, is closed first and opened last. So a device whose formatting was interrupted by a crash holds no
+/// Makes an empty store of this geometry, and gives the device back. What the device held is lost. The header's commit byte
+/// is closed first and opened last. So a device whose formatting was interrupted by a crash holds no
 /// store, or the empty one. It costs eight writes and seven syncs.
 ///
 /// # Errors
 ///
 /// `BadGeometry` exactly if the device has another length than the geometry asks for, and then nothing is written;
 /// `NoMemory` before the first write; `Device` with the fault of a write or a sync. Each crash image that is then
-/// possible was possible before, but for the header's gate, or it holds no store, or the empty one.
+/// possible was possible before, but for the header's commit byte, or it holds no store, or the empty one.
 pub fn format<D: Disk>(alloc: Global, mut disk: D, geometry: Geometry) -> Result<D, FormatFault<D>>
     ensures size { OnOk result (size (D.content disk) ≡ device_size geometry) }
     ensures images { MatchResult result (λ new. LeavesOnly (D.content new) (StandsFor geometry empty)) (λ fault. LeavesOnly (D.content fault.disk) (IsHalfFormatted (D.content disk) geometry)) }
@@ -63,7 +63,7 @@ fn empty_digests() -> Digests
     }
 }
 
-// Writes the empty store: the header's gate is closed first and opened last.
+// Writes the empty store: the header's commit byte is closed first and opened last.
 fn write_store<D: Disk>(disk: &mut D, log: &mut Log, geometry: &Geometry) -> Result<(), D::Fault>
     requires size { size (D.content disk.old) ≡ device_size geometry.now }
     requires limits { InLimits geometry.now }
@@ -74,8 +74,8 @@ fn write_store<D: Disk>(disk: &mut D, log: &mut Log, geometry: &Geometry) -> Res
     ensures made { Costs D.writes D.syncs 8 7 disk.old disk.new result }
     ensures fault { IfErr result (GaveAny D.gave disk.new) }
 {
-    write_synced(disk, 0, &[GATE_CLOSED])?;
-    disk.write(slot_start(1), &[GATE_CLOSED])?;
+    write_synced(disk, 0, &[COMMIT_CLOSED])?;
+    disk.write(slot_start(1), &[COMMIT_CLOSED])?;
     log.prepare(disk)?;
     let digests = empty_digests();
     write_first(disk, &digests)?;

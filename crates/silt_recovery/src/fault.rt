@@ -18,7 +18,7 @@ pub enum FormatError<F> {
     /// A write or a sync failed with this fault.
     #[error("{0}")]
     Device(F),
-    /// Out of memory for the gates of a log.
+    /// Out of memory for the commit bytes of a log.
     #[error("out of memory")]
     NoMemory,
 }

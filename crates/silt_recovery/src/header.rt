@@ -1,18 +1,18 @@
-// The header of a device: its gate, and the six numbers behind it.
+// The header of a device: its commit byte, and the six numbers behind it.
 ghost use Rattle.std.specs.Prelude.{◌≡◌, ◌∷◌, ◌≤◌, IsTrue, IfOk, IfErr, OnOk, Ok, Err};
 ghost use Rattle.silt_disk.specs.Disk.{GaveAny, LeavesOnly, Rests, size};
 ghost use Rattle.silt_disk.specs.Wrote.{Wrote};
 ghost use Rattle.silt_disk.specs.Layout.{device_size};
-ghost use Rattle.silt_frame.specs.Gate.{gate_open};
+ghost use Rattle.silt_frame.specs.Commit.{commit_open};
 ghost use Rattle.silt_disk.specs.Header.{header_bytes, header_of, version_of};
 ghost use Rattle.silt_image.specs.Stores.{shape_found};
-ghost use Rattle.silt_recovery.specs.Format.{HasHeaderOrNone, IsGateClosed};
+ghost use Rattle.silt_recovery.specs.Format.{HasHeaderOrNone, IsCommitClosed};
 ghost use Rattle.silt_recovery.specs.Refusals.{IsRefusedLook};
 ghost use Rattle.silt_recovery.specs.declared.fault.OpenError.TheVariants.{NoMemory};
 
 use crate::fault::OpenError;
 use silt_disk::{Disk, Geometry, HEADER_LEN, Version, header_bytes, version_of, write_synced};
-use silt_frame::GATE_OPEN;
+use silt_frame::COMMIT_OPEN;
 use silt_image::read_header;
 
 /// What the header of a device has: six numbers, and the version of its layout.
@@ -64,21 +64,21 @@ pub fn read_geometry<D: Disk>(disk: &D) -> Result<Header, OpenError<D::Fault>>
     }
 }
 
-/// Writes the header behind its closed gate, and then opens the gate, each with a sync.
+/// Writes the header behind its closed commit byte, and then opens that byte, each with a sync.
 ///
 /// # Errors
 ///
 /// The fault of a write or of a sync.
 pub fn write_header<D: Disk>(disk: &mut D, geometry: &Geometry) -> Result<(), D::Fault>
     requires size { 12288 ≤ size (D.content disk.old) }
-    requires closed { LeavesOnly (D.content disk.old) IsGateClosed }
+    requires closed { LeavesOnly (D.content disk.old) IsCommitClosed }
     ensures wrote { Wrote D.Disk 0 37 2 2 disk.old disk.new result }
-    ensures header { IsTrue (D.content disk.new).honest → OnOk result (header_of (D.content disk.new).shown ≡ gate_open ∷ header_bytes geometry.now) }
+    ensures header { IsTrue (D.content disk.new).honest → OnOk result (header_of (D.content disk.new).shown ≡ commit_open ∷ header_bytes geometry.now) }
     ensures stopped { LeavesOnly (D.content disk.new) (HasHeaderOrNone geometry.now) }
     ensures rests { OnOk result (Rests (D.content disk.new)) }
 {
     let header = header_bytes(geometry);
     write_synced(disk, 1, &header)?;
-    write_synced(disk, 0, &[GATE_OPEN])?;
+    write_synced(disk, 0, &[COMMIT_OPEN])?;
     Ok(())
 }

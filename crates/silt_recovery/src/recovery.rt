@@ -18,9 +18,9 @@ pub struct Opened<D: Disk> {
     pub held: Holding,
 }
 
-/// Opens a device: settles what it shows, examines it, and, if a gate of the active log past its first closed one is
-/// open, closes these gates. The stores represent the map of what was shown, and no row waits. It costs one sync, and one
-/// write and one more sync if it closes gates.
+/// Opens a device: settles what it shows, examines it, and, if a commit byte of the active log past its first closed one is
+/// open, closes these commit bytes. The stores represent the map of what was shown, and no row waits. It costs one sync, and one
+/// write and one more sync if it closes commit bytes.
 ///
 /// # Errors
 ///

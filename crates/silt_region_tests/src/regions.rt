@@ -47,7 +47,7 @@ fn done<T, E: Drop>(rt: &impl Abort, answer: Result<T, E>) -> T
 // How many bytes a device with either of the first two geometries has.
 const LEN: usize = 45_056;
 
-// Values of two bytes, two buckets, four rows a log and eight sorted entries. Log 0 has its gates at 12,288 and its
+// Values of two bytes, two buckets, four rows a log and eight sorted entries. Log 0 has its commit bytes at 12,288 and its
 // bodies at 16,384, and the sorted regions begin at 36,864 and 40,960.
 fn four_rows(rt: &impl Abort) -> Geometry
     ensures { result ≡ record { value_len = 2; buckets = 2; log_capacity = 4; logs = 2; hashes = 2; sorted_capacity = 8 } }
@@ -55,7 +55,7 @@ fn four_rows(rt: &impl Abort) -> Geometry
     done(rt, Geometry::new(2, 2, 4, 2, 2, 8))
 }
 
-// Values of two bytes, two buckets, eight rows a log and sixteen sorted entries. Log 0 has its gates at 12,288 and its
+// Values of two bytes, two buckets, eight rows a log and sixteen sorted entries. Log 0 has its commit bytes at 12,288 and its
 // bodies at 16,384, and hash region 0 begins at 28,672.
 fn eight_rows(rt: &impl Abort) -> Geometry
     ensures { result ≡ record { value_len = 2; buckets = 2; log_capacity = 8; logs = 2; hashes = 2; sorted_capacity = 16 } }
@@ -100,7 +100,7 @@ fn row(kind: u8, key: &Key, value: u8) -> [u8; 23] {
     row
 }
 
-// Writes a row with an open gate into log 0.
+// Writes a row with an open commit byte into log 0.
 fn log_row(rt: &impl Abort, disk: &mut MemDisk, place: u8, row: &[u8; 23])
     requires place { place < 8 }
     requires size { 45056 ≤ size (memory_content disk.old) }

@@ -10,10 +10,10 @@ use Rattle.byteorder.specs.Endian.{big_number, big_bytes}
 use Rattle.byteorder.specs.Numbers.{big_number-reads_back}
 use Rattle.silt_disk.specs.Disk.{ChangesWithin, Content, LeavesOnly, Rests, Torn, Writes, size, splice}
 use Rattle.silt_disk.specs.Header.{header_shape}
-use Rattle.silt_disk.specs.Layout.{Shape, gates_at, hash_at, hash_size, log_size, sorted_at, sorted_size}
+use Rattle.silt_disk.specs.Layout.{Shape, commits_at, hash_at, hash_size, log_size, sorted_at, sorted_size}
 use Rattle.silt_disk.proofs.Images.{left_at_rest, rests_leaves, splice_byte, splice_slice, torn_wider, within_leaves}
 use Rattle.silt_event.specs.Commands.{Map}
-use Rattle.silt_frame.specs.Gate.{is_open}
+use Rattle.silt_frame.specs.Commit.{is_open}
 use Rattle.silt_image.specs.Laws.{Agree}
 use Rattle.silt_image.specs.Meaning.{StandsFor}
 use Rattle.silt_image.proofs.Frame.{frame_law, meaning_law, torn_same}
@@ -66,7 +66,7 @@ mark_agrees before after torn = record {
   first_slot = ap record_behind (range_stays 2048 37 4096 4557 before after torn (inr (omega arith)));
   second_slot = ap record_behind (range_stays 2048 37 8192 8653 before after torn (inr (omega arith)));
   regions = λ s is. record {
-    logs = λ region named. torn_same 2048 37 (gates_at s.shape region) (log_size s.shape) before after torn (inr (omega arith));
+    logs = λ region named. torn_same 2048 37 (commits_at s.shape region) (log_size s.shape) before after torn (inr (omega arith));
     hashes = λ region named. torn_same 2048 37 (hash_at s.shape region) (hash_size s.shape) before after torn (inr (omega arith));
     sorted = torn_same 2048 37 (sorted_at s.shape s.body.sorted) (sorted_size s.shape) before after torn (inr (omega arith));
   };
@@ -117,33 +117,33 @@ read_open mark is =
     let valid = valid_shard mark is in
     rw (counted, numbered, named, valid) refl
 
--- ---- the gate
+-- ---- the commit byte
 
 -- the first byte of the mark
-gate_at : (image : List ℕ) → slice_index (mark_part image) 0 ≡ get_or image 2048 0
-gate_at image = get_or-between image 2048 2085 0 0 (omega arith)
+commit_at : (image : List ℕ) → slice_index (mark_part image) 0 ≡ get_or image 2048 0
+commit_at image = get_or-between image 2048 2085 0 0 (omega arith)
 
--- what a closed gate says
+-- what a closed commit byte says
 marking_shut : (b c : Bool) (rest : List ℕ) → b ≡ false → (if not (b && c) then Unmarked else marking_in rest) ≡ Unmarked
 marking_shut b c rest shut = rw shut refl
 
 pub closed_unmarked : (image : List ℕ) → IsMarkClosed image → marking_of image ≡ Unmarked
 closed_unmarked image closed =
-    let shut : is_open (slice_index (mark_part image) 0) ≡ false = ap (λ (gate : ℕ). is_open gate) (gate_at image) ∙ ne_eqb (get_or image 2048 0) 167 closed in
+    let shut : is_open (slice_index (mark_part image) 0) ≡ false = ap (λ (commit : ℕ). is_open commit) (commit_at image) ∙ ne_eqb (get_or image 2048 0) 167 closed in
     elim (cases_Bool (nat_le 2085 (length image))) [
       | inl long ↦ rw (long, shut) refl
       | inr short ↦ rw short refl
     ]
 
--- an open gate with the mark behind it
+-- an open commit byte with the mark behind it
 opened_marked : (mark : Mark) (image : List ℕ) → IsShardMark mark → 2085 ≤ length image → mark_part image ≡ 167 ∷ mark_bytes mark → marking_of image ≡ Marked mark
 opened_marked mark image is long part =
     let test : nat_le 2085 (length image) ≡ true = grind (arith, nat_tests) in
     ap (λ (b : Bool). if b then marking_in (mark_part image) else Unmarked) test ∙ ap marking_in part ∙ read_open mark is
 
 -- it is closed once that is settled
-pub gate_closed : (old new : Content) → 2085 ≤ size old → Writes 2048 (0 ∷ []) old new → Rests new → LeavesOnly new IsMarkClosed
-gate_closed old new least writes rests = rests_leaves rests (record {
+pub commit_closed : (old new : Content) → 2085 ≤ size old → Writes 2048 (0 ∷ []) old new → Rests new → LeavesOnly new IsMarkClosed
+commit_closed old new least writes rests = rests_leaves rests (record {
   holds = λ honest opened.
       let h : IsTrue old.honest = sym writes.honest ∙ honest in
       let byte : get_or new.shown 2048 0 ≡ 0 = ap (λ (image : List ℕ). get_or image 2048 0) (writes.shown h) ∙ splice_byte 2048 (0 ∷ []) old.shown 0 (omega (arith, least)) (omega arith) in
@@ -152,21 +152,21 @@ gate_closed old new least writes rests = rests_leaves rests (record {
 })
 
 -- it stays closed under a change behind it
-gate_kept : (at count : ℕ) (old new : Content) → 2049 ≤ at → ChangesWithin at count old new → LeavesOnly old IsMarkClosed → LeavesOnly new IsMarkClosed
-gate_kept at count old new behind changes closed =
+commit_kept : (at count : ℕ) (old new : Content) → 2049 ≤ at → ChangesWithin at count old new → LeavesOnly old IsMarkClosed → LeavesOnly new IsMarkClosed
+commit_kept at count old new behind changes closed =
     within_leaves changes closed (λ before after shut torn opened. shut (sym (torn.before 2048 (omega (arith, behind))) ∙ opened))
 
 -- ---- the exits of writing a mark
 
--- behind the closed gate
+-- behind the closed commit byte
 pub mark_behind : (mark : Mark) (at count : ℕ) (old new : Content) → 2049 ≤ at → ChangesWithin at count old new → LeavesOnly old IsMarkClosed → LeavesOnly new (IsMarkedOrNot mark)
 mark_behind mark at count old new behind changes closed =
-    record { each = λ honest image left. inl (closed_unmarked image ((gate_kept at count old new behind changes closed).each honest image left)) }
+    record { each = λ honest image left. inl (closed_unmarked image ((commit_kept at count old new behind changes closed).each honest image left)) }
 
--- the mark with any gate
+-- the mark with any commit byte
 module _ (mark : Mark) (old between new : Content) (is : IsShardMark mark) (least : 2085 ≤ size old) (writes : Writes 2049 (mark_bytes mark) old between)
     (rests : Rests between) (same : size between ≡ size old) where
-  -- the bytes behind the gate
+  -- the bytes behind the commit byte
   body_written : IsTrue between.honest → slice_range between.shown 2049 2085 ≡ mark_bytes mark
   body_written honest =
       let h : IsTrue old.honest = sym writes.honest ∙ honest in
@@ -176,7 +176,7 @@ module _ (mark : Mark) (old between new : Content) (is : IsShardMark mark) (leas
       ap (λ (x : List ℕ). slice_range x 2049 2085) (writes.shown h) ∙ ap (λ (to : ℕ). slice_range (splice 2049 (mark_bytes mark) old.shown) 2049 to) end
       ∙ splice_slice 2049 (mark_bytes mark) old.shown fits
 
-  -- an image with this gate
+  -- an image with this commit byte
   torn_open : IsTrue between.honest → (image : List ℕ) → Torn 2048 1 between.shown image → get_or image 2048 0 ≡ 167 → marking_of image ≡ Marked mark
   torn_open honest image torn opened =
       let long : length image ≡ length old.shown = torn.size ∙ same in
@@ -185,8 +185,8 @@ module _ (mark : Mark) (old between new : Content) (is : IsShardMark mark) (leas
       opened_marked mark image is (omega (arith, long, least))
       (slice_join image 2048 2049 2085 (omega arith) (omega arith) ∙ ap (λ (xs : List ℕ). xs ++ slice_range image 2049 2085) first ∙ ap (λ (xs : List ℕ). 167 ∷ xs) body)
 
-  pub mark_gated : ChangesWithin 2048 1 between new → LeavesOnly new (IsMarkedOrNot mark)
-  mark_gated changes = record {
+  pub mark_committed : ChangesWithin 2048 1 between new → LeavesOnly new (IsMarkedOrNot mark)
+  mark_committed changes = record {
     each = λ honest image left.
         let h : IsTrue between.honest = sym changes.honest ∙ honest in
         let from = changes.left h image left in
@@ -197,18 +197,18 @@ module _ (mark : Mark) (old between new : Content) (is : IsShardMark mark) (leas
         ];
   }
 
-  -- the mark, once its gate is settled
+  -- the mark, once its commit byte is settled
   pub mark_settled : Writes 2048 (167 ∷ []) between new → ChangesWithin 2048 1 between new → Rests new → LeavesOnly new (λ image. marking_of image ≡ Marked mark)
-  mark_settled gate changes settled = rests_leaves settled (record {
+  mark_settled commit changes settled = rests_leaves settled (record {
     holds = λ honest.
-        let h : IsTrue between.honest = sym gate.honest ∙ honest in
+        let h : IsTrue between.honest = sym commit.honest ∙ honest in
         let long : length between.shown ≡ length old.shown = same in
-        let byte : get_or new.shown 2048 0 ≡ 167 = ap (λ (image : List ℕ). get_or image 2048 0) (gate.shown h)
+        let byte : get_or new.shown 2048 0 ≡ 167 = ap (λ (image : List ℕ). get_or image 2048 0) (commit.shown h)
         ∙ splice_byte 2048 (167 ∷ []) between.shown 0 (omega (arith, long, least)) (omega arith) in
         torn_open h new.shown (changes.shown h) byte;
   })
 
--- at the first gate
+-- at the first commit byte
 pub left_but_for_mark : (mark : Mark) (old new : Content) → ChangesWithin 2048 1 old new → LeavesOnly new (IsHalfMarked old mark)
 left_but_for_mark mark old new changes = record {
   each = λ honest image left.

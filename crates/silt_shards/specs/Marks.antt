@@ -4,7 +4,7 @@ use Rattle.std.specs.Str.{bytes_eq}
 use Rattle.byteorder.specs.Endian.{big_bytes}
 use Rattle.silt_disk.specs.Disk.{Content, Left, Torn}
 use Rattle.silt_disk.specs.Numbers.{number_at}
-use Rattle.silt_frame.specs.Gate.{gate_open, is_open}
+use Rattle.silt_frame.specs.Commit.{commit_open, is_open}
 use Rattle.silt_image.specs.Laws.{SameMeaning}
 use Rattle.silt_image.specs.Stores.{image_stores}
 use Rattle.silt_shards.specs.Routing.{IsShardCount, is_shard_count}
@@ -16,7 +16,7 @@ use Rattle.silt_shards.specs.declared.mark.Marking.TheVariants.{Unmarked, Unknow
 abbrev pub mark_at : ℕ
 mark_at = 2048
 
--- the length of a mark: its gate, the magic bytes, the version, the two numbers, and the bytes of the set
+-- the length of a mark: its commit byte, the magic bytes, the version, the two numbers, and the bytes of the set
 abbrev pub mark_len : ℕ
 mark_len = 37
 
@@ -28,7 +28,7 @@ set_len = 16
 abbrev pub mark_magic : List ℕ
 mark_magic = codes "SILTSHRD"
 
--- the bytes of a mark after its gate: the magic bytes, version 1, the number of shards, the number of this shard, and the bytes of the set
+-- the bytes of a mark after its commit byte: the magic bytes, version 1, the number of shards, the number of this shard, and the bytes of the set
 abbrev pub mark_bytes : Mark → List ℕ
 mark_bytes mark = mark_magic ++ big_bytes 4 1 ++ big_bytes 4 mark.count ++ big_bytes 4 mark.shard ++ mark.set
 
@@ -42,7 +42,7 @@ pub record IsShardMark (mark : Mark) : Type 0 where
   pub shard : mark.shard < mark.count
   pub set : length mark.set ≡ set_len
 
--- the gate is open, and the magic bytes follow
+-- the commit byte is open, and the magic bytes follow
 abbrev pub has_mark : List ℕ → Bool
 has_mark bytes = is_open (slice_index bytes 0) && bytes_eq (slice_range bytes 1 9) mark_magic
 
@@ -65,21 +65,21 @@ mark_part image = slice_range image mark_at (mark_at + mark_len)
 abbrev pub marking_of : List ℕ → Marking
 marking_of image = if nat_le (mark_at + mark_len) (length image) then marking_in (mark_part image) else Unmarked
 
--- the mark's gate (its commit byte) is closed
+-- the mark's commit byte is closed
 abbrev pub IsMarkClosed : List ℕ → Type 0
-IsMarkClosed image = get_or image mark_at 0 ≢ gate_open
+IsMarkClosed image = get_or image mark_at 0 ≢ commit_open
 
 -- an image has no mark, or this one
 abbrev pub IsMarkedOrNot : Mark → List ℕ → Type 0
 IsMarkedOrNot mark image = (marking_of image ≡ Unmarked) ⊎ (marking_of image ≡ Marked mark)
 
--- a possible crash image before a call, but for the gate of its mark
+-- a possible crash image before a call, but for the commit byte of its mark
 pub record IsLeftButForMark (old : Content) (image : List ℕ) : Type 0 where
   pub before : List ℕ
   pub left : Left old before
   pub torn : Torn mark_at 1 before image
 
--- a possible crash image while a mark is written: one that was possible before, but for the gate; or one with no mark; or with this one
+-- a possible crash image while a mark is written: one that was possible before, but for the commit byte; or one with no mark; or with this one
 abbrev pub IsHalfMarked : Content → Mark → List ℕ → Type 0
 IsHalfMarked old mark image = IsLeftButForMark old image ⊎ IsMarkedOrNot mark image
 
@@ -89,4 +89,4 @@ FileMarkLaw = (before after : List ℕ) → Torn mark_at mark_len before after �
 
 -- a mark reads back as it was written
 abbrev pub ReadBackLaw : Type 0
-ReadBackLaw = (mark : Mark) (gate : ℕ) → IsShardMark mark → marking_in (gate ∷ mark_bytes mark) ≡ (if is_open gate then Marked mark else Unmarked)
+ReadBackLaw = (mark : Mark) (commit : ℕ) → IsShardMark mark → marking_in (commit ∷ mark_bytes mark) ≡ (if is_open commit then Marked mark else Unmarked)

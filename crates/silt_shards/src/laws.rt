@@ -45,7 +45,7 @@ pub fn mark_law()
     ensures { FileMarkLaw }
 {}
 
-/// A mark reads back as it was written, if its gate is open.
+/// A mark reads back as it was written, if its commit byte is open.
 pub fn mark_read_back_law()
     ensures { ReadBackLaw }
 {}

@@ -11,15 +11,15 @@ ghost use Rattle.silt_shards.specs.declared.mark.Marking.TheVariants.{Unmarked, 
 use crate::shard_key::{LEAST_SHARDS, MOST_SHARDS};
 use byteorder::{BigEndian, ByteOrder};
 use silt_disk::{Disk, write_synced};
-use silt_frame::{GATE_CLOSED, GATE_OPEN, is_open};
+use silt_frame::{COMMIT_CLOSED, COMMIT_OPEN, is_open};
 
 // Where the mark of a file begins: in the first sector, behind the header. Nothing else of a store is there.
 const MARK_AT: u64 = 2_048;
 
-// The length of a mark, its gate included.
+// The length of a mark, its commit byte included.
 const MARK_LEN: usize = 37;
 
-// The magic bytes follow the mark's gate.
+// The magic bytes follow the mark's commit byte.
 const MAGIC: [u8; 8] = *b"SILTSHRD";
 
 // The version of the mark's form.
@@ -71,7 +71,7 @@ fn marking_in(bytes: &[u8; MARK_LEN]) -> Marking
     Marking::Marked(Mark { count, shard, set })
 }
 
-// The bytes of a mark after its gate.
+// The bytes of a mark after its commit byte.
 pub(crate) fn mark_bytes(mark: &Mark) -> [u8; MARK_LEN - 1]
     requires { IsShardMark mark.now }
     ensures { result ≡ mark_bytes mark.now }
@@ -106,12 +106,12 @@ pub fn read_mark<D: Disk>(disk: &D) -> Result<Marking, D::Fault>
     Ok(marking_in(&bytes))
 }
 
-/// Closes the gate of a file's mark, its commit byte, so that the file has none. It makes one write and one sync. The store
+/// Closes the commit byte of a file's mark, so that the file has none. It makes one write and one sync. The store
 /// in the file stays what it is.
 ///
 /// # Errors
 ///
-/// The fault of the write or the sync. Each crash image that is then possible was possible before, but for the gate.
+/// The fault of the write or the sync. Each crash image that is then possible was possible before, but for the commit byte.
 pub fn close_mark<D: Disk>(disk: &mut D) -> Result<(), D::Fault>
     requires { mark_at + mark_len ≤ size (D.content disk.old) }
     ensures wrote { Wrote D.Disk mark_at 1 1 1 disk.old disk.new result }
@@ -121,11 +121,11 @@ pub fn close_mark<D: Disk>(disk: &mut D) -> Result<(), D::Fault>
     ensures rests { OnOk result (Rests (D.content disk.new)) }
     ensures fault { IfErr result (GaveAny D.gave disk.new) }
 {
-    write_synced(disk, MARK_AT, &[GATE_CLOSED])?;
+    write_synced(disk, MARK_AT, &[COMMIT_CLOSED])?;
     Ok(())
 }
 
-// Writes a mark behind its closed gate, and then opens the gate, each with a sync.
+// Writes a mark behind its closed commit byte, and then opens that byte, each with a sync.
 fn write_behind<D: Disk>(disk: &mut D, mark: &Mark) -> Result<(), D::Fault>
     requires size { mark_at + mark_len ≤ size (D.content disk.old) }
     requires mark { IsShardMark mark.now }
@@ -137,17 +137,17 @@ fn write_behind<D: Disk>(disk: &mut D, mark: &Mark) -> Result<(), D::Fault>
 {
     let bytes = mark_bytes(mark);
     write_synced(disk, MARK_AT + 1, &bytes)?;
-    write_synced(disk, MARK_AT, &[GATE_OPEN])?;
+    write_synced(disk, MARK_AT, &[COMMIT_OPEN])?;
     Ok(())
 }
 
-/// Makes a file this shard. It first closes the gate of its mark, so that a crash leaves the file with no mark or with the
+/// Makes a file this shard. It first closes the commit byte of its mark, so that a crash leaves the file with no mark or with the
 /// whole one. It makes three writes and three syncs. The store in the file stays what it is.
 ///
 /// # Errors
 ///
 /// The fault of a write or a sync. Each crash image that is then possible has no mark, or this one, or it was possible
-/// before, but for the gate.
+/// before, but for the commit byte.
 pub fn write_mark<D: Disk>(disk: &mut D, mark: &Mark) -> Result<(), D::Fault>
     requires size { mark_at + mark_len ≤ size (D.content disk.old) }
     requires mark { IsShardMark mark.now }

@@ -46,13 +46,13 @@ waiting_commands content s = map command_of (waiting_rows content s.active.log)
 abbrev pub current_map : Content → EngineState → Map
 current_map content s = map_after (base_map content s) (waiting_commands content s)
 
--- what is shown, with the gates of the waiting rows open
+-- what is shown, with the commit bytes of the waiting rows open
 abbrev pub full_image : Content → EngineState → List ℕ
 full_image content s = log.opened_image content s.active.log
 
 -- ---- how they stand
 
--- a frozen log has the rows before the first closed gate, and their table
+-- a frozen log has the rows before the first closed commit byte, and their table
 pub record IsFrozen (content : Content) (store : LogStoreState) : Type 0 where
   pub rows : IsTrue content.honest → store.log.used ≡ open_count store.log.shape store.log.region content.shown
   pub indexed : IsIndexed content store

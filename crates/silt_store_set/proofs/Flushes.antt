@@ -27,7 +27,7 @@ module _ {D F : Type 0} (facts : Ghosts D F) (disk : D) (stores : EngineState) (
       (λ _ _. ap (λ m. m.current) manifest) (λ _. converting) (λ _. merging) (λ _. quiet.none_wait) counted
       (subst (λ (n : ℕ). Makes facts.writes facts.syncs n (2 * n) disk new) waits made)
 
-  -- a sync or the write of the gates failed
+  -- a sync or the write of the commit bytes failed
   pub flush_broke : (new : D) (after : EngineState) (fault : F) → SameDisk (facts.content disk) (facts.content new)
       → Breaks (facts.content disk) (facts.content new) stores → Remaps [] (facts.content disk) (facts.content new) stores after
       → after.manifest ≡ stores.manifest → GaveAny facts.gave new fault → facts.failures new ≡ (facts.failures disk + 1) % 2 ^ 64

@@ -69,7 +69,7 @@ pub record CoreState (D : Type 0) : Type 0 where
   pub shape : Shape
   -- the manifest record: which regions make up the store
   pub body : Body
-  -- the device's bytes, with the commit bytes (gates) of the waiting rows set
+  -- the device's bytes, with the commit bytes of the waiting rows set
   pub full : List ℕ
   -- the map of the device's bytes, and the commands of the waiting rows; if the store is failed, both are as its failing call began
   pub base : Map

@@ -349,7 +349,7 @@ impl<D: Disk> Core<D> {
         match self.engine.flush(&mut self.disk) {
             Ok(()) => Ok(self.count),
             Err(fault) => {
-                self.failed = true; // some of the gates may be open
+                self.failed = true; // some of the commit bytes may be open
                 self.basis = basis;
                 Err(Refusal::Device(fault))
             }

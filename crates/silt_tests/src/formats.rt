@@ -13,10 +13,10 @@ use std::alloc::Global;
 use std::process::Abort;
 use std::test::Fail;
 
-// How many writes and syncs a formatting makes. The last but one opens the header's gate, at offset 0.
+// How many writes and syncs a formatting makes. The last but one opens the header's commit byte, at offset 0.
 const FORMAT_CALLS: u32 = 15;
 
-// Whether the header's gate is open for the new store after this crash.
+// Whether the header's commit byte is open for the new store after this crash.
 fn is_opened(stop: Stop) -> bool {
     let is_shown = matches!(stop.fill, Fill::New | Fill::Mix);
     is_answered(stop) || FORMAT_CALLS - 1 <= stop.k && is_shown
@@ -27,7 +27,7 @@ fn is_answered(stop: Stop) -> bool {
     stop.k == 0 || stop.k > FORMAT_CALLS
 }
 
-// Whether the crash leaves the header's old gate open. Call 1 writes a zero over it, and call 2 is
+// Whether the crash leaves the header's old commit byte open. Call 1 writes a zero over it, and call 2 is
 // the sync.
 fn is_old(stop: Stop) -> bool {
     0 < stop.k && stop.k < 3 && stop.fill == Fill::Old
@@ -101,7 +101,7 @@ fn formatting_stopped_at(rt: &impl Abort, alloc: Global, k: u32) -> Result<(), F
     Ok(())
 }
 
-// A crash before the call that opens the header's gate leaves no store. A later one leaves an empty
+// A crash before the call that opens the header's commit byte leaves no store. A later one leaves an empty
 // store, or none.
 #[test]
 fn formatting_stopped_anywhere(rt: HostRuntime) -> Result<(), Fail> {
@@ -115,7 +115,7 @@ fn formatting_stopped_anywhere(rt: HostRuntime) -> Result<(), Fail> {
 const OLD_VALUES: [u16; 8] = [0, 0, 0x0304, 0x0506, 0, 0, 0, 0];
 
 // What an opening finds after this crash in a formatting over an old store. As long as the header's
-// old gate is open, it finds the whole old store. Then it finds none, and at the end the new, empty
+// old commit byte is open, it finds the whole old store. Then it finds none, and at the end the new, empty
 // one.
 fn left_over(stop: Stop) -> Found {
     if is_opened(stop) {

@@ -15,7 +15,7 @@ pub(crate) const FINISHED: Printed = Printed::Progress(Progress::Finished);
 pub(crate) const IDLE: Printed = Printed::Progress(Progress::Idle);
 
 /// Five puts and a flush, and then a conversion: forty calls. The last put freezes the full log. It
-/// makes the three calls of a flush, two for the gates of the next log, six for the manifest, and
+/// makes the three calls of a flush, two for the commit bytes of the next log, six for the manifest, and
 /// two for its row. Each of the eight slots takes one write. The last step makes a sync and the six
 /// calls of the manifest.
 pub(crate) const CONVERTED: [(Line, u8); 7] = [
@@ -123,12 +123,12 @@ pub(crate) const SWAPS_TOLD: [Printed; 3] = [
 ];
 
 /// A swap after the two merges, of a value in the sorted store. The active log is full and no row
-/// waits. So the swap makes two calls for the gates of the next log, six for the manifest, and two
+/// waits. So the swap makes two calls for the commit bytes of the next log, six for the manifest, and two
 /// for the row.
 pub(crate) const SWAP_MERGED: Line = Line::Swap(2, 0x0304, 0x0607);
 
 /// A swap after the merge beside conversions, of a value in a hash store. The active log is full
-/// and its row waits. So the swap makes three calls for the flush, two for the gates of the next
+/// and its row waits. So the swap makes three calls for the flush, two for the commit bytes of the next
 /// log, six for the manifest, and two for the row.
 pub(crate) const SWAP_MEANWHILE: Line = Line::Swap(1, 3, 5);
 

@@ -157,7 +157,7 @@ fn all_refused(rt: &impl Abort, alloc: Global, bytes: &[u8]) -> Result<Refused, 
     Err("reads without end".into())
 }
 
-// An opening reads the header, two slots, the gates of two logs and five heads. It reads all slots
+// An opening reads the header, two slots, the commit bytes of two logs and five heads. It reads all slots
 // of the hash store at once. For three rows there it also reads the heads of the rows before them
 // with the same bucket and tag: one, two and three.
 // A get reads each candidate's row whole, up to the one that has the key. All keys here have only

@@ -1,6 +1,6 @@
 -- What a store is at one moment.
 use Rattle.std.specs.Prelude.{◌≡◌, ℕ, false, List, [], ◌∷◌, length, take, drop}
-use Rattle.silt_disk.specs.Layout.{gates_at, log_size}
+use Rattle.silt_disk.specs.Layout.{commits_at, log_size}
 use Rattle.silt_disk.specs.declared.disk.Disk.{Ghosts}
 use Rattle.silt_manifest.specs.declared.body.Body.{Body}
 use Rattle.silt_store_set.specs.CoreState.{CoreState}
@@ -11,7 +11,7 @@ use Rattle.silt_view.specs.declared.moment.Moment.{Moment}
 module _ {D F : Type 0} (disk : Ghosts D F) (core : CoreState D) where
   -- these are the bytes of a whole log region, as the disk of a store gave them
   abbrev pub HasLog : ℕ → List ℕ → Type 0
-  HasLog region bytes = (length bytes ≡ log_size core.shape) × GivesBytes disk core (gates_at core.shape region) bytes
+  HasLog region bytes = (length bytes ≡ log_size core.shape) × GivesBytes disk core (commits_at core.shape region) bytes
 
   -- the bytes begin with those of these log regions, one behind the other
   abbrev pub HoldLogs : List ℕ → List ℕ → Type 0

@@ -1,6 +1,6 @@
 // What a store is at one moment: as much as a copy of it needs.
 ghost use Rattle.std.specs.Prelude.{◌≡◌, ◌+◌, ◌≤◌, ◌<◌, ◌≢◌, ◌^◌, ℕ, ◌∷◌, IfErr, IfOk, IsTrue, OnOk, length};
-ghost use Rattle.silt_disk.specs.Layout.{gates_at, log_size};
+ghost use Rattle.silt_disk.specs.Layout.{commits_at, log_size};
 ghost use Rattle.silt_view.specs.Moments.{HasLog, HoldLogs, IsMoment};
 ghost use Rattle.silt_view.specs.Views.{GivesFaultIn};
 
@@ -53,13 +53,13 @@ fn log_len(geometry: &Geometry) -> usize
     ensures { result ≡ log_size geometry.now }
 {
     let _known = geometry.logs(); // there are at least two
-    (geometry.gates_at(1) - geometry.gates_at(0)) as usize
+    (geometry.commits_at(1) - geometry.commits_at(0)) as usize
 }
 
 // How long all log regions of a device are.
 fn logs_len(geometry: &Geometry) -> usize {
     let _known = geometry.logs(); // there is a region for hash stores
-    (geometry.hash_at(0) - geometry.gates_at(0)) as usize
+    (geometry.hash_at(0) - geometry.commits_at(0)) as usize
 }
 
 impl Moment {
@@ -95,7 +95,7 @@ fn read_log<D: Disk>(core: &Core<D>, region: u32, log: &mut [u8]) -> Result<(), 
     if region >= geometry.logs() {
         return Err(ReadFault::Outside);
     }
-    read_within(core, geometry.gates_at(region), log)
+    read_within(core, geometry.commits_at(region), log)
 }
 
 // Reads this log region of a store's device, and then the others, one behind the other.

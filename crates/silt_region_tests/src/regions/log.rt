@@ -39,7 +39,7 @@ fn armed(rt: &impl Abort, alloc: Global, disk: MemDisk, k: u32) -> MemDisk
     disk.arm(done(rt, one_stop(alloc, k)))
 }
 
-// Prepares a log, appends a row and opens its gate. `done` counts the calls that returned Ok.
+// Prepares a log, appends a row and opens its commit byte. `done` counts the calls that returned Ok.
 fn write_one<D: Disk>(log: &mut Log, disk: &mut D, done: &mut u32) -> Result<(), D::Fault>
     requires value { log.old.shape.value_len ≡ 2 }
     requires room { 1 ≤ log.old.shape.log_capacity }
@@ -50,12 +50,12 @@ fn write_one<D: Disk>(log: &mut Log, disk: &mut D, done: &mut u32) -> Result<(),
     *done = 1;
     log.append(disk, Kind::Put, &Key(ABC), &[1, 2])?;
     *done = 2;
-    log.open_gates(disk)?;
+    log.open_commits(disk)?;
     *done = 3;
     Ok(())
 }
 
-// Whether the disk shows the open gate and the row.
+// Whether the disk shows the open commit byte and the row.
 fn shows_row(disk: &MemDisk) -> bool {
     shows(disk, 12_288, &[0xA7, 0, 0, 0]) && shows(disk, 16_384, &BODY) && shows(disk, 16_407, &[0])
 }
@@ -68,7 +68,7 @@ fn new_log(rt: &impl Abort, alloc: Global) -> Log
 }
 
 // Writes a row on a blank disk whose K-th write or sync fails. Returns how many calls returned Ok, whether all did, and
-// whether the disk shows the open gate and the row.
+// whether the disk shows the open commit byte and the row.
 fn written(rt: &impl Abort, alloc: Global, k: u32) -> (u32, bool, bool) {
     let mut log = new_log(rt, alloc);
     let mut disk = armed(rt, alloc, blank(rt, alloc, LEN), k);
@@ -89,7 +89,7 @@ fn is_counted(rt: &impl Abort, alloc: Global, k: u32, count: u32) {
 }
 
 // The K-th write or sync fails. The first two are made by `prepare`, the next two by `append`, and
-// three by `open_gates`.
+// three by `open_commits`.
 #[test]
 fn calls_are_counted(rt: HostRuntime) {
     let alloc = rt.alloc();
@@ -103,12 +103,12 @@ fn calls_are_counted(rt: HostRuntime) {
     is_counted(&rt, alloc, 8, 3);
 }
 
-// A disk with these first three gates of log 0 and this body of its first row, and zeros elsewhere.
-fn crafted(rt: &impl Abort, alloc: Global, gates: &[u8; 3], body: &[u8; 23]) -> MemDisk
+// A disk with these first three commit bytes of log 0 and this body of its first row, and zeros elsewhere.
+fn crafted(rt: &impl Abort, alloc: Global, commits: &[u8; 3], body: &[u8; 23]) -> MemDisk
     ensures { size (memory_content result) ≡ 45056 }
 {
     let mut disk = blank(rt, alloc, LEN);
-    put(rt, &mut disk, 12_288, gates);
+    put(rt, &mut disk, 12_288, commits);
     put(rt, &mut disk, 16_384, body);
     done(rt, disk.sync());
     disk
@@ -146,8 +146,8 @@ fn first_row(rt: &impl Abort, log: &Log, disk: &MemDisk) -> (Key, [u8; 2])
     (done(rt, log.read_key(disk, 0)), value)
 }
 
-// Scans a log whose second gate is closed, and reads its first row.
-fn scanned_gates(rt: &impl Abort, alloc: Global) -> (Scanned, (Key, [u8; 2])) {
+// Scans a log whose second commit byte is closed, and reads its first row.
+fn scanned_commits(rt: &impl Abort, alloc: Global) -> (Scanned, (Key, [u8; 2])) {
     let mut log = new_log(rt, alloc);
     let disk = crafted(rt, alloc, &[0xA7, 0x55, 0xA7], &BODY);
     let scanned = scanned(alloc, &mut log, &disk);
@@ -155,14 +155,14 @@ fn scanned_gates(rt: &impl Abort, alloc: Global) -> (Scanned, (Key, [u8; 2])) {
 }
 
 #[test]
-fn a_scan_ends_at_the_first_closed_gate(rt: HostRuntime) {
+fn a_scan_ends_at_the_first_closed_commit_byte(rt: HostRuntime) {
     let row = Row {
         kind: Kind::Put,
         key: Key(ABC),
         place: 0,
     };
     let due = (Ok((Some(row), 1, 1)), (Key(ABC), [1, 2]));
-    same(&rt, &scanned_gates(&rt, rt.alloc()), &due);
+    same(&rt, &scanned_commits(&rt, rt.alloc()), &due);
 }
 
 // The capacity and the region of a new log with the largest geometry.
@@ -201,8 +201,8 @@ fn seal<D: Disk>(rt: &impl Abort, alloc: Global, log: &mut Log, disk: &mut D) ->
     log.seal(disk).is_ok()
 }
 
-// Scans and seals a log on a disk with these gates, whose K-th write or sync fails. The sync before
-// the scan is the first. The disk then shows a gate of this byte as the third one, and the others as
+// Scans and seals a log on a disk with these commit bytes, whose K-th write or sync fails. The sync before
+// the scan is the first. The disk then shows a commit byte of this byte as the third one, and the others as
 // they were.
 fn seals(rt: &impl Abort, alloc: Global, third: u8, left: u8, k: u32, expected: bool) {
     let mut log = new_log(rt, alloc);
@@ -213,9 +213,9 @@ fn seals(rt: &impl Abort, alloc: Global, third: u8, left: u8, k: u32, expected: 
     same_in(rt, &(ended, is_shown), &(expected, true), &(third, k));
 }
 
-// A seal makes one write and one sync, or no call. It never writes to the first closed gate.
+// A seal makes one write and one sync, or no call. It never writes to the first closed commit byte.
 #[test]
-fn a_seal_leaves_the_first_closed_gate(rt: HostRuntime) {
+fn a_seal_leaves_the_first_closed_commit_byte(rt: HostRuntime) {
     let alloc = rt.alloc();
     seals(&rt, alloc, 0xA7, 0, 2, false);
     seals(&rt, alloc, 0xA7, 0, 3, false);

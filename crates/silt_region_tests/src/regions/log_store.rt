@@ -17,7 +17,7 @@ use silt_log_store::{Found, LogStore, RebuildError};
 use std::alloc::Global;
 use std::process::Abort;
 
-// Writes a row of this kind and key with an open gate into log 0.
+// Writes a row of this kind and key with an open commit byte into log 0.
 fn write_row(rt: &impl Abort, disk: &mut MemDisk, place: u8, kind: u8, key: &Key)
     requires place { place < 8 }
     requires size { 45056 ≤ size (memory_content disk.old) }
@@ -259,7 +259,7 @@ fn take(
 }
 
 // Puts a key, deletes another one of the same buckets, puts the first one again, and opens the
-// gates.
+// commit bytes.
 fn put_three(rt: &impl Abort, store: &mut LogStore, disk: &mut MemDisk)
     requires value { store.old.log.shape.value_len ≡ 2 }
     requires size { device_size store.old.log.shape ≤ size (memory_content disk.old) }
@@ -271,7 +271,7 @@ fn put_three(rt: &impl Abort, store: &mut LogStore, disk: &mut MemDisk)
     take(rt, store, disk, Kind::Delete, paired(2), [0, 0]);
     take(rt, store, disk, Kind::Put, paired(1), [0, 3]);
     assert!(rt; store.has_waiting());
-    done(rt, store.open_gates(disk))
+    done(rt, store.open_commits(disk))
 }
 
 // The place at which the first key is found, and the value there.
@@ -338,18 +338,18 @@ fn seal<D: Disk>(rt: &impl Abort, alloc: Global, disk: &mut D) -> bool
     store.seal(disk).is_ok()
 }
 
-// Rebuilds and seals log 0 on a disk with two open puts and with this gate after closed ones. The
+// Rebuilds and seals log 0 on a disk with two open puts and with this commit byte after closed ones. The
 // first write fails, so that the seal does, or there is none.
-fn seals_with_fault(rt: &impl Abort, alloc: Global, gate: u8, expected: bool) {
+fn seals_with_fault(rt: &impl Abort, alloc: Global, commit: u8, expected: bool) {
     let mut disk = crowded(rt, alloc, 2, true);
-    put(rt, &mut disk, 12_293, &[gate]);
+    put(rt, &mut disk, 12_293, &[commit]);
     let mut failing = with_fault(disk, Call::Write, 1);
     let ended = seal(rt, alloc, &mut failing);
     drop(failing);
-    same_in(rt, &ended, &expected, &gate);
+    same_in(rt, &ended, &expected, &commit);
 }
 
-// Whether a log with stale commit bytes is sealed, and its gates are then closed.
+// Whether a log with stale commit bytes is sealed, and its commit bytes are then closed.
 fn seal_stale(rt: &impl Abort, alloc: Global) -> (bool, bool) {
     let mut disk = crowded(rt, alloc, 2, true);
     write_row(rt, &mut disk, 5, 1, &paired(6));

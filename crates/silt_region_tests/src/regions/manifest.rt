@@ -23,7 +23,7 @@ const FILLS: [Fill; 5] = [Fill::Old, Fill::New, Fill::Zero, Fill::Ones, Fill::Mi
 // The header and the two slots.
 const LEN: usize = 12_288;
 
-// The bytes of a slot that count: the gate, the body, and the digests or zeros.
+// The bytes of a slot that count: the commit byte, the body, and the digests or zeros.
 type Slot = [u8; 461];
 
 // The current record on a device, or the damage. None if a read fails.
@@ -94,10 +94,10 @@ fn stop_of(number: u32) -> Stop {
     }
 }
 
-// A slot with this gate, this generation below 256, and zeros elsewhere.
-fn slot_of(gate: u8, generation: u8) -> Slot {
+// A slot with this commit byte, this generation below 256, and zeros elsewhere.
+fn slot_of(commit: u8, generation: u8) -> Slot {
     let mut slot = [0; 461];
-    slot[0] = gate;
+    slot[0] = commit;
     slot[8] = generation;
     slot
 }
@@ -411,7 +411,7 @@ fn writes_the_layouts_bytes(rt: HostRuntime) {
 }
 
 // A device of this version. The first slot is open with generation 0, and has this byte after its
-// gate.
+// commit byte.
 fn with_form(rt: &impl Abort, alloc: Global, number: u8, byte: u8) -> MemDisk
     ensures { Rests (memory_content result) }
 {
@@ -452,7 +452,7 @@ fn takes_the_forms_of_its_version(rt: HostRuntime) {
     takes(&rt, alloc, 2, 0x80, true);
 }
 
-// The two slots in their order, if this generation is current and the other slot has this gate.
+// The two slots in their order, if this generation is current and the other slot has this commit byte.
 fn slots_of(old: u8, spare: u8) -> (Slot, Slot) {
     let current_slot = slot_of(0xA7, old);
     let spare_slot = slot_of(spare, old.wrapping_sub(1));
@@ -483,12 +483,12 @@ fn stopped_write(
     (done, current_after(disk, geometry))
 }
 
-// Whether a crash at the call that writes a gate leaves the gate written.
-fn keeps_the_gate(fill: Fill) -> bool {
+// Whether a crash at the call that writes a commit byte leaves the commit byte written.
+fn keeps_the_commit(fill: Fill) -> bool {
     fill == Fill::New || fill == Fill::Mix
 }
 
-// This crash leaves the old body or the new one. The fifth call writes the gate, at an even offset.
+// This crash leaves the old body or the new one. The fifth call writes the commit byte, at an even offset.
 fn leaves_old_or_new(
     rt: &impl Abort,
     alloc: Global,
@@ -499,12 +499,12 @@ fn leaves_old_or_new(
 ) {
     let found = stopped_write(rt, alloc, slots, *next, stop);
     let done = stop.k == 0 || stop.k > 6;
-    let is_new = done || (stop.k >= 5 && keeps_the_gate(stop.fill));
+    let is_new = done || (stop.k >= 5 && keeps_the_commit(stop.fill));
     let left = if is_new { Some(Ok(*next)) } else { *before };
     same_in(rt, &found, &(done, left), &stop);
 }
 
-// That of each crash, if this generation is current and the other slot has this gate.
+// That of each crash, if this generation is current and the other slot has this commit byte.
 fn each_leaves_old_or_new(rt: &impl Abort, alloc: Global, old: u8, spare: u8) {
     let slots = slots_of(old, spare);
     let next = body_of(u64::from(old) + 1);
@@ -535,7 +535,7 @@ fn stopped_writes(rt: &impl Abort, alloc: Global, stop: Stop) -> (bool, Current)
 
 // Which body is current after a crash at this call.
 fn left_of_two(k: u32, fill: Fill) -> Body {
-    let is_kept = keeps_the_gate(fill);
+    let is_kept = keeps_the_commit(fill);
     if k == 0 || k > 12 || (k >= 11 && is_kept) {
         return body_of(2);
     }
@@ -603,7 +603,7 @@ fn ones_at(k: u32) -> Stop {
     }
 }
 
-// A write of generation 3 beside a slot with this gate ends with a crash at its first call. The
+// A write of generation 3 beside a slot with this commit byte ends with a crash at its first call. The
 // crash changes this place.
 fn changes_first(rt: &impl Abort, alloc: Global, spare: u8, place: usize) {
     let geometry = small(rt);
@@ -612,9 +612,9 @@ fn changes_first(rt: &impl Abort, alloc: Global, spare: u8, place: usize) {
     same(rt, &(done, first_ones(disk)), &(false, (LEN, Some(place))));
 }
 
-// The first call writes to the gate if that is open, and else to the last place of the slot.
+// The first call writes to the commit byte if that is open, and else to the last place of the slot.
 #[test]
-fn the_first_call_spares_a_closed_gate(rt: HostRuntime) {
+fn the_first_call_spares_a_closed_commit_byte(rt: HostRuntime) {
     changes_first(&rt, rt.alloc(), 0xA7, 8192);
     changes_first(&rt, rt.alloc(), 0, 12_287);
 }
@@ -653,13 +653,13 @@ fn first_after(disk: MemDisk, geometry: Geometry) -> (Current, bool) {
 }
 
 // The first body is written over two old ones, with this crash. It is current from the call on that
-// writes its gate: the seventh, at an even offset.
+// writes its commit byte: the seventh, at an even offset.
 fn leaves_first(rt: &impl Abort, alloc: Global, stop: Stop) {
     let geometry = small(rt);
     let (disk, done) = written_over_old(rt, alloc, stop);
     let left = first_after(disk, geometry);
     same_in(rt, &done, &(stop.k == 0 || stop.k > 8), &stop);
-    if done || (stop.k >= 7 && keeps_the_gate(stop.fill)) {
+    if done || (stop.k >= 7 && keeps_the_commit(stop.fill)) {
         same_in(rt, &left, &(Some(Ok(Body::first())), true), &stop);
     } else if stop.k >= 5 {
         same_in(rt, &left.0, &Some(Err(Damage::NoSlot)), &stop);
@@ -674,35 +674,35 @@ fn the_first_body_is_current_once_it_is_written(rt: HostRuntime) {
     }
 }
 
-// The first write of the first body goes to the gate of slot 0, though that is closed.
+// The first write of the first body goes to the commit byte of slot 0, though that is closed.
 #[test]
-fn the_first_body_begins_at_its_gate(rt: HostRuntime) {
+fn the_first_body_begins_at_its_commit_byte(rt: HostRuntime) {
     let closed = slot_of(0, 0);
     let (disk, done) = first_written(&rt, rt.alloc(), &closed, &closed, ones_at(3));
     same(&rt, &(done, first_ones(disk)), &(false, (LEN, Some(4096))));
 }
 
-// A write of the first body ends with a crash at this call, and slot 0 then shows this gate.
-fn has_gate(rt: &impl Abort, alloc: Global, k: u32, gate: u8) {
+// A write of the first body ends with a crash at this call, and slot 0 then shows this commit byte.
+fn has_commit(rt: &impl Abort, alloc: Global, k: u32, commit: u8) {
     let stop = Stop { k, fill: Fill::Old };
     let (disk, done) = written_over_old(rt, alloc, stop);
-    let is_shown = shows(&disk, 4096, &[gate]);
+    let is_shown = shows(&disk, 4096, &[commit]);
     drop(disk);
     same_in(rt, &(done, is_shown), &(false, true), &k);
 }
 
-// The gate of slot 0 is open before the first body is written. Of the six calls that write it, the
-// first one closes the gate with a zero, and the fifth one opens it.
+// The commit byte of slot 0 is open before the first body is written. Of the six calls that write it, the
+// first one closes the commit byte with a zero, and the fifth one opens it.
 #[test]
-fn the_first_gate_is_closed_by_a_zero(rt: HostRuntime) {
+fn the_first_commit_byte_is_closed_by_a_zero(rt: HostRuntime) {
     let alloc = rt.alloc();
-    has_gate(&rt, alloc, 2, 0xA7);
-    has_gate(&rt, alloc, 3, 0);
-    has_gate(&rt, alloc, 4, 0);
-    has_gate(&rt, alloc, 5, 0);
-    has_gate(&rt, alloc, 6, 0);
-    has_gate(&rt, alloc, 7, 0xA7);
-    has_gate(&rt, alloc, 8, 0xA7);
+    has_commit(&rt, alloc, 2, 0xA7);
+    has_commit(&rt, alloc, 3, 0);
+    has_commit(&rt, alloc, 4, 0);
+    has_commit(&rt, alloc, 5, 0);
+    has_commit(&rt, alloc, 6, 0);
+    has_commit(&rt, alloc, 7, 0xA7);
+    has_commit(&rt, alloc, 8, 0xA7);
 }
 
 // A disk whose call of this kind and this number fails.

@@ -1,25 +1,25 @@
 use Rattle.std.proofs.Common.{◌≡◌, ◌∙◌, ℕ, [], ◌∷◌, refl, subst, arith, rules}
 use Rattle.silt_disk.specs.Disk.{ChangesWithin, LeavesOnly, Makes, MakesAtMost, Writes}
 use Rattle.silt_disk.proofs.Costs.{made_both, most_both, most_made, most_more}
-use Rattle.silt_disk.specs.Layout.{gates_at}
+use Rattle.silt_disk.specs.Layout.{commits_at}
 use Rattle.silt_log.specs.Rows.{log_rows}
 use Rattle.silt_log.specs.State.{LogState}
 use Rattle.silt_recovery.proofs.Formats.{formatted, second_closed}
-use Rattle.silt_recovery.proofs.HalfFormats.{gate_closed, gate_kept, gate_kept_by_write, left_at_last, left_but_for_gate, left_closed, on_err}
+use Rattle.silt_recovery.proofs.HalfFormats.{commit_closed, commit_kept, commit_kept_by_write, left_at_last, left_but_for_commit, left_closed, on_err}
 use Rattle.silt_recovery.proofs.empty_store.write_store.Goals as goal
 
 pub returns-in_err-write_synced-clause-stopped : goal.returns-in_err-write_synced-clause-stopped
 returns-in_err-write_synced-clause-stopped g c =
-    on_err c.from_residual.result (left_but_for_gate c.args.geometry.now (g.D.Disk.content c.args.disk.now) (g.D.Disk.content c.write_synced.new.disk) c.write_synced.ensures.wrote.changes)
+    on_err c.from_residual.result (left_but_for_commit c.args.geometry.now (g.D.Disk.content c.args.disk.now) (g.D.Disk.content c.write_synced.new.disk) c.write_synced.ensures.wrote.changes)
 
 pub returns-in_err-write-clause-stopped : goal.returns-in_err-write-clause-stopped
 returns-in_err-write-clause-stopped g c =
     let c0 = g.D.Disk.content c.args.disk.now in
     let c1 = g.D.Disk.content c.write_synced.new.disk in
     let c2 = g.D.Disk.content c.write.new.self in
-    let closed1 = gate_closed c0 c1 (omega (arith, c.requires.size)) c.in_ok-write_synced.ensures.written c.in_ok-write_synced.ensures.rests in
+    let closed1 = commit_closed c0 c1 (omega (arith, c.requires.size)) c.in_ok-write_synced.ensures.written c.in_ok-write_synced.ensures.rests in
     on_err c.from_residual-in_err-write.result (left_closed c.args.geometry.now c0 c2
-    (gate_kept_by_write c.slot_start.result 1 c1 c2 (omega (arith, c.slot_start.ensures)) c.write.ensures.torn closed1))
+    (commit_kept_by_write c.slot_start.result 1 c1 c2 (omega (arith, c.slot_start.ensures)) c.write.ensures.torn closed1))
 
 pub returns-in_err-prepare-clause-stopped : goal.returns-in_err-prepare-clause-stopped
 returns-in_err-prepare-clause-stopped g c =
@@ -27,9 +27,9 @@ returns-in_err-prepare-clause-stopped g c =
     let c1 = g.D.Disk.content c.write_synced.new.disk in
     let c2 = g.D.Disk.content c.write.new.self in
     let c3 = g.D.Disk.content c.prepare.new.disk in
-    let closed1 = gate_closed c0 c1 (omega (arith, c.requires.size)) c.in_ok-write_synced.ensures.written c.in_ok-write_synced.ensures.rests in
-    let closed2 = gate_kept_by_write c.slot_start.result 1 c1 c2 (omega (arith, c.slot_start.ensures)) c.write.ensures.torn closed1 in
-    on_err c.from_residual-in_err-prepare.result (left_closed c.args.geometry.now c0 c3 (gate_kept _ _ c2 c3 (omega arith) c.prepare.ensures.wrote.changes closed2))
+    let closed1 = commit_closed c0 c1 (omega (arith, c.requires.size)) c.in_ok-write_synced.ensures.written c.in_ok-write_synced.ensures.rests in
+    let closed2 = commit_kept_by_write c.slot_start.result 1 c1 c2 (omega (arith, c.slot_start.ensures)) c.write.ensures.torn closed1 in
+    on_err c.from_residual-in_err-prepare.result (left_closed c.args.geometry.now c0 c3 (commit_kept _ _ c2 c3 (omega arith) c.prepare.ensures.wrote.changes closed2))
 
 pub returns-in_err-write_first-clause-stopped : goal.returns-in_err-write_first-clause-stopped
 returns-in_err-write_first-clause-stopped g c =
@@ -38,10 +38,10 @@ returns-in_err-write_first-clause-stopped g c =
     let c2 = g.D.Disk.content c.write.new.self in
     let c3 = g.D.Disk.content c.prepare.new.disk in
     let c4 = g.D.Disk.content c.write_first.new.disk in
-    let closed1 = gate_closed c0 c1 (omega (arith, c.requires.size)) c.in_ok-write_synced.ensures.written c.in_ok-write_synced.ensures.rests in
-    let closed2 = gate_kept_by_write c.slot_start.result 1 c1 c2 (omega (arith, c.slot_start.ensures)) c.write.ensures.torn closed1 in
-    let closed3 = gate_kept _ _ c2 c3 (omega arith) c.prepare.ensures.wrote.changes closed2 in
-    on_err c.from_residual-in_err-write_first.result (left_closed c.args.geometry.now c0 c4 (gate_kept _ _ c3 c4 (omega arith) c.write_first.ensures.wrote.changes closed3))
+    let closed1 = commit_closed c0 c1 (omega (arith, c.requires.size)) c.in_ok-write_synced.ensures.written c.in_ok-write_synced.ensures.rests in
+    let closed2 = commit_kept_by_write c.slot_start.result 1 c1 c2 (omega (arith, c.slot_start.ensures)) c.write.ensures.torn closed1 in
+    let closed3 = commit_kept _ _ c2 c3 (omega arith) c.prepare.ensures.wrote.changes closed2 in
+    on_err c.from_residual-in_err-write_first.result (left_closed c.args.geometry.now c0 c4 (commit_kept _ _ c3 c4 (omega arith) c.write_first.ensures.wrote.changes closed3))
 
 pub returns-in_err-write_header-clause-stopped : goal.returns-in_err-write_header-clause-stopped
 returns-in_err-write_header-clause-stopped g c =
@@ -61,17 +61,17 @@ write_header-requires-clause-closed g c κs within =
     let c2 = g.D.Disk.content c.write.new.self in
     let c3 = g.D.Disk.content c.prepare.new.disk in
     let c4 = g.D.Disk.content c.write_first.new.disk in
-    let closed1 = gate_closed c0 c1 (omega (arith, c.requires.size)) c.in_ok-write_synced.ensures.written c.in_ok-write_synced.ensures.rests in
-    let closed2 = gate_kept_by_write c.slot_start.result 1 c1 c2 (omega (arith, c.slot_start.ensures)) c.write.ensures.torn closed1 in
-    let closed3 = gate_kept _ _ c2 c3 (omega arith) c.prepare.ensures.wrote.changes closed2 in
-    gate_kept _ _ c3 c4 (omega arith) c.write_first.ensures.wrote.changes closed3
+    let closed1 = commit_closed c0 c1 (omega (arith, c.requires.size)) c.in_ok-write_synced.ensures.written c.in_ok-write_synced.ensures.rests in
+    let closed2 = commit_kept_by_write c.slot_start.result 1 c1 c2 (omega (arith, c.slot_start.ensures)) c.write.ensures.torn closed1 in
+    let closed3 = commit_kept _ _ c2 c3 (omega arith) c.prepare.ensures.wrote.changes closed2 in
+    commit_kept _ _ c3 c4 (omega arith) c.write_first.ensures.wrote.changes closed3
 
 pub write_first-requires-clause-closed : goal.write_first-requires-clause-closed
 write_first-requires-clause-closed g c κs within =
     let c1 = g.D.Disk.content c.write_synced.new.disk in
     let c2 = g.D.Disk.content c.write.new.self in
     let c3 = g.D.Disk.content c.prepare.new.disk in
-    let prepared = subst (λ (l : LogState). ChangesWithin (gates_at l.shape l.region) l.shape.log_capacity c2 c3) c.requires.log c.prepare.ensures.wrote.changes in
+    let prepared = subst (λ (l : LogState). ChangesWithin (commits_at l.shape l.region) l.shape.log_capacity c2 c3) c.requires.log c.prepare.ensures.wrote.changes in
     second_closed c.args.geometry.now c.requires.limits c1 c2 c3 (c.write_synced.ensures.wrote.size ∙ c.requires.size) c.write.ensures.size
     (subst (λ (at : ℕ). Writes at (0 ∷ []) c1 c2) c.slot_start.ensures c.in_ok-write.ensures.written) prepared c.in_ok-prepare.ensures.rests
 

@@ -1,6 +1,6 @@
 use Rattle.std.proofs.Common.{arith}
 use Rattle.silt_disk.proofs.Images.{weaker_leaves}
-use Rattle.silt_shards.proofs.Marks.{closed_unmarked, gate_closed, stands_stays}
+use Rattle.silt_shards.proofs.Marks.{closed_unmarked, commit_closed, stands_stays}
 use Rattle.silt_shards.proofs.mark.close_mark.Goals as goal
 
 pub returns-in_err-write_synced-clause-stands : goal.returns-in_err-write_synced-clause-stands
@@ -9,11 +9,11 @@ returns-in_err-write_synced-clause-stands g c = stands_stays 2048 1 (g.D.Disk.co
 
 pub returns-clause-closed : goal.returns-clause-closed
 returns-clause-closed g c =
-    gate_closed (g.D.Disk.content c.args.disk.now) (g.D.Disk.content c.write_synced.new.disk) c.requires c.in_ok-write_synced.ensures.written c.in_ok-write_synced.ensures.rests
+    commit_closed (g.D.Disk.content c.args.disk.now) (g.D.Disk.content c.write_synced.new.disk) c.requires c.in_ok-write_synced.ensures.written c.in_ok-write_synced.ensures.rests
 
 pub returns-clause-unmarked : goal.returns-clause-unmarked
 returns-clause-unmarked g c =
-    weaker_leaves (gate_closed (g.D.Disk.content c.args.disk.now) (g.D.Disk.content c.write_synced.new.disk) c.requires
+    weaker_leaves (commit_closed (g.D.Disk.content c.args.disk.now) (g.D.Disk.content c.write_synced.new.disk) c.requires
     c.in_ok-write_synced.ensures.written c.in_ok-write_synced.ensures.rests) closed_unmarked
 
 pub returns-clause-stands : goal.returns-clause-stands

@@ -1,7 +1,7 @@
 use Rattle.std.proofs.Common.{ℕ, List, arith, subst}
 use Rattle.silt_disk.specs.Disk.{Writes}
 use Rattle.silt_disk.proofs.Wrote.{wrote_err, wrote_ok, wrote_then, wrote_wider}
-use Rattle.silt_shards.proofs.Marks.{mark_behind, mark_gated, mark_settled}
+use Rattle.silt_shards.proofs.Marks.{mark_behind, mark_committed, mark_settled}
 use Rattle.silt_shards.proofs.mark.write_behind.Goals as goal
 
 pub returns-in_err-write_synced-clause-stopped : goal.returns-in_err-write_synced-clause-stopped
@@ -13,7 +13,7 @@ returns-in_err-write_synced-2-clause-stopped g c =
     let old = g.D.Disk.content c.args.disk.now in
     let between = g.D.Disk.content c.write_synced.new.disk in
     let written = subst (λ (bytes : List ℕ). Writes 2049 bytes old between) c.mark_bytes-bytes.ensures c.in_ok-write_synced.ensures.written in
-    mark_gated c.args.mark.now old between (g.D.Disk.content c.write_synced-2.new.disk) c.requires.mark c.requires.size written
+    mark_committed c.args.mark.now old between (g.D.Disk.content c.write_synced-2.new.disk) c.requires.mark c.requires.size written
     c.in_ok-write_synced.ensures.rests c.write_synced.ensures.wrote.size c.write_synced-2.ensures.wrote.changes
 
 pub returns-clause-marked : goal.returns-clause-marked
@@ -29,7 +29,7 @@ returns-clause-stopped g c =
     let old = g.D.Disk.content c.args.disk.now in
     let between = g.D.Disk.content c.write_synced.new.disk in
     let written = subst (λ (bytes : List ℕ). Writes 2049 bytes old between) c.mark_bytes-bytes.ensures c.in_ok-write_synced.ensures.written in
-    mark_gated c.args.mark.now old between (g.D.Disk.content c.write_synced-2.new.disk) c.requires.mark c.requires.size written
+    mark_committed c.args.mark.now old between (g.D.Disk.content c.write_synced-2.new.disk) c.requires.mark c.requires.size written
     c.in_ok-write_synced.ensures.rests c.write_synced.ensures.wrote.size c.write_synced-2.ensures.wrote.changes
 
 pub returns-in_err-write_synced-clause-wrote : goal.returns-in_err-write_synced-clause-wrote
@@ -39,11 +39,11 @@ returns-in_err-write_synced-clause-wrote g c = wrote_err c.in_err-write_synced.w
 pub returns-in_err-write_synced-2-clause-wrote : goal.returns-in_err-write_synced-2-clause-wrote
 returns-in_err-write_synced-2-clause-wrote g c =
     let bytes = wrote_wider 2048 37 (omega arith) (omega arith) c.write_synced.ensures.wrote in
-    let gate = wrote_wider 2048 37 (omega arith) (omega arith) c.write_synced-2.ensures.wrote in
-    wrote_err c.in_err-write_synced-2.was c.from_residual-in_err-write_synced-2.ensures.1 (omega arith) (omega arith) (wrote_then c.in_ok-write_synced.was bytes gate)
+    let commit = wrote_wider 2048 37 (omega arith) (omega arith) c.write_synced-2.ensures.wrote in
+    wrote_err c.in_err-write_synced-2.was c.from_residual-in_err-write_synced-2.ensures.1 (omega arith) (omega arith) (wrote_then c.in_ok-write_synced.was bytes commit)
 
 pub returns-clause-wrote : goal.returns-clause-wrote
 returns-clause-wrote g c =
     let bytes = wrote_wider 2048 37 (omega arith) (omega arith) c.write_synced.ensures.wrote in
-    let gate = wrote_wider 2048 37 (omega arith) (omega arith) c.write_synced-2.ensures.wrote in
-    wrote_ok c.in_ok-write_synced-2.was (wrote_then c.in_ok-write_synced.was bytes gate)
+    let commit = wrote_wider 2048 37 (omega arith) (omega arith) c.write_synced-2.ensures.wrote in
+    wrote_ok c.in_ok-write_synced-2.was (wrote_then c.in_ok-write_synced.was bytes commit)

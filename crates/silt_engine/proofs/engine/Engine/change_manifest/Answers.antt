@@ -1,6 +1,6 @@
 use Rattle.silt_engine.proofs.Common.{◌+◌, ◌%◌, ◌^◌, ℕ, ap, refl, sym, ◌∙◌, subst, arith, EngineState, Stands, MayBecomeCurrent, made_both, most_both, most_more}
 use Rattle.silt_engine.proofs.Exits.{state_of, wrote_off}
-use Rattle.silt_engine.proofs.NextBodies.{at_gate, before_gate, both_steps, manifest_breaks, manifest_map, becomes_current}
+use Rattle.silt_engine.proofs.NextBodies.{at_commit, before_commit, both_steps, manifest_breaks, manifest_map, becomes_current}
 use Rattle.silt_engine.proofs.engine.Engine.change_manifest.Goals as goal
 
 pub prepare_next-requires-clause-next : goal.prepare_next-requires-clause-next
@@ -18,10 +18,10 @@ returns-in_err-prepare_next-clause-wrote g c =
       counted = c.in_err-prepare_next.ensures.wrote.failures;
       breaks = manifest_breaks (g.D.Disk.content c.args.disk.now) (g.D.Disk.content c.prepare_next.new.disk) stores c.args.next.now
           c.args.digests.now stands may c.prepare_next.ensures.wrote.size c.prepare_next.ensures.wrote.changes
-          (before_gate (g.D.Disk.content c.prepare_next.new.disk) stores c.args.next.now c.args.digests.now c.prepare_next.ensures.each);
+          (before_commit (g.D.Disk.content c.prepare_next.new.disk) stores c.args.next.now c.args.digests.now c.prepare_next.ensures.each);
       map = manifest_map (g.D.Disk.content c.args.disk.now) (g.D.Disk.content c.prepare_next.new.disk) stores c.args.next.now c.args.digests.now
           stands may c.prepare_next.ensures.wrote.size c.prepare_next.ensures.wrote.changes
-          (before_gate (g.D.Disk.content c.prepare_next.new.disk) stores c.args.next.now c.args.digests.now c.prepare_next.ensures.each);
+          (before_commit (g.D.Disk.content c.prepare_next.new.disk) stores c.args.next.now c.args.digests.now c.prepare_next.ensures.each);
     }))
 
 pub returns-in_err-commit_next-clause-wrote : goal.returns-in_err-commit_next-clause-wrote
@@ -37,11 +37,11 @@ returns-in_err-commit_next-clause-wrote g c =
       counted = (c.in_err-commit_next.ensures.wrote.failures.0 ∙ ap (λ (n : ℕ). (n + 1) % 2 ^ 64) c.in_ok-prepare_next.ensures.wrote.failures, c.in_err-commit_next.ensures.wrote.failures.1);
       breaks = manifest_breaks (g.D.Disk.content c.args.disk.now) (g.D.Disk.content c.commit_next.new.disk) stores c.args.next.now
           c.args.digests.now stands may same steps
-          (at_gate stores c.args.next.now c.args.digests.now c.prepare_next.new.self c.in_ok-prepare_next.ensures.state
+          (at_commit stores c.args.next.now c.args.digests.now c.prepare_next.new.self c.in_ok-prepare_next.ensures.state
           (g.D.Disk.content c.commit_next.new.disk) c.commit_next.ensures.each);
       map = manifest_map (g.D.Disk.content c.args.disk.now) (g.D.Disk.content c.commit_next.new.disk) stores c.args.next.now
           c.args.digests.now stands may same steps
-          (at_gate stores c.args.next.now c.args.digests.now c.prepare_next.new.self c.in_ok-prepare_next.ensures.state
+          (at_commit stores c.args.next.now c.args.digests.now c.prepare_next.new.self c.in_ok-prepare_next.ensures.state
           (g.D.Disk.content c.commit_next.new.disk) c.commit_next.ensures.each);
     }))
 
@@ -62,7 +62,7 @@ returns-clause-map g c =
     c.args.next.now c.args.digests.now stands may (c.commit_next.ensures.wrote.size ∙ c.prepare_next.ensures.wrote.size)
     (both_steps stores c.args.next.now c.args.digests.now c.prepare_next.new.self c.in_ok-prepare_next.ensures.state (g.D.Disk.content c.args.disk.now)
     (g.D.Disk.content c.prepare_next.new.disk) (g.D.Disk.content c.commit_next.new.disk) c.prepare_next.ensures.wrote.changes c.commit_next.ensures.wrote.changes)
-    (at_gate stores c.args.next.now c.args.digests.now c.prepare_next.new.self c.in_ok-prepare_next.ensures.state (g.D.Disk.content c.commit_next.new.disk) c.commit_next.ensures.each))
+    (at_commit stores c.args.next.now c.args.digests.now c.prepare_next.new.self c.in_ok-prepare_next.ensures.state (g.D.Disk.content c.commit_next.new.disk) c.commit_next.ensures.each))
 
 pub returns-clause-wrote : goal.returns-clause-wrote
 returns-clause-wrote g c = rw (← c.self.view_is) (record {

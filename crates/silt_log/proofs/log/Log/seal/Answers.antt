@@ -22,18 +22,18 @@ pub returns-then-not-self-clause-written : goal.returns-then-not-self-clause-wri
 returns-then-not-self-clause-written g c = λ stale.
     absurd (false≢true (sym (ap (λ (l : LogState). l.stale) (sym c.self.view_is) ∙ c.if-not-self.true) ∙ stale))
 
-pub returns-in_err-write_gates : goal.returns-in_err-write_gates
-returns-in_err-write_gates g c =
+pub returns-in_err-write_commits : goal.returns-in_err-write_commits
+returns-in_err-write_commits g c =
     let log : LogState = c.args.self.now in
     let bounds : InBounds log = subst InBounds c.self.view_is c.self.invariant.bounds in
     let stale : log.stale ≡ true = ap (λ (l : LogState). l.stale) (sym c.self.view_is) ∙ c.if-not-self.false in
-    let at = past_place _ log _ _ c.self.view_is c.gates_at.ensures.value c.from.ensures in
+    let at = past_place _ log _ _ c.self.view_is c.commits_at.ensures.value c.from.ensures in
     let count = past_count _ log _ _ c.self.view_is c.log_capacity.ensures.value (subst (IsHeld _) (sym c.deref_mut.ensures.len) c.self.invariant) in
-    let changes = within_at _ _ _ _ _ _ at count c.write_gates.ensures.wrote.changes in
+    let changes = within_at _ _ _ _ _ _ at count c.write_commits.ensures.wrote.changes in
     record {
       wrote =
-          let was = c.in_err-write_gates.was in
-          let written = wrote_err was c.from_residual.ensures.1 (omega arith) (omega arith) (wrote_at at count c.write_gates.ensures.wrote) in
+          let was = c.in_err-write_commits.was in
+          let written = wrote_err was c.from_residual.ensures.1 (omega arith) (omega arith) (wrote_at at count c.write_commits.ensures.wrote) in
           rw stale written;
       images = seal_images _ _ log bounds c.requires.size c.requires.rests c.requires.scanned _ (bounds.gap stale) refl changes;
       quiet = search rules;
@@ -47,13 +47,13 @@ returns g c =
     let log : LogState = c.args.self.now in
     let bounds : InBounds log = subst InBounds c.self.view_is c.self.invariant.bounds in
     let stale : log.stale ≡ true = ap (λ (l : LogState). l.stale) (sym c.self.view_is) ∙ c.if-not-self.false in
-    let at = past_place _ log _ _ c.self.view_is c.gates_at.ensures.value c.from.ensures in
+    let at = past_place _ log _ _ c.self.view_is c.commits_at.ensures.value c.from.ensures in
     let count = past_count _ log _ _ c.self.view_is c.log_capacity.ensures.value (subst (IsHeld _) (sym c.deref_mut.ensures.len) c.self.invariant) in
-    let changes = within_at _ _ _ _ _ _ at count c.write_gates.ensures.wrote.changes in
-    let was = c.in_ok-write_gates.ensures in
-    let written = wrote_ok c.in_ok-write_gates.was (wrote_at at count c.write_gates.ensures.wrote) in
+    let changes = within_at _ _ _ _ _ _ at count c.write_commits.ensures.wrote.changes in
+    let was = c.in_ok-write_commits.ensures in
+    let written = wrote_ok c.in_ok-write_commits.was (wrote_at at count c.write_commits.ensures.wrote) in
     let done = seal_done _ _ log bounds c.requires.size c.requires.rests c.requires.scanned _ (bounds.gap stale) count
-    c.write_gates.ensures.wrote.size (writes_at _ _ _ _ _ at was.written) was.rests in
+    c.write_commits.ensures.wrote.size (writes_at _ _ _ _ _ at was.written) was.rests in
     record {
       wrote = rw stale written;
       images = seal_images _ _ log bounds c.requires.size c.requires.rests c.requires.scanned _ (bounds.gap stale) refl changes;

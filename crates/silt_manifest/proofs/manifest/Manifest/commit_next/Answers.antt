@@ -3,28 +3,28 @@ use Rattle.silt_disk.specs.Layout.{slot_at}
 use Rattle.silt_disk.proofs.Wrote.{wrote_at, wrote_err, wrote_ok}
 use Rattle.silt_manifest.specs.Digests.{long_record}
 use Rattle.silt_manifest.specs.Standing.{IsCurrent, with_current, spare_slot}
-use Rattle.silt_manifest.proofs.CommitExits.{gate_fails, all_committed}
+use Rattle.silt_manifest.proofs.CommitExits.{commit_fails, all_committed}
 use Rattle.silt_manifest.proofs.manifest.Manifest.commit_next.Goals as goal
 
-pub returns-in_err-write_gate-clause-wrote : goal.returns-in_err-write_gate-clause-wrote
-returns-in_err-write_gate-clause-wrote g c =
-    wrote_err c.in_err-write_gate.was c.from_residual.ensures.1 (omega arith) (omega arith)
-    (wrote_at (ap slot_at c.spare_slot.ensures.value) refl c.write_gate.ensures.wrote)
+pub returns-in_err-write_commit-clause-wrote : goal.returns-in_err-write_commit-clause-wrote
+returns-in_err-write_commit-clause-wrote g c =
+    wrote_err c.in_err-write_commit.was c.from_residual.ensures.1 (omega arith) (omega arith)
+    (wrote_at (ap slot_at c.spare_slot.ensures.value) refl c.write_commit.ensures.wrote)
 
-pub returns-in_err-write_gate-clause-each : goal.returns-in_err-write_gate-clause-each
-returns-in_err-write_gate-clause-each g c =
+pub returns-in_err-write_commit-clause-each : goal.returns-in_err-write_commit-clause-each
+returns-in_err-write_commit-clause-each g c =
     let ready = c.requires.prepared in
-    gate_fails c.args.self.now ready.next ready.digests _ _ (slot_at c.spare_slot.result) c.requires.size ready.prepared (ap slot_at c.spare_slot.ensures.value)
-    c.in_err-write_gate.ensures.wrote.changes
+    commit_fails c.args.self.now ready.next ready.digests _ _ (slot_at c.spare_slot.result) c.requires.size ready.prepared (ap slot_at c.spare_slot.ensures.value)
+    c.in_err-write_commit.ensures.wrote.changes
 
 pub returns-clause-wrote : goal.returns-clause-wrote
-returns-clause-wrote g c = wrote_ok c.in_ok-write_gate.was (wrote_at (ap slot_at c.spare_slot.ensures.value) refl c.write_gate.ensures.wrote)
+returns-clause-wrote g c = wrote_ok c.in_ok-write_commit.was (wrote_at (ap slot_at c.spare_slot.ensures.value) refl c.write_commit.ensures.wrote)
 
 pub returns-clause-each : goal.returns-clause-each
 returns-clause-each g c =
     let ready = c.requires.prepared in
-    gate_fails c.args.self.now ready.next ready.digests _ _ (slot_at c.spare_slot.result) c.requires.size ready.prepared (ap slot_at c.spare_slot.ensures.value)
-    c.in_ok-write_gate.ensures.wrote.changes
+    commit_fails c.args.self.now ready.next ready.digests _ _ (slot_at c.spare_slot.result) c.requires.size ready.prepared (ap slot_at c.spare_slot.ensures.value)
+    c.in_ok-write_commit.ensures.wrote.changes
 
 pub returns-clause-current : goal.returns-clause-current
 returns-clause-current g c =
@@ -35,6 +35,6 @@ returns-clause-current g c =
     let same : long_record ready.next ready.digests ≡ c.in-Some.next = cc in
     let shape : m.shape ≡ c.self.inside.geometry = sym (ap (λ state. state.shape) c.self.view_is) in
     let final = all_committed m ready.next ready.digests _ _ (slot_at c.spare_slot.result) c.requires.size ready.prepared
-    (ap slot_at c.spare_slot.ensures.value) c.in_ok-write_gate.ensures.written c.in_ok-write_gate.ensures.rests in
-    subst (λ s. IsCurrent (with_current s c.in-Some.next false) (g.D.Disk.content c.write_gate.new.disk)) shape
-    (subst (λ b. IsCurrent (with_current m.shape b false) (g.D.Disk.content c.write_gate.new.disk)) same final)
+    (ap slot_at c.spare_slot.ensures.value) c.in_ok-write_commit.ensures.written c.in_ok-write_commit.ensures.rests in
+    subst (λ s. IsCurrent (with_current s c.in-Some.next false) (g.D.Disk.content c.write_commit.new.disk)) shape
+    (subst (λ b. IsCurrent (with_current m.shape b false) (g.D.Disk.content c.write_commit.new.disk)) same final)

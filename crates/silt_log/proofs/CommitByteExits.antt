@@ -1,26 +1,26 @@
--- The state at each exit of the calls that write all gates of a log or those of the waiting rows.
+-- The state at each exit of the calls that write all commit bytes of a log or those of the waiting rows.
 use Rattle.std.proofs.Common.{◌≡◌, ℕ, ◌+◌, ◌-◌, ◌≤◌, ◌<◌, false, IsTrue, List, [], ◌++◌, length, map, get_or, replicate, refl, sym, ap, ◌∙◌, subst, inl, inr, arith}
 use Rattle.std.specs.List.{prefix_len, range_with_len}
 use Rattle.std.proofs.lemmas.Bool.{false≢true}
 use Rattle.std.proofs.lemmas.List.{get_or-replicate, length-replicate, append-nil}
 use Rattle.std.proofs.lemmas.List.FromFn.{take-map-range_with_len, length-map-range_with_len}
 use Rattle.silt_disk.specs.Disk.{Content, Torn, LeavesOnly, Writes, Rests, size, splice}
-use Rattle.silt_disk.specs.Layout.{row_len, gates_at, bodies_at, device_size}
+use Rattle.silt_disk.specs.Layout.{row_len, commits_at, bodies_at, device_size}
 use Rattle.silt_disk.proofs.Images.{shown_left, rests_leaves, splice_byte}
-use Rattle.silt_frame.specs.Gate.{is_open}
-use Rattle.silt_log.specs.Rows.{gate_bytes, body_row, rows_from, first_rows, row_at, log_rows, open_count}
+use Rattle.silt_frame.specs.Commit.{is_open}
+use Rattle.silt_log.specs.Rows.{commit_bytes, body_row, rows_from, first_rows, row_at, log_rows, open_count}
 use Rattle.silt_frame.specs.Rows.{StoredRow}
 use Rattle.silt_log.specs.State.{LogState, InBounds, IsLog, settled_rows, all_rows, opened_image}
-use Rattle.silt_log.specs.Calls.{SyncsAndTears, Empties, OpensGates, OpensSome, HasBeginning}
+use Rattle.silt_log.specs.Calls.{SyncsAndTears, Empties, OpensCommits, OpensSome, HasBeginning}
 use Rattle.silt_log.proofs.Bodies.{range_split}
 use Rattle.silt_log.proofs.Splices.{spliced_over}
-use Rattle.silt_log.proofs.Standing.{Stands, gates_torn_rows, gates_spliced, gates_torn, gates_within}
+use Rattle.silt_log.proofs.Standing.{Stands, commits_torn_rows, commits_spliced, commits_torn, commits_within}
 use Rattle.silt_log.proofs.Exits.{fits_resized, StandsIn, region_lies, log_from, log_standing, stands_images}
 
--- ---- prepare: zeros over all gates
+-- ---- prepare: zeros over all commit bytes
 
 pub prepare_done : (old new : Content) (log : LogState) (bytes : ℕ) → log.region < log.shape.logs → device_size log.shape ≤ size old → size new ≡ size old → bytes ≡ log.shape.log_capacity
-    → Writes (gates_at log.shape log.region) (replicate bytes 0) old new → Rests new → Empties new log (record log { settled = 0; used = 0; stale = false })
+    → Writes (commits_at log.shape log.region) (replicate bytes 0) old new → Rests new → Empties new log (record log { settled = 0; used = 0; stale = false })
 unfolding rows_from
 prepare_done old new log bytes region fits same all writes rests =
     let after : LogState = record log { settled = 0; used = 0; stale = false } in
@@ -29,7 +29,7 @@ prepare_done old new log bytes region fits same all writes rests =
     let fits_new = fits_resized log.shape old new fits same in
     let zeros : List ℕ = replicate bytes 0 in
     let long : length zeros ≡ bytes = length-replicate bytes 0 in
-    let within : gates_at log.shape log.region + log.shape.log_capacity ≤ size old = gates_within _ _ _ _ _ place old.shown refl in
+    let within : commits_at log.shape log.region + log.shape.log_capacity ≤ size old = commits_within _ _ _ _ _ place old.shown refl in
     let leaves : LeavesOnly new (StandsIn new after []) = rests_leaves rests (record {
       holds = λ honest.
           let was : IsTrue old.honest = sym writes.honest ∙ honest in
@@ -38,9 +38,9 @@ prepare_done old new log bytes region fits same all writes rests =
             are = record {
               opened = λ place below. absurd (omega arith);
               closed = λ place past below.
-                  ap is_open (ap (λ (image : List ℕ). get_or image (gates_at log.shape log.region + place) 0) (writes.shown was)
-                  ∙ splice_byte (gates_at log.shape log.region) zeros old.shown place
-                  (subst (λ n. gates_at log.shape log.region + n ≤ size old) (sym (long ∙ all)) within) (omega (arith, long, all, below))
+                  ap is_open (ap (λ (image : List ℕ). get_or image (commits_at log.shape log.region + place) 0) (writes.shown was)
+                  ∙ splice_byte (commits_at log.shape log.region) zeros old.shown place
+                  (subst (λ n. commits_at log.shape log.region + n ≤ size old) (sym (long ∙ all)) within) (omega (arith, long, all, below))
                   ∙ get_or-replicate bytes place 0 0 (omega (arith, all, below)));
             };
             hold = refl;
@@ -48,7 +48,7 @@ prepare_done old new log bytes region fits same all writes rests =
     }) in
     record { log = refl; stands = log_from new after [] bounds refl fits_new leaves; images = stands_images new after [] bounds fits_new leaves }
 
--- ---- open_gates: a sync, a write over the gates of the waiting rows, a sync
+-- ---- open_commits: a sync, a write over the commit bytes of the waiting rows, a sync
 
 module _ (old : Content) (log : LogState) (is : IsLog old log) (fits : device_size log.shape ≤ size old) where
   open_most : log.settled + (log.used - log.settled) ≤ log.shape.log_capacity
@@ -58,41 +58,41 @@ module _ (old : Content) (log : LogState) (is : IsLog old log) (fits : device_si
   open_shown : IsTrue old.honest → StandsIn old log (settled_rows old log) old.shown
   open_shown honest = (log_standing old log is fits).each honest old.shown (shown_left old)
 
-  -- the gates of the waiting rows lie within what is shown
-  open_within : gates_at log.shape log.region + log.settled + length {A = ℕ} (replicate (log.used - log.settled) 167) ≤ length old.shown
+  -- the commit bytes of the waiting rows lie within what is shown
+  open_within : commits_at log.shape log.region + log.settled + length {A = ℕ} (replicate (log.used - log.settled) 167) ≤ length old.shown
   open_within =
       let place = region_lies log.shape log.region (size old) is.bounds.region fits in
-      let within : gates_at log.shape log.region + log.shape.log_capacity ≤ length old.shown = gates_within _ _ _ _ _ place old.shown refl in
+      let within : commits_at log.shape log.region + log.shape.log_capacity ≤ length old.shown = commits_within _ _ _ _ _ place old.shown refl in
       let ones : List ℕ = replicate (log.used - log.settled) 167 in
       let long : length ones ≡ log.used - log.settled = length-replicate (log.used - log.settled) 167 in
       omega (arith, within, open_most, long)
 
-  -- after a write there, with all of these gates open, the image is the same
-  pub open_full_same : (new : List ℕ) → Torn (gates_at log.shape log.region + log.settled) (log.used - log.settled) old.shown new
-      → splice (gates_at log.shape log.region + log.settled) (replicate (log.used - log.settled) 167) new ≡ opened_image old log
+  -- after a write there, with all of these commit bytes open, the image is the same
+  pub open_full_same : (new : List ℕ) → Torn (commits_at log.shape log.region + log.settled) (log.used - log.settled) old.shown new
+      → splice (commits_at log.shape log.region + log.settled) (replicate (log.used - log.settled) 167) new ≡ opened_image old log
   open_full_same new torn =
       let ones : List ℕ = replicate (log.used - log.settled) 167 in
       let long : length ones ≡ log.used - log.settled = length-replicate (log.used - log.settled) 167 in
-      spliced_over (gates_at log.shape log.region + log.settled) ones old.shown new open_within
-      (subst (λ n. Torn (gates_at log.shape log.region + log.settled) n old.shown new) (sym long) torn)
+      spliced_over (commits_at log.shape log.region + log.settled) ones old.shown new open_within
+      (subst (λ n. Torn (commits_at log.shape log.region + log.settled) n old.shown new) (sym long) torn)
 
-  -- an image with some of these gates open
+  -- an image with some of these commit bytes open
   pub open_beginning : (before image : List ℕ) → StandsIn old log (settled_rows old log) before → before ≡ old.shown
-      → Torn (gates_at log.shape log.region + log.settled) (log.used - log.settled) before image → HasBeginning old log image
+      → Torn (commits_at log.shape log.region + log.settled) (log.used - log.settled) before image → HasBeginning old log image
   unfolding log_rows rows_from row_at open_count
   open_beginning before image stands shown torn =
       let place = region_lies log.shape log.region (size old) is.bounds.region fits in
       let more : ℕ = log.used - log.settled in
-      let counted : ℕ = prefix_len is_open (gate_bytes (gates_at log.shape log.region) log.shape.log_capacity image) in
-      let between = gates_torn _ _ _ _ _ place log.settled more (settled_rows old log) before image open_most stands torn in
+      let counted : ℕ = prefix_len is_open (commit_bytes (commits_at log.shape log.region) log.shape.log_capacity image) in
+      let between = commits_torn _ _ _ _ _ place log.settled more (settled_rows old log) before image open_most stands torn in
       let low : log.settled ≤ counted = between.0 in
       let high : counted ≤ log.settled + more = between.1 in
       let row : ℕ → StoredRow = body_row (bodies_at log.shape log.region) (row_len log.shape) old.shown in
-      let within : gates_at log.shape log.region ≤ gates_at log.shape log.region + log.settled = omega arith in
-      let ends : gates_at log.shape log.region + log.settled + more ≤ gates_at log.shape log.region + log.shape.log_capacity = omega (arith, open_most) in (
+      let within : commits_at log.shape log.region ≤ commits_at log.shape log.region + log.settled = omega arith in
+      let ends : commits_at log.shape log.region + log.settled + more ≤ commits_at log.shape log.region + log.shape.log_capacity = omega (arith, open_most) in (
         counted - log.settled,
         subst (λ n. counted - log.settled ≤ n) (sym (length-map-range_with_len row log.settled more)) (omega arith),
-        gates_torn_rows _ _ _ _ _ place (gates_at log.shape log.region + log.settled) more 0 counted before image stands.long within ends (omega (arith, high, open_most)) torn
+        commits_torn_rows _ _ _ _ _ place (commits_at log.shape log.region + log.settled) more 0 counted before image stands.long within ends (omega (arith, high, open_most)) torn
             ∙ ap (λ (shown : List ℕ). map (body_row (bodies_at log.shape log.region) (row_len log.shape) shown) (range_with_len 0 counted)) shown
             ∙ ap (λ n. map row (range_with_len 0 n)) (omega arith)
             ∙ range_split row 0 log.settled (counted - log.settled)
@@ -101,7 +101,7 @@ module _ (old : Content) (log : LogState) (is : IsLog old log) (fits : device_si
       )
 
   -- at an exit with a fault
-  pub open_failed : (new : Content) → SyncsAndTears (gates_at log.shape log.region + log.settled) (log.used - log.settled) old new → OpensSome old new log log
+  pub open_failed : (new : Content) → SyncsAndTears (commits_at log.shape log.region + log.settled) (log.used - log.settled) old new → OpensSome old new log log
   open_failed new tears = record {
     log = refl;
     images = record {
@@ -116,8 +116,8 @@ module _ (old : Content) (log : LogState) (is : IsLog old log) (fits : device_si
   }
 
   -- at the exit with Ok
-  pub open_done : (new : Content) (bytes : ℕ) → bytes ≡ log.used - log.settled → size new ≡ size old → Writes (gates_at log.shape log.region + log.settled) (replicate bytes 167) old new → Rests new
-      → OpensGates old new log (record log { settled = log.used })
+  pub open_done : (new : Content) (bytes : ℕ) → bytes ≡ log.used - log.settled → size new ≡ size old → Writes (commits_at log.shape log.region + log.settled) (replicate bytes 167) old new → Rests new
+      → OpensCommits old new log (record log { settled = log.used })
   unfolding rows_from row_at
   open_done new bytes count same writes rests =
       let after : LogState = record log { settled = log.used } in
@@ -127,10 +127,10 @@ module _ (old : Content) (log : LogState) (is : IsLog old log) (fits : device_si
       let fits_new = fits_resized log.shape old new fits same in
       let bounds : InBounds after = record { region = is.bounds.region; order = omega arith; room = is.bounds.room; gap = λ stale. absurd (false≢true (sym is.sealed ∙ stale)) } in
       let shown : IsTrue old.honest → new.shown ≡ opened_image old log = λ honest.
-      writes.shown honest ∙ ap (λ n. splice (gates_at log.shape log.region + log.settled) (replicate n 167) old.shown) count in
+      writes.shown honest ∙ ap (λ n. splice (commits_at log.shape log.region + log.settled) (replicate n 167) old.shown) count in
       let stands : IsTrue old.honest → StandsIn new after (all_rows old log) new.shown = λ honest.
-      let opened = gates_spliced _ _ _ _ _ place log.settled more (settled_rows old log) old.shown open_most (open_shown honest) in
-      let as_used = subst (λ n. Stands (gates_at log.shape log.region) log.shape.log_capacity (bodies_at log.shape log.region)
+      let opened = commits_spliced _ _ _ _ _ place log.settled more (settled_rows old log) old.shown open_most (open_shown honest) in
+      let as_used = subst (λ n. Stands (commits_at log.shape log.region) log.shape.log_capacity (bodies_at log.shape log.region)
       (row_len log.shape) (size old) n (first_rows log.shape log.region old.shown n) (opened_image old log)) both opened in
       subst (StandsIn new after (all_rows old log)) (sym (shown honest)) (record { long = as_used.long ∙ sym same; are = as_used.are; hold = as_used.hold }) in
       let leaves : LeavesOnly new (StandsIn new after (all_rows old log)) = rests_leaves rests (record { holds = λ honest. stands (sym writes.honest ∙ honest) }) in

@@ -2,16 +2,16 @@ use Rattle.std.proofs.Common.{rules, ap, sym, subst, arith}
 use Rattle.std.proofs.lemmas.Result.{err_from_is_err_and}
 use Rattle.silt_disk.proofs.Wrote.{wrote_at, wrote_err, wrote_ok}
 use Rattle.silt_log.specs.State.{LogState, IsHeld}
-use Rattle.silt_log.specs.Calls.{OpensGates}
+use Rattle.silt_log.specs.Calls.{OpensCommits}
 use Rattle.silt_log.proofs.Barriers.{tears_at}
-use Rattle.silt_log.proofs.GateExits.{open_failed, open_done}
+use Rattle.silt_log.proofs.CommitByteExits.{open_failed, open_done}
 use Rattle.silt_log.proofs.Named.{waiting_place, waiting_count}
 use Rattle.silt_log.proofs.Splices.{fills_at, writes_at}
-use Rattle.silt_log.proofs.log.Log.open_gates.Goals as goal
+use Rattle.silt_log.proofs.log.Log.open_commits.Goals as goal
 
 pub returns-in_err-open_behind_sync : goal.returns-in_err-open_behind_sync
 returns-in_err-open_behind_sync g c =
-    let at = waiting_place _ c.args.self.now _ _ c.self.view_is c.gates_at.ensures.value c.from.ensures in
+    let at = waiting_place _ c.args.self.now _ _ c.self.view_is c.commits_at.ensures.value c.from.ensures in
     let count = waiting_count _ c.args.self.now _ c.self.view_is (subst (IsHeld _) (sym c.deref_mut.ensures.len) c.self.invariant) in
     let refused = err_from_is_err_and c.from_residual.result c.from_residual.ensures.1 in
     let failed = open_failed _ c.args.self.now c.requires.log c.requires.size _ (tears_at _ _ _ _ _ _ at count c.open_behind_sync.ensures.begun) in
@@ -26,7 +26,7 @@ returns-in_err-open_behind_sync g c =
 
 pub returns : goal.returns
 returns g c =
-    let at = waiting_place _ c.args.self.now _ _ c.self.view_is c.gates_at.ensures.value c.from.ensures in
+    let at = waiting_place _ c.args.self.now _ _ c.self.view_is c.commits_at.ensures.value c.from.ensures in
     let count = waiting_count _ c.args.self.now _ c.self.view_is (subst (IsHeld _) (sym c.deref_mut.ensures.len) c.self.invariant) in
     let was = c.in_ok-open_behind_sync.ensures in
     let done = open_done _ c.args.self.now c.requires.log c.requires.size _ _ count c.open_behind_sync.ensures.wrote.size
@@ -35,6 +35,6 @@ returns g c =
       wrote = wrote_ok c.in_ok-open_behind_sync.was (wrote_at at count c.open_behind_sync.ensures.wrote);
       written = fills_at _ _ _ _ 167 _ _ at count was.written;
       rests = search rules;
-      ok = subst (OpensGates _ _ _) (sym (ap (λ (l : LogState). let opened : LogState = record l { settled = l.used } in opened) c.self.view_is)) done;
+      ok = subst (OpensCommits _ _ _) (sym (ap (λ (l : LogState). let opened : LogState = record l { settled = l.used } in opened) c.self.view_is)) done;
       err = search rules;
     }

@@ -1,7 +1,7 @@
 use Rattle.std.proofs.Common.{arith}
 use Rattle.silt_disk.proofs.Wrote.{write_wrote, wrote_err, wrote_ok, wrote_then, wrote_wider}
 use Rattle.silt_log.proofs.Splices.{both_written}
-use Rattle.silt_log.proofs.gates.write_row.Goals as goal
+use Rattle.silt_log.proofs.commits.write_row.Goals as goal
 
 pub returns-in_err-write-clause-wrote : goal.returns-in_err-write-clause-wrote
 returns-in_err-write-clause-wrote g c =
