@@ -191,7 +191,8 @@ where
         writer: &mut W,
         people: &mut T,
     ) -> Ended<S::Error, <S::Disk as Disk>::Fault>
-        ensures { DoesServe S.Disk.Disk (HasFailed S.Disk.Watched.kept_read S.Disk.Watched.last_failure) S.DiskSource self.entry.source service.now (T.told people.old people.new) (people.new ≡ people.old)
+        ensures { DoesServe S.Disk.Disk (HasFailed S.Disk.Watched.kept_read S.Disk.Watched.last_failure) S.DiskSource self.entry.source service.now
+            (T.told people.old people.new) (people.new ≡ people.old)
             service.now.shards result (W.contents writer.old) (W.contents writer.new) }
     {
         match service.shards {

@@ -3,3 +3,4 @@ mod Looking
 pub mod Serving
 mod Servings
 pub mod Shares
+mod Spending

@@ -22,6 +22,7 @@ use Rattle.silt_desk.specs.Notes.{plain_answer}
 use Rattle.silt_desk.specs.Seats.{SeatState, Totals, counted}
 use Rattle.std.specs.Option.{option_map}
 use Rattle.silt_desk.specs.Seeing.{NoneWaits, SeenStep, SeenStore, seen}
+use Rattle.silt_desk.proofs.Spending.{spends_by}
 
 -- ---- replies without their faults
 
@@ -212,6 +213,7 @@ module _ {D F : Type 0} (facts : Ghosts D F) where
     safe = does.safe;
     crash = does.crash;
     keeps_basis = does.keeps_basis;
+    spends = spends_by facts old new event reply does;
   }
 
   -- no store says that a history is full

@@ -1,5 +1,5 @@
 -- One call more, in a trace.
-use Rattle.std.proofs.Common.{◌≡◌, ℕ, ◌+◌, ◌%◌, ◌^◌, ◌≤◌, ◌==◌, Bool, true, false, IsTrue, List, [], ◌∷◌, ◌++◌, length, refl, sym, ◌∙◌, ap, subst, arith}
+use Rattle.std.proofs.Common.{◌≡◌, ℕ, ◌+◌, ◌*◌, ◌%◌, ◌^◌, ◌≤◌, ◌==◌, Bool, true, false, IsTrue, List, [], ◌∷◌, ◌++◌, length, refl, sym, ◌∙◌, ap, subst, arith}
 use Rattle.std.proofs.Common.{length-append, append_assoc, IfSome, Option, Some, None}
 use Rattle.std.proofs.lemmas.Bool.{ne_eqb}
 use Rattle.silt_disk.specs.Disk.{LeavesOnly}
@@ -21,7 +21,8 @@ use Rattle.silt_desk.specs.declared.call.RecordedCall.{RecordedCall}
 use Rattle.silt_desk.specs.Anchors.{AnchoredState, HasPast, LeadsFrom}
 use Rattle.silt_desk.specs.CallLogs.{CallsSeen, HasLogged, LogsCall}
 use Rattle.silt_desk.specs.History.{OthersStayLaw, accepted_by, calls_of_seat, commands_of, count_accepted, called_events, replies_of, Replays}
-use Rattle.silt_desk.specs.Seeing.{MovesSeen, NoneWaits, SeenStore, SeenStep, seen}
+use Rattle.silt_disk.proofs.Costs.{most_both, most_none}
+use Rattle.silt_desk.specs.Seeing.{MovesSeen, NoneWaits, SeenStore, SeenStep, Spends, failing, finished_by, seen, syncs_by, total_by, writes_by}
 use Rattle.silt_desk.specs.Servings.{LeavesCalls}
 use Rattle.silt_desk.specs.Traces.{HasSettled, IsHistory, Keeping, LeadsTo, ListsMap, Past, StandsRecorded, SurvivesFrom, past_of, then_call, with_call}
 
@@ -290,6 +291,36 @@ history_opens kept store none count entries has_map few safe = record {
   };
 }
 
+-- ---- what calls cost
+
+-- a store whose number says so did not fail
+not_failing : (b : Bool) → failing b ≡ 0 → b ≡ false
+not_failing false none = refl
+not_failing true none = absurd (omega (arith, none))
+
+total_by-append : (number : PlainReply → ℕ) (xs ys : List PlainReply) → total_by number (xs ++ ys) ≡ total_by number xs + total_by number ys
+total_by-append number [] ys = omega arith
+total_by-append number (x ∷ xs) ys = omega (arith, total_by-append number xs ys)
+
+-- no call costs nothing
+spends_none : (store : SeenStore) → Spends store store []
+spends_none store = record { freezes = 0; fails = 0; few = omega arith; once = omega arith; turns = λ works. omega arith; made = most_none }
+
+-- some calls, and then others
+pub spends_both : (a b c : SeenStore) (xs ys : List PlainReply) → Spends a b xs → Spends b c ys → Spends a c (xs ++ ys)
+spends_both a b c xs ys first second = record {
+  freezes = first.freezes + second.freezes;
+  fails = first.fails + second.fails;
+  few = omega (arith, first.few, second.few, total_by-append accepted_by xs ys);
+  once = omega (arith, first.once, second.once);
+  turns = λ works.
+      let none : failing c.failed ≡ 0 = ap failing works in
+      let worked : b.failed ≡ false = not_failing b.failed (omega (arith, second.once, none)) in
+      omega (arith, first.turns worked, second.turns works, total_by-append finished_by xs ys);
+  made = most_both b first.made.makes second.made
+      (omega (arith, first.made.fewer.0, total_by-append writes_by xs ys)) (omega (arith, first.made.fewer.1, total_by-append syncs_by xs ys));
+}
+
 -- ---- calls that lead from a store
 
 -- no call leads from a store to itself, failed or not
@@ -312,6 +343,7 @@ leads_none store has_map few begun = record {
           );
     };
   };
+  spends = spends_none store;
 }
 
 -- they lead on by one call more
@@ -323,6 +355,7 @@ leads_more first calls c s t leads step =
       shape = step.shape ∙ leads.shape;
       replays = λ h. replays_more first.count first.map calls s.count s.map c t.count t.map (leads.replays (was h)) step.counts (step.step (was h));
       survives = survives_on (record { count = first.count; calls = calls }) c first.map first.base first.waiting s t leads.survives step;
+      spends = subst (Spends first t) (sym (replies_more calls c)) (spends_both first s t (replies_of calls) (c.reply ∷ []) leads.spends step.spends);
     }
 
 from_more : (named : Option SeenStore) (calls : List RecordedCall) (c : RecordedCall) (s t : SeenStore) → LeadsFrom named calls s → SeenStep s t c.event c.reply → LeadsFrom named (calls ++ c ∷ []) t

@@ -13,7 +13,7 @@ use Rattle.silt_store_set.specs.CoreState.{KeepsFrom}
 use Rattle.silt_frame.specs.Rows.{key_cmp}
 use Rattle.silt_desk.specs.declared.call.RecordedCall.{RecordedCall}
 use Rattle.silt_desk.specs.History.{Replays, commands_of, called_events, replies_of}
-use Rattle.silt_desk.specs.Seeing.{SeenStore}
+use Rattle.silt_desk.specs.Seeing.{SeenStore, Spends}
 
 pub record Keeping : Type 0 where
   -- the entries of the store when the history began
@@ -81,10 +81,11 @@ pub record IsHistory (kept : Keeping) (store : SeenStore) : Type 0 where
   pub replays : IsTrue store.content.honest → Replays kept.count map kept.calls store.count store.map
   pub survives : Survives (past_of kept) map store
 
--- These calls lead from the first store to this one: they are a history of one thread, from its count and map to those of this one, and a
--- crash keeps only what they allow.
+-- These calls lead from the first store to this one: they are a history of one thread, from its count and map to those of this one, a
+-- crash keeps only what they allow, and the device was asked for no more than they cost.
 pub record LeadsTo (first : SeenStore) (calls : List RecordedCall) (store : SeenStore) : Type 0 where
   pub honest : store.content.honest ≡ first.content.honest
   pub shape : store.shape ≡ first.shape
   pub replays : IsTrue store.content.honest → Replays first.count first.map calls store.count store.map
   pub survives : SurvivesFrom (record { count = first.count; calls = calls }) first.map first.base first.waiting store
+  pub spends : Spends first store (replies_of calls)

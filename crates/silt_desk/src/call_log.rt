@@ -112,7 +112,8 @@ impl CallView {
     fn append(&mut self, head: &Word<RecordedCall, u64, IsLength>, noted: &NotedCall<'_>) -> bool
         requires head { head.now ≡ log_word self.old.book }
         requires room { length self.old.calls < 2 ^ 62 }
-        ensures calls { MatchBool result (self.new.calls ≡ self.old.calls ++ call noted.now.caller (noted_event noted.now.note noted.now.value.now noted.now.second.now) (reply_of noted.now.note noted.now.value.now) ∷ []) (Unit {0}) }
+        ensures calls { MatchBool result (self.new.calls ≡ self.old.calls ++ call noted.now.caller
+            (noted_event noted.now.note noted.now.value.now noted.now.second.now) (reply_of noted.now.note noted.now.value.now) ∷ []) (Unit {0}) }
         ensures book { self.new.book ≡ self.old.book }
     {
         let mut offer: Offer<RecordedCall, u64, IsLength, GivesNothing> = self
@@ -187,7 +188,8 @@ impl CallLog {
 
     /// Appends a call if the log has no more than was seen, and has room. Returns whether it did.
     pub(crate) fn append(&mut self, noted: &NotedCall<'_>) -> bool
-        ensures calls { MatchBool result (self.new.calls ≡ self.old.calls ++ call noted.now.caller (noted_event noted.now.note noted.now.value.now noted.now.second.now) (reply_of noted.now.note noted.now.value.now) ∷ []) (Unit {0}) }
+        ensures calls { MatchBool result (self.new.calls ≡ self.old.calls ++ call noted.now.caller
+            (noted_event noted.now.note noted.now.value.now noted.now.second.now) (reply_of noted.now.note noted.now.value.now) ∷ []) (Unit {0}) }
         ensures book { self.new.book ≡ self.old.book }
     {
         self.view.len() < MOST_CALLS && self.view.append(&self.head, noted)

@@ -1,5 +1,6 @@
 // A store with its trace, whose callers have seats.
-ghost use Rattle.std.specs.Prelude.{◌≡◌, ◌≢◌, ℕ, ◌+◌, ◌≤◌, ◌<◌, ◌%◌, ◌^◌, [], Some, None, Ok, true, false, not, IsTrue, length, is_some, IfOk, IfErr, IfSome, OnOk, MatchResult, vec_len, vec_capacity, slice_get, slice_range};
+ghost use Rattle.std.specs.Prelude.{◌≡◌, ◌≢◌, ℕ, ◌+◌, ◌≤◌, ◌<◌, ◌%◌, ◌^◌, [], Some, None, Ok, true, false, not, IsTrue, length, is_some, IfOk, IfErr, IfSome, OnOk, MatchResult};
+ghost use Rattle.std.specs.Prelude.{vec_len, vec_capacity, slice_get, slice_range};
 ghost use Rattle.std.specs.Option.{option_map};
 ghost use Rattle.silt_event.specs.Events.{Step, plain};
 ghost use Rattle.silt_desk.specs.DeskState.{Notes};

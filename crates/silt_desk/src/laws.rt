@@ -1,5 +1,6 @@
 // Laws of recorded calls, for the callers.
 ghost use Rattle.silt_desk.specs.History.{OthersStayLaw};
+ghost use Rattle.silt_desk.specs.Seeing.{BatchCostLaw};
 ghost use Rattle.silt_desk.specs.Servings.{FollowsLaw, HeldLaw, ServingsLaw};
 
 use silt_disk::Disk;
@@ -23,4 +24,10 @@ pub fn follows_law()
 /// What is left of a serving holds each command that was accepted under a number that a flush acknowledged.
 pub fn held_law()
     ensures { HeldLaw }
+{}
+
+/// A batch of accepted commands and a flush behind them costs two writes for each command, and one write and two syncs, if no log is
+/// frozen for it.
+pub fn batch_cost_law()
+    ensures { BatchCostLaw }
 {}

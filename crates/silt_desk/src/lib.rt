@@ -38,7 +38,7 @@ pub use call_log::{CallLog, CallPlace, CallView};
 pub use count::Count;
 pub use desk::{Desk, NotMade};
 pub use kept::Kept;
-pub use laws::{follows_law, held_law, others_stay_law, servings_law};
+pub use laws::{batch_cost_law, follows_law, held_law, others_stay_law, servings_law};
 pub use seat::{DeskId, MissingSeats, Seat};
 pub use shared::{Shared, settle};
 pub use shift_gate::ShiftGate;

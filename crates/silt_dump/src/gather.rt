@@ -96,7 +96,8 @@ fn note_slot<D: Disk>(
     requires number { number < length held.now.hashes.items }
     requires slot { slot < 4 * held.now.manifest.shape.buckets }
     ensures notes { OnOk result (NotesRows (D.content disk.now) (held_stores held.now)
-        (filter has_known_kind (slot_row (hash_store_at (held_stores held.now) number).shape (hash_store_at (held_stores held.now) number).region (D.content disk.now).shown slot ∷ [])) spots.old spots.new) }
+        (filter has_known_kind (slot_row (hash_store_at (held_stores held.now) number).shape (hash_store_at (held_stores held.now) number).region
+        (D.content disk.now).shown slot ∷ [])) spots.old spots.new) }
     ensures cause { IfErr result (EntriesErrorCause (GaveAny D.gave disk.now)) }
 {
     let row = match held.hashes[number as usize].row_at(disk, slot) {

@@ -126,7 +126,8 @@ impl Piece {
         ensures none { result ≡ Ok None → place ≡ entries.now.count }
         ensures there { IfOk result (λ next. IfSome next (λ key. (place < self.new.first + self.new.count) × IsAbove last.now key)) }
         ensures holds { IsTrue (D.content disk.now).honest → HoldsPiece (D.content disk.now) entries.now self.old → OnOk result (HoldsPiece (D.content disk.now) entries.now self.new) }
-        ensures key { IsTrue (D.content disk.now).honest → HoldsPiece (D.content disk.now) entries.now self.old → IfOk result (λ next. IfSome next (λ key. key ≡ key_at (entries_of (D.content disk.now) entries.now) place)) }
+        ensures key { IsTrue (D.content disk.now).honest → HoldsPiece (D.content disk.now) entries.now self.old
+            → IfOk result (λ next. IfSome next (λ key. key ≡ key_at (entries_of (D.content disk.now) entries.now) place)) }
         ensures cause { IfErr result (EndsEarly (CanGoOn (D.content disk.now) entries.now self.old place last.now) (GaveAny D.gave disk.now)) }
     {
         if place == entries.len() {

@@ -1,5 +1,6 @@
 // Laws of background work, for the callers.
-ghost use Rattle.silt_progress.specs.Laws.{BackgroundLaw, ConvertAllLaw, ConvertIdleLaw, ConvertRunLaw, ConvertStepLaw, FreesLaw, KeptLaw, MergeEndLaw, MergeIdleLaw, MergeLengthLaw, MergeRunLaw, MergeStepLaw, MergeTurnLaw, NoRoomLaw, OpenedLaw, RestLaw, RoomLaw, WaitLaw, WholeMergeLaw};
+ghost use Rattle.silt_progress.specs.Laws.{BackgroundLaw, ConvertAllLaw, ConvertIdleLaw, ConvertRunLaw, ConvertStepLaw, FreesLaw, KeptLaw, MergeEndLaw, MergeIdleLaw, MergeLengthLaw, MergeRunLaw};
+ghost use Rattle.silt_progress.specs.Laws.{MergeStepLaw, MergeTurnLaw, NoRoomLaw, OpenedLaw, RestLaw, RoomLaw, WaitLaw, WholeMergeLaw};
 
 use silt_disk::Disk;
 

@@ -5,7 +5,8 @@ ghost use Rattle.std.specs.Str.{bytes_eq};
 ghost use Rattle.sha1.specs.Sha1.{sha1};
 ghost use Rattle.silt_resp.specs.Arguments.{Gives};
 ghost use Rattle.silt_resp.specs.Commands.{FitsValues, auth_made, auth_verdict, backup_made, client_made, command_made, config_made, echoed, has_login, has_no_login, has_version};
-ghost use Rattle.silt_resp.specs.Commands.{hello_made, hello_text, hello_verdict, is_subcommand, pair_text, parameters, password_verdict, ping_made, says, select_made, shutdown_made, takes_backup, takes_shutdown, user_verdict};
+ghost use Rattle.silt_resp.specs.Commands.{hello_made, hello_text, hello_verdict, is_subcommand, pair_text, parameters, password_verdict, ping_made};
+ghost use Rattle.silt_resp.specs.Commands.{says, select_made, shutdown_made, takes_backup, takes_shutdown, user_verdict};
 ghost use Rattle.silt_resp.specs.Seen.{asked_seen, word_seen};
 ghost use Rattle.silt_resp.specs.Texts.{number_text, ok_text};
 

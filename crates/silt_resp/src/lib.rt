@@ -7,7 +7,8 @@
 //! words between spaces. Words, commands and lines that are too long cost no memory.
 //!
 //! What a command asks for is `asked_for` of `specs/Commands`: events and the [`Form`] of their one reply, a text, or an admin
-//! command (INFO, SHUTDOWN, BGSAVE), whose reply is in `specs/Info`. `specs/Table` has the commands and how many words each takes. `push_text` appends the one reply, made of the store's replies to the events.
+//! command (INFO, SHUTDOWN, BGSAVE), whose reply is in `specs/Info`. `specs/Table` has the commands and how many words each takes.
+//! `push_text` appends the one reply, made of the store's replies to the events.
 //!
 //! `resp_session` reads commands from any reader, hands their events to a store, or another `Answerer`, and writes one reply for
 //! each command to any writer. [`Settings`] has what it has to know.
